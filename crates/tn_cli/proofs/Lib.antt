@@ -1,0 +1,3 @@
+pub mod Items
+pub mod Keys
+pub mod Writing

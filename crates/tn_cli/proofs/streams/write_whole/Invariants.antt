@@ -1,0 +1,11 @@
+use Rattle.std.proofs.Common.{◌≤◌, length, take}
+use Rattle.std.specs.Io.KnownBytes.{Appends}
+use Rattle.tn_cli.proofs.streams.write_whole.Given as goal
+
+abbrev pub invariant-loop-write : goal.invariant-loop-write
+invariant-loop-write g l =
+    let contents = g.W.Write.contents in
+    record {
+      within : l.written ≤ length l.output;
+      appended : Appends (contents l.fn.writer) (contents l.writer) (take l.written l.output);
+    }

@@ -1,0 +1,34 @@
+//! Why a subcommand ended early, and the status that its process ends with.
+
+ghost use Rattle.std.specs.Prelude.{◌≡◌};
+ghost use Rattle.tn_cli.specs.Faults.{status_of};
+
+use thiserror::Error;
+
+/// Why a subcommand ended early. Its text is what standard error shows after `tn: `.
+#[derive(Clone, Copy, Debug, PartialEq, Eq, Error)]
+pub enum CliFault {
+    /// A read of the input failed, or the input did not end within the reads that a run makes.
+    #[error("read")]
+    Read,
+    /// The input is longer than 1,048,576 bytes.
+    #[error("input too long")]
+    TooLong,
+    /// A write of the output failed, or took none of the bytes that it was handed.
+    #[error("write")]
+    Write,
+    #[error("memory")]
+    Memory,
+}
+
+impl CliFault {
+    /// The status that a process ends with after this fault.
+    pub fn status(self) -> u8
+        ensures { result ≡ status_of self }
+    {
+        match self {
+            CliFault::TooLong => 2,
+            CliFault::Read | CliFault::Write | CliFault::Memory => 1,
+        }
+    }
+}

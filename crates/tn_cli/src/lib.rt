@@ -1,0 +1,19 @@
+//! The subcommands of `tn`, over any reader and writer.
+#![tactic(auto)]
+
+pub use fault::CliFault;
+pub use local::run_local;
+pub use program::{refuse_words, run_words};
+pub use replay::run_replay;
+pub use words::{Asked, WordsFault, read_words};
+
+mod fault;
+mod local;
+mod printed;
+mod program;
+mod replay;
+mod streams;
+#[cfg(test)]
+mod tests;
+mod typing;
+mod words;

@@ -1,0 +1,44 @@
+//! `tn local`: keys in, entries out.
+
+ghost use Rattle.std.specs.Prelude.{◌≡◌, ◌≢◌, ◌<◌, ◌≤◌, length, IfSome, OnOk, OnErr, IfOk, IsErrOf, Err};
+ghost use Rattle.std.specs.Io.KnownBytes.{Appends};
+ghost use Rattle.tn_cli.specs.Typing.{local_output};
+ghost use Rattle.tn_cli.specs.Streams.{AppendsFront};
+
+use crate::fault::CliFault;
+use crate::streams::{read_whole, write_whole};
+use crate::typing::Typing;
+use std::alloc::{AllocError, Global};
+use std::io::{Read, Write};
+
+/// Reads all keys, types them at one line with standard settings, and writes the entries that they
+/// give, one a line. Nothing is written before the input has ended.
+pub fn run_local<R: Read, W: Write>(
+    alloc: Global,
+    reader: &mut R,
+    writer: &mut W,
+) -> Result<(), CliFault>
+    ensures ok { OnOk result (IfSome (R.remaining reader.old) (λ keys. Appends (W.contents writer.old) (W.contents writer.new) (local_output keys))) }
+    ensures short { OnOk result (IfSome (R.remaining reader.old) (λ keys. length keys ≤ 1048576)) }
+
+    ensures too_long { IsErrOf result CliFault.TooLong → IfSome (R.remaining reader.old) (λ keys. 1048576 < length keys) }
+    ensures write { IsErrOf result CliFault.Write → IfSome (R.remaining reader.old) (λ keys. AppendsFront (W.contents writer.old) (W.contents writer.new) (local_output keys)) }
+    ensures unwritten { OnErr result (result ≢ Err CliFault.Write → W.contents writer.new ≡ W.contents writer.old) }
+{
+    let keys = read_whole(alloc, reader)?;
+    let Ok(output) = entries_of_keys(alloc, &keys) else {
+        return Err(CliFault::Memory);
+    };
+    write_whole(writer, &output)
+}
+
+// The printed entries of keys.
+fn entries_of_keys(alloc: Global, keys: &[u8]) -> Result<Vec<u8>, AllocError>
+    ensures { IfOk result (λ output. output.items ≡ local_output keys.now) }
+{
+    let mut typing = Typing::new(alloc)?;
+    for key in keys {
+        typing.key(*key)?;
+    }
+    Ok(typing.into_printed())
+}

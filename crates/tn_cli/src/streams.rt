@@ -1,0 +1,68 @@
+//! Whole inputs and whole outputs.
+
+ghost use Rattle.std.specs.Prelude.{◌≡◌, ◌+◌, ◌-◌, ◌<◌, ◌≤◌, ◌≢◌, ℕ, List, length, vec_len, IfOk, IfErr, IfSome, OnOk, OnErr, IsErrOf, Ok, Err, take, drop};
+ghost use Rattle.std.specs.Io.KnownBytes.{Consumes, IsAtEnd, Appends, Keeps};
+ghost use Rattle.tn_cli.specs.Streams.{AppendsFront};
+
+use crate::fault::CliFault;
+use std::alloc::Global;
+use std::io::{ErrorKind, Read, Write};
+
+/// How long an input may be, in bytes.
+const MOST_BYTES: usize = 1_048_576;
+
+/// How many reads an input may take.
+const MOST_READS: u32 = 2_097_152;
+
+/// How many bytes one read asks for.
+const PIECE_BYTES: usize = 4_096;
+
+/// Reads to the end of the input.
+pub(crate) fn read_whole<R: Read>(alloc: Global, reader: &mut R) -> Result<Vec<u8>, CliFault>
+    ensures whole { IfOk result (λ input. Consumes (R.remaining reader.old) (R.remaining reader.new) input.items) }
+    ensures end { OnOk result (IsAtEnd (R.remaining reader.new)) }
+    ensures short { IfOk result (λ input. length input.items ≤ 1048576) }
+    ensures too_long { IsErrOf result CliFault.TooLong → IfSome (R.remaining reader.old) (λ input. 1048576 < length input) }
+    ensures no_write { result ≢ Err CliFault.Write }
+{
+    let mut input = Vec::new(alloc);
+    let mut piece = [0; PIECE_BYTES];
+    for _read in 0..MOST_READS {
+        let count = match reader.read(&mut piece) {
+            Ok(count) => count,
+            Err(error) if error.kind() == ErrorKind::Interrupted => continue,
+            Err(_) => return Err(CliFault::Read),
+        };
+        if count == 0 {
+            return Ok(input);
+        }
+        if count > MOST_BYTES - input.len() {
+            return Err(CliFault::TooLong);
+        }
+        if input.extend_from_slice(&piece[..count]).is_err() {
+            return Err(CliFault::Memory);
+        }
+    }
+    Err(CliFault::Read)
+}
+
+/// Writes all of the output. After a fault a front of it was written.
+pub(crate) fn write_whole<W: Write>(writer: &mut W, output: &[u8]) -> Result<(), CliFault>
+    ensures ok { OnOk result (Appends (W.contents writer.old) (W.contents writer.new) output.now) }
+    ensures err { OnErr result (AppendsFront (W.contents writer.old) (W.contents writer.new) output.now) }
+    ensures fault { IfErr result (λ fault. fault ≡ CliFault.Write) }
+{
+    let mut written = 0;
+    for _write in 0..u64::MAX {
+        if written == output.len() {
+            return Ok(());
+        }
+        match writer.write(&output[written..]) {
+            Ok(0) => return Err(CliFault::Write),
+            Ok(count) => written += count,
+            Err(error) if error.kind() == ErrorKind::Interrupted => continue,
+            Err(_) => return Err(CliFault::Write),
+        }
+    }
+    Err(CliFault::Write)
+}

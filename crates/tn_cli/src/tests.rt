@@ -1,0 +1,268 @@
+//! Rows of keys and streams with the lines that they print, and streams that fail.
+
+use crate::{Asked, CliFault, WordsFault, read_words, run_local, run_replay, run_words};
+use std::alloc::{AllocError, Global};
+use std::io::{self, ErrorKind, Read, Write};
+use std::process::Abort;
+
+fn local(alloc: Global, keys: &[u8]) -> Result<Vec<u8>, CliFault> {
+    let mut reader = keys;
+    let mut output = Vec::new(alloc);
+    run_local(alloc, &mut reader, &mut output)?;
+    Ok(output)
+}
+
+fn replay(alloc: Global, stream: &[u8]) -> Result<Vec<u8>, CliFault> {
+    let mut reader = stream;
+    let mut output = Vec::new(alloc);
+    run_replay(alloc, &mut reader, &mut output)?;
+    Ok(output)
+}
+
+// Want of memory is an ordinary answer; any other is compared.
+fn prints(rt: &impl Abort, printed: Result<Vec<u8>, CliFault>, wanted: &str) {
+    match printed {
+        Ok(printed) => assert!(rt;
+            printed.as_slice() == wanted.as_bytes(),
+            "{printed:?}, not {wanted}"
+        ),
+        Err(fault) => assert_eq!(rt; fault, CliFault::Memory),
+    }
+}
+
+#[test]
+fn keys_become_entries(rt: HostRuntime) {
+    let alloc = rt.alloc();
+    for (keys, wanted) in [
+        (b"".as_slice(), ""),
+        (b"ab\x7fc\r", "text 61630a\n"),
+        (b"\x7f\x15\x04", "eof\n"),
+        (b"a\x04\x04", "text 61\neof\n"),
+        (b"a\x03b\n", "signal int\ntext 61620a\n"),
+        (b"\x1c\x1a", "signal quit\nsignal tstp\n"),
+        (b"a\r\x7fb\r", "text 610a\ntext 620a\n"),
+        (b"ab", ""),
+    ] {
+        prints(&rt, local(alloc, keys), wanted);
+    }
+}
+
+#[test]
+fn a_full_line_drops_and_still_erases(rt: HostRuntime) {
+    let alloc = rt.alloc();
+    let mut keys = [b'a'; 257];
+    keys[254] = b'b';
+    keys[255] = 127;
+    keys[256] = b'\n';
+    match local(alloc, &keys) {
+        Ok(printed) => {
+            assert_eq!(rt; printed.len(), 5 + 2 * 254 + 1);
+            assert!(rt; printed.starts_with(b"text 6161"));
+            assert!(rt; printed.ends_with(b"61610a\n"));
+        },
+        Err(fault) => assert_eq!(rt; fault, CliFault::Memory),
+    }
+}
+
+#[test]
+fn a_stream_becomes_entries(rt: HostRuntime) {
+    let alloc = rt.alloc();
+    for (stream, wanted) in [
+        (b"\xff\xff\r\0".as_slice(), "text ff0a\n"),
+        (b"a\r", ""),
+        (b"a\r\xff\xfb\x01b\n", "text 610a\ntext 620a\n"),
+        (b"\r\r\0", "text 0a\ntext 0a\n"),
+        (b"\xff\xf0\xff\x41\x42\xff\xfa\xff\xf0\n", "text 420a\n"),
+        (b"\xff\xf6\xff\xfa\x22\x01\xff\xfb\x63a\n", "text 610a\n"),
+    ] {
+        prints(&rt, replay(alloc, stream), wanted);
+    }
+    let mut long = [b'A'; 608];
+    long[0] = 255;
+    long[1] = 250;
+    long[2] = 99;
+    long[603] = 255;
+    long[604] = 240;
+    long[605] = b'a';
+    long[606] = b'\r';
+    long[607] = 0;
+    prints(&rt, replay(alloc, &long), "text 610a\n");
+}
+
+#[test]
+fn words_ask_for_runs(rt: HostRuntime) {
+    let alloc = rt.alloc();
+    for (words, wanted) in [
+        (["tn", "local"].as_slice(), Some(Asked::Local)),
+        (&["tn", "replay"], Some(Asked::Replay)),
+        (&["tn"], None),
+        (&["tn", "frobnicate"], None),
+        (&["tn", "local", "x"], None),
+        (&["tn", "world"], None),
+    ] {
+        match read_words(alloc, words) {
+            Ok(asked) => assert_eq!(rt; Some(asked), wanted),
+            Err(WordsFault::Usage) => assert_eq!(rt; None, wanted),
+            Err(WordsFault::Memory) => {},
+            Err(WordsFault::Help(text)) => assert!(rt; false, "{text}"),
+        }
+    }
+    match read_words(alloc, &["tn", "replay", "--help"]) {
+        Err(WordsFault::Help(text)) => assert!(rt;
+            text.as_str().contains("Usage: tn replay"),
+            "{text}"
+        ),
+        Err(WordsFault::Memory) => {},
+        Err(WordsFault::Usage) | Ok(_) => assert!(rt; false, "no help"),
+    }
+}
+
+/// Gives zeros for ever, so many at a time.
+#[derive(Drop)]
+struct Endless(usize);
+
+impl Read for Endless {
+    fn read(&mut self, buf: &mut [u8]) -> io::Result<usize> {
+        let count = self.0.min(buf.len());
+        buf[..count].fill(0);
+        Ok(count)
+    }
+}
+
+/// Gives some keys, and then fails.
+#[derive(Drop)]
+struct Broken(bool);
+
+impl Read for Broken {
+    fn read(&mut self, buf: &mut [u8]) -> io::Result<usize> {
+        match buf.first_mut() {
+            Some(first) if !self.0 => {
+                *first = b'\n';
+                self.0 = true;
+                Ok(1)
+            },
+            _ => Err(io::Error::from(ErrorKind::Other)),
+        }
+    }
+}
+
+/// Takes one byte at a time, so many of them, and then none or fails.
+#[derive(Drop)]
+struct Narrow {
+    taken: Vec<u8>,
+    room: usize,
+    fails: bool,
+}
+
+impl Write for Narrow {
+    fn write(&mut self, buf: &[u8]) -> io::Result<usize> {
+        if self.taken.len() < self.room {
+            if let Some(first) = buf.first() {
+                self.taken.push(*first)?;
+                return Ok(1);
+            }
+        }
+        if self.fails {
+            Err(io::Error::from(ErrorKind::Other))
+        } else {
+            Ok(0)
+        }
+    }
+
+    fn flush(&mut self) -> io::Result<()> {
+        Ok(())
+    }
+}
+
+#[test]
+fn too_much_input_prints_nothing(rt: HostRuntime) {
+    let alloc = rt.alloc();
+    for step in [1, 4_000] {
+        let mut output = Vec::new(alloc);
+        match run_local(alloc, &mut Endless(step), &mut output) {
+            Err(fault) => assert!(rt; fault == CliFault::TooLong || fault == CliFault::Memory),
+            Ok(()) => assert!(rt; false),
+        }
+        assert!(rt; output.is_empty());
+    }
+}
+
+#[test]
+fn a_failed_read_prints_nothing(rt: HostRuntime) {
+    let alloc = rt.alloc();
+    let mut output = Vec::new(alloc);
+    match run_replay(alloc, &mut Broken(false), &mut output) {
+        Err(fault) => assert!(rt; fault == CliFault::Read || fault == CliFault::Memory),
+        Ok(()) => assert!(rt; false),
+    }
+    assert!(rt; output.is_empty());
+}
+
+#[test]
+fn a_failed_write_leaves_a_front(rt: HostRuntime) {
+    let alloc = rt.alloc();
+    for room in 0..8 {
+        for fails in [true, false] {
+            let mut writer = Narrow {
+                taken: Vec::new(alloc),
+                room,
+                fails,
+            };
+            let outcome = run_local(alloc, &mut b"a\n".as_slice(), &mut writer);
+            match outcome {
+                Err(fault) => assert!(rt; fault == CliFault::Write || fault == CliFault::Memory),
+                Ok(()) => assert!(rt; false),
+            }
+            assert!(rt; b"text 610a\n".starts_with(writer.taken.as_slice()));
+        }
+    }
+    let mut writer = Narrow {
+        taken: Vec::new(alloc),
+        room: 100,
+        fails: true,
+    };
+    if run_local(alloc, &mut b"a\n".as_slice(), &mut writer).is_ok() {
+        assert!(rt; writer.taken.as_slice() == b"text 610a\n".as_slice());
+    }
+}
+
+fn words_of(alloc: Global, word: &str) -> Result<Vec<String>, AllocError> {
+    let mut words = Vec::new(alloc);
+    words.push(String::from_str(alloc, "tn")?)?;
+    words.push(String::from_str(alloc, word)?)?;
+    Ok(words)
+}
+
+#[test]
+fn faults_are_told_in_a_line(rt: HostRuntime) {
+    let alloc = rt.alloc();
+    for (word, room, told, status) in [
+        ("frobnicate", 100, b"tn: usage\n".as_slice(), 2),
+        ("local", 100, b"", 0),
+        ("local", 0, b"tn: write\n", 1),
+        ("--help", 0, b"tn: write\n", 1),
+    ] {
+        let Ok(words) = words_of(alloc, word) else {
+            return;
+        };
+        let mut errors = Vec::new(alloc);
+        let mut writer = Narrow {
+            taken: Vec::new(alloc),
+            room,
+            fails: true,
+        };
+        let ended = run_words(
+            alloc,
+            &words,
+            &mut b"a\n".as_slice(),
+            &mut writer,
+            &mut errors,
+        );
+        if errors.as_slice() == b"tn: memory\n".as_slice() {
+            assert_eq!(rt; ended, 1);
+        } else {
+            assert_eq!(rt; ended, status);
+            assert!(rt; errors.is_empty() || errors.as_slice() == told);
+        }
+    }
+}

@@ -1,0 +1,105 @@
+//! The words of the command line.
+
+ghost use Rattle.std.specs.Prelude.{◌≡◌, IfOk, map};
+ghost use Rattle.tn_cli.specs.Words.{asked_by, Parses};
+ghost use Rattle.clap.specs.Words.{subcommand_name_of};
+
+use clap::error::ErrorKind;
+use clap::{ArgMatches, Command, Error};
+use std::alloc::{AllocError, Global};
+use thiserror::Error as ErrorText;
+
+/// What the words ask for.
+#[derive(Clone, Copy, Debug, PartialEq, Eq)]
+pub enum Asked {
+    Local,
+    Replay,
+}
+
+/// Why the words ask for no run.
+#[derive(Debug, Drop, ErrorText)]
+pub enum WordsFault {
+    /// The words are not accepted.
+    #[error("usage")]
+    Usage,
+    #[error("memory")]
+    Memory,
+    /// The help that was asked for, as `clap` lays it out.
+    #[error("{0}")]
+    Help(String),
+}
+
+impl From<AllocError> for WordsFault {
+    fn from(_error: AllocError) -> WordsFault {
+        WordsFault::Memory
+    }
+}
+
+/// Reads the words of a command line, the program's name first.
+pub fn read_words(alloc: Global, words: &[&str]) -> Result<Asked, WordsFault>
+    ensures { IfOk result (λ asked. Parses (map (λ word. word.now) words.now) asked) }
+{
+    let command = tn_command(alloc)?;
+    let matches = match command.try_get_matches_from(words) {
+        Ok(matches) => matches,
+        Err(error) => return Err(words_fault(alloc, &error)),
+    };
+    match asked_of(&matches) {
+        Some(asked) => Ok(asked),
+        None => Err(WordsFault::Usage),
+    }
+}
+
+fn asked_of(matches: &ArgMatches<'_>) -> Option<Asked>
+    ensures { result ≡ asked_by (subcommand_name_of matches.now) }
+{
+    match matches.subcommand_name()? {
+        "local" => Some(Asked::Local),
+        "replay" => Some(Asked::Replay),
+        _ => None,
+    }
+}
+
+fn words_fault(alloc: Global, error: &Error) -> WordsFault {
+    match error.kind() {
+        ErrorKind::DisplayHelp => match error.to_string(alloc) {
+            Ok(text) => WordsFault::Help(text),
+            Err(_) => WordsFault::Memory,
+        },
+        ErrorKind::OutOfMemory => WordsFault::Memory,
+        _ => WordsFault::Usage,
+    }
+}
+
+fn tn_command<'a>(alloc: Global) -> Result<Command<'a>, AllocError> {
+    Command::new(alloc, "tn")
+        .about("Telnet with LINEMODE: the entries that a terminal's foreground job reads")
+        .after_help("Example:\n  printf 'ab\\177c\\r' | tn local")
+        .subcommand_required(true)
+        .disable_help_subcommand(true)
+        .subcommand(local_command(alloc))?
+        .subcommand(replay_command(alloc))
+}
+
+fn local_command<'a>(alloc: Global) -> Command<'a> {
+    Command::new(alloc, "local")
+        .about("Reads typed keys, and prints the entries that they give")
+        .long_about(
+            "Reads keys from standard input, as they are typed at one terminal with standard settings, \
+             and prints the entries that its foreground job would read, one a line: `text` and the \
+             bytes of a line in hexadecimal, `eof`, `signal int`, `signal quit` or `signal tstp`. \
+             Keys after the last closing key give nothing.",
+        )
+        .after_help("Example:\n  printf 'ab\\177c\\r' | tn local\n  text 61630a")
+}
+
+fn replay_command<'a>(alloc: Global) -> Command<'a> {
+    Command::new(alloc, "replay")
+        .about("Reads a Telnet client's byte stream, and prints the entries that its keys give")
+        .long_about(
+            "Reads the byte stream of a Telnet client from standard input. Each byte of data is a key, \
+             and a new line is the line feed key; commands, option words and subnegotiations are passed \
+             over. Prints the entries as `tn local` does.",
+        )
+        .after_help("Example:\n  printf '\\377\\377\\r\\0' | tn replay\n  text ff0a")
+}

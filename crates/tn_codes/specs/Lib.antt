@@ -1,0 +1,4 @@
+pub mod Codes
+pub mod Masks
+pub mod Payloads
+pub mod PayloadOf

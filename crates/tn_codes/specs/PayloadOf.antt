@@ -1,0 +1,49 @@
+-- The same grammar as a function, for definitions that take what a subnegotiation says.
+use Rattle.std.specs.Prelude.{ℕ, ◌==◌, nat_le, List, [], ◌∷◌, length, Option, Some, None, option_map, if◌then◌else◌}
+use Rattle.std.specs.Int.{w16, from_be_bytes}
+use Rattle.tn_codes.specs.declared.codes.Verb.TheVariants.{Will, Wont, DoIt, DontIt}
+use Rattle.tn_codes.specs.declared.payloads.Payload.{Payload}
+use Rattle.tn_codes.specs.declared.payloads.Payload.TheVariants.{Naws, Mode, ForwardOn, ForwardOff, ForwardYes, ForwardNo, Slc}
+use Rattle.tn_codes.specs.declared.triples.Triple.{Triple}
+use Rattle.tn_codes.specs.Codes.{verb_code}
+use Rattle.tn_codes.specs.Masks.{filled}
+use Rattle.tn_codes.specs.Payloads.{naws, linemode, mode, forwardmask, slc}
+
+abbrev pub size_of : List ℕ → Option Payload
+size_of (a ∷ b ∷ c ∷ d ∷ []) = Some (Naws (from_be_bytes w16 (a ∷ b ∷ [])) (from_be_bytes w16 (c ∷ d ∷ [])))
+size_of params = None
+
+abbrev pub mode_of : List ℕ → Option Payload
+mode_of (mask ∷ []) = Some (Mode mask)
+mode_of params = None
+
+abbrev pub triples_of : List ℕ → Option (List Triple)
+triples_of [] = Some []
+triples_of (func ∷ flags ∷ value ∷ rest) = option_map (λ triples. record { func = func; flags = flags; value = value } ∷ triples) (triples_of rest)
+triples_of octets = None
+
+-- a command with nothing after it
+abbrev pub alone : Payload → List ℕ → Option Payload
+alone payload [] = Some payload
+alone payload (b ∷ bs) = None
+
+abbrev pub forward_of : ℕ → List ℕ → Option Payload
+forward_of first octets =
+    if first == verb_code Will then alone ForwardYes octets
+    else (if first == verb_code Wont then alone ForwardNo octets
+    else (if first == verb_code DoIt then (if nat_le (length octets) 32 then Some (ForwardOn (record { 0 = filled octets })) else None)
+    else (if first == verb_code DontIt then alone ForwardOff octets else None)))
+
+abbrev pub forwardmask_of : ℕ → List ℕ → Option Payload
+forwardmask_of first [] = None
+forwardmask_of first (second ∷ octets) = if second == forwardmask then forward_of first octets else None
+
+abbrev pub linemode_of : List ℕ → Option Payload
+linemode_of [] = None
+linemode_of (first ∷ rest) =
+    if first == mode then mode_of rest else (if first == slc then option_map Slc (triples_of rest) else forwardmask_of first rest)
+
+-- what the parameters of this option say, if they say something
+abbrev pub payload_of : ℕ → List ℕ → Option Payload
+payload_of option params =
+    if option == naws then size_of params else (if option == linemode then linemode_of params else None)

@@ -1,0 +1,19 @@
+//! Sets of characters at which a client forwards what it holds (RFC 1184, section 2.3).
+
+ghost use Rattle.std.specs.Prelude.{◌≡◌, ◌↔◌, IsTrue};
+ghost use Rattle.tn_codes.specs.Masks.{HasCharacter, has_character};
+
+/// The 32 octets of a forward mask.
+#[derive(Clone, Copy, Debug, PartialEq, Eq)]
+pub struct Mask(pub [u8; 32]);
+
+impl Mask {
+    /// Whether the mask has the character.
+    pub fn has(self, character: u8) -> bool
+        ensures has { IsTrue result ↔ HasCharacter self character }
+        ensures test { result ≡ has_character self character }
+    {
+        let octet = self.0[usize::from(character / 8)];
+        octet & (1 << (7 - character % 8)) != 0
+    }
+}

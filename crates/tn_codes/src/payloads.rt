@@ -1,0 +1,49 @@
+//! What the parameters of a subnegotiation say (RFC 1073 for NAWS, RFC 1184 for LINEMODE).
+
+use crate::masks::Mask;
+use crate::triples::Triples;
+use thiserror::Error;
+
+/// The options whose subnegotiations have payloads (RFC 1073, RFC 1184).
+pub(crate) const NAWS: u8 = 31;
+
+pub(crate) const LINEMODE: u8 = 34;
+
+/// The kinds of LINEMODE subnegotiation (RFC 1184, section 2).
+pub(crate) const MODE: u8 = 1;
+
+pub(crate) const FORWARDMASK: u8 = 2;
+
+pub(crate) const SLC: u8 = 3;
+
+/// The parameters of one subnegotiation of NAWS or LINEMODE.
+#[derive(Debug, Drop, PartialEq, Eq)]
+pub enum Payload {
+    /// The size of the client's screen in characters; 0 leaves that side open (RFC 1073).
+    Naws { width: u16, height: u16 },
+    /// MODE with its mask (RFC 1184, section 2.2).
+    Mode(u8),
+    /// DO FORWARDMASK with the mask.
+    ForwardOn(Mask),
+    /// DONT FORWARDMASK.
+    ForwardOff,
+    /// WILL FORWARDMASK.
+    ForwardYes,
+    /// WONT FORWARDMASK.
+    ForwardNo,
+    /// A list of local characters (RFC 1184, section 2.4).
+    Slc(Triples),
+}
+
+/// Why parameters were not read.
+#[derive(Clone, Copy, Debug, Error, PartialEq, Eq)]
+pub enum PayloadFault {
+    #[error("no option with payloads that are read")]
+    UnknownOption,
+    #[error("an unknown kind of LINEMODE subnegotiation")]
+    UnknownSub,
+    #[error("too few parameters, or too many")]
+    BadLength,
+    #[error("out of memory")]
+    Memory,
+}

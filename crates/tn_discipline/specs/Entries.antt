@@ -1,0 +1,39 @@
+-- What reads of the terminal give (XBD 11.1.6), where a signal doesn't flush the line (NOFLSH, XBD 11.2.5).
+use Rattle.std.specs.Prelude.{ℕ, List, [], ◌∷◌, ◌++◌}
+use Rattle.std.specs.List.{flat_map}
+use Rattle.tn_discipline.specs.Admitted.{admitted}
+use Rattle.tn_discipline.specs.Pieces.{Piece, cut}
+use Rattle.tn_discipline.specs.Kept.{kept}
+use Rattle.tn_discipline.specs.declared.reads.Entry.{Entry}
+use Rattle.tn_discipline.specs.declared.reads.Entry.TheVariants as entry
+use Rattle.tn_discipline.specs.declared.keys.Role.{Role}
+use Rattle.tn_discipline.specs.declared.keys.Role.TheVariants as role
+
+-- the signals among these keys
+abbrev pub signals : List Role → List Entry
+signals [] = []
+signals (role.Signal sig ∷ roles) = entry.Signal sig ∷ signals roles
+signals (role.Ordinary byte ∷ roles) = signals roles
+signals (role.Erase ∷ roles) = signals roles
+signals (role.Kill ∷ roles) = signals roles
+signals (role.Ignored ∷ roles) = signals roles
+signals (role.Nl ∷ roles) = signals roles
+signals (role.Eol byte ∷ roles) = signals roles
+signals (role.Eof ∷ roles) = signals roles
+
+-- XBD 11.1.9, EOF: a closed line is a text, or the end of file where it has no byte
+abbrev pub line_of : List ℕ → Entry
+line_of [] = entry.Eof
+line_of (byte ∷ bytes) = entry.Text (byte ∷ bytes)
+
+-- a closed piece gives its signals, and then what is kept of it with its closing byte
+abbrev pub piece_entries : Piece → List Entry
+piece_entries piece = signals piece.keys ++ line_of (kept piece.keys ++ piece.closing) ∷ []
+
+-- what these keys give
+abbrev pub entries_of : List Role → List Entry
+entries_of roles = let pieces = cut (admitted roles) in flat_map piece_entries pieces.closed ++ signals pieces.last
+
+-- the half line that these keys leave
+abbrev pub half_of : List Role → List ℕ
+half_of roles = kept (cut (admitted roles)).last

@@ -1,0 +1,21 @@
+-- What ERASE and KILL leave of a line (XBD 11.1.9).
+use Rattle.std.specs.Prelude.{ℕ, zero, suc, List, [], ◌∷◌, ◌++◌, reverse}
+use Rattle.tn_discipline.specs.declared.keys.Role.{Role}
+use Rattle.tn_discipline.specs.declared.keys.Role.TheVariants as role
+
+-- what is kept of keys that are read from the last to the first, with this many erasures outstanding
+abbrev pub kept_backwards : ℕ → List Role → List ℕ
+kept_backwards erasures [] = []
+kept_backwards erasures (role.Kill ∷ before) = []
+kept_backwards erasures (role.Erase ∷ before) = kept_backwards (suc erasures) before
+kept_backwards zero (role.Ordinary byte ∷ before) = kept_backwards zero before ++ byte ∷ []
+kept_backwards (suc erasures) (role.Ordinary byte ∷ before) = kept_backwards erasures before
+kept_backwards erasures (role.Signal sig ∷ before) = kept_backwards erasures before
+kept_backwards erasures (role.Ignored ∷ before) = kept_backwards erasures before
+kept_backwards erasures (role.Nl ∷ before) = kept_backwards erasures before
+kept_backwards erasures (role.Eol byte ∷ before) = kept_backwards erasures before
+kept_backwards erasures (role.Eof ∷ before) = kept_backwards erasures before
+
+-- what is kept of a piece, which has no closing key
+abbrev pub kept : List Role → List ℕ
+kept piece = kept_backwards 0 (reverse piece)

@@ -1,0 +1,35 @@
+-- What a line discipline does, said for every list of keys that may have come before.
+use Rattle.std.specs.Prelude.{◌≡◌, ◌↔◌, ◌<◌, ◌≤◌, ℕ, List, ◌++◌, length}
+use Rattle.tn_discipline.specs.Admitted.{admitted}
+use Rattle.tn_discipline.specs.Entries.{entries_of, half_of}
+use Rattle.tn_discipline.specs.Steps.{half_all, gain_all}
+use Rattle.tn_discipline.specs.HalfLine.{HalfLine}
+use Rattle.tn_discipline.specs.declared.keys.Role.{Role}
+use Rattle.tn_discipline.specs.declared.reads.Entry.{Entry}
+use Rattle.tn_discipline.specs.declared.half_line.Effect.{Effect}
+use Rattle.tn_discipline.specs.declared.half_line.Effect.TheVariants.{Dropped}
+
+-- These keys leave this line: their half line is the bytes that were handed on, and then those that are held.
+pub record Leaves (history : List Role) (line : HalfLine) : Type 0 where
+  pub sent : List ℕ
+  pub count : length sent ≡ line.ahead
+  pub bytes : half_of history ≡ sent ++ line.held
+
+-- Whatever keys left the old line, with these keys they leave the new one, and give these entries more. While
+-- bytes are ahead, a line is given in parts, and only the half line is spoken of.
+pub record Advances (old : HalfLine) (roles : List Role) (gain : List Entry) (new : HalfLine) : Type 0 where
+  pub half : (history : List Role) → Leaves history old → Leaves (history ++ roles) new
+  pub entries : (history : List Role) → Leaves history old → old.ahead ≡ 0 → entries_of (history ++ roles) ≡ entries_of history ++ gain
+  pub ahead : new.ahead ≤ old.ahead
+
+-- The effect is Dropped exactly where these keys, after any keys that left the line, are not admitted.
+abbrev pub DropsExactly : HalfLine → List Role → Effect → Type 0
+DropsExactly line roles e =
+    (history : List Role) → Leaves history line → (e ≡ Dropped) ↔ ((0 < length roles) × (admitted (history ++ roles) ≡ admitted history))
+
+-- The same as `Advances`, from the old line alone: whatever bytes were handed on, these keys leave as many as are
+-- ahead in the new line, followed by those that it holds.
+pub record Moves (old : HalfLine) (roles : List Role) (gain : List Entry) (new : HalfLine) : Type 0 where
+  pub half : (sent : List ℕ) → length sent ≡ old.ahead → (rest : List ℕ) × (length rest ≡ new.ahead) × (half_all (sent ++ old.held) roles ≡ rest ++ new.held)
+  pub entries : old.ahead ≡ 0 → gain ≡ gain_all old.held roles
+  pub ahead : new.ahead ≤ old.ahead

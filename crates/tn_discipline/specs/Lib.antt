@@ -1,0 +1,10 @@
+pub mod Characters
+pub mod Keys
+pub mod Admitted
+pub mod Pieces
+pub mod Kept
+pub mod Entries
+pub mod Steps
+pub mod HalfLine
+pub mod Leaves
+pub mod Echo

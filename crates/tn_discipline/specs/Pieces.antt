@@ -1,0 +1,41 @@
+-- A list of keys, cut into lines (XBD 11.1.6: a line is delimited by NL, EOF or EOL).
+use Rattle.std.specs.Prelude.{ℕ, Option, Some, None, List, [], ◌∷◌}
+use Rattle.tn_discipline.specs.declared.keys.Role.{Role}
+use Rattle.tn_discipline.specs.declared.keys.Role.TheVariants as role
+
+-- the bytes that a key closes a line with: NL a line feed, EOL its own byte, EOF none. Other keys don't close
+abbrev pub closing_bytes : Role → Option (List ℕ)
+closing_bytes role.Nl = Some (10 ∷ [])
+closing_bytes (role.Eol byte) = Some (byte ∷ [])
+closing_bytes role.Eof = Some []
+closing_bytes role.Ignored = None
+closing_bytes (role.Signal sig) = None
+closing_bytes role.Erase = None
+closing_bytes role.Kill = None
+closing_bytes (role.Ordinary byte) = None
+
+-- a closed piece: the keys before its closing key, and the bytes that it is closed with
+pub record Piece : Type 0 where
+  pub keys : List Role
+  pub closing : List ℕ
+
+-- the closed pieces, and the keys after the last closing key
+pub record Pieces : Type 0 where
+  pub closed : List Piece
+  pub last : List Role
+
+-- these pieces with one more key at the head of the first
+abbrev pub put_first : Role → List Piece → List Role → Pieces
+put_first r [] last = record { closed = []; last = r ∷ last }
+put_first r (p ∷ ps) last = record { closed = record { keys = r ∷ p.keys; closing = p.closing } ∷ ps; last = last }
+
+-- these pieces with one more key before them, which is a piece of its own where it closes
+abbrev pub cut_before : Option (List ℕ) → Role → Pieces → Pieces
+cut_before None r pieces = put_first r pieces.closed pieces.last
+cut_before (Some bytes) r pieces =
+    record { closed = record { keys = []; closing = bytes } ∷ pieces.closed; last = pieces.last }
+
+-- the keys, cut after each closing key
+abbrev pub cut : List Role → Pieces
+cut [] = record { closed = []; last = [] }
+cut (r ∷ roles) = cut_before (closing_bytes r) r (cut roles)

@@ -1,0 +1,45 @@
+ghost use Rattle.std.specs.Prelude.{◌≡◌};
+ghost use Rattle.tn_discipline.specs.Echo.{echo_at, one_shown};
+ghost use Rattle.tn_discipline.specs.Keys.{role_of_key};
+
+use crate::half_line::Effect;
+use crate::keys::{Role, role_of};
+use crate::termios::Settings;
+
+/// What a terminal shows: a byte, or a new line.
+#[derive(Clone, Copy, Debug, PartialEq, Eq)]
+pub enum Symbol {
+    Byte(u8),
+    Newline,
+}
+
+const BELL: u8 = 7;
+
+const BACKSPACE: u8 = 8;
+
+const SPACE: u8 = b' ';
+
+fn one_if(shown: bool, symbol: Symbol) -> [Option<Symbol>; 3]
+    ensures { result ≡ one_shown shown symbol }
+{
+    [shown.then_some(symbol), None, None]
+}
+
+/// What a terminal shows of a key that had this effect (XBD 11.2.5), in order; the places that are
+/// not needed are the last ones.
+pub fn echo_of(effect: &Effect, key: u8, settings: &Settings) -> [Option<Symbol>; 3]
+    ensures { result ≡ echo_at settings.now.flags (role_of_key settings.now key) effect.now }
+{
+    let flags = settings.flags;
+    match (role_of(settings, key), effect) {
+        (Role::Ordinary(_), Effect::Dropped) => one_if(flags.echo, Symbol::Byte(BELL)),
+        (Role::Ordinary(byte) | Role::Eol(byte), _) => one_if(flags.echo, Symbol::Byte(byte)),
+        (Role::Nl, _) => one_if(flags.echo || flags.echonl, Symbol::Newline),
+        (Role::Kill, _) => one_if(flags.echo && flags.echok, Symbol::Newline),
+        (Role::Erase, Effect::Erased | Effect::ErasedAhead) if flags.echo && flags.echoe => {
+            let back = Some(Symbol::Byte(BACKSPACE));
+            [back, Some(Symbol::Byte(SPACE)), back]
+        }
+        (Role::Erase | Role::Ignored | Role::Eof | Role::Signal(_), _) => [None, None, None],
+    }
+}

@@ -1,0 +1,211 @@
+ghost use Rattle.std.specs.Prelude.{◌≡◌, ◌==◌, ◌<◌, ◌+◌, ◌-◌, [], ◌∷◌, ◌++◌, length, IfOk, OnOk, OnErr};
+ghost use Rattle.tn_discipline.specs.Keys.{roles_of, role_of_key, literal_role};
+ghost use Rattle.tn_discipline.specs.Entries.{line_of};
+ghost use Rattle.tn_discipline.specs.HalfLine.{empty_line, line_length, effect_of, line_after, line_kept, line_erased, gained, GivesText};
+ghost use Rattle.tn_discipline.specs.Leaves.{Advances, DropsExactly};
+ghost use Rattle.tn_discipline.specs.declared.half_line.Effect.TheVariants as effect;
+ghost use Rattle.tn_discipline.specs.declared.keys.Role.TheVariants as role;
+
+use crate::keys::{Role, role_of, role_of_literal};
+use crate::reads::{Entry, Text};
+use crate::termios::Settings;
+use std::alloc::{AllocError, Global};
+use std::marker::Model;
+
+/// How many bytes a line holds with its closing byte.
+const LINE_BYTES: usize = 255;
+
+/// What a key did to the line.
+#[derive(Debug, PartialEq, Eq, Drop)]
+pub enum Effect {
+    /// The key was dropped by its mapping, or there was nothing to erase.
+    Nothing,
+    /// The byte joined the bytes that are held.
+    Kept,
+    /// The last byte that was held is given up.
+    Erased,
+    /// Nothing was held, and the last of the bytes that were handed on is to be given up.
+    ErasedAhead,
+    /// All bytes that were held are given up, and so many that were handed on are to be.
+    Killed(u16),
+    /// The line has no room for the byte.
+    Dropped,
+    /// The key made an entry.
+    Gives(Entry),
+}
+
+/// The half line that is being typed: the bytes that are held, after those that were handed on to
+/// whoever edits the line with us.
+#[derive(Debug, Drop)]
+pub struct Line {
+    held: Vec<u8>,
+    ahead: u16,
+}
+
+impl Model for Line {
+    ghost use Rattle.std.specs.Prelude.{◌<◌, ◌≤◌, ◌+◌, vec_len, vec_capacity};
+    ghost use Rattle.tn_discipline.specs.HalfLine.{HalfLine};
+
+    ghost Value = { HalfLine };
+
+    ghost view = { λ l. record { held = l.held.items; ahead = l.ahead } };
+
+    ghost invariant = { λ l. (l.ahead + vec_len l.held < 255) × (255 ≤ vec_capacity l.held) };
+}
+
+impl Line {
+    /// An empty line. It makes the room for a whole line once.
+    pub fn new(alloc: Global) -> Result<Self, AllocError>
+        ensures { IfOk result (λ line. line ≡ empty_line) }
+    {
+        Ok(Line {
+            held: Vec::with_capacity(alloc, LINE_BYTES)?,
+            ahead: 0,
+        })
+    }
+
+    /// The bytes that are held.
+    pub fn held(&self) -> &[u8]
+        ensures value { result.now ≡ self.now.held }
+        ensures within { line_length self.now < 255 }
+    {
+        self.held.as_slice()
+    }
+
+    /// How many bytes of the half line were handed on before those that are held.
+    pub fn ahead(&self) -> u16
+        ensures value { result ≡ self.now.ahead }
+        ensures within { line_length self.now < 255 }
+    {
+        self.ahead
+    }
+
+    /// Types a key.
+    pub fn key(&mut self, settings: &Settings, key: u8) -> Result<Effect, AllocError>
+        // Whatever keys led to this half line, with this key they give what the effect gives, and
+        // leave the half line that is there now.
+        ensures advances { IfOk result (λ effect. Advances self.old (roles_of settings.now (key ∷ [])) (gained effect) self.new) }
+        ensures dropped { IfOk result (DropsExactly self.old (roles_of settings.now (key ∷ []))) }
+
+        ensures effect { IfOk result (λ effect. effect ≡ effect_of self.old (role_of_key settings.now key)) }
+        ensures line { OnOk result (self.new ≡ line_after self.old (role_of_key settings.now key)) }
+
+        ensures only_a_text { OnErr result (GivesText self.old (role_of_key settings.now key)) }
+        ensures err { OnErr result (self.new ≡ self.old) }
+    {
+        self.act(role_of(settings, key))
+    }
+
+    /// Types a byte of a line that was edited before it came.
+    pub fn literal(&mut self, settings: &Settings, byte: u8) -> Result<Effect, AllocError>
+        ensures advances { IfOk result (λ effect. Advances self.old (literal_role settings.now.chars byte ∷ []) (gained effect) self.new) }
+        ensures dropped { IfOk result (DropsExactly self.old (literal_role settings.now.chars byte ∷ [])) }
+
+        ensures effect { IfOk result (λ effect. effect ≡ effect_of self.old (literal_role settings.now.chars byte)) }
+        ensures line { OnOk result (self.new ≡ line_after self.old (literal_role settings.now.chars byte)) }
+
+        ensures only_a_text { OnErr result (GivesText self.old (literal_role settings.now.chars byte)) }
+        ensures err { OnErr result (self.new ≡ self.old) }
+    {
+        self.act(role_of_literal(settings, byte))
+    }
+
+    /// Takes back the last byte: a held one, or else one that was handed on.
+    pub fn erase(&mut self) -> Effect
+        ensures advances { Advances self.old (role.Erase ∷ []) [] self.new }
+        ensures effect { result ≡ effect_of self.old role.Erase }
+        ensures line { self.new ≡ line_after self.old role.Erase }
+    {
+        self.erase_byte()
+    }
+
+    /// Takes back the whole half line.
+    pub fn kill(&mut self) -> Effect
+        ensures advances { Advances self.old (role.Kill ∷ []) [] self.new }
+        ensures effect { result ≡ effect_of self.old role.Kill }
+        ensures line { self.new ≡ line_after self.old role.Kill }
+    {
+        let ahead = self.ahead;
+        self.held.clear();
+        self.ahead = 0;
+        Effect::Killed(ahead)
+    }
+
+    /// Closes the line with no byte. Where nothing is held it gives the end of file.
+    pub fn end_of_file(&mut self) -> Result<Effect, AllocError>
+        ensures advances { IfOk result (λ effect. Advances self.old (role.Eof ∷ []) (gained effect) self.new) }
+        ensures effect { IfOk result (λ effect. effect ≡ effect_of self.old role.Eof) }
+        ensures line { OnOk result (self.new ≡ line_after self.old role.Eof) }
+
+        ensures only_a_text { OnErr result (GivesText self.old role.Eof) }
+        ensures err { OnErr result (self.new ≡ self.old) }
+    {
+        self.act(Role::Eof)
+    }
+
+    // What a key of this role does.
+    fn act(&mut self, role: Role) -> Result<Effect, AllocError>
+        ensures effect { IfOk result (λ effect. effect ≡ effect_of self.old role) }
+        ensures line { OnOk result (self.new ≡ line_after self.old role) }
+        ensures only_a_text { OnErr result (GivesText self.old role) }
+        ensures err { OnErr result (self.new ≡ self.old) }
+    {
+        match role {
+            Role::Ignored => Ok(Effect::Nothing),
+            Role::Nl => Ok(Effect::Gives(self.close(b"\n")?)),
+            Role::Eol(byte) => Ok(Effect::Gives(self.close(&[byte])?)),
+            Role::Eof => Ok(Effect::Gives(self.close(&[])?)),
+            Role::Signal(sig) => Ok(Effect::Gives(Entry::Signal(sig))),
+            Role::Erase => Ok(self.erase()),
+            Role::Kill => Ok(self.kill()),
+            Role::Ordinary(byte) => Ok(self.keep(byte)),
+        }
+    }
+
+    fn keep(&mut self, byte: u8) -> Effect
+        ensures effect { result ≡ effect_of self.old (role.Ordinary byte) }
+        ensures line { self.new ≡ line_kept self.old byte }
+    {
+        if self.ahead as usize + self.held.len() + 1 == LINE_BYTES {
+            return Effect::Dropped;
+        }
+        self.held.push_reserved(byte);
+        Effect::Kept
+    }
+
+    fn erase_byte(&mut self) -> Effect
+        ensures effect { result ≡ effect_of self.old role.Erase }
+        ensures line { self.new ≡ line_erased self.old }
+    {
+        if self.held.pop().is_some() {
+            return Effect::Erased;
+        }
+        if self.ahead == 0 {
+            return Effect::Nothing;
+        }
+        self.ahead -= 1;
+        Effect::ErasedAhead
+    }
+
+    // Closes the line with these bytes.
+    fn close(&mut self, closing: &[u8]) -> Result<Entry, AllocError>
+        requires { length closing.now < 2 }
+        ensures gives { IfOk result (λ entry. entry ≡ line_of (self.old.held ++ closing.now)) }
+        ensures line { OnOk result (self.new ≡ empty_line) }
+
+        ensures only_a_text { OnErr result (0 < length (self.old.held ++ closing.now)) }
+        ensures err { OnErr result (self.new ≡ self.old) }
+    {
+        if self.held.is_empty() && closing.is_empty() {
+            self.ahead = 0;
+            return Ok(Entry::Eof);
+        }
+        let alloc = *self.held.allocator();
+        let mut text = Vec::with_capacity(alloc, self.held.len() + closing.len())?;
+        text.extend_from_slice(self.held.as_slice())?;
+        text.extend_from_slice(closing)?;
+        self.held.clear();
+        self.ahead = 0;
+        Ok(Entry::Text(Text::from(text)))
+    }
+}

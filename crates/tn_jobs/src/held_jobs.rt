@@ -1,0 +1,189 @@
+//! The jobs that a terminal holds, by their numbers.
+
+ghost use Rattle.std.specs.Prelude.{◌≡◌, ◌+◌, ◌<◌, [], Some, None, true, false, IfOk, OnOk, IfErr, OnErr, IsSome, slice_set};
+ghost use Rattle.std.specs.Result.{result_err};
+ghost use Rattle.slab.specs.Slab.{get};
+ghost use Rattle.tn_jobs.specs.Jobs.{state_at, with_state, held, is_foreground, has_foreground, foreground_after, IsSound, Adds, add_fault, foreground_fault, background_fault, stopped_fault, done_fault};
+
+use crate::verdicts::{JobState, Why};
+use slab::Slab;
+use std::alloc::{AllocError, Global};
+use std::marker::Model;
+use thiserror::Error;
+
+/// A table never holds more jobs than this.
+pub const MOST_JOBS: usize = 16;
+
+/// The number of a held job. It may be given to another job once this one is done.
+#[derive(Clone, Copy, Debug, PartialEq, Eq)]
+pub struct JobId(pub usize);
+
+/// Why a table did not do as it was told.
+#[derive(Clone, Copy, Debug, PartialEq, Eq, Error)]
+pub enum JobFault {
+    #[error("there is no job of this number")]
+    NoSuchJob,
+    #[error("the job can't change from its state to this one")]
+    WrongState,
+    #[error("as many jobs as there may be are held already")]
+    Full,
+    #[error("out of memory")]
+    Memory,
+}
+
+/// The jobs of one terminal: at most sixteen, of which at most one is in the foreground.
+#[derive(Drop)]
+pub struct Table {
+    jobs: Slab<JobState>,
+    foreground: Option<usize>,
+}
+
+impl Model for Table {
+    ghost use Rattle.std.specs.Prelude.{List, Option};
+    ghost use Rattle.tn_jobs.specs.declared.verdicts.JobState.{JobState};
+    ghost use Rattle.tn_jobs.specs.Jobs.{IsSound, NamesForeground};
+
+    ghost Value = { List (Option JobState) };
+
+    ghost view = { λ table. table.jobs.slots };
+
+    ghost invariant = { λ table. IsSound table.jobs.slots × NamesForeground table.jobs.slots table.foreground };
+}
+
+impl Table {
+    /// A table with no job. It takes no memory until a job is added.
+    pub fn new(alloc: Global) -> Table
+        ensures { result ≡ [] }
+    {
+        Table {
+            jobs: Slab::new(alloc),
+            foreground: None,
+        }
+    }
+
+    /// Adds a job to the background, under a number that is free.
+    pub fn add(&mut self) -> Result<JobId, JobFault>
+        ensures adds { IfOk result (λ id. Adds self.old self.new id.0) }
+        ensures room { OnOk result (held self.old < 16) }
+        ensures fault { IfErr result (λ fault. fault ≡ add_fault self.old) }
+        ensures err { OnErr result (self.new ≡ self.old) }
+    {
+        if self.jobs.len() >= MOST_JOBS {
+            return Err(JobFault::Full);
+        }
+        match self.jobs.insert(JobState::Background) {
+            Ok(key) => Ok(JobId(key)),
+            Err(_) => Err(JobFault::Memory),
+        }
+    }
+
+    /// Brings a job to the foreground, where no job is there yet, this one included.
+    pub fn foreground(&mut self, id: JobId) -> Result<(), JobFault>
+        ensures fault { result_err result ≡ foreground_fault self.old id.0 }
+        ensures ok { OnOk result (self.new ≡ with_state self.old id.0 (Some JobState.Foreground)) }
+        ensures err { OnErr result (self.new ≡ self.old) }
+    {
+        match self.state(id) {
+            None => Err(JobFault::NoSuchJob),
+            Some(_) if self.has_foreground() => Err(JobFault::WrongState),
+            Some(_) => {
+                self.set(id, JobState::Foreground);
+                Ok(())
+            },
+        }
+    }
+
+    /// Lets a job go on in the background, from the foreground or from a stop.
+    pub fn background(&mut self, id: JobId) -> Result<(), JobFault>
+        ensures fault { result_err result ≡ background_fault self.old id.0 }
+        ensures ok { OnOk result (self.new ≡ with_state self.old id.0 (Some JobState.Background)) }
+        ensures err { OnErr result (self.new ≡ self.old) }
+    {
+        match self.state(id) {
+            None => Err(JobFault::NoSuchJob),
+            Some(JobState::Background) => Err(JobFault::WrongState),
+            Some(_) => {
+                self.set(id, JobState::Background);
+                Ok(())
+            },
+        }
+    }
+
+    /// Stops a job that runs.
+    pub fn stopped(&mut self, id: JobId, why: Why) -> Result<(), JobFault>
+        ensures fault { result_err result ≡ stopped_fault self.old id.0 }
+        ensures ok { OnOk result (self.new ≡ with_state self.old id.0 (Some (JobState.Stopped why))) }
+        ensures err { OnErr result (self.new ≡ self.old) }
+    {
+        match self.state(id) {
+            None => Err(JobFault::NoSuchJob),
+            Some(JobState::Stopped(_)) => Err(JobFault::WrongState),
+            Some(_) => {
+                self.set(id, JobState::Stopped(why));
+                Ok(())
+            },
+        }
+    }
+
+    /// Takes a job out, whatever its state, and frees its number.
+    pub fn done(&mut self, id: JobId) -> Result<(), JobFault>
+        ensures fault { result_err result ≡ done_fault self.old id.0 }
+        ensures ok { OnOk result (self.new ≡ with_state self.old id.0 None) }
+        ensures fewer { OnOk result (held self.new + 1 ≡ held self.old) }
+        ensures err { OnErr result (self.new ≡ self.old) }
+    {
+        let foreground = foreground_after(self.foreground, id.0, None);
+        match self.jobs.try_remove(id.0) {
+            None => Err(JobFault::NoSuchJob),
+            Some(_) => {
+                self.foreground = foreground;
+                Ok(())
+            },
+        }
+    }
+
+    /// The state of a job; `None` where no job has the number.
+    pub fn state(&self, id: JobId) -> Option<JobState>
+        ensures state { result ≡ state_at self.now id.0 }
+        ensures sound { IsSound self.now }
+    {
+        self.jobs.get(id.0).copied()
+    }
+
+    fn has_foreground(&self) -> bool
+        ensures { result ≡ has_foreground self.now }
+    {
+        self.foreground.is_some()
+    }
+
+    fn set(&mut self, id: JobId, state: JobState)
+        requires held { IsSome (state_at self.old id.0) }
+        requires one_foreground { is_foreground (Some state) ≡ true → has_foreground self.old ≡ false }
+        ensures { self.new ≡ with_state self.old id.0 (Some state) }
+    {
+        self.foreground = foreground_after(self.foreground, id.0, Some(state));
+        put(&mut self.jobs, id.0, state);
+    }
+}
+
+// The number of the foreground job once this number has this state.
+fn foreground_after(foreground: Option<usize>, id: usize, state: Option<JobState>) -> Option<usize>
+    ensures { result ≡ foreground_after foreground id state }
+{
+    if state == Some(JobState::Foreground) {
+        Some(id)
+    } else if foreground == Some(id) {
+        None
+    } else {
+        foreground
+    }
+}
+
+fn put(jobs: &mut Slab<JobState>, key: usize, state: JobState)
+    requires { IsSome (get jobs.old key) }
+    ensures slots { jobs.new.slots ≡ slice_set jobs.old.slots key (Some state) }
+{
+    if let Some(slot) = jobs.get_mut(key) {
+        *slot = state;
+    }
+}

@@ -1,0 +1,12 @@
+//! Jobs of a terminal: which one is in the foreground, and what becomes of a job that reads, writes,
+//! stops or ends.
+#![tactic(auto)]
+
+pub use held_jobs::{JobFault, JobId, MOST_JOBS, Table};
+pub use verdicts::{After, JobState, Verdict, Why, judge};
+
+mod held_jobs;
+pub mod laws;
+#[cfg(test)]
+mod tests;
+mod verdicts;

@@ -1,0 +1,62 @@
+//! What becomes of a job after each of its steps (POSIX.1-2017, XBD 11.1.4).
+
+ghost use Rattle.std.specs.Prelude.{◌≡◌};
+ghost use Rattle.tn_jobs.specs.Judging.{judged};
+
+/// What a job does next, after the text that it wrote.
+#[derive(Clone, Copy, Debug, PartialEq, Eq)]
+pub enum After {
+    /// It goes on.
+    Stay,
+    /// It reads from the terminal.
+    WantsInput,
+    /// It ends.
+    Done,
+    /// It stops itself, as at the signal of the SUSP character.
+    Stop,
+}
+
+/// Where a job stands.
+#[derive(Clone, Copy, Debug, PartialEq, Eq)]
+pub enum JobState {
+    Foreground,
+    Background,
+    Stopped(Why),
+    /// It is over: a state that a verdict names and that no held job has.
+    Ended,
+}
+
+/// The signal that stopped a job.
+#[derive(Clone, Copy, Debug, PartialEq, Eq)]
+pub enum Why {
+    /// It stopped itself.
+    Tstp,
+    /// It read from the background.
+    Ttin,
+    /// It wrote from the background while TOSTOP was set.
+    Ttou,
+}
+
+/// Whether a step's text reaches the terminal, and where the job stands after it.
+#[derive(Clone, Copy, Debug, PartialEq, Eq)]
+pub struct Verdict {
+    pub write: bool,
+    pub next: JobState,
+}
+
+/// Judges one step of a job: it wrote a text or none, and does something next. `tostop` is the
+/// terminal's flag. There is no verdict on a job that is stopped or has ended.
+pub fn judge(state: JobState, wrote: bool, after: After, tostop: bool) -> Option<Verdict>
+    ensures { result ≡ judged state wrote after tostop }
+{
+    let (write, next) = match (state, after) {
+        (JobState::Stopped(_), _) | (JobState::Ended, _) => return None,
+        (JobState::Background, _) if wrote && tostop => (false, JobState::Stopped(Why::Ttou)),
+        (JobState::Background, After::WantsInput) => (wrote, JobState::Stopped(Why::Ttin)),
+        (JobState::Foreground, After::WantsInput | After::Stay) => (wrote, JobState::Foreground),
+        (JobState::Background, After::Stay) => (wrote, JobState::Background),
+        (_, After::Stop) => (wrote, JobState::Stopped(Why::Tstp)),
+        (_, After::Done) => (wrote, JobState::Ended),
+    };
+    Some(Verdict { write, next })
+}

@@ -1,0 +1,4 @@
+pub mod Answering
+pub mod Taking
+pub mod Announcing
+pub mod Offers

@@ -1,0 +1,3 @@
+pub mod Modes
+pub mod Triples
+pub mod Exchange

@@ -1,0 +1,50 @@
+-- MODE of LINEMODE (RFC 1184, section 2.2). Its mask has EDIT as bit 1, TRAPSIG as bit 2 and MODE_ACK as bit 4.
+-- Of the others, SOFT_TAB and LIT_ECHO, neither end keeps any.
+use Rattle.std.specs.Prelude.{ℕ, ◌<◌, ◌==◌, Bool, not, ◌||◌, Option, Some, None, bit_and, bit_or, if◌then◌else◌}
+
+-- EDIT and TRAPSIG alone
+abbrev pub mode_of : ℕ → ℕ
+mode_of mask = bit_and mask 3
+
+abbrev pub is_acknowledged : ℕ → Bool
+is_acknowledged mask = not (bit_and mask 4 == 0)
+
+abbrev pub edits : ℕ → Bool
+edits mask = not (bit_and mask 1 == 0)
+
+-- a mask that has no other bit
+abbrev pub IsMode : ℕ → Type 0
+IsMode mask = mask < 4
+
+-- the server's two masks: the one that it asked for last, and the one that the client acknowledged last
+pub record Modes : Type 0 where
+  pub asked : ℕ
+  pub current : ℕ
+
+abbrev pub no_mode : Modes
+no_mode = record { asked = 0; current = 0 }
+
+-- what the server asked for last, once it has wished for a mask
+abbrev pub after_wish : Modes → ℕ → Modes
+after_wish m mask = record m { asked = mode_of mask }
+
+-- a wish is sent unless it was asked already
+abbrev pub sent_by_wish : Modes → ℕ → Option ℕ
+sent_by_wish m mask = if mode_of mask == m.asked then None else Some (mode_of mask)
+
+-- a mask that the client sends is in force once it acknowledges one
+abbrev pub after_mode : Modes → ℕ → Modes
+after_mode m mask = if is_acknowledged mask then record m { current = mode_of mask } else m
+
+-- any other mask of the client is its wish: to edit, or not to
+abbrev pub wished_by : ℕ → Option Bool
+wished_by mask = if is_acknowledged mask then None else Some (edits mask)
+
+-- the client changes its mask by one that the server asks for
+abbrev pub mode_after : ℕ → ℕ → ℕ
+mode_after current mask = if is_acknowledged mask then current else mode_of mask
+
+-- and acknowledges a mask that differs from its own
+abbrev pub mode_answer : ℕ → ℕ → Option ℕ
+mode_answer current mask =
+    if is_acknowledged mask || mode_of mask == current then None else Some (bit_or (mode_of mask) 4)

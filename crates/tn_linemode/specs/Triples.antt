@@ -1,0 +1,73 @@
+-- What one triple of a list of local characters says (RFC 1184, section 2.4): a function, a modifier and a character.
+use Rattle.std.specs.Prelude.{◌≡◌, ℕ, ◌==◌, Bool, true, false, not, Option, Some, None, find, bit_and, bit_or, if◌then◌else◌}
+use Rattle.tn_codes.specs.Codes.{func_code}
+use Rattle.tn_codes.specs.declared.codes.Func.{Func}
+use Rattle.tn_codes.specs.declared.codes.Level.{Level}
+use Rattle.tn_codes.specs.declared.codes.Level.TheVariants as level
+use Rattle.tn_codes.specs.declared.triples.Triple.{Triple}
+use Rattle.tn_discipline.specs.Characters.{slot, special_functions, standard_characters, is_settable, is_set_to}
+use Rattle.tn_linemode.specs.declared.triples.Saying.{Saying}
+use Rattle.tn_linemode.specs.declared.triples.Saying.TheVariants as saying
+
+-- the modifier has SLC_ACK
+abbrev pub has_ack : Triple → Bool
+has_ack t = not (bit_and t.flags 128 == 0)
+
+-- the two low bits of the modifier. Those of flushing, 64 and 32, say nothing here, nor do the others
+abbrev pub level_at : ℕ → Level
+level_at bits =
+    if bits == 0 then level.NoSupport else (if bits == 1 then level.CantChange else (if bits == 2 then level.Value else level.ByDefault))
+
+abbrev pub level_of : Triple → Level
+level_of t = level_at (bit_and t.flags 3)
+
+-- the function of a code, where it has a character
+abbrev pub special_at : ℕ → Option Func
+special_at code = find (λ f. func_code f == code) special_functions
+
+-- the character that a function with a character is to have: 255 disables it
+abbrev pub wanted : Func → Level → ℕ → Option ℕ
+wanted f level.NoSupport value = None
+wanted f level.CantChange value = if value == 255 then None else Some value
+wanted f level.Value value = if value == 255 then None else Some value
+wanted f level.ByDefault value = slot standard_characters f
+
+-- function 0 speaks of all: "use your standard characters and tell me yours", and "tell me yours"
+abbrev pub says_of_all : Level → Bool → Saying
+says_of_all level.NoSupport zero = saying.Nothing
+says_of_all level.CantChange zero = saying.Nothing
+says_of_all level.Value zero = if zero then saying.Table else saying.Nothing
+says_of_all level.ByDefault zero = if zero then saying.Standard else saying.Nothing
+
+abbrev pub says_of_other : Level → ℕ → Saying
+says_of_other level.NoSupport code = saying.Nothing
+says_of_other level.CantChange code = saying.Unsupported code
+says_of_other level.Value code = saying.Unsupported code
+says_of_other level.ByDefault code = saying.Unsupported code
+
+abbrev pub says_of : Option Func → Level → ℕ → ℕ → Saying
+says_of (Some f) l code value = saying.Character f (wanted f l value)
+says_of None l code value = says_of_other l code
+
+-- what a triple says
+abbrev pub says : Triple → Saying
+says t =
+    if t.func == 0 then says_of_all (level_of t) (t.value == 0) else says_of (special_at t.func) (level_of t) t.func t.value
+
+-- a function has no character
+abbrev pub unsupported : ℕ → Triple
+unsupported code = record { func = code; flags = 0; value = 0 }
+
+-- the plain triple by which a function has this character, at the level SLC_VALUE, or none
+abbrev pub triple_of : Func → Option ℕ → Triple
+triple_of f None = unsupported (func_code f)
+triple_of f (Some value) = record { func = func_code f; flags = 2; value = value }
+
+-- a triple as an acknowledgement
+abbrev pub acknowledging : Triple → Triple
+acknowledging t = record t { flags = bit_or t.flags 128 }
+
+-- what a triple can say of a function with a character: 255 is never its character
+pub record IsOffer (f : Func) (value : Option ℕ) : Type 0 where
+  pub settable : is_settable f ≡ true
+  pub no_escape : is_set_to value 255 ≡ false

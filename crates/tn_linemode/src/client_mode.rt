@@ -1,0 +1,64 @@
+//! The mode of LINEMODE at the client.
+
+ghost use Rattle.std.specs.Prelude.{◌≡◌};
+ghost use Rattle.tn_linemode.specs.Modes.{IsMode, mode_after, mode_answer};
+
+use crate::masks::{MODE_ACK, is_acknowledged, mode_of};
+use std::marker::Model;
+
+/// The client's side of MODE: the mask in force, of which it keeps EDIT and TRAPSIG alone.
+#[derive(Clone, Copy, Debug, PartialEq, Eq)]
+pub struct ClientMode {
+    current: u8,
+}
+
+impl Model for ClientMode {
+    ghost use Rattle.std.specs.Prelude.{ℕ};
+    ghost use Rattle.tn_linemode.specs.Modes.{IsMode};
+
+    ghost Value = { ℕ };
+
+    ghost view = { λ m. m.current };
+
+    ghost invariant = { λ m. IsMode m.current };
+
+    ghost inverse = { λ mask. record { current = mask } };
+}
+
+impl ClientMode {
+    /// No editing, and no signals as commands.
+    pub fn new() -> Self
+        ensures { result ≡ 0 }
+    {
+        ClientMode { current: 0 }
+    }
+
+    /// Takes a mask from the server, which acknowledges nothing, and answers the mask to send back
+    /// where the mode changed.
+    pub fn got(&mut self, mask: u8) -> Option<u8>
+        ensures mode { self.new ≡ mode_after self.old mask }
+        ensures answer { result ≡ mode_answer self.old mask }
+    {
+        let mode = mode_of(mask);
+        if is_acknowledged(mask) || mode == self.current {
+            return None;
+        }
+        self.current = mode;
+        Some(mode | MODE_ACK)
+    }
+
+    /// The mask in force.
+    pub fn current(&self) -> u8
+        ensures value { result ≡ self.now }
+        ensures mode { IsMode result }
+    {
+        self.current
+    }
+
+    /// LINEMODE went off.
+    pub fn reset(&mut self)
+        ensures { self.new ≡ 0 }
+    {
+        self.current = 0;
+    }
+}

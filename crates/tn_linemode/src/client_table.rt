@@ -1,0 +1,152 @@
+//! The table of local characters at the client.
+
+ghost use Rattle.std.specs.Prelude.{◌≡◌, ◌++◌, OnOk, OnErr, IfOk, None, Some, false, take, vec_len};
+ghost use Rattle.std.specs.Result.{result_err};
+ghost use Rattle.tn_discipline.specs.Characters.{with_slot, char_fault, standard_characters};
+ghost use Rattle.tn_linemode.specs.Triples.{triple_of, IsOffer};
+ghost use Rattle.tn_linemode.specs.Exchange.{without, is_line_end, client_takes, client_replies, client_next, client_answer, client_after, client_answers};
+
+use crate::triples::{
+    Saying, acknowledging, has_ack, push_answer, reading_of, triple_of, unsupported,
+};
+use std::alloc::AllocError;
+use std::marker::Model;
+use tn_codes::{Func, Triple};
+use tn_discipline::{CharFault, Chars};
+
+/// The special characters as the client has them. It takes what the server says, and acknowledges
+/// what that changed.
+#[derive(Clone, Copy, Debug, PartialEq, Eq)]
+pub struct ClientTable {
+    chars: Chars,
+}
+
+impl Model for ClientTable {
+    ghost use Rattle.tn_discipline.specs.Characters.{Characters};
+
+    ghost Value = { Characters };
+
+    ghost view = { λ t. t.chars };
+
+    ghost inverse = { λ c. record { chars = c } };
+}
+
+impl ClientTable {
+    /// The standard characters.
+    pub fn new() -> Self
+        ensures { result ≡ standard_characters }
+    {
+        ClientTable {
+            chars: Chars::standard(),
+        }
+    }
+
+    pub fn chars(&self) -> Chars
+        ensures { result ≡ self.now }
+    {
+        self.chars
+    }
+
+    /// Takes a list of triples from the server, and appends the answers to it.
+    pub fn got(&mut self, triples: &[Triple], answers: &mut Vec<Triple>) -> Result<(), AllocError>
+        ensures table { OnOk result (self.new ≡ client_after self.old triples.now) }
+        ensures answers { OnOk result (answers.new.items ≡ answers.old.items ++ client_answers self.old triples.now) }
+        ensures err { OnErr result (self.new ≡ self.old) }
+        ensures err_answers { OnErr result (answers.new.items ≡ answers.old.items) }
+    {
+        let answered = answers.len();
+        let mut table = *self;
+        if let Err(fault) = table.react_to_all(triples, answers) {
+            answers.truncate(answered);
+            return Err(fault);
+        }
+        *self = table;
+        Ok(())
+    }
+
+    /// The triple that proposes a character to the server, or none by `None`; it is refused where the
+    /// client's own table can't have that character. Nothing changes until the server acknowledges it.
+    pub fn propose(&self, func: Func, value: Option<u8>) -> Result<Triple, CharFault>
+        ensures fault { result_err result ≡ char_fault self.now func value }
+        ensures triple { IfOk result (λ triple. triple ≡ triple_of func value) }
+    {
+        let mut chars = self.chars;
+        chars.set(func, value)?;
+        Ok(triple_of(func, value))
+    }
+
+    // Takes a list of triples. After a refusal the answers begin as they did.
+    fn react_to_all(
+        &mut self,
+        triples: &[Triple],
+        answers: &mut Vec<Triple>,
+    ) -> Result<(), AllocError>
+        ensures table { OnOk result (self.new ≡ client_after self.old triples.now) }
+        ensures answers { OnOk result (answers.new.items ≡ answers.old.items ++ client_answers self.old triples.now) }
+        ensures err { OnErr result (take (vec_len answers.old) answers.new.items ≡ answers.old.items) }
+    {
+        for triple in triples {
+            let answer = self.react(*triple);
+            push_answer(answers, answer)?;
+        }
+        Ok(())
+    }
+
+    // Takes one triple, and answers it.
+    fn react(&mut self, triple: Triple) -> Option<Triple>
+        ensures table { self.new ≡ client_next self.old triple }
+        ensures answer { result ≡ client_answer self.old triple }
+    {
+        let answer = match reading_of(triple) {
+            Saying::Character(func, value) => self.told(func, value),
+            Saying::Unsupported(code) => Some(unsupported(code)),
+            Saying::Standard | Saying::Table | Saying::Nothing => None,
+        };
+        if has_ack(triple) { None } else { answer }
+    }
+
+    // Takes a character, and answers what changed.
+    fn told(&mut self, func: Func, value: Option<u8>) -> Option<Triple>
+        requires { IsOffer func value }
+        ensures table { self.new ≡ client_takes self.old (Saying.Character func value) }
+        ensures answer { result ≡ client_replies self.old (Saying.Character func value) }
+    {
+        if is_line_end(value) {
+            return None;
+        }
+        let present = self.chars.get(func);
+        self.free(value);
+        self.put(func, value);
+        if present == value {
+            None
+        } else {
+            Some(acknowledging(func, value))
+        }
+    }
+
+    // Disables the character that is this byte, where there is one.
+    fn free(&mut self, value: Option<u8>)
+        ensures { self.new ≡ without self.old value }
+    {
+        let Some(byte) = value else {
+            return;
+        };
+        if let Some(func) = self.chars.holder(byte) {
+            self.put(func, None);
+        }
+    }
+
+    // Changes a character that can be changed so.
+    fn put(&mut self, func: Func, value: Option<u8>)
+        requires { char_fault self.old func value ≡ None }
+        ensures { self.new ≡ with_slot self.old func value }
+    {
+        let _ = self.chars.set(func, value);
+    }
+}
+
+fn is_line_end(value: Option<u8>) -> bool
+    ensures { result ≡ is_line_end value }
+{
+    value == Some(b'\n') || value == Some(b'\r')
+}

@@ -1,0 +1,53 @@
+//! Laws of the exchange of local characters, over the definitions alone.
+
+ghost use Rattle.std.specs.Prelude.{◌≡◌, ◌≤◌, true, Some, List, [], length, bit_and};
+ghost use Rattle.std.specs.List.{list_all};
+ghost use Rattle.tn_codes.specs.Codes.{level_code};
+ghost use Rattle.tn_codes.specs.declared.triples.Triple.{Triple};
+ghost use Rattle.tn_discipline.specs.Characters.{Characters, AreAllowed};
+ghost use Rattle.tn_linemode.specs.Triples.{has_ack, level_of};
+ghost use Rattle.tn_linemode.specs.Exchange.{announcement, server_after, server_answers, client_after, client_answers, server_answer, client_answer, Answers};
+
+use tn_discipline::Chars;
+use tn_discipline::laws::accepted_characters;
+
+/// The level of a triple is that of the two low bits of its modifier.
+pub fn levels_are_two_bits()
+    ensures { (t : Triple) → level_code (level_of t) ≡ bit_and t.flags 3 }
+{}
+
+/// There are never more answers than triples came.
+pub fn answers_bounded()
+    ensures server { (c : Characters) (ts : List Triple) → length (server_answers c ts) ≤ length ts }
+    ensures client { (c : Characters) (ts : List Triple) → length (client_answers c ts) ≤ length ts }
+    ensures announcement { (c : Characters) → length (announcement c) ≡ 7 }
+{}
+
+/// At the server acknowledgements change nothing, and are not answered.
+pub fn acknowledgements_end_the_exchange()
+    ensures table { (c : Characters) (ts : List Triple) → list_all has_ack ts ≡ true → server_after c ts ≡ c }
+    ensures answers { (c : Characters) (ts : List Triple) → list_all has_ack ts ≡ true → server_answers c ts ≡ [] }
+{}
+
+/// A client that was sent the server's table has it, whatever it had before; the server keeps it at
+/// the client's answers, and the exchange ends there.
+pub fn announced_tables_agree()
+    ensures client { (c s : Characters) → AreAllowed s → client_after c (announcement s) ≡ s }
+    ensures server { (c s : Characters) → AreAllowed s → server_after s (client_answers c (announcement s)) ≡ s }
+    ensures silence { (c s : Characters) → AreAllowed s → server_answers s (client_answers c (announcement s)) ≡ [] }
+{}
+
+/// Tables stay such as a terminal can have, whatever the other end says.
+pub fn tables_stay_allowed()
+    ensures server { (c : Characters) (ts : List Triple) → AreAllowed c → AreAllowed (server_after c ts) }
+    ensures client { (c : Characters) (ts : List Triple) → AreAllowed c → AreAllowed (client_after c ts) }
+{
+    accepted_characters();
+    let _ = Chars::standard();
+}
+
+/// What is answered to a triple speaks of the same function.
+pub fn answers_name_their_function()
+    ensures server { (c : Characters) (t a : Triple) → AreAllowed c → server_answer c t ≡ Some a → Answers t a }
+    ensures client { (c : Characters) (t a : Triple) → client_answer c t ≡ Some a → Answers t a }
+{}

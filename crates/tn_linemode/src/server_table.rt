@@ -1,0 +1,141 @@
+//! The table of local characters at the server.
+
+ghost use Rattle.std.specs.Prelude.{◌≡◌, ◌++◌, OnOk, OnErr, IfOk, IfErr, None, Some, option_to_list, take, vec_len};
+ghost use Rattle.tn_discipline.specs.Characters.{with_slot, char_fault};
+ghost use Rattle.tn_linemode.specs.Exchange.{announcement, server_takes, server_replies, server_next, server_answer, asks_for_table, server_after, server_answers, server_is_asked};
+
+use crate::triples::{
+    Saying, acknowledging, has_ack, push_answer, reading_of, table_of, triple_of, unsupported,
+};
+use std::alloc::AllocError;
+use std::marker::Model;
+use tn_codes::{Func, Triple};
+use tn_discipline::{CharFault, Chars};
+
+/// The special characters as the server has them. The server decides: it takes a proposal of the
+/// client that its terminal allows, and acknowledges it.
+#[derive(Clone, Copy, Debug, PartialEq, Eq)]
+pub struct ServerTable {
+    chars: Chars,
+}
+
+impl Model for ServerTable {
+    ghost use Rattle.tn_discipline.specs.Characters.{Characters};
+
+    ghost Value = { Characters };
+
+    ghost view = { λ t. t.chars };
+
+    ghost inverse = { λ c. record { chars = c } };
+}
+
+impl ServerTable {
+    pub fn new(chars: Chars) -> Self
+        ensures { result ≡ chars }
+    {
+        ServerTable { chars }
+    }
+
+    pub fn chars(&self) -> Chars
+        ensures { result ≡ self.now }
+    {
+        self.chars
+    }
+
+    /// Changes the character of a function, or disables it by `None`; the client is not told by this.
+    pub fn set(&mut self, func: Func, value: Option<u8>) -> Result<(), CharFault>
+        ensures accepted { OnOk result (char_fault self.old func value ≡ None) }
+        ensures ok { OnOk result (self.new ≡ with_slot self.old func value) }
+        ensures fault { IfErr result (λ fault. char_fault self.old func value ≡ Some fault) }
+        ensures err { OnErr result (self.new ≡ self.old) }
+    {
+        self.chars.set(func, value)
+    }
+
+    /// Appends the whole table, which asks the client to take it.
+    pub fn announce(&self, triples: &mut Vec<Triple>) -> Result<(), AllocError>
+        ensures ok { OnOk result (triples.new.items ≡ triples.old.items ++ announcement self.now) }
+        ensures err { OnErr result (triples.new.items ≡ triples.old.items) }
+    {
+        let table = table_of(&self.chars);
+        triples.extend_from_slice(&table)
+    }
+
+    /// Takes a list of triples from the client, and appends the answers to it. Answers whether the
+    /// whole table is to be sent after them.
+    #[tactic(auto, unfolding(crate::specs::Exchange::server_is_asked))]
+    pub fn got(&mut self, triples: &[Triple], answers: &mut Vec<Triple>) -> Result<bool, AllocError>
+        ensures table { OnOk result (self.new ≡ server_after self.old triples.now) }
+        ensures answers { OnOk result (answers.new.items ≡ answers.old.items ++ server_answers self.old triples.now) }
+        ensures asked { IfOk result (λ asked. asked ≡ server_is_asked triples.now) }
+        ensures err { OnErr result (self.new ≡ self.old) }
+        ensures err_answers { OnErr result (answers.new.items ≡ answers.old.items) }
+    {
+        let answered = answers.len();
+        let mut table = *self;
+        if let Err(fault) = table.react_to_all(triples, answers) {
+            answers.truncate(answered);
+            return Err(fault);
+        }
+        *self = table;
+        Ok(triples.iter().any(|triple| asks_for_table(*triple)))
+    }
+
+    // Takes a list of triples. After a refusal the answers begin as they did.
+    fn react_to_all(
+        &mut self,
+        triples: &[Triple],
+        answers: &mut Vec<Triple>,
+    ) -> Result<(), AllocError>
+        ensures table { OnOk result (self.new ≡ server_after self.old triples.now) }
+        ensures answers { OnOk result (answers.new.items ≡ answers.old.items ++ server_answers self.old triples.now) }
+        ensures err { OnErr result (take (vec_len answers.old) answers.new.items ≡ answers.old.items) }
+    {
+        for triple in triples {
+            let answer = self.react(*triple);
+            push_answer(answers, answer)?;
+        }
+        Ok(())
+    }
+
+    // Takes one triple, and answers it.
+    fn react(&mut self, triple: Triple) -> Option<Triple>
+        ensures table { self.new ≡ server_next self.old triple }
+        ensures answer { result ≡ server_answer self.old triple }
+    {
+        if has_ack(triple) {
+            return None;
+        }
+        match reading_of(triple) {
+            Saying::Standard => {
+                self.chars = Chars::standard();
+                None
+            },
+            Saying::Character(func, value) => self.offered(func, value),
+            Saying::Unsupported(code) => Some(unsupported(code)),
+            Saying::Table | Saying::Nothing => None,
+        }
+    }
+
+    // Takes a character where it may have it.
+    fn offered(&mut self, func: Func, value: Option<u8>) -> Option<Triple>
+        ensures table { self.new ≡ server_takes self.old (Saying.Character func value) }
+        ensures answer { result ≡ server_replies self.old (Saying.Character func value) }
+    {
+        let present = self.chars.get(func);
+        let adopted = self.chars.set(func, value);
+        if present == value {
+            None
+        } else if adopted.is_ok() {
+            Some(acknowledging(func, value))
+        } else {
+            Some(triple_of(func, present))
+        }
+    }
+}
+
+fn asks_for_table(triple: Triple) -> bool
+    ensures { result ≡ asks_for_table triple }
+{
+    !has_ack(triple) && matches!(reading_of(triple), Saying::Standard | Saying::Table)
+}

@@ -1,0 +1,150 @@
+//! What one triple of a list of local characters says (RFC 1184, section 2.4).
+
+ghost use Rattle.std.specs.Prelude.{◌≡◌, ◌++◌, is_ok, option_to_list, if◌then◌else◌};
+ghost use Rattle.tn_linemode.specs.Triples.{has_ack, level_of, special_at, wanted, says, triple_of, acknowledging, unsupported};
+ghost use Rattle.tn_linemode.specs.Exchange.{announcement};
+
+use std::alloc::AllocError;
+use tn_codes::{Func, Level, Triple};
+use tn_discipline::{Chars, special_characters};
+
+/// The two low bits of a modifier, which are a level.
+const LEVEL_BITS: u8 = 3;
+
+/// The bit of a modifier that acknowledges a triple of the other end.
+const ACK: u8 = 128;
+
+/// What a triple says, be it an acknowledgement or not.
+#[derive(Clone, Copy, Debug, PartialEq, Eq)]
+pub enum Saying {
+    /// All functions are to have their standard characters, and the table is asked for.
+    Standard,
+    /// The table is asked for.
+    Table,
+    /// A function is to have this character, or none.
+    Character(Func, Option<u8>),
+    /// A function is named that has no character here.
+    Unsupported(u8),
+    Nothing,
+}
+
+macro_rules! functions {
+    ($($func:ident $name:ident [$($command:ident)?] = $standard:expr),*) => {
+        [$(Func::$func),*]
+    };
+}
+
+macro_rules! whole_table {
+    ($chars:expr, $($func:ident $name:ident [$($command:ident)?] = $standard:expr),*) => {
+        [$(triple_of(Func::$func, $chars.get(Func::$func))),*]
+    };
+}
+
+// The functions that have a character, in rising number.
+const SPECIAL: [Func; 7] = special_characters!(functions);
+
+pub fn has_ack(triple: Triple) -> bool
+    ensures { result ≡ has_ack triple }
+{
+    triple.flags & ACK != 0
+}
+
+fn level_of(triple: Triple) -> Level
+    ensures { result ≡ level_of triple }
+{
+    match triple.flags & LEVEL_BITS {
+        0 => Level::NoSupport,
+        1 => Level::CantChange,
+        2 => Level::Value,
+        _ => Level::ByDefault,
+    }
+}
+
+fn special_at(code: u8) -> Option<Func>
+    ensures { result ≡ special_at code }
+{
+    SPECIAL.iter().copied().find(|func| func.code() == code)
+}
+
+fn wanted(func: Func, level: Level, value: u8) -> Option<u8>
+    ensures { result ≡ wanted func level value }
+{
+    match level {
+        Level::NoSupport => None,
+        Level::ByDefault => Chars::standard().get(func),
+        Level::CantChange | Level::Value => { if value == 255 { None } else { Some(value) } },
+    }
+}
+
+/// What a triple says. The flush flags and the bits that no rule names say nothing.
+pub fn reading_of(triple: Triple) -> Saying
+    ensures { result ≡ says triple }
+{
+    let level = level_of(triple);
+    if triple.func == 0 {
+        return match level {
+            Level::ByDefault if triple.value == 0 => Saying::Standard,
+            Level::Value if triple.value == 0 => Saying::Table,
+            _ => Saying::Nothing,
+        };
+    }
+    match special_at(triple.func) {
+        Some(func) => Saying::Character(func, wanted(func, level, triple.value)),
+        None if level == Level::NoSupport => Saying::Nothing,
+        None => Saying::Unsupported(triple.func),
+    }
+}
+
+/// The triple that gives a function this character, or none.
+pub fn triple_of(func: Func, value: Option<u8>) -> Triple
+    ensures { result ≡ triple_of func value }
+{
+    match value {
+        Some(value) => Triple {
+            func: func.code(),
+            flags: Level::Value.code(),
+            value,
+        },
+        None => unsupported(func.code()),
+    }
+}
+
+/// The same triple as an acknowledgement.
+pub fn acknowledging(func: Func, value: Option<u8>) -> Triple
+    ensures { result ≡ acknowledging (triple_of func value) }
+{
+    let triple = triple_of(func, value);
+    Triple {
+        flags: triple.flags | ACK,
+        ..triple
+    }
+}
+
+/// The triple that says that a function has no character.
+pub fn unsupported(code: u8) -> Triple
+    ensures { result ≡ unsupported code }
+{
+    Triple {
+        func: code,
+        flags: Level::NoSupport.code(),
+        value: 0,
+    }
+}
+
+/// The whole table: a triple for each function that has a character, in rising number.
+#[tactic(auto, unfolding(crate::specs::Exchange::announcement))]
+pub fn table_of(chars: &Chars) -> [Triple; 7]
+    ensures { result ≡ announcement chars.now }
+{
+    special_characters!(whole_table, chars)
+}
+
+/// Appends an answer, where there is one.
+pub fn push_answer(answers: &mut Vec<Triple>, answer: Option<Triple>) -> Result<(), AllocError>
+    ensures { answers.new.items ≡ (if is_ok result then answers.old.items ++ option_to_list answer else answers.old.items) }
+{
+    if let Some(triple) = answer {
+        return Ok(answers.push(triple)?);
+    }
+    Ok(())
+}

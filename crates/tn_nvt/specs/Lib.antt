@@ -1,0 +1,4 @@
+pub mod Spelling
+pub mod Stream
+pub mod Standing
+pub mod Machine

@@ -1,0 +1,17 @@
+//! Reads and writes a Telnet stream as a list of items.
+#![tactic(auto)]
+
+pub use decoding::{Decoder, NvtFault};
+pub use items::Item;
+pub use parameters::Params;
+pub use writing::{put_byte, put_cmd, put_neg, put_newline, put_sub};
+
+mod bytes;
+mod decoding;
+mod items;
+pub mod laws;
+mod parameters;
+mod places;
+#[cfg(test)]
+mod tests;
+mod writing;

@@ -1,0 +1,3 @@
+pub mod QMethod
+pub mod Options
+pub mod Laws

@@ -1,0 +1,3 @@
+pub mod Terminal
+pub mod Typing
+pub mod Faults

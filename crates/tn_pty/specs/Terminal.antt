@@ -1,0 +1,59 @@
+-- A terminal, seen from outside: what is typed at its master, and what its slave reads and writes (pty(7)).
+use Rattle.std.specs.Prelude.{ℕ, ◌+◌, ◌-◌, min, nat_le, Bool, true, false, ◌&&◌, ◌==◌, Option, Some, None, List, [], ◌∷◌, ◌++◌, length, map, if◌then◌else◌}
+use Rattle.tn_discipline.specs.HalfLine.{HalfLine, empty_line}
+use Rattle.tn_discipline.specs.declared.termios.Flags.{Flags}
+use Rattle.tn_discipline.specs.declared.termios.Settings.{Settings}
+use Rattle.tn_discipline.specs.declared.reads.Sig.{Sig}
+use Rattle.tn_discipline.specs.declared.reads.Entry.{Entry}
+use Rattle.tn_discipline.specs.declared.reads.Entry.TheVariants as entry
+use Rattle.tn_discipline.specs.declared.echo.Symbol.{Symbol}
+use Rattle.tn_discipline.specs.declared.echo.Symbol.TheVariants.{Byte, Newline}
+
+-- the entries wait to be read, the first at the left, and the symbols to be pulled
+pub record Terminal : Type 0 where
+  pub settings : Settings
+  pub line : HalfLine
+  pub entries : List Entry
+  pub queue : List Symbol
+  pub width : ℕ
+  pub height : ℕ
+  pub closed : Bool
+
+-- a terminal at which nothing was typed
+abbrev pub fresh : Settings → Terminal
+fresh settings =
+    record { settings = settings; line = empty_line; entries = []; queue = []; width = 0; height = 0; closed = false }
+
+-- a terminal that takes no key and no command any more
+abbrev pub shut : Terminal → Terminal
+shut old = record old { closed = true }
+
+-- how many symbols wait at most
+abbrev pub queue_symbols : ℕ
+queue_symbols = 4096
+
+-- how many entries wait at most
+abbrev pub most_waiting : ℕ
+most_waiting = 1024
+
+-- the queue with these symbols behind it where all of them fit, else as it is
+abbrev pub fitted : List Symbol → List Symbol → List Symbol
+fitted queue symbols = if nat_le (length queue + length symbols) queue_symbols then queue ++ symbols else queue
+
+-- XBD 11.2.3, OPOST and ONLCR: how a byte of output is shown
+abbrev pub output : Flags → ℕ → Symbol
+output flags byte = if byte == 10 && (flags.opost && flags.onlcr) then Newline else Byte byte
+
+abbrev pub outputs : Flags → List ℕ → List Symbol
+outputs flags bytes = map (output flags) bytes
+
+-- how many of these bytes of output fit behind the queue
+abbrev pub fits : List Symbol → List ℕ → ℕ
+fits queue bytes = min (length bytes) (queue_symbols - length queue)
+
+-- the first signal among these entries
+abbrev pub first_signal : List Entry → Option Sig
+first_signal [] = None
+first_signal (entry.Signal sig ∷ entries) = Some sig
+first_signal (entry.Text bytes ∷ entries) = first_signal entries
+first_signal (entry.Eof ∷ entries) = first_signal entries

@@ -1,0 +1,66 @@
+-- What keys and commands do to a terminal.
+use Rattle.std.specs.Prelude.{ℕ, Bool, Option, Some, None, List, [], ◌∷◌, ◌++◌, if◌then◌else◌}
+use Rattle.tn_codes.specs.declared.codes.Command.{Command}
+use Rattle.tn_codes.specs.declared.codes.Command.TheVariants as command
+use Rattle.tn_discipline.specs.HalfLine.{HalfLine, effect_of, line_after, gained}
+use Rattle.tn_discipline.specs.Keys.{role_of_key}
+use Rattle.tn_discipline.specs.Echo.{echo_at}
+use Rattle.tn_discipline.specs.declared.termios.Settings.{Settings}
+use Rattle.tn_discipline.specs.declared.reads.Sig.TheVariants.{Int, Quit, Tstp}
+use Rattle.tn_discipline.specs.declared.reads.Entry.{Entry}
+use Rattle.tn_discipline.specs.declared.keys.Role.{Role}
+use Rattle.tn_discipline.specs.declared.keys.Role.TheVariants as role
+use Rattle.tn_discipline.specs.declared.echo.Symbol.{Symbol}
+use Rattle.tn_discipline.specs.declared.echo.Symbol.TheVariants.{Byte, Newline}
+use Rattle.tn_pty.specs.Terminal.{Terminal, fitted}
+
+-- the entries that a key of this role gives at this line
+abbrev pub gain_of : HalfLine → Role → List Entry
+gain_of line r = gained (effect_of line r)
+
+-- those of the symbols that are there
+abbrev pub present : List (Option Symbol) → List Symbol
+present [] = []
+present (None ∷ rest) = present rest
+present (Some symbol ∷ rest) = symbol ∷ present rest
+
+-- the echo of a key that comes at this line, where there is one
+abbrev pub echoed : Bool → Settings → ℕ → HalfLine → List Symbol
+echoed echo settings key line =
+    if echo then present (echo_at settings.flags (role_of_key settings key) (effect_of line (role_of_key settings key))) else []
+
+-- the terminal after a key or command of this role, which is answered by these symbols
+abbrev pub typed : Terminal → Role → List Symbol → Terminal
+typed old r symbols =
+    record old { line = line_after old.line r; entries = old.entries ++ gain_of old.line r; queue = fitted old.queue symbols }
+
+-- RFC 854 and RFC 1184, section 2: the key that a command stands for. BRK is an interrupt here; commands that
+-- stand for none change no line
+abbrev pub command_role : Command → Role
+command_role command.Eof = role.Eof
+command_role command.Susp = role.Signal Tstp
+command_role command.Abort = role.Signal Quit
+command_role command.Brk = role.Signal Int
+command_role command.Ip = role.Signal Int
+command_role command.Ec = role.Erase
+command_role command.El = role.Kill
+command_role command.Eor = role.Ignored
+command_role command.Nop = role.Ignored
+command_role command.Dm = role.Ignored
+command_role command.Ao = role.Ignored
+command_role command.Ayt = role.Ignored
+command_role command.Ga = role.Ignored
+
+-- AYT is answered by `[Yes]` and a new line, and no other command by anything
+abbrev pub command_shows : Command → List Symbol
+command_shows command.Ayt = Byte 91 ∷ Byte 89 ∷ Byte 101 ∷ Byte 115 ∷ Byte 93 ∷ Newline ∷ []
+command_shows _ = []
+
+-- the roles that commands stand for
+abbrev pub IsCommandRole : Role → Type 0
+IsCommandRole role.Eof = Unit {0}
+IsCommandRole (role.Signal sig) = Unit {0}
+IsCommandRole role.Erase = Unit {0}
+IsCommandRole role.Kill = Unit {0}
+IsCommandRole role.Ignored = Unit {0}
+IsCommandRole _ = ⊥

@@ -1,0 +1,396 @@
+ghost use Rattle.std.specs.Prelude.{◌≡◌, ◌+◌, ◌-◌, ◌<◌, ◌≤◌, true, None, [], ◌++◌, ◌∷◌, length, map, take, drop, min, IfOk, IfErr, IfNone, IfSome, OnOk, OnErr, slice_get, option_copied, count_by, is_some, vec_len, vec_capacity};
+ghost use Rattle.tn_discipline.specs.Keys.{roles_of, role_of_key, literal_role, roles_from};
+ghost use Rattle.tn_discipline.specs.HalfLine.{effect_of, line_after, gained, GivesText};
+ghost use Rattle.tn_discipline.specs.Leaves.{Advances};
+ghost use Rattle.tn_pty.specs.Terminal.{fresh, fitted, outputs, output, fits, shut, first_signal};
+ghost use Rattle.tn_pty.specs.Typing.{gain_of, present, echoed, typed, command_role, command_shows, IsCommandRole};
+ghost use Rattle.tn_pty.specs.Faults.{Accepts, Refuses};
+ghost use Rattle.circular_buffer.specs.Buffer.{buffer};
+
+use circular_buffer::HeapCircularBuffer;
+use std::alloc::{AllocError, Global};
+use std::marker::Model;
+use thiserror::Error;
+use tn_codes::Command;
+use tn_discipline::{
+    Chars, Effect, Entry, Flags, Line, Role, Settings, Sig, Symbol, echo_of, role_of,
+    role_of_literal,
+};
+
+/// How many symbols the output queue holds.
+const QUEUE_SYMBOLS: usize = 4096;
+
+/// How many entries may wait.
+const MOST_WAITING: usize = 1024;
+
+/// The answer to AYT.
+const YES: [Option<Symbol>; 6] = [
+    Some(Symbol::Byte(b'[')),
+    Some(Symbol::Byte(b'Y')),
+    Some(Symbol::Byte(b'e')),
+    Some(Symbol::Byte(b's')),
+    Some(Symbol::Byte(b']')),
+    Some(Symbol::Newline),
+];
+
+/// Why a key or a command had no effect.
+#[derive(Clone, Copy, Debug, PartialEq, Eq, Error)]
+pub enum PtyFault {
+    #[error("the slave is too far behind")]
+    TooFarAhead,
+    #[error("out of memory")]
+    Memory,
+    #[error("the pair takes no more keys")]
+    Closed,
+}
+
+/// A terminal between a master and a slave. The master types keys, edited bytes and commands, and
+/// pulls the symbols that are shown; the slave takes entries and writes output.
+#[derive(Drop)]
+pub struct Pair {
+    settings: Settings,
+    line: Line,
+    entries: HeapCircularBuffer<Entry>,
+    queue: HeapCircularBuffer<Symbol>,
+    width: u16,
+    height: u16,
+    closed: bool,
+}
+
+impl Model for Pair {
+    ghost use Rattle.std.specs.Prelude.{◌≡◌};
+    ghost use Rattle.tn_pty.specs.Terminal.{Terminal};
+
+    ghost Value = { Terminal };
+
+    ghost view = { λ p. record { settings = p.settings; line = p.line; entries = p.entries.items; queue = p.queue.items; width = p.width; height = p.height; closed = p.closed } };
+
+    ghost invariant = { λ p. (p.queue.capacity ≡ 4096) × (p.entries.capacity ≡ 1024) };
+}
+
+impl Pair {
+    /// A pair at which nothing was typed, of size (0, 0). It makes the room for all that it will
+    /// ever hold but the texts.
+    pub fn new(alloc: Global, settings: Settings) -> Result<Pair, AllocError>
+        ensures { IfOk result (λ pair. pair ≡ fresh settings) }
+    {
+        Ok(Pair {
+            settings,
+            line: Line::new(alloc)?,
+            entries: HeapCircularBuffer::with_capacity(alloc, MOST_WAITING)?,
+            queue: HeapCircularBuffer::with_capacity(alloc, QUEUE_SYMBOLS)?,
+            width: 0,
+            height: 0,
+            closed: false,
+        })
+    }
+
+    /// The master types a key, which is shown where `echo` is true. An echo that doesn't fit whole
+    /// into the queue is dropped whole. After any fault the pair is closed.
+    pub fn raw_key(&mut self, key: u8, echo: bool) -> Result<(), PtyFault>
+        // Whatever keys led to this half line, the entries gain what this key adds.
+        ensures advances { OnOk result (Advances self.old.line (roles_of self.old.settings (key ∷ [])) (gain_of self.old.line (role_of_key self.old.settings key)) self.new.line) }
+        ensures pair { OnOk result (self.new ≡ typed self.old (role_of_key self.old.settings key) (echoed echo self.old.settings key self.old.line)) }
+        ensures accepted { OnOk result (Accepts self.old (role_of_key self.old.settings key)) }
+        ensures refused { IfErr result (λ fault. Refuses self.old (role_of_key self.old.settings key) fault self.new) }
+    {
+        let settings = self.settings;
+        if let Some(fault) = self.refusal(role_of(&settings, key)) {
+            return Err(self.close(fault));
+        }
+        match self.line.key(&settings, key) {
+            Ok(effect) => {
+                let shown = echo_of(&effect, key, &settings);
+                self.keep(effect);
+                if echo {
+                    self.show(&shown);
+                }
+                Ok(())
+            },
+            Err(_) => Err(self.close(PtyFault::Memory)),
+        }
+    }
+
+    /// The master types a byte of a line that was edited before it came. Nothing is shown.
+    pub fn edited_byte(&mut self, byte: u8) -> Result<(), PtyFault>
+        ensures advances { OnOk result (Advances self.old.line (literal_role self.old.settings.chars byte ∷ []) (gain_of self.old.line (literal_role self.old.settings.chars byte)) self.new.line) }
+        ensures pair { OnOk result (self.new ≡ typed self.old (literal_role self.old.settings.chars byte) []) }
+        ensures accepted { OnOk result (Accepts self.old (literal_role self.old.settings.chars byte)) }
+        ensures refused { IfErr result (λ fault. Refuses self.old (literal_role self.old.settings.chars byte) fault self.new) }
+    {
+        let settings = self.settings;
+        if let Some(fault) = self.refusal(role_of_literal(&settings, byte)) {
+            return Err(self.close(fault));
+        }
+        match self.line.literal(&settings, byte) {
+            Ok(effect) => {
+                self.keep(effect);
+                Ok(())
+            },
+            Err(_) => Err(self.close(PtyFault::Memory)),
+        }
+    }
+
+    /// The master gives a command. AYT is answered where the answer fits whole into the queue, and
+    /// nothing else is shown.
+    pub fn command(&mut self, command: Command) -> Result<(), PtyFault>
+        ensures advances { OnOk result (Advances self.old.line (roles_from (command_role command)) (gain_of self.old.line (command_role command)) self.new.line) }
+        ensures pair { OnOk result (self.new ≡ typed self.old (command_role command) (command_shows command)) }
+        ensures accepted { OnOk result (Accepts self.old (command_role command)) }
+        ensures refused { IfErr result (λ fault. Refuses self.old (command_role command) fault self.new) }
+    {
+        let role = role_of_command(command);
+        if let Some(fault) = self.refusal(role) {
+            return Err(self.close(fault));
+        }
+        match self.act(role) {
+            Ok(effect) => {
+                self.keep(effect);
+                self.show(answer_to(command));
+                Ok(())
+            },
+            Err(_) => Err(self.close(PtyFault::Memory)),
+        }
+    }
+
+    /// The master moves the first symbols into `out`, at most `max`. It answers how many they are.
+    pub fn pull(&mut self, max: usize, out: &mut Vec<Symbol>) -> Result<usize, AllocError>
+        ensures count { IfOk result (λ n. n ≡ min max (length self.old.queue)) }
+        ensures out { IfOk result (λ n. out.new.items ≡ out.old.items ++ take n self.old.queue) }
+        ensures pair { IfOk result (λ n. self.new ≡ record self.old { queue = drop n self.old.queue }) }
+        ensures err { OnErr result ((self.new ≡ self.old) × (out.new.items ≡ out.old.items)) }
+    {
+        let count = max.min(self.queue.len());
+        out.reserve(count)?;
+        move_front(&mut self.queue, count, out);
+        Ok(count)
+    }
+
+    /// How many symbols wait to be pulled.
+    pub fn queued(&self) -> usize
+        ensures value { result ≡ length self.now.queue }
+        ensures within { result ≤ 4096 }
+    {
+        self.queue.len()
+    }
+
+    /// The master tells the size of its window, in columns and rows.
+    pub fn resize(&mut self, width: u16, height: u16)
+        ensures { self.new ≡ record self.old { width = width; height = height } }
+    {
+        self.width = width;
+        self.height = height;
+    }
+
+    /// The half line that was typed.
+    pub fn half(&self) -> &[u8]
+        ensures { result.now ≡ self.now.line.held }
+    {
+        self.line.held()
+    }
+
+    /// The slave takes the first of the entries that wait.
+    pub fn take(&mut self) -> Option<Entry>
+        ensures none { IfNone result ((self.old.entries ≡ []) × (self.new ≡ self.old)) }
+        ensures some { IfSome result (λ entry. self.old.entries ≡ entry ∷ self.new.entries) }
+        ensures rest { self.new ≡ record self.old { entries = self.new.entries } }
+    {
+        self.entries.pop_front()
+    }
+
+    /// An entry that waits, counted from the first, which is 0.
+    pub fn waiting(&self, index: usize) -> Option<&Entry>
+        ensures { option_copied result ≡ slice_get self.now.entries index }
+    {
+        self.entries.get(index)
+    }
+
+    /// The first signal among the entries that wait.
+    pub fn signal_waiting(&self) -> Option<Sig>
+        ensures { result ≡ first_signal self.now.entries }
+    {
+        for entry in self.entries.iter() {
+            if let Entry::Signal(sig) = entry {
+                return Some(*sig);
+            }
+        }
+        None
+    }
+
+    /// The slave writes output. Its first bytes are taken, as many as symbols fit.
+    pub fn write(&mut self, bytes: &[u8]) -> usize
+        ensures count { result ≡ fits self.old.queue bytes.now }
+        ensures pair { self.new ≡ record self.old { queue = self.old.queue ++ outputs self.old.settings.flags (take result bytes.now) } }
+    {
+        let flags = self.settings.flags;
+        let count = bytes.len().min(QUEUE_SYMBOLS - self.queue.len());
+        put_bytes(&mut self.queue, &flags, &bytes[..count]);
+        count
+    }
+
+    /// The size of the window, in columns and rows, as it was told last.
+    pub fn size(&self) -> (u16, u16)
+        ensures { result ≡ (self.now.width, self.now.height) }
+    {
+        (self.width, self.height)
+    }
+
+    /// The settings, as they were set last.
+    pub fn settings(&self) -> Settings
+        ensures { result ≡ self.now.settings }
+    {
+        self.settings
+    }
+
+    /// Sets the flags for all that is typed and written from now on.
+    pub fn set_flags(&mut self, flags: Flags)
+        ensures { self.new ≡ record self.old { settings = record { flags = flags; chars = self.old.settings.chars } } }
+    {
+        self.settings.flags = flags;
+    }
+
+    /// Sets the special characters for all that is typed from now on.
+    pub fn set_chars(&mut self, chars: Chars)
+        ensures { self.new ≡ record self.old { settings = record { flags = self.old.settings.flags; chars = chars } } }
+    {
+        self.settings.chars = chars;
+    }
+
+    // Why a key of this role is refused, before any memory is looked for.
+    fn refusal(&self, role: Role) -> Option<PtyFault>
+        ensures none { IfNone result (Accepts self.now role) }
+        ensures some { IfSome result (λ fault. Refuses self.now role fault (shut self.now)) }
+        ensures within { length self.now.entries ≤ 1024 }
+    {
+        let is_full = self.entries.len() >= MOST_WAITING;
+        if self.closed {
+            return Some(PtyFault::Closed);
+        }
+        if is_full && role.gives_entry() {
+            return Some(PtyFault::TooFarAhead);
+        }
+        None
+    }
+
+    // No key and no command has an effect from now on.
+    fn close(&mut self, fault: PtyFault) -> PtyFault
+        ensures pair { self.new ≡ shut self.old }
+        ensures fault { result ≡ fault }
+    {
+        self.closed = true;
+        fault
+    }
+
+    // What a command of this role does to the line.
+    fn act(&mut self, role: Role) -> Result<Effect, AllocError>
+        requires { IsCommandRole role }
+        ensures effect { IfOk result (λ effect. effect ≡ effect_of self.old.line role) }
+        ensures line { OnOk result (self.new ≡ record self.old { line = line_after self.old.line role }) }
+        ensures only_a_text { OnErr result (GivesText self.old.line role) }
+        ensures err { OnErr result (self.new ≡ self.old) }
+    {
+        match role {
+            Role::Eof => self.line.end_of_file(),
+            Role::Erase => Ok(self.line.erase()),
+            Role::Kill => Ok(self.line.kill()),
+            Role::Signal(sig) => Ok(Effect::Gives(Entry::Signal(sig))),
+            _ => Ok(Effect::Nothing),
+        }
+    }
+
+    // Puts those of the symbols that are there into the queue, or none where they don't all fit.
+    #[tactic(auto, using(crate::proofs::Shown::count_present))]
+    fn show(&mut self, symbols: &[Option<Symbol>])
+        ensures { self.new ≡ record self.old { queue = fitted self.old.queue (present symbols.now) } }
+    {
+        if count_present(symbols) <= QUEUE_SYMBOLS - self.queue.len() {
+            put_present(&mut self.queue, symbols);
+        }
+    }
+
+    // Puts the entry of an effect behind those that wait.
+    fn keep(&mut self, effect: Effect)
+        requires { length self.old.entries + length (gained effect) ≤ 1024 }
+        ensures { self.new ≡ record self.old { entries = self.old.entries ++ gained effect } }
+    {
+        if let Effect::Gives(entry) = effect {
+            let _room = self.entries.try_push_back(entry);
+        }
+    }
+}
+
+fn role_of_command(command: Command) -> Role
+    ensures value { result ≡ command_role command }
+    ensures role { IsCommandRole result }
+{
+    match command {
+        Command::Eof => Role::Eof,
+        Command::Susp => Role::Signal(Sig::Tstp),
+        Command::Abort => Role::Signal(Sig::Quit),
+        Command::Brk | Command::Ip => Role::Signal(Sig::Int),
+        Command::Ec => Role::Erase,
+        Command::El => Role::Kill,
+        _ => Role::Ignored,
+    }
+}
+
+fn answer_to(command: Command) -> &'static [Option<Symbol>]
+    ensures { present result.now ≡ command_shows command }
+{
+    match command {
+        Command::Ayt => &YES,
+        _ => &[],
+    }
+}
+
+fn count_present(symbols: &[Option<Symbol>]) -> usize
+    ensures { result ≡ count_by (λ symbol. is_some symbol) symbols.now }
+{
+    symbols.iter().filter(|symbol| symbol.is_some()).count()
+}
+
+// Puts those of the symbols that are there into a queue that has room.
+fn put_present(queue: &mut HeapCircularBuffer<Symbol>, symbols: &[Option<Symbol>])
+    requires { length queue.old.items + length (present symbols.now) ≤ queue.old.capacity }
+    ensures { queue.new ≡ buffer (queue.old.items ++ present symbols.now) queue.old.capacity }
+{
+    for symbol in symbols {
+        if let Some(symbol) = symbol {
+            let _room = queue.try_push_back(*symbol);
+        }
+    }
+}
+
+// Puts the bytes into a queue that has room.
+fn put_bytes(queue: &mut HeapCircularBuffer<Symbol>, flags: &Flags, bytes: &[u8])
+    requires { length queue.old.items + length bytes.now ≤ queue.old.capacity }
+    ensures { queue.new ≡ buffer (queue.old.items ++ outputs flags.now bytes.now) queue.old.capacity }
+{
+    for byte in bytes {
+        let _room = queue.try_push_back(symbol_of(flags, *byte));
+    }
+}
+
+fn symbol_of(flags: &Flags, byte: u8) -> Symbol
+    ensures { result ≡ output flags.now byte }
+{
+    if byte == b'\n' && flags.opost && flags.onlcr {
+        Symbol::Newline
+    } else {
+        Symbol::Byte(byte)
+    }
+}
+
+// Moves the first symbols of a queue into a vector that has room.
+fn move_front(queue: &mut HeapCircularBuffer<Symbol>, count: usize, out: &mut Vec<Symbol>)
+    requires enough { count ≤ length queue.old.items }
+    requires room { vec_len out.old + count ≤ vec_capacity out.old }
+    ensures out { out.new.items ≡ out.old.items ++ take count queue.old.items }
+    ensures queue { queue.new ≡ buffer (drop count queue.old.items) queue.old.capacity }
+{
+    for _i in 0..count {
+        if let Some(symbol) = queue.pop_front() {
+            out.push_reserved(symbol);
+        }
+    }
+}
