@@ -12,10 +12,12 @@ use crate::payloads::{FORWARDMASK, MODE, Payload, SLC};
 use crate::triples::Triple;
 use std::alloc::AllocError;
 
-/// Appends the parameters that say a payload, no byte among them doubled; at most 170 triples.
+/// Appends the parameters that say a payload, no byte among them doubled. They fit one
+/// subnegotiation.
 pub fn write_payload(payload: &Payload, out: &mut Vec<u8>) -> Result<(), AllocError>
     requires { IsShort payload.now }
     ensures ok { OnOk result (out.new.items ≡ out.old.items ++ written payload.now) }
+    ensures short { OnOk result (length (written payload.now) ≤ 511) }
     ensures err { OnErr result (out.new.items ≡ out.old.items) }
     ensures full { OnErr result
         (vec_capacity out.old < vec_len out.old + length (written payload.now)) }
@@ -70,6 +72,7 @@ fn write_triples(triples: &[Triple], out: &mut Vec<u8>) -> Result<(), AllocError
     requires { length triples.now ≤ 170 }
     ensures ok { OnOk result
         (out.new.items ≡ out.old.items ++ slc ∷ flat_map octets_of triples.now) }
+    ensures short { OnOk result (length (slc ∷ flat_map octets_of triples.now) ≤ 511) }
     ensures err { OnErr result (out.new.items ≡ out.old.items) }
     ensures full { OnErr result
         (vec_capacity out.old < vec_len out.old + length (slc ∷ flat_map octets_of triples.now)) }

@@ -1,0 +1,5 @@
+pub mod Histories
+pub mod Listing
+pub mod Cutting
+pub mod Standings
+pub mod Gathering

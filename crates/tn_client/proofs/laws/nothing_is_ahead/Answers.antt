@@ -1,0 +1,8 @@
+use Rattle.tn_client.proofs.Histories.{ahead-none, held-all}
+use Rattle.tn_client.proofs.laws.nothing_is_ahead.Goals as goal
+
+pub returns-clause-ahead : goal.returns-clause-ahead
+returns-clause-ahead c = ahead-none
+
+pub returns-clause-held : goal.returns-clause-held
+returns-clause-held c = held-all

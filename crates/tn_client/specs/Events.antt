@@ -1,0 +1,32 @@
+-- What happens at a client end: keys are typed, items come, the window changes, and characters are proposed.
+use Rattle.std.specs.Prelude.{ℕ, Option, List, [], ◌∷◌, ◌++◌}
+use Rattle.tn_codes.specs.declared.codes.Func.{Func}
+use Rattle.tn_nvt.specs.declared.items.Item.{Item}
+
+pub data Event : Type 0 where
+  typed : ℕ → Event
+  got : Item → Event
+  resized : ℕ → ℕ → Event
+  proposed : Func → Option ℕ → Event
+
+-- what has happened since the end was started with a window of this size, the latest at the right
+pub data History : Type 0 where
+  begun : ℕ → ℕ → History
+  next : History → Event → History
+
+-- the items alone
+abbrev pub items : History → List Item
+items (begun width height) = []
+items (next h (got item)) = items h ++ item ∷ []
+items (next h _) = items h
+
+-- the keys alone
+abbrev pub keys : History → List ℕ
+keys (begun width height) = []
+keys (next h (typed key)) = keys h ++ key ∷ []
+keys (next h _) = keys h
+
+-- these items came, one after another
+abbrev pub gets : History → List Item → History
+gets h [] = h
+gets h (item ∷ rest) = gets (next h (got item)) rest

@@ -1,0 +1,53 @@
+-- The half line that is edited at a client end, and its two parts.
+use Rattle.std.specs.Prelude.{ℕ, min, ◌==◌, Bool, not, ◌&&◌, List, [], ◌++◌, length, drop, bit_and, if◌then◌else◌}
+use Rattle.tn_discipline.specs.Characters.{Characters}
+use Rattle.tn_discipline.specs.Keys.{standard_flags, role_of_key, roles_from}
+use Rattle.tn_discipline.specs.Entries.{half_of}
+use Rattle.tn_discipline.specs.HalfLine.{HalfLine}
+use Rattle.tn_discipline.specs.declared.keys.Role.{Role}
+use Rattle.tn_discipline.specs.declared.termios.Settings.{Settings}
+use Rattle.tn_linemode.specs.Modes.{edits}
+use Rattle.tn_client.specs.Events.{typed, got, History, begun, next}
+use Rattle.tn_client.specs.Terms.{mode, chars}
+
+-- RFC 1184, section 2.2: TRAPSIG of a mask
+abbrev pub traps : ℕ → Bool
+traps mask = not (bit_and mask 2 == 0)
+
+-- the settings that a client has its keys by: a carriage return ends the line as a line feed does, the characters are
+-- those of its table, and ISIG is TRAPSIG
+abbrev pub settings : ℕ → Characters → Settings
+settings mask c = record { flags = record standard_flags { isig = traps mask }; chars = c }
+
+abbrev pub role_of_typed : ℕ → Characters → ℕ → Role
+role_of_typed mask c key = role_of_key (settings mask c) key
+
+-- the role of a key at this client
+abbrev pub role_at : History → ℕ → Role
+role_at h key = role_of_typed (mode h) (chars h) key
+
+-- the roles of the keys that were typed since EDIT began, each by the mode and the characters that it met
+abbrev pub edited : History → List Role
+edited (begun width height) = []
+edited (next h (typed key)) = if edits (mode h) then edited h ++ roles_from (role_at h key) else []
+edited (next h (got item)) = if edits (mode h) && edits (mode (next h (got item))) then edited h else []
+edited (next h _) = edited h
+
+-- the half line, whichever end has its bytes
+abbrev pub half_line : History → List ℕ
+half_line h = half_of (edited h)
+
+-- How much of it was sent before it was closed: the least length that it has had since a byte of the forward mask sent
+-- all of it. No forward mask is taken, so nothing is sent before.
+abbrev pub ahead : History → ℕ
+ahead (begun width height) = 0
+ahead (next h (typed key)) = min (ahead h) (length (half_line (next h (typed key))))
+ahead (next h (got item)) = if edits (mode h) && edits (mode (next h (got item))) then ahead h else 0
+ahead (next h _) = ahead h
+
+-- what the client holds of it
+abbrev pub held : History → List ℕ
+held h = drop (ahead h) (half_line h)
+
+abbrev pub line : History → HalfLine
+line h = record { held = held h; ahead = ahead h }

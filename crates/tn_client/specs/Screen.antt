@@ -1,0 +1,63 @@
+-- What a client end shows on its screen.
+use Rattle.std.specs.Prelude.{ℕ, Bool, true, false, ◌||◌, ◌==◌, Option, Some, None, List, [], ◌∷◌, ◌++◌, if◌then◌else◌}
+use Rattle.std.specs.List.{flat_map}
+use Rattle.tn_discipline.specs.Echo.{echo_at}
+use Rattle.tn_discipline.specs.HalfLine.{HalfLine, effect_of}
+use Rattle.tn_discipline.specs.declared.keys.Role.{Role}
+use Rattle.tn_discipline.specs.declared.echo.Symbol.{Symbol}
+use Rattle.tn_discipline.specs.declared.echo.Symbol.TheVariants as symbol
+use Rattle.tn_discipline.specs.declared.termios.Settings.{Settings}
+use Rattle.tn_linemode.specs.Modes.{edits}
+use Rattle.tn_nvt.specs.declared.items.Item.{Item}
+use Rattle.tn_nvt.specs.declared.items.Item.TheVariants.{Byte, Newline}
+use Rattle.tn_client.specs.Events.{Event, typed, got, resized, proposed, History, begun, next}
+use Rattle.tn_client.specs.Terms.{options, mode, chars, is_echoed}
+use Rattle.tn_client.specs.Lines.{settings, role_at, line}
+
+abbrev pub new_line : List ℕ
+new_line = 13 ∷ 10 ∷ []
+
+abbrev pub on_screen : Option Symbol → List ℕ
+on_screen None = []
+on_screen (Some (symbol.Byte byte)) = byte ∷ []
+on_screen (Some symbol.Newline) = new_line
+
+-- the echo of a key without EDIT: both bytes that end a line are a new line
+abbrev pub echoed_raw : ℕ → List ℕ
+echoed_raw key = if key == 10 || key == 13 then new_line else (key ∷ [])
+
+-- the echo of a key with EDIT, as a terminal's
+abbrev pub echoed_edited : Settings → Role → HalfLine → List ℕ
+echoed_edited s r l = flat_map on_screen (echo_at s.flags r (effect_of l r))
+
+-- a key is echoed here where the server does not echo
+abbrev pub passed_shown : Bool → ℕ → List ℕ
+passed_shown true key = []
+passed_shown false key = echoed_raw key
+
+abbrev pub edited_shown : Bool → Settings → Role → HalfLine → List ℕ
+edited_shown true s r l = []
+edited_shown false s r l = echoed_edited s r l
+
+abbrev pub key_shown : Bool → Bool → Settings → Role → HalfLine → ℕ → List ℕ
+key_shown echo true s r l key = edited_shown echo s r l
+key_shown echo false s r l key = passed_shown echo key
+
+-- what the server wrote
+abbrev pub item_shown : Item → List ℕ
+item_shown (Byte byte) = byte ∷ []
+item_shown Newline = new_line
+item_shown _ = []
+
+-- what an event shows
+abbrev pub shows : History → Event → List ℕ
+shows h (typed key) =
+    key_shown (is_echoed (options h)) (edits (mode h)) (settings (mode h) (chars h)) (role_at h key) (line h) key
+shows h (got item) = item_shown item
+shows h (resized width height) = []
+shows h (proposed func value) = []
+
+-- what was shown
+abbrev pub shown : History → List ℕ
+shown (begun width height) = []
+shown (next h e) = shown h ++ shows h e

@@ -1,0 +1,88 @@
+-- What a client end has agreed on with its server: options, special characters and the mode of editing.
+use Rattle.std.specs.Prelude.{ℕ, Bool, true, false, not, ◌&&◌, ◌==◌, nat_le, length, Option, Some, None, [], ◌∷◌, if◌then◌else◌}
+use Rattle.tn_codes.specs.PayloadOf.{payload_of}
+use Rattle.tn_codes.specs.declared.payloads.Payload.{Payload}
+use Rattle.tn_codes.specs.declared.payloads.Payload.TheVariants.{Mode, Slc}
+use Rattle.tn_discipline.specs.Characters.{Characters, standard_characters}
+use Rattle.tn_linemode.specs.Modes.{mode_after}
+use Rattle.tn_linemode.specs.Exchange.{client_after}
+use Rattle.tn_nvt.specs.declared.items.Item.{Item}
+use Rattle.tn_nvt.specs.declared.items.Item.TheVariants.{Neg, Sub}
+use Rattle.tn_option.specs.Options.{Options, fresh, after_word, state_of, is_yes}
+use Rattle.tn_option.specs.declared.negotiation.Agree.{Agree}
+use Rattle.tn_option.specs.declared.q_method.Side.TheVariants.{Us, Them}
+use Rattle.tn_client.specs.Events.{got, resized, History, begun, next}
+
+-- the client's own SUPPRESS-GO-AHEAD, NAWS and LINEMODE are agreed to, and the server's ECHO and SUPPRESS-GO-AHEAD
+abbrev pub agree : Agree
+agree =
+    record { us = false ∷ true ∷ true ∷ true ∷ []; them = true ∷ true ∷ false ∷ false ∷ [] }
+
+abbrev pub linemode : Options → Bool
+linemode o = is_yes (state_of o Us 34)
+
+-- the client tells its window's size (RFC 1073)
+abbrev pub tells_size : Options → Bool
+tells_size o = is_yes (state_of o Us 31)
+
+-- the server echoes (RFC 857)
+abbrev pub is_echoed : Options → Bool
+is_echoed o = is_yes (state_of o Them 1)
+
+-- RFC 855: the payload of LINEMODE that an item brings, where LINEMODE is on. No subnegotiation of a stream has more
+-- than 512 parameters
+abbrev pub payload_at : Options → Item → Option Payload
+payload_at o (Sub option params) =
+    if (option == 34) && (linemode o && nat_le (length params) 512) then payload_of option params else None
+payload_at o _ = None
+
+-- the options after an item
+abbrev pub heard : Options → Item → Options
+heard o (Neg verb option) = after_word o verb option
+heard o _ = o
+
+-- the client starts no word
+abbrev pub options : History → Options
+options (begun width height) = fresh agree
+options (next h (got item)) = heard (options h) item
+options (next h _) = options h
+
+abbrev pub differ : Bool → Bool → Bool
+differ true b = not b
+differ false b = b
+
+-- LINEMODE came on or went off
+abbrev pub changes : Options → Options → Bool
+changes old new = differ (linemode old) (linemode new)
+
+-- RFC 1184, section 2.2: the client takes a mask that acknowledges nothing
+abbrev pub mode_by : ℕ → Option Payload → ℕ
+mode_by mode (Some (Mode mask)) = mode_after mode mask
+mode_by mode _ = mode
+
+-- the mask after an item: LINEMODE begins and ends without one
+abbrev pub mode_at : Options → ℕ → Item → ℕ
+mode_at o mode (Neg verb option) = if changes o (after_word o verb option) then 0 else mode
+mode_at o mode (Sub option params) = mode_by mode (payload_at o (Sub option params))
+mode_at o mode _ = mode
+
+abbrev pub mode : History → ℕ
+mode (begun width height) = 0
+mode (next h (got item)) = mode_at (options h) (mode h) item
+mode (next h _) = mode h
+
+abbrev pub chars_by : Characters → Option Payload → Characters
+chars_by c (Some (Slc triples)) = client_after c triples
+chars_by c _ = c
+
+-- the characters in force: the standard ones, changed by each list of the server
+abbrev pub chars : History → Characters
+chars (begun width height) = standard_characters
+chars (next h (got item)) = chars_by (chars h) (payload_at (options h) item)
+chars (next h _) = chars h
+
+-- the window's size: its width and its height
+abbrev pub size : History → ℕ × ℕ
+size (begun width height) = (width, height)
+size (next h (resized width height)) = (width, height)
+size (next h _) = size h

@@ -1,0 +1,269 @@
+//! The client end: the calls that its owner makes.
+
+ghost use Rattle.std.specs.Prelude.{◌≡◌, ◌++◌, ◌∷◌, ℕ, List, true, false, None, [], length, take, IfOk, IfErr, OnOk, OnErr, IsErrOf};
+ghost use Rattle.tn_linemode.specs.Triples.{triple_of};
+ghost use Rattle.tn_nvt.specs.Standing.{HasRead};
+ghost use Rattle.tn_option.specs.Options.{state_of};
+ghost use Rattle.tn_client.specs.Events.{History, begun, next, typed, resized, proposed};
+ghost use Rattle.tn_client.specs.Terms.{options, mode, chars};
+ghost use Rattle.tn_client.specs.Lines.{held, ahead};
+ghost use Rattle.tn_client.specs.Replies.{listed};
+ghost use Rattle.tn_client.specs.Standing.{Stands, Goes, Sends, Shows, Feeds, Breaks, call_fault, propose_fault, IsFault};
+ghost use Rattle.tn_client.specs.Steps.{after_resize, says_resize};
+
+use crate::faults::ClientFault;
+use crate::sending::{put_list, put_size};
+use std::alloc::{AllocError, Global};
+use std::marker::Model;
+use tn_codes::{Func, Triple};
+use tn_discipline::{Chars, Line};
+use tn_linemode::{ClientMode, ClientTable};
+use tn_nvt::Decoder;
+use tn_option::{Agree, Engine, LINEMODE, NAWS, QState, Side};
+
+/// The client end of one connection. Its owner types keys and feeds it what comes from the network,
+/// sends what is appended to `out`, and shows what is appended to `screen`.
+#[derive(Drop)]
+pub struct ClientEnd {
+    pub(crate) alloc: Global,
+    pub(crate) decoder: Decoder,
+    pub(crate) options: Engine,
+    pub(crate) mode: ClientMode,
+    pub(crate) table: ClientTable,
+    pub(crate) line: Line,
+    pub(crate) width: u16,
+    pub(crate) height: u16,
+    pub(crate) failed: bool,
+}
+
+impl Model for ClientEnd {
+    ghost use Rattle.tn_client.specs.Standing.{End};
+
+    ghost Value = { End };
+
+    ghost view = { λ e. record { decoder = e.decoder; options = e.options; mode = e.mode; table = e.table; line = e.line; width = e.width; height = e.height; failed = e.failed } };
+}
+
+impl ClientEnd {
+    /// Starts an end whose window has this size, in characters; 0 where a side is not known. It
+    /// writes nothing by itself: the server speaks first.
+    pub fn start(alloc: Global, width: u16, height: u16) -> Result<ClientEnd, ClientFault>
+        ensures stands { IfOk result (λ end. Stands (begun width height) end) }
+        ensures reads { IfOk result (λ end. HasRead end.decoder [] []) }
+        ensures runs { IfOk result (λ end. end.failed ≡ false) }
+        ensures fault { IfErr result (λ fault. fault ≡ ClientFault.Memory) }
+    {
+        let line = match Line::new(alloc) {
+            Ok(line) => line,
+            Err(_) => return Err(ClientFault::Memory),
+        };
+        Ok(ClientEnd {
+            alloc,
+            decoder: Decoder::new(alloc),
+            options: Engine::new(Agree {
+                us: [false, true, true, true],
+                them: [true, true, false, false],
+            }),
+            mode: ClientMode::new(),
+            table: ClientTable::new(),
+            line,
+            width,
+            height,
+            failed: false,
+        })
+    }
+
+    /// Types a key. Its echo, where the server does not echo, is appended to `screen`.
+    pub fn key(
+        &mut self,
+        key: u8,
+        out: &mut Vec<u8>,
+        screen: &mut Vec<u8>,
+    ) -> Result<(), ClientFault>
+        ensures goes { OnOk result (Goes self.old (typed key) self.new) }
+        ensures sends { OnOk result (Sends self.old (typed key) out.old.items out.new.items) }
+        ensures shows { OnOk result (Shows self.old (typed key) screen.old.items screen.new.items) }
+
+        ensures accepted { OnOk result (call_fault self.old ≡ None) }
+        ensures fault { IfErr result (IsFault (call_fault self.old)) }
+        ensures err { OnErr result (self.new ≡ self.old) }
+        ensures err_out { OnErr result (out.new.items ≡ out.old.items) }
+        ensures err_screen { OnErr result (screen.new.items ≡ screen.old.items) }
+    {
+        if self.failed {
+            return Err(ClientFault::Failed);
+        }
+        let sent = out.len();
+        match self.type_key(key, out, screen) {
+            Ok(()) => Ok(()),
+            Err(_) => {
+                out.truncate(sent);
+                Err(ClientFault::Memory)
+            },
+        }
+    }
+
+    /// Takes bytes that came from the server, cut anywhere. After `Memory` the end has failed.
+    pub fn feed(
+        &mut self,
+        piece: &[u8],
+        out: &mut Vec<u8>,
+        screen: &mut Vec<u8>,
+    ) -> Result<(), ClientFault>
+        ensures feeds { OnOk result (Feeds self.old piece.now out.old.items out.new.items screen.old.items screen.new.items self.new) }
+
+        ensures accepted { OnOk result (call_fault self.old ≡ None) }
+        ensures fault { IfErr result (IsFault (call_fault self.old)) }
+
+        // A front of what the items say and show is there.
+        ensures memory { IsErrOf result ClientFault.Memory → Breaks self.old piece.now out.old.items out.new.items screen.old.items screen.new.items }
+        ensures err { OnErr result (self.new.failed ≡ true) }
+
+        ensures failed { IsErrOf result ClientFault.Failed → self.new ≡ self.old }
+        ensures failed_out { IsErrOf result ClientFault.Failed → out.new.items ≡ out.old.items }
+        ensures failed_screen { IsErrOf result ClientFault.Failed → screen.new.items ≡ screen.old.items }
+    {
+        if self.failed {
+            return Err(ClientFault::Failed);
+        }
+        let mut items = Vec::new(self.alloc);
+        let decoded = self.decoder.feed(piece, &mut items);
+        match self.items(items, out, screen) {
+            Ok(()) => match decoded {
+                Ok(()) => Ok(()),
+                Err(_) => {
+                    self.failed = true;
+                    Err(ClientFault::Memory)
+                },
+            },
+            Err(_) => {
+                self.failed = true;
+                Err(ClientFault::Memory)
+            },
+        }
+    }
+
+    /// Takes a new size of the window, in characters, and tells it where NAWS is on and it changed.
+    pub fn resize(&mut self, width: u16, height: u16, out: &mut Vec<u8>) -> Result<(), ClientFault>
+        ensures goes { OnOk result (Goes self.old (resized width height) self.new) }
+        ensures sends { OnOk result (Sends self.old (resized width height) out.old.items out.new.items) }
+
+        ensures accepted { OnOk result (call_fault self.old ≡ None) }
+        ensures fault { IfErr result (IsFault (call_fault self.old)) }
+        ensures err { OnErr result (self.new ≡ self.old) }
+        ensures err_out { OnErr result (out.new.items ≡ out.old.items) }
+    {
+        if self.failed {
+            return Err(ClientFault::Failed);
+        }
+        match self.set_size(width, height, out) {
+            Ok(()) => Ok(()),
+            Err(_) => Err(ClientFault::Memory),
+        }
+    }
+
+    fn set_size(&mut self, width: u16, height: u16, out: &mut Vec<u8>) -> Result<(), AllocError>
+        ensures ok { OnOk result (self.new ≡ after_resize self.old width height) }
+        ensures out { OnOk result (out.new.items ≡ out.old.items ++ says_resize self.old width height) }
+        ensures err { OnErr result (self.new ≡ self.old) }
+        ensures err_out { OnErr result (out.new.items ≡ out.old.items) }
+    {
+        let is_new = width != self.width || height != self.height;
+        if self.options.is_on(Side::Us, NAWS) && is_new {
+            put_size(width, height, out)?;
+            self.width = width;
+            self.height = height;
+            return Ok(());
+        }
+        self.width = width;
+        self.height = height;
+        Ok(())
+    }
+
+    /// Proposes a special character to the server, or none by `None`. Nothing changes here until the
+    /// server agrees.
+    pub fn propose(
+        &mut self,
+        func: Func,
+        value: Option<u8>,
+        out: &mut Vec<u8>,
+    ) -> Result<(), ClientFault>
+        ensures goes { OnOk result (Goes self.old (proposed func value) self.new) }
+        ensures sends { OnOk result (Sends self.old (proposed func value) out.old.items out.new.items) }
+
+        ensures accepted { OnOk result (propose_fault self.old func value ≡ None) }
+        ensures fault { IfErr result (IsFault (propose_fault self.old func value)) }
+        ensures err { OnErr result (self.new ≡ self.old) }
+        ensures err_out { OnErr result (out.new.items ≡ out.old.items) }
+    {
+        if self.failed {
+            return Err(ClientFault::Failed);
+        }
+        if !self.options.is_on(Side::Us, LINEMODE) {
+            return Err(ClientFault::NotOn);
+        }
+        match self.table.propose(func, value) {
+            Err(fault) => Err(ClientFault::Char(fault)),
+            Ok(triple) => match self.put_triple(triple, out) {
+                Ok(()) => Ok(()),
+                Err(_) => Err(ClientFault::Memory),
+            },
+        }
+    }
+
+    fn put_triple(&self, triple: Triple, out: &mut Vec<u8>) -> Result<(), AllocError>
+        ensures ok { OnOk result (out.new.items ≡ out.old.items ++ listed (triple ∷ [])) }
+        ensures err { OnErr result (out.new.items ≡ out.old.items) }
+    {
+        let mut triples = Vec::new(self.alloc);
+        triples.push(triple)?;
+        put_list(self.alloc, triples, out)
+    }
+
+    /// The mask in force: EDIT and TRAPSIG (RFC 1184, section 2.2).
+    pub fn mode(&self) -> u8
+        ensures value { result ≡ self.now.mode }
+        ensures stands { (h : History) → Stands h self.now → result ≡ mode h }
+    {
+        self.mode.current()
+    }
+
+    /// The bytes of the half line that are held here.
+    pub fn half(&self) -> &[u8]
+        ensures value { result.now ≡ self.now.line.held }
+        ensures stands { (h : History) → Stands h self.now → result.now ≡ held h }
+    {
+        self.line.held()
+    }
+
+    /// How many bytes of the half line were sent before those that are held.
+    pub fn ahead(&self) -> u16
+        ensures value { result ≡ self.now.line.ahead }
+        ensures stands { (h : History) → Stands h self.now → result ≡ ahead h }
+    {
+        self.line.ahead()
+    }
+
+    /// The special characters in force.
+    pub fn chars(&self) -> Chars
+        ensures value { result ≡ self.now.table }
+        ensures stands { (h : History) → Stands h self.now → result ≡ chars h }
+    {
+        self.table.chars()
+    }
+
+    /// Where an option stands; `No` for each that no end knows.
+    pub fn option(&self, side: Side, option: u8) -> QState
+        ensures value { result ≡ state_of self.now.options side option }
+        ensures stands { (h : History) → Stands h self.now → result ≡ state_of (options h) side option }
+    {
+        self.options.q_state(side, option)
+    }
+
+    /// Whether a call of `feed` was refused for want of memory.
+    pub fn failed(&self) -> bool
+        ensures { result ≡ self.now.failed }
+    {
+        self.failed
+    }
+}

@@ -1,0 +1,196 @@
+//! What a client end does with an item that came.
+
+ghost use Rattle.std.specs.Prelude.{◌≡◌, ◌≤◌, ◌++◌, ◌∷◌, true, false, Some, None, [], length, if◌then◌else◌, IfOk, IfSome, OnOk, OnErr};
+ghost use Rattle.tn_codes.specs.Payloads.{IsShort};
+ghost use Rattle.tn_codes.specs.declared.payloads.Payload.TheVariants as payload;
+ghost use Rattle.tn_nvt.specs.declared.items.Item.TheVariants as item;
+ghost use Rattle.tn_client.specs.Events.{got};
+ghost use Rattle.tn_client.specs.Terms.{changes, tells_size, payload_at};
+ghost use Rattle.tn_client.specs.Replies.{size_told_on, payload_answered};
+ghost use Rattle.tn_client.specs.Screen.{item_shown};
+ghost use Rattle.tn_client.specs.Standing.{Gets, Stops};
+ghost use Rattle.tn_client.specs.Steps.{Cuts, with_mode, says_mode, after_got, says_got, after_sub, says_sub};
+
+use crate::end::ClientEnd;
+use crate::screen::{show_byte, show_new_line};
+use crate::sending::{put_bytes, put_list, put_mode, put_no_mask, put_size, put_word};
+use std::alloc::AllocError;
+use tn_codes::{Payload, PayloadFault, Triples, Verb, read_payload};
+use tn_linemode::{ClientMode, EDIT};
+use tn_nvt::{Item, Params};
+use tn_option::{Engine, LINEMODE, NAWS, Side};
+
+/// How many parameters a subnegotiation of a stream has at most.
+const MOST_PARAMS: usize = 512;
+
+impl ClientEnd {
+    pub(crate) fn items(
+        &mut self,
+        items: Vec<Item>,
+        out: &mut Vec<u8>,
+        screen: &mut Vec<u8>,
+    ) -> Result<(), AllocError>
+        ensures ok { OnOk result (Gets self.old items.items out.old.items out.new.items screen.old.items screen.new.items self.new) }
+        ensures front { Stops self.old items.items out.old.items out.new.items screen.old.items screen.new.items }
+    {
+        for item in items {
+            self.item(item, out, screen)?;
+        }
+        Ok(())
+    }
+
+    // After a refusal the end is not used again.
+    fn item(
+        &mut self,
+        item: Item,
+        out: &mut Vec<u8>,
+        screen: &mut Vec<u8>,
+    ) -> Result<(), AllocError>
+        ensures ok { OnOk result (self.new ≡ after_got self.old item) }
+        ensures out { OnOk result (out.new.items ≡ out.old.items ++ says_got self.old item) }
+        ensures screen { OnOk result (screen.new.items ≡ screen.old.items ++ item_shown item) }
+        ensures cut { OnErr result (Cuts (says_got self.old item) out.old.items out.new.items) }
+        ensures err { OnErr result (screen.new.items ≡ screen.old.items) }
+    {
+        match item {
+            Item::Byte(byte) => show_byte(byte, screen),
+            Item::Newline => show_new_line(screen),
+            Item::Cmd(_) => Ok(()),
+            Item::Neg(verb, option) => self.word(verb, option, out),
+            Item::Sub(option, params) => self.subnegotiation(option, &params, out),
+        }
+    }
+
+    // Sends what is held, where EDIT ends with this mode.
+    fn put_held(&self, mode: ClientMode, out: &mut Vec<u8>) -> Result<(), AllocError>
+        ensures ok { OnOk result (out.new.items ≡ out.old.items ++ says_mode self.now mode) }
+        ensures err { OnErr result (out.new.items ≡ out.old.items) }
+    {
+        if self.mode.current() & EDIT != 0 && mode.current() & EDIT == 0 {
+            return put_bytes(self.line.held(), out);
+        }
+        Ok(())
+    }
+
+    // Takes a mode, after what is held was sent.
+    fn set_mode(&mut self, mode: ClientMode)
+        ensures { self.new ≡ with_mode self.old mode }
+    {
+        if self.mode.current() & EDIT != 0 && mode.current() & EDIT == 0 {
+            let _effect = self.line.kill();
+        }
+        self.mode = mode;
+    }
+
+    // An option word: it is answered, and what follows from it is said.
+    fn word(&mut self, verb: Verb, option: u8, out: &mut Vec<u8>) -> Result<(), AllocError>
+        ensures ok { OnOk result (self.new ≡ after_got self.old (item.Neg verb option)) }
+        ensures out { OnOk result (out.new.items ≡ out.old.items ++ says_got self.old (item.Neg verb option)) }
+        ensures cut { OnErr result (Cuts (says_got self.old (item.Neg verb option)) out.old.items out.new.items) }
+    {
+        let mut options = self.options;
+        let said = options.got(verb, option);
+        let mode = self.mode_with(&options);
+        self.put_held(mode, out)?;
+        put_word(said, out)?;
+        self.put_size_on(options.is_on(Side::Us, NAWS), out)?;
+        self.options = options;
+        self.set_mode(mode);
+        Ok(())
+    }
+
+    // The mode once the options are these: LINEMODE begins and ends without one.
+    fn mode_with(&self, options: &Engine) -> ClientMode
+        ensures { result ≡ (if changes self.now.options options.now then 0 else self.now.mode) }
+    {
+        let mut mode = self.mode;
+        if self.options.is_on(Side::Us, LINEMODE) != options.is_on(Side::Us, LINEMODE) {
+            mode.reset();
+        }
+        mode
+    }
+
+    // Tells the size where NAWS came on.
+    fn put_size_on(&self, is_on: bool, out: &mut Vec<u8>) -> Result<(), AllocError>
+        ensures ok { OnOk result (out.new.items ≡ out.old.items ++ size_told_on (tells_size self.now.options) is_on (self.now.width, self.now.height)) }
+        ensures err { OnErr result (out.new.items ≡ out.old.items) }
+    {
+        if is_on && !self.options.is_on(Side::Us, NAWS) {
+            return put_size(self.width, self.height, out);
+        }
+        Ok(())
+    }
+
+    fn subnegotiation(
+        &mut self,
+        option: u8,
+        params: &Params,
+        out: &mut Vec<u8>,
+    ) -> Result<(), AllocError>
+        ensures ok { OnOk result (self.new ≡ after_sub self.old (payload_at self.old.options (item.Sub option params.now))) }
+        ensures out { OnOk result (out.new.items ≡ out.old.items ++ says_sub self.old (payload_at self.old.options (item.Sub option params.now))) }
+        ensures cut { OnErr result (Cuts (says_sub self.old (payload_at self.old.options (item.Sub option params.now))) out.old.items out.new.items) }
+    {
+        match self.payload(option, params)? {
+            Some(Payload::Mode(mask)) => self.mode_got(mask, out),
+            Some(Payload::Slc(triples)) => self.list(&triples, out),
+            Some(Payload::ForwardOn(_) | Payload::ForwardOff) => put_no_mask(out),
+            Some(
+                Payload::Naws {
+                    width: _,
+                    height: _,
+                }
+                | Payload::ForwardYes
+                | Payload::ForwardNo,
+            )
+            | None => Ok(()),
+        }
+    }
+
+    // What a subnegotiation says to this end, where LINEMODE is on.
+    fn payload(&self, option: u8, params: &Params) -> Result<Option<Payload>, AllocError>
+        ensures value { IfOk result (λ payload. payload ≡ payload_at self.now.options (item.Sub option params.now)) }
+        ensures short { IfOk result (λ payload. IfSome payload IsShort) }
+    {
+        if option != LINEMODE
+            || !self.options.is_on(Side::Us, LINEMODE)
+            || params.len() > MOST_PARAMS
+        {
+            return Ok(None);
+        }
+        match read_payload(self.alloc, option, params.as_slice()) {
+            Ok(payload) => Ok(Some(payload)),
+            Err(PayloadFault::Memory) => Err(AllocError),
+            Err(_) => Ok(None),
+        }
+    }
+
+    // A MODE of the server.
+    fn mode_got(&mut self, mask: u8, out: &mut Vec<u8>) -> Result<(), AllocError>
+        ensures ok { OnOk result (self.new ≡ after_sub self.old (Some (payload.Mode mask))) }
+        ensures out { OnOk result (out.new.items ≡ out.old.items ++ says_sub self.old (Some (payload.Mode mask))) }
+        ensures cut { OnErr result (Cuts (says_sub self.old (Some (payload.Mode mask))) out.old.items out.new.items) }
+    {
+        let mut mode = self.mode;
+        let answer = mode.got(mask);
+        self.put_held(mode, out)?;
+        put_mode(answer, out)?;
+        self.set_mode(mode);
+        Ok(())
+    }
+
+    // A list of local characters: the answers in one list.
+    fn list(&mut self, triples: &Triples, out: &mut Vec<u8>) -> Result<(), AllocError>
+        requires { length triples.now ≤ 170 }
+        ensures ok { OnOk result (self.new ≡ after_sub self.old (Some (payload.Slc triples.now))) }
+        ensures out { OnOk result (out.new.items ≡ out.old.items ++ says_sub self.old (Some (payload.Slc triples.now))) }
+        ensures cut { OnErr result (Cuts (says_sub self.old (Some (payload.Slc triples.now))) out.old.items out.new.items) }
+    {
+        let mut table = self.table;
+        let mut answers = Vec::new(self.alloc);
+        table.got(triples.as_slice(), &mut answers)?;
+        put_list(self.alloc, answers, out)?;
+        self.table = table;
+        Ok(())
+    }
+}

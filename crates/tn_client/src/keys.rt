@@ -1,0 +1,91 @@
+//! What a client end does with a key.
+
+ghost use Rattle.std.specs.Prelude.{◌≡◌, ◌++◌, OnOk, OnErr};
+ghost use Rattle.tn_client.specs.Lines.{settings};
+ghost use Rattle.tn_client.specs.Terms.{is_echoed};
+ghost use Rattle.tn_client.specs.Replies.{sent_raw, sent_edited};
+ghost use Rattle.tn_client.specs.Screen.{passed_shown, edited_shown};
+ghost use Rattle.tn_discipline.specs.HalfLine.{line_after};
+ghost use Rattle.tn_client.specs.Steps.{role_now, after_key, says_key, shows_key, Begins};
+
+use crate::end::ClientEnd;
+use crate::screen::{echo_raw, make_room, show_all};
+use crate::sending::{put_edited, put_raw};
+use std::alloc::AllocError;
+use tn_discipline::{Settings, echo_of, role_of};
+use tn_linemode::{EDIT, TRAPSIG};
+use tn_option::{ECHO, Side};
+
+impl ClientEnd {
+    // The settings that give a key its role.
+    fn settings(&self) -> Settings
+        ensures { result ≡ settings self.now.mode self.now.table }
+    {
+        let mut settings = Settings::standard();
+        settings.flags.isig = self.mode.current() & TRAPSIG != 0;
+        settings.chars = self.table.chars();
+        settings
+    }
+
+    // The server echoes.
+    fn is_echoed(&self) -> bool
+        ensures { result ≡ is_echoed self.now.options }
+    {
+        self.options.is_on(Side::Them, ECHO)
+    }
+
+    /// Types a key. After a refusal what was sent and shown begins as it did.
+    pub(crate) fn type_key(
+        &mut self,
+        key: u8,
+        out: &mut Vec<u8>,
+        screen: &mut Vec<u8>,
+    ) -> Result<(), AllocError>
+        ensures ok { OnOk result (self.new ≡ after_key self.old key) }
+        ensures out { OnOk result (out.new.items ≡ out.old.items ++ says_key self.old key) }
+        ensures screen { OnOk result (screen.new.items ≡ screen.old.items ++ shows_key self.old key) }
+        ensures err { OnErr result (self.new ≡ self.old) }
+        ensures err_out { OnErr result (Begins out.old.items out.new.items) }
+        ensures err_screen { OnErr result (screen.new.items ≡ screen.old.items) }
+    {
+        if self.mode.current() & EDIT != 0 {
+            self.edit(key, out, screen)
+        } else {
+            self.pass(key, out, screen)
+        }
+    }
+
+    // A key that is sent at once.
+    fn pass(&self, key: u8, out: &mut Vec<u8>, screen: &mut Vec<u8>) -> Result<(), AllocError>
+        ensures out { OnOk result (out.new.items ≡ out.old.items ++ sent_raw (role_now self.now key) key) }
+        ensures screen { OnOk result (screen.new.items ≡ screen.old.items ++ passed_shown (is_echoed self.now.options) key) }
+        ensures err_out { OnErr result (Begins out.old.items out.new.items) }
+        ensures err_screen { OnErr result (screen.new.items ≡ screen.old.items) }
+    {
+        put_raw(role_of(&self.settings(), key), key, out)?;
+        if self.is_echoed() {
+            return Ok(());
+        }
+        echo_raw(key, screen)
+    }
+
+    // A key of the line that is edited here.
+    fn edit(&mut self, key: u8, out: &mut Vec<u8>, screen: &mut Vec<u8>) -> Result<(), AllocError>
+        ensures ok { OnOk result (self.new ≡ record self.old { line = line_after self.old.line (role_now self.old key) }) }
+        ensures out { OnOk result (out.new.items ≡ out.old.items ++ sent_edited (role_now self.old key) self.old.line) }
+        ensures screen { OnOk result (screen.new.items ≡ screen.old.items ++ edited_shown (is_echoed self.old.options) (settings self.old.mode self.old.table) (role_now self.old key) self.old.line) }
+        ensures err { OnErr result (self.new ≡ self.old) }
+        ensures err_out { OnErr result (Begins out.old.items out.new.items) }
+        ensures err_screen { OnErr result (screen.new.items ≡ screen.old.items) }
+    {
+        let settings = self.settings();
+        let echo = !self.is_echoed();
+        make_room(echo, screen)?;
+        put_edited(role_of(&settings, key), &self.line, out)?;
+        let effect = self.line.key(&settings, key)?;
+        if echo {
+            show_all(&echo_of(&effect, key, &settings), screen);
+        }
+        Ok(())
+    }
+}

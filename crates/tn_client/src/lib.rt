@@ -1,0 +1,17 @@
+//! The client end of a Telnet connection, which edits lines where its server asks for that.
+#![tactic(auto)]
+
+pub use end::ClientEnd;
+pub use faults::ClientFault;
+
+mod end;
+mod faults;
+mod items;
+mod keys;
+pub mod laws;
+#[cfg(test)]
+mod plain;
+mod screen;
+mod sending;
+#[cfg(test)]
+mod tests;

@@ -1,0 +1,314 @@
+-- Where the owner's calls lead.
+use Rattle.std.proofs.Common.{◌≡◌, ℕ, ◌+◌, nat_lt, Bool, true, false, not, ◌&&◌, ◌||◌, Option, Some, None, is_some, List, [], ◌∷◌, ◌++◌, length, take, drop, refl, sym, ap, ◌∙◌, subst, arith, append-nil, append_assoc, length-append, if◌then◌else◌}
+use Rattle.std.specs.List.{flat_map}
+use Rattle.tn_codes.specs.declared.codes.Func.{Func}
+use Rattle.tn_linemode.specs.Exchange.{is_same_value}
+use Rattle.std.proofs.lemmas.Bool.{lt-ltb, le-ltb}
+use Rattle.std.proofs.Math.Seq.{drop-append_seam}
+use Rattle.tn_discipline.specs.Characters.{Characters, slot, with_slot}
+use Rattle.tn_discipline.specs.declared.reads.Entry.{Entry}
+use Rattle.tn_discipline.specs.declared.echo.Symbol.{Symbol}
+use Rattle.tn_discipline.specs.declared.termios.Flags.{Flags}
+use Rattle.tn_discipline.specs.declared.termios.Settings.{Settings}
+use Rattle.tn_linemode.specs.Modes.{Modes}
+use Rattle.tn_option.specs.Options.{Options, state_of, is_yes}
+use Rattle.tn_option.specs.declared.q_method.Side.TheVariants.{Us}
+use Rattle.tn_pty.specs.Terminal.{Terminal, fits, outputs}
+use Rattle.tn_server.specs.Events.{History, next, took, wrote, pulled, wished, char_set, echo_set}
+use Rattle.tn_server.specs.Terms.{Terms, terms, terms_by, flags, chars, settings, asked, asked_of, asked_while, changes, differ, mode_after, linemode, mask_for, asks_echo, echo_asked, wants_echo, told_by}
+use Rattle.tn_server.specs.Lines.{entries, taken, waiting}
+use Rattle.tn_server.specs.Screen.{queue, due}
+use Rattle.tn_server.specs.Replies.{says_by, echo_told, mode_told, table_told, triple_told, spelled}
+use Rattle.tn_server.specs.Standing.{End, Stands, Goes}
+use Rattle.tn_server.specs.Steps.{after_wished, says_wished, negotiated, with_negotiated}
+use Rattle.tn_server.specs.declared.terms.Negotiation.{Negotiation}
+use Rattle.tn_server.specs.declared.wishes.Editing.{Editing}
+use Rattle.tn_server.proofs.Settling.{differ_self, told_again, table_again}
+use Rattle.tn_server.proofs.Turning.{sound, with_all, echo_keeps_linemode}
+use Rattle.tn_server.proofs.Wishing.{wish_done, wish_said, wished_decoder, wished_failed}
+
+pub goes_wrote : (old : End) (new : Terminal) (bytes before : List ℕ) → new ≡ record (old.terminal) { queue = old.terminal.queue ++ outputs old.terminal.settings.flags (take (fits old.terminal.queue bytes) bytes) } → Goes old (wrote bytes) before before (record old { terminal = new })
+goes_wrote old new bytes before is = record {
+  bytes = [];
+  appended = sym (append-nil before);
+  adds = λ h s. refl;
+  stands = λ h s. record {
+    settings = ap (λ t. t.settings) is ∙ s.settings;
+    table = s.table;
+    terms = s.terms;
+    modes = s.modes;
+    leaves = rw (ap (λ t. t.line) is) s.leaves;
+    ahead = ap (λ t. t.line.ahead) is ∙ s.ahead;
+    read = s.read;
+    count = s.count;
+    waits = s.waits ∙ ap (λ (xs : List Entry). s.read ++ xs) (sym (ap (λ t. t.entries) is));
+    queue = ap (λ t. t.queue) is ∙ written old.terminal.settings (settings h) old.terminal.queue (queue h) s.settings s.queue;
+    size = ap (λ t. (t.width, t.height)) is ∙ s.size;
+    due = s.due;
+  };
+  decoder = refl;
+  failed = refl;
+}
+  where
+    written : (x y : Settings) (p q : List Symbol) → x ≡ y → p ≡ q → p ++ outputs x.flags (take (fits p bytes) bytes) ≡ q ++ outputs y.flags (take (fits q bytes) bytes)
+    written x y p q a b = rw (a, b) refl
+
+pub goes_wrote_some : (old : End) (new : Terminal) (n : ℕ) (bytes before : List ℕ) → n ≡ fits old.terminal.queue bytes → new ≡ record (old.terminal) { queue = old.terminal.queue ++ outputs old.terminal.settings.flags (take n bytes) } → Goes old (wrote bytes) before before (record old { terminal = new })
+goes_wrote_some old new n bytes before count is =
+    goes_wrote old new bytes before (is ∙ ap (λ (m : ℕ). record (old.terminal) { queue = old.terminal.queue ++ outputs old.terminal.settings.flags (take m bytes) }) count)
+
+some_left : (read rest : List Entry) (r : Entry) (n : ℕ) (es : List Entry) → length read ≡ n → es ≡ read ++ r ∷ rest → nat_lt n (length es) ≡ true
+some_left read rest r n es e f = lt-ltb n (length es) (let g = ap length f in omega (arith, e, g, length-append read (r ∷ rest)))
+
+none_left : (read : List Entry) (n : ℕ) (es : List Entry) → length read ≡ n → es ≡ read → nat_lt n (length es) ≡ false
+none_left read n es e f = le-ltb n (length es) (let g = ap length f in omega (arith, e, g))
+
+taken_if : (b : Bool) (n : ℕ) → b ≡ true → (if b then n + 1 else n) ≡ n + 1
+taken_if true n e = refl
+taken_if false n e = cc
+
+not_taken_if : (b : Bool) (n : ℕ) → b ≡ false → (if b then n + 1 else n) ≡ n
+not_taken_if true n e = cc
+not_taken_if false n e = refl
+
+-- an entry that waits is taken
+pub goes_took : (old : End) (new : Terminal) (r : Entry) (before : List ℕ) → old.terminal.entries ≡ r ∷ new.entries → new ≡ record (old.terminal) { entries = new.entries } → Goes old took before before (record old { terminal = new })
+goes_took old new r before first is = record {
+  bytes = [];
+  appended = sym (append-nil before);
+  adds = λ h s. rw (some_left s.read new.entries r (taken h) (entries h) s.count (s.waits ∙ ap (λ (xs : List Entry). s.read ++ xs) first)) refl;
+  stands = λ h s.
+      let waits = s.waits ∙ ap (λ (xs : List Entry). s.read ++ xs) first in
+      let left = some_left s.read new.entries r (taken h) (entries h) s.count waits in
+      record {
+        settings = ap (λ t. t.settings) is ∙ s.settings;
+        table = s.table;
+        terms = s.terms;
+        modes = s.modes;
+        leaves = rw (ap (λ t. t.line) is) s.leaves;
+        ahead = ap (λ t. t.line.ahead) is ∙ s.ahead;
+        read = s.read ++ r ∷ [];
+        count = length-append s.read (r ∷ []) ∙ ap (λ (n : ℕ). n + 1) s.count ∙ sym (taken_if _ (taken h) left);
+        waits = waits ∙ sym (append_assoc s.read (r ∷ []) new.entries);
+        queue = ap (λ t. t.queue) is ∙ s.queue;
+        size = ap (λ t. (t.width, t.height)) is ∙ s.size;
+        due = rw left s.due;
+      };
+  decoder = refl;
+  failed = refl;
+}
+
+-- none waits, and GA is said or not
+pub goes_idle : (old : End) (ga : Bool) (before after : List ℕ) → old.terminal.entries ≡ [] → ga ≡ (not (is_yes (state_of old.terms.options Us 3)) && old.pulled) → after ≡ before ++ (if ga then 255 ∷ 249 ∷ [] else []) → Goes old took before after (record old { pulled = if ga then false else old.pulled })
+goes_idle old ga before after none is said = record {
+  bytes = if ga then 255 ∷ 249 ∷ [] else [];
+  appended = said;
+  adds = λ h s.
+      let o = ap (λ (t : Terms). t.options) s.terms in
+      rw (none_left s.read (taken h) (entries h) s.count (s.waits ∙ ap (λ (xs : List Entry). s.read ++ xs) none ∙ append-nil s.read), ← o, ← s.due, ← is) refl;
+  stands = λ h s.
+      let left = none_left s.read (taken h) (entries h) s.count (s.waits ∙ ap (λ (xs : List Entry). s.read ++ xs) none ∙ append-nil s.read) in
+      let o = ap (λ (t : Terms). t.options) s.terms in
+      record {
+        settings = s.settings;
+        table = s.table;
+        terms = s.terms;
+        modes = s.modes;
+        leaves = s.leaves;
+        ahead = s.ahead;
+        read = s.read;
+        count = s.count ∙ sym (not_taken_if _ (taken h) left);
+        waits = s.waits;
+        queue = s.queue;
+        size = s.size;
+        due = rw (left, ← o, ← s.due, ← is) refl;
+      };
+  decoder = refl;
+  failed = refl;
+}
+
+drop_read : (read rest : List Entry) (n : ℕ) (es : List Entry) → length read ≡ n → es ≡ read ++ rest → drop n es ≡ rest
+drop_read read rest n es e f = rw (← e, f) (drop-append_seam read rest)
+
+-- what waits is what the end holds
+pub waits_are : (h : History) (end : End) → Stands h end → waiting h ≡ end.terminal.entries
+waits_are h end s = drop_read s.read end.terminal.entries (taken h) (entries h) s.count s.waits
+
+pub not_true : (b : Bool) → not b ≡ true → b ≡ false
+not_true true e = cc
+not_true false e = refl
+
+-- a wish changes the terms alone
+stands_wished : (h : History) (old : End) (editing : Editing) → Stands h old → Stands (next h (wished editing)) (with_all old (terms_by old.terminal.settings.flags old.terms old.terms.options (Some editing) false) None old.terminal)
+stands_wished h old editing s =
+    let f = old.terminal.settings.flags in
+    let o = old.terms.options in
+    let all = terms_by f old.terms o (Some editing) false in
+    let is_flags = ap (λ (x : Settings). x.flags) s.settings in
+    let is_terms : all ≡ terms (next h (wished editing)) =
+    ap (λ (x : Flags). terms_by x old.terms o (Some editing) false) is_flags ∙ ap (λ (t : Terms). terms_by (flags h) t t.options (Some editing) false) s.terms in
+    let stays : changes o all.options ≡ false =
+    ap (λ (b : Bool). differ (linemode o) b) (echo_keeps_linemode (asks_echo o o (told_by old.terms o all.wish) false) (wants_echo (asked_of o all.wish) f) o) ∙ differ_self (linemode o) in
+    record {
+      settings = s.settings;
+      table = s.table;
+      terms = is_terms;
+      modes =
+          ap (λ (b : Bool). record { asked = asked_of all.options all.wish; current = mode_after b old.modes.current None }) stays
+          ∙ ap (λ (t : Terms). record { asked = asked_of t.options t.wish; current = old.modes.current }) is_terms
+          ∙ ap (λ (m : Modes). record { asked = asked (next h (wished editing)); current = m.current }) s.modes;
+      leaves = s.leaves;
+      ahead = s.ahead;
+      read = s.read;
+      count = s.count;
+      waits = s.waits;
+      queue = s.queue;
+      size = s.size;
+      due = s.due;
+    }
+
+pub goes_wished : (old new : End) (editing : Editing) (before after : List ℕ) → new ≡ after_wished old (mask_for old.terminal.settings.flags editing) → after ≡ before ++ says_wished old (mask_for old.terminal.settings.flags editing) → Goes old (wished editing) before after new
+goes_wished old new editing before after is said =
+    let mask = mask_for old.terminal.settings.flags editing in
+    record {
+      bytes = says_wished old mask;
+      appended = said;
+      adds = λ h s.
+          let is_flags = ap (λ (x : Settings). x.flags) s.settings in
+          sym (ap (λ (x : Flags). says_by x old.table old.terms old.terms.options (Some editing) false) is_flags
+          ∙ ap (λ (c : Characters). says_by (flags h) c old.terms old.terms.options (Some editing) false) s.table
+          ∙ ap (λ (t : Terms). says_by (flags h) (chars h) t t.options (Some editing) false) s.terms)
+          ∙ wish_said old editing mask refl (sound h old s);
+      stands = λ h s.
+          subst (Stands (next h (wished editing))) (wish_done old editing mask None old.terminal refl refl refl refl (sound h old s) ∙ sym is) (stands_wished h old editing s);
+      decoder = ap (λ (e : End). e.decoder) is ∙ wished_decoder old mask;
+      failed = ap (λ (e : End). e.failed) is ∙ wished_failed old mask;
+    }
+
+-- symbols are pulled
+pub goes_pulled : (old : End) (new : Terminal) (n : ℕ) (owed : Bool) (before after : List ℕ) → new ≡ record (old.terminal) { queue = drop n old.terminal.queue } → after ≡ before ++ flat_map spelled (take n old.terminal.queue) → owed ≡ (old.pulled || nat_lt 0 (length (take n old.terminal.queue))) → Goes old (pulled n) before after (record old { terminal = new; pulled = owed })
+goes_pulled old new n owed before after is said now = record {
+  bytes = flat_map spelled (take n old.terminal.queue);
+  appended = said;
+  adds = λ h s. ap (λ (q : List Symbol). flat_map spelled (take n q)) (sym s.queue);
+  stands = λ h s. record {
+    settings = ap (λ t. t.settings) is ∙ s.settings;
+    table = s.table;
+    terms = s.terms;
+    modes = s.modes;
+    leaves = rw (ap (λ t. t.line) is) s.leaves;
+    ahead = ap (λ t. t.line.ahead) is ∙ s.ahead;
+    read = s.read;
+    count = s.count;
+    waits = s.waits ∙ ap (λ (xs : List Entry). s.read ++ xs) (sym (ap (λ t. t.entries) is));
+    queue = ap (λ t. t.queue) is ∙ ap (λ (q : List Symbol). drop n q) s.queue;
+    size = ap (λ t. (t.width, t.height)) is ∙ s.size;
+    due = now ∙ ap (λ (b : Bool). b || nat_lt 0 (length (take n old.terminal.queue))) s.due ∙ ap (λ (q : List Symbol). due h || nat_lt 0 (length (take n q))) s.queue;
+  };
+  decoder = refl;
+  failed = refl;
+}
+
+-- a character is set
+pub goes_char : (old : End) (c : Characters) (new : Terminal) (func : Func) (value : Option ℕ) (told : Bool) (before after : List ℕ) → c ≡ with_slot old.table func value → new ≡ record (old.terminal) { settings = record { flags = old.terminal.settings.flags; chars = c } } → told ≡ (linemode old.terms.options && not (is_same_value (slot old.table func) value)) → after ≡ before ++ triple_told told func value → Goes old (char_set func value) before after (record old { table = c; terminal = new })
+goes_char old c new func value told before after set is tells said = record {
+  bytes = triple_told told func value;
+  appended = said;
+  adds = λ h s.
+      ap (λ (t : Terms). triple_told (linemode t.options && not (is_same_value (slot (chars h) func) value)) func value) (sym s.terms)
+      ∙ ap (λ (x : Characters). triple_told (linemode old.terms.options && not (is_same_value (slot x func) value)) func value) (sym s.table)
+      ∙ ap (λ (b : Bool). triple_told b func value) (sym tells);
+  stands = λ h s.
+      let now : c ≡ chars (next h (char_set func value)) = set ∙ ap (λ (x : Characters). with_slot x func value) s.table in
+      record {
+        settings = ap (λ t. t.settings) is ∙ ap (λ (x : Characters). record { flags = old.terminal.settings.flags; chars = x }) now ∙ ap (λ (f : Flags). record { flags = f; chars = chars (next h (char_set func value)) }) (ap (λ (x : Settings). x.flags) s.settings);
+        table = now;
+        terms = s.terms;
+        modes = s.modes;
+        leaves = rw (ap (λ t. t.line) is) s.leaves;
+        ahead = ap (λ t. t.line.ahead) is ∙ s.ahead;
+        read = s.read;
+        count = s.count;
+        waits = s.waits ∙ ap (λ (xs : List Entry). s.read ++ xs) (sym (ap (λ t. t.entries) is));
+        queue = ap (λ t. t.queue) is ∙ s.queue;
+        size = ap (λ t. (t.width, t.height)) is ∙ s.size;
+        due = s.due;
+      };
+  decoder = refl;
+  failed = refl;
+}
+
+or_true : (a b : Bool) → (a || (b || true)) ≡ true
+or_true true b = refl
+or_true false true = refl
+or_true false false = refl
+
+abbrev with_echo : Flags → Bool → Flags
+with_echo f on = record f { echo = on }
+
+-- the terms once the flag ECHO is set
+echo_terms : (f : Flags) (t : Terms) → terms_by f t t.options None true ≡ record { options = echo_asked true (wants_echo (asked_of t.options t.wish) f) t.options; wish = t.wish }
+echo_terms f t =
+    ap (λ (b : Bool). record { options = echo_asked b (wants_echo (asked_of t.options t.wish) f) t.options; wish = t.wish }) (or_true (changes t.options t.options) (is_some (told_by t t.options t.wish)))
+
+echo_says : (f : Flags) (c : Characters) (t : Terms) → says_by f c t t.options None true ≡ echo_told true (wants_echo (asked_of t.options t.wish) f) t.options
+echo_says f c t =
+    ap (λ (b : Bool). table_told (linemode t.options) (linemode t.options) c ++ (mode_told (told_by t t.options t.wish) ++ echo_told b (wants_echo (asked_of t.options t.wish) f) t.options)) (or_true (changes t.options t.options) (is_some (told_by t t.options t.wish)))
+    ∙ ap (λ (xs : List ℕ). xs ++ (mode_told (told_by t t.options t.wish) ++ echo_told true (wants_echo (asked_of t.options t.wish) f) t.options)) (table_again (linemode t.options) c)
+    ∙ ap (λ (told : Option ℕ). mode_told told ++ echo_told true (wants_echo (asked_of t.options t.wish) f) t.options) (told_again (linemode t.options) t.wish)
+
+-- the flag ECHO is set
+pub goes_echo : (old : End) (o : Options) (new : Terminal) (on : Bool) (before after : List ℕ) → o ≡ echo_asked true (wants_echo old.modes.asked (with_echo old.terminal.settings.flags on)) old.terms.options → new ≡ record (old.terminal) { settings = record { flags = with_echo old.terminal.settings.flags on; chars = old.terminal.settings.chars } } → after ≡ before ++ echo_told true (wants_echo old.modes.asked (with_echo old.terminal.settings.flags on)) old.terms.options → Goes old (echo_set on) before after (record old { terms = record { options = o; wish = old.terms.wish }; terminal = new })
+goes_echo old o new on before after asks is said = record {
+  bytes = echo_told true (wants_echo old.modes.asked (with_echo old.terminal.settings.flags on)) old.terms.options;
+  appended = said;
+  adds = λ h s.
+      let is_flags = ap (λ (x : Settings). x.flags) s.settings in
+      let sounds = sound h old s in
+      sym (ap (λ (x : Flags). says_by (with_echo x on) old.table old.terms old.terms.options None true) is_flags
+      ∙ ap (λ (c : Characters). says_by (with_echo (flags h) on) c old.terms old.terms.options None true) s.table
+      ∙ ap (λ (t : Terms). says_by (with_echo (flags h) on) (chars h) t t.options None true) s.terms)
+      ∙ echo_says (with_echo old.terminal.settings.flags on) old.table old.terms
+      ∙ ap (λ (a : ℕ). echo_told true (wants_echo a (with_echo old.terminal.settings.flags on)) old.terms.options) (sym sounds.masks);
+  stands = λ h s.
+      let is_flags = ap (λ (x : Settings). x.flags) s.settings in
+      let sounds = sound h old s in
+      let f = with_echo old.terminal.settings.flags on in
+      let now : Terms = record { options = o; wish = old.terms.wish } in
+      let settles : now ≡ terms_by f old.terms old.terms.options None true =
+      ap (λ (x : Options). record { options = x; wish = old.terms.wish }) (asks ∙ ap (λ (a : ℕ). echo_asked true (wants_echo a f) old.terms.options) sounds.masks)
+      ∙ sym (echo_terms f old.terms) in
+      let is_terms : now ≡ terms (next h (echo_set on)) =
+      settles ∙ ap (λ (x : Flags). terms_by (with_echo x on) old.terms old.terms.options None true) is_flags
+      ∙ ap (λ (t : Terms). terms_by (with_echo (flags h) on) t t.options None true) s.terms in
+      let stays : linemode o ≡ linemode old.terms.options =
+      ap linemode asks ∙ echo_keeps_linemode true (wants_echo old.modes.asked f) old.terms.options in
+      record {
+        settings = ap (λ t. t.settings) is ∙ ap (λ (x : Settings). record { flags = with_echo x.flags on; chars = x.chars }) s.settings;
+        table = s.table;
+        terms = is_terms;
+        modes =
+            ap (λ (a : ℕ). record { asked = a; current = old.modes.current }) (sounds.masks ∙ sym (ap (λ (b : Bool). asked_while b old.terms.wish) stays))
+            ∙ ap (λ (t : Terms). record { asked = asked_of t.options t.wish; current = old.modes.current }) is_terms
+            ∙ ap (λ (m : Modes). record { asked = asked (next h (echo_set on)); current = m.current }) s.modes;
+        leaves = rw (ap (λ t. t.line) is) s.leaves;
+        ahead = ap (λ t. t.line.ahead) is ∙ s.ahead;
+        read = s.read;
+        count = s.count;
+        waits = s.waits ∙ ap (λ (xs : List Entry). s.read ++ xs) (sym (ap (λ t. t.entries) is));
+        queue = ap (λ t. t.queue) is ∙ s.queue;
+        size = ap (λ t. (t.width, t.height)) is ∙ s.size;
+        due = s.due;
+      };
+  decoder = refl;
+  failed = refl;
+}
+
+-- the same, seen from what was negotiated
+pub goes_echoed : (old : End) (x : Settings) (n : Negotiation) (new : Terminal) (on : Bool) (before after : List ℕ) → x ≡ old.terminal.settings → n ≡ record (negotiated old) { options = echo_asked true (wants_echo old.modes.asked (with_echo x.flags on)) old.terms.options } → new ≡ record (old.terminal) { settings = record { flags = with_echo x.flags on; chars = old.terminal.settings.chars } } → after ≡ before ++ echo_told true (wants_echo old.modes.asked (with_echo x.flags on)) old.terms.options → Goes old (echo_set on) before after (record (with_negotiated old n) { terminal = new })
+goes_echoed old x n new on before after same is set said =
+    let f = ap (λ (y : Settings). y.flags) same in
+    rw is (goes_echo old (echo_asked true (wants_echo old.modes.asked (with_echo x.flags on)) old.terms.options) new on before after
+    (ap (λ (g : Flags). echo_asked true (wants_echo old.modes.asked (with_echo g on)) old.terms.options) f)
+    (set ∙ ap (λ (g : Flags). record (old.terminal) { settings = record { flags = with_echo g on; chars = old.terminal.settings.chars } }) f)
+    (said ∙ ap (λ (g : Flags). before ++ echo_told true (wants_echo old.modes.asked (with_echo g on)) old.terms.options) f))

@@ -1,0 +1,10 @@
+pub mod Beginning
+pub mod Calling
+pub mod Cutting
+pub mod Listing
+pub mod Passing
+pub mod Settling
+pub mod Standings
+pub mod Turning
+pub mod Wishing
+pub mod Halting

@@ -1,0 +1,100 @@
+-- Where an item leads, from a history to the end.
+use Rattle.std.proofs.Common.{◌≡◌, ℕ, Option, List, [], ◌∷◌, ◌++◌, length, refl, sym, ap, ◌∙◌, append_assoc, arith, subst}
+use Rattle.tn_codes.specs.declared.payloads.Payload.{Payload}
+use Rattle.tn_discipline.specs.Characters.{Characters}
+use Rattle.tn_discipline.specs.Keys.{roles_from}
+use Rattle.tn_discipline.specs.Entries.{entries_of, half_of}
+use Rattle.tn_discipline.specs.HalfLine.{HalfLine, line_after}
+use Rattle.tn_discipline.specs.Leaves.{Leaves}
+use Rattle.tn_discipline.specs.declared.keys.Role.{Role}
+use Rattle.tn_discipline.specs.declared.reads.Entry.{Entry}
+use Rattle.tn_discipline.specs.declared.echo.Symbol.{Symbol}
+use Rattle.tn_discipline.specs.declared.termios.Flags.{Flags}
+use Rattle.tn_discipline.specs.declared.termios.Settings.{Settings}
+use Rattle.tn_discipline.proofs.Theorems.{advances}
+use Rattle.tn_linemode.specs.Modes.{Modes, edits}
+use Rattle.tn_nvt.specs.declared.items.Item.{Item}
+use Rattle.tn_option.specs.Options.{Options}
+use Rattle.tn_pty.specs.Terminal.{fitted}
+use Rattle.tn_pty.specs.Typing.{gain_of}
+use Rattle.tn_server.specs.Events.{History, next, got}
+use Rattle.tn_server.specs.Terms.{Terms, terms_after, asked_of, changes, mode_after, chars_after, payload_at, echoes}
+use Rattle.tn_server.specs.Lines.{roles, role_at, line}
+use Rattle.tn_server.specs.Screen.{shows, size_after}
+use Rattle.tn_server.specs.Replies.{adds, says, list_answered}
+use Rattle.tn_server.specs.Standing.{End, Stands}
+use Rattle.tn_server.specs.Steps.{after_got, says_got}
+
+-- where nothing is ahead, the half line is what is held
+pub line_is : (h : History) (end : End) → Stands h end → end.terminal.line ≡ line h
+line_is h end s = go s.leaves.sent (s.leaves.count ∙ s.ahead) s.leaves.bytes
+  where
+    l : HalfLine
+    l = end.terminal.line
+
+    go : (sent : List ℕ) → length sent ≡ 0 → half_of (roles h) ≡ sent ++ end.terminal.line.held → end.terminal.line ≡ line h
+    go [] e f = ap (λ (a : ℕ). record { held = end.terminal.line.held; ahead = a }) s.ahead ∙ ap (λ (held : List ℕ). record { held = held; ahead = 0 }) (sym f)
+    go (b ∷ bs) e f = absurd (omega (arith, e))
+
+same_settings : (f g : Flags) (c d : Characters) (o p : Options) (item : Item) → f ≡ g → c ≡ d → o ≡ p → ◌≡◌ {A = Settings} (record { flags = f; chars = chars_after c (payload_at o item) }) (record { flags = g; chars = chars_after d (payload_at p item) })
+same_settings f g c d o p item a b e = rw (a, b, e) refl
+
+same_chars : (c d : Characters) (o p : Options) (item : Item) → c ≡ d → o ≡ p → chars_after c (payload_at o item) ≡ chars_after d (payload_at p item)
+same_chars c d o p item b e = rw (b, e) refl
+
+same_terms : (f g : Flags) (t u : Terms) (item : Item) → f ≡ g → t ≡ u → terms_after f t (got item) ≡ terms_after g u (got item)
+same_terms f g t u item a b = ap (λ (x : Flags). terms_after x t (got item)) a ∙ ap (λ (x : Terms). terms_after g x (got item)) b
+
+abbrev modes_of : Options → Terms → ℕ → Option Payload → Modes
+modes_of o t current payload = record { asked = asked_of t.options t.wish; current = mode_after (changes o t.options) current payload }
+
+same_modes : (o p : Options) (t u : Terms) (m n : ℕ) (item : Item) → o ≡ p → t ≡ u → m ≡ n → modes_of o t m (payload_at o item) ≡ modes_of p u n (payload_at p item)
+same_modes o p t u m n item a b e = rw (a, b, e) refl
+
+same_role : (s t : Settings) (m n : ℕ) (item : Item) → s ≡ t → m ≡ n → role_at s (edits m) item ≡ role_at t (edits n) item
+same_role s t m n item a b = rw (a, b) refl
+
+same_queue : (s t : Settings) (m n : ℕ) (o p : Options) (l k : HalfLine) (q r : List Symbol) (item : Item) → s ≡ t → m ≡ n → o ≡ p → l ≡ k → q ≡ r → fitted q (shows s (edits m) (echoes o) l item) ≡ fitted r (shows t (edits n) (echoes p) k item)
+same_queue s t m n o p l k q r item a b c d e = rw (a, b, c, d, e) refl
+
+same_size : (z w : ℕ × ℕ) (o p : Options) (item : Item) → z ≡ w → o ≡ p → size_after z (payload_at o item) ≡ size_after w (payload_at p item)
+same_size z w o p item a b = rw (a, b) refl
+
+same_says : (f g : Flags) (c d : Characters) (t u : Terms) (item : Item) → f ≡ g → c ≡ d → t ≡ u → says f c t (got item) ++ list_answered c (payload_at t.options item) ≡ says g d u (got item) ++ list_answered d (payload_at u.options item)
+same_says f g c d t u item a b e =
+    ap (λ (x : Flags). says x c t (got item) ++ list_answered c (payload_at t.options item)) a
+    ∙ ap (λ (x : Characters). says g x t (got item) ++ list_answered x (payload_at t.options item)) b
+    ∙ ap (λ (x : Terms). says g d x (got item) ++ list_answered d (payload_at x.options item)) e
+
+pub stands_got : (h : History) (old : End) (item : Item) → Stands h old → Stands (next h (got item)) (after_got old item)
+stands_got h old item s =
+    let is_flags = ap (λ (x : Settings). x.flags) s.settings in
+    let is_options = ap (λ (t : Terms). t.options) s.terms in
+    let is_mode = ap (λ (m : Modes). m.current) s.modes in
+    let is_terms = same_terms _ _ _ _ item is_flags s.terms in
+    let is_role = same_role _ _ _ _ item s.settings is_mode in
+    let old_role = role_at old.terminal.settings (edits old.modes.current) item in
+    let moves = advances old.terminal.line old_role in
+    record {
+      settings = same_settings _ _ _ _ _ _ item is_flags s.table is_options;
+      table = same_chars _ _ _ _ item s.table is_options;
+      terms = is_terms;
+      modes = same_modes _ _ _ _ _ _ item is_options is_terms is_mode;
+      leaves =
+          let P : Role → Type 0 = λ r. Leaves (roles h ++ roles_from r) (line_after old.terminal.line old_role) in
+          subst P is_role (moves.half (roles h) s.leaves);
+      ahead = omega (arith, moves.ahead, s.ahead);
+      read = s.read;
+      count = s.count;
+      waits =
+          ap (λ (r : Role). entries_of (roles h ++ roles_from r)) (sym is_role)
+          ∙ moves.entries (roles h) s.leaves s.ahead
+          ∙ ap (λ (xs : List Entry). xs ++ gain_of old.terminal.line old_role) s.waits
+          ∙ append_assoc s.read old.terminal.entries (gain_of old.terminal.line old_role);
+      queue = same_queue _ _ _ _ _ _ _ _ _ _ item s.settings is_mode is_options (line_is h old s) s.queue;
+      size = same_size _ _ _ _ item s.size is_options;
+      due = s.due;
+    }
+
+pub adds_got : (h : History) (old : End) (item : Item) → Stands h old → adds h (got item) ≡ says_got old item
+adds_got h old item s = sym (same_says _ _ _ _ _ _ item (ap (λ (x : Settings). x.flags) s.settings) s.table s.terms)

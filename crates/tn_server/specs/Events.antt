@@ -1,0 +1,37 @@
+-- What happens at a server end: items come and calls are made.
+use Rattle.std.specs.Prelude.{ℕ, Bool, Option, List, [], ◌∷◌, ◌++◌}
+use Rattle.tn_codes.specs.declared.codes.Func.{Func}
+use Rattle.tn_discipline.specs.declared.termios.Settings.{Settings}
+use Rattle.tn_nvt.specs.declared.items.Item.{Item}
+use Rattle.tn_server.specs.declared.wishes.Editing.{Editing}
+
+-- an item that came, or a call that was made
+pub data Event : Type 0 where
+  got : Item → Event
+  took : Event
+  wrote : List ℕ → Event
+  pulled : ℕ → Event
+  wished : Editing → Event
+  char_set : Func → Option ℕ → Event
+  echo_set : Bool → Event
+
+-- what has happened since the end was started, the latest at the right
+pub data History : Type 0 where
+  begun : Settings → History
+  next : History → Event → History
+
+-- the settings that the end was started with
+abbrev pub opening_settings : History → Settings
+opening_settings (begun settings) = settings
+opening_settings (next h e) = opening_settings h
+
+-- the items alone
+abbrev pub items : History → List Item
+items (begun settings) = []
+items (next h (got item)) = items h ++ item ∷ []
+items (next h _) = items h
+
+-- these items came, one after another
+abbrev pub gets : History → List Item → History
+gets h [] = h
+gets h (item ∷ rest) = gets (next h (got item)) rest

@@ -1,0 +1,51 @@
+-- The entries and the half line of a server end, by the canonical definitions.
+use Rattle.std.specs.Prelude.{ℕ, ◌+◌, nat_lt, Bool, List, [], ◌++◌, length, drop, if◌then◌else◌}
+use Rattle.tn_discipline.specs.Keys.{role_of_key, literal_role, roles_from}
+use Rattle.tn_discipline.specs.Entries.{entries_of, half_of}
+use Rattle.tn_discipline.specs.HalfLine.{HalfLine}
+use Rattle.tn_discipline.specs.declared.keys.Role.{Role}
+use Rattle.tn_discipline.specs.declared.keys.Role.TheVariants as role
+use Rattle.tn_discipline.specs.declared.reads.Entry.{Entry}
+use Rattle.tn_discipline.specs.declared.termios.Settings.{Settings}
+use Rattle.tn_linemode.specs.Modes.{edits}
+use Rattle.tn_nvt.specs.declared.items.Item.{Item}
+use Rattle.tn_nvt.specs.declared.items.Item.TheVariants.{Byte, Newline, Cmd}
+use Rattle.tn_pty.specs.Typing.{command_role}
+use Rattle.tn_server.specs.Events.{got, took, History, begun, next}
+use Rattle.tn_server.specs.Terms.{settings, mode}
+
+-- the role of a byte: with EDIT the line was edited before, and only its closing byte is special
+abbrev pub role_of_byte : Settings → Bool → ℕ → Role
+role_of_byte s edit byte = if edit then literal_role s.chars byte else role_of_key s byte
+
+-- the role of an item; the commands of RFC 854 and RFC 1184 act whatever the mode is
+abbrev pub role_at : Settings → Bool → Item → Role
+role_at s edit (Byte byte) = role_of_byte s edit byte
+role_at s edit Newline = role_of_byte s edit 10
+role_at s edit (Cmd command) = command_role command
+role_at s edit _ = role.Ignored
+
+abbrev pub roles : History → List Role
+roles (begun s) = []
+roles (next h (got item)) = roles h ++ roles_from (role_at (settings h) (edits (mode h)) item)
+roles (next h _) = roles h
+
+abbrev pub entries : History → List Entry
+entries h = entries_of (roles h)
+
+abbrev pub half : History → List ℕ
+half h = half_of (roles h)
+
+-- nothing of the half line is ahead at a server
+abbrev pub line : History → HalfLine
+line h = record { held = half h; ahead = 0 }
+
+-- how many entries were taken
+abbrev pub taken : History → ℕ
+taken (begun s) = 0
+taken (next h took) = if nat_lt (taken h) (length (entries h)) then taken h + 1 else taken h
+taken (next h _) = taken h
+
+-- the entries that nobody has taken yet
+abbrev pub waiting : History → List Entry
+waiting h = drop (taken h) (entries h)

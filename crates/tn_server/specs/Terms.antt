@@ -1,0 +1,188 @@
+-- What a server end has agreed on with its client: options, special characters and the mode of editing.
+use Rattle.std.specs.Prelude.{ℕ, Bool, true, false, not, ◌&&◌, ◌||◌, nat_le, length, Option, Some, None, is_some, [], ◌∷◌, if◌then◌else◌}
+use Rattle.tn_codes.specs.declared.payloads.Payload.{Payload}
+use Rattle.tn_codes.specs.declared.payloads.Payload.TheVariants.{Mode, Slc}
+use Rattle.tn_codes.specs.PayloadOf.{payload_of}
+use Rattle.tn_discipline.specs.Characters.{Characters, with_slot}
+use Rattle.tn_discipline.specs.declared.termios.Flags.{Flags}
+use Rattle.tn_discipline.specs.declared.termios.Settings.{Settings}
+use Rattle.tn_linemode.specs.Modes.{mode_of, is_acknowledged, edits, sent_by_wish, wished_by}
+use Rattle.tn_linemode.specs.Exchange.{server_after}
+use Rattle.tn_nvt.specs.declared.items.Item.{Item}
+use Rattle.tn_nvt.specs.declared.items.Item.TheVariants.{Neg, Sub}
+use Rattle.tn_option.specs.Options.{Options, fresh, after_word, after_wish, state_of, is_yes}
+use Rattle.tn_option.specs.declared.negotiation.Agree.{Agree}
+use Rattle.tn_option.specs.declared.q_method.Side.TheVariants.{Us, Them}
+use Rattle.tn_server.specs.Events.{Event, got, wished, char_set, echo_set, History, begun, next}
+use Rattle.tn_server.specs.declared.wishes.Editing.{Editing}
+use Rattle.tn_server.specs.declared.wishes.Editing.TheVariants.{Remote, Local}
+
+-- the client's LINEMODE, NAWS and SUPPRESS-GO-AHEAD are agreed to, and the server's own ECHO and SUPPRESS-GO-AHEAD
+abbrev pub agree : Agree
+agree =
+    record { us = true ∷ true ∷ false ∷ false ∷ []; them = false ∷ true ∷ true ∷ true ∷ [] }
+
+-- the options after the opening wishes, in their order
+abbrev pub opened : Options
+opened =
+    after_wish (after_wish (after_wish (after_wish (after_wish (fresh agree) Them 34 true) Them 31 true) Us 3 true) Them 3 true) Us 1 true
+
+abbrev pub linemode : Options → Bool
+linemode o = is_yes (state_of o Them 34)
+
+-- ECHO of the server (RFC 857)
+abbrev pub echoes : Options → Bool
+echoes o = is_yes (state_of o Us 1)
+
+-- RFC 855: the payload that an item brings, where its option is on at the client's side. No subnegotiation of a stream
+-- has more than 512 parameters
+abbrev pub payload_at : Options → Item → Option Payload
+payload_at o (Sub option params) =
+    if is_yes (state_of o Them option) && nat_le (length params) 512 then payload_of option params else None
+payload_at o _ = None
+
+-- RFC 1184, section 2.2: Remote is no mode bit; Local is EDIT, with TRAPSIG where ISIG is set. Local is allowed where
+-- a carriage return ends the line as a line feed does
+abbrev pub mask_for : Flags → Editing → Option ℕ
+mask_for flags Remote = Some 0
+mask_for flags Local =
+    if flags.icrnl && (not flags.inlcr && not flags.igncr) then Some (if flags.isig then 3 else 1) else None
+
+abbrev pub mask_or : ℕ → Option ℕ → ℕ
+mask_or before None = before
+mask_or before (Some mask) = mask
+
+-- a wish that is not allowed changes nothing
+abbrev pub wished_after : Flags → ℕ → Option Editing → ℕ
+wished_after flags before None = before
+wished_after flags before (Some editing) = mask_or before (mask_for flags editing)
+
+abbrev pub editing : Bool → Editing
+editing true = Local
+editing false = Remote
+
+abbrev pub editing_wished : Option Bool → Option Editing
+editing_wished None = None
+editing_wished (Some edit) = Some (editing edit)
+
+-- a MODE without acknowledgement is the client's wish
+abbrev pub wish_in : Option Payload → Option Editing
+wish_in (Some (Mode mask)) = editing_wished (wished_by mask)
+wish_in _ = None
+
+abbrev pub wish_at : Options → Event → Option Editing
+wish_at o (got item) = wish_in (payload_at o item)
+wish_at o (wished editing) = Some editing
+wish_at o _ = None
+
+-- the flags, of which only ECHO changes
+abbrev pub flags : History → Flags
+flags (begun settings) = settings.flags
+flags (next h (echo_set on)) = record (flags h) { echo = on }
+flags (next h _) = flags h
+
+-- the options, and the mask of the last wish that was allowed
+pub record Terms : Type 0 where
+  pub options : Options
+  pub wish : ℕ
+
+-- the mask that the client was asked for: that of the last wish, while LINEMODE is on
+abbrev pub asked_while : Bool → ℕ → ℕ
+asked_while true wish = mode_of wish
+asked_while false wish = 0
+
+abbrev pub asked_of : Options → ℕ → ℕ
+asked_of o wish = asked_while (linemode o) wish
+
+-- the MODE that is sent where LINEMODE is on: the wish, unless it was asked already
+abbrev pub mode_sent : Bool → ℕ → ℕ → Option ℕ
+mode_sent true before wish = sent_by_wish (record { asked = before; current = 0 }) wish
+mode_sent false before wish = None
+
+-- the options after an option word
+abbrev pub heard : Options → Event → Options
+heard o (got (Neg verb option)) = after_word o verb option
+heard o _ = o
+
+-- ECHO is the server's where the client does not edit, or where the flag ECHO is clear: then nobody echoes
+abbrev pub wants_echo : ℕ → Flags → Bool
+wants_echo asked flags = not (edits asked) || not flags.echo
+
+abbrev pub differ : Bool → Bool → Bool
+differ true b = not b
+differ false b = b
+
+abbrev pub is_echo_set : Event → Bool
+is_echo_set (echo_set on) = true
+is_echo_set _ = false
+
+-- LINEMODE came on or went off
+abbrev pub changes : Options → Options → Bool
+changes old new = differ (linemode old) (linemode new)
+
+-- the server asks for its ECHO anew after each change of LINEMODE, each wish that sends, and each change of the flag
+abbrev pub asks_echo : Options → Options → Option ℕ → Bool → Bool
+asks_echo old new told set = changes old new || (is_some told || set)
+
+abbrev pub echo_asked : Bool → Bool → Options → Options
+echo_asked true wanted o = after_wish o Us 1 wanted
+echo_asked false wanted o = o
+
+-- the MODE that is sent once these are the options and this is the wish
+abbrev pub told_by : Terms → Options → ℕ → Option ℕ
+told_by t o wish = mode_sent (linemode o) (asked_of t.options t.wish) wish
+
+-- the terms once the options and perhaps a wish are new, or the flag ECHO was set
+abbrev pub terms_by : Flags → Terms → Options → Option Editing → Bool → Terms
+terms_by f t o editing set =
+    let wish = wished_after f t.wish editing in
+    record {
+      options = echo_asked (asks_echo t.options o (told_by t o wish) set) (wants_echo (asked_of o wish) f) o;
+      wish = wish;
+    }
+
+-- the terms after an event, with the flags after it
+abbrev pub terms_after : Flags → Terms → Event → Terms
+terms_after f t e = terms_by f t (heard t.options e) (wish_at t.options e) (is_echo_set e)
+
+abbrev pub terms : History → Terms
+terms (begun settings) = record { options = opened; wish = 0 }
+terms (next h (got item)) = terms_after (flags h) (terms h) (got item)
+terms (next h (wished editing)) = terms_after (flags h) (terms h) (wished editing)
+terms (next h (echo_set on)) = terms_after (flags (next h (echo_set on))) (terms h) (echo_set on)
+terms (next h _) = terms h
+
+abbrev pub options : History → Options
+options h = (terms h).options
+
+abbrev pub asked : History → ℕ
+asked h = asked_of (options h) (terms h).wish
+
+-- the mask in force after an item: none after a change of LINEMODE, else that of a MODE which acknowledges
+abbrev pub mode_after : Bool → ℕ → Option Payload → ℕ
+mode_after true mode payload = 0
+mode_after false mode (Some (Mode mask)) = if is_acknowledged mask then mode_of mask else mode
+mode_after false mode _ = mode
+
+abbrev pub mode : History → ℕ
+mode (begun settings) = 0
+mode (next h (got item)) = mode_after (changes (options h) (options (next h (got item)))) (mode h) (payload_at (options h) item)
+mode (next h _) = mode h
+
+abbrev pub chars_after : Characters → Option Payload → Characters
+chars_after c (Some (Slc triples)) = server_after c triples
+chars_after c _ = c
+
+-- the characters in force: the opening ones, changed by each adopted triple, each reset and each call
+abbrev pub chars : History → Characters
+chars (begun settings) = settings.chars
+chars (next h (got item)) = chars_after (chars h) (payload_at (options h) item)
+chars (next h (char_set func value)) = with_slot (chars h) func value
+chars (next h _) = chars h
+
+abbrev pub settings : History → Settings
+settings h = record { flags = flags h; chars = chars h }
+
+-- a wish for this sends a MODE
+abbrev pub sends_mode : History → Editing → Bool
+sends_mode h editing = is_some (told_by (terms h) (options h) (wished_after (flags h) (terms h).wish (Some editing)))

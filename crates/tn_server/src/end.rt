@@ -1,0 +1,331 @@
+//! The server end: the calls that its owner makes.
+
+ghost use Rattle.std.specs.Prelude.{◌≡◌, ◌≢◌, ◌↔◌, ◌⊎◌, ◌&&◌, not, ℕ, List, true, false, Some, None, Err, [], ◌++◌, ◌∷◌, length, min, IfOk, IfErr, OnOk, OnErr, IsErrOf, MatchOption, option_copied, slice_get};
+ghost use Rattle.tn_discipline.specs.Characters.{char_fault};
+ghost use Rattle.tn_discipline.specs.declared.characters.CharFault.{CharFault};
+ghost use Rattle.tn_nvt.specs.Standing.{HasRead};
+ghost use Rattle.tn_option.specs.Options.{state_of, is_yes};
+ghost use Rattle.tn_option.specs.declared.q_method.Side.TheVariants.{Us};
+ghost use Rattle.tn_pty.specs.Terminal.{fits, first_signal};
+ghost use Rattle.tn_server.specs.Events.{History, begun, next, took, wrote, pulled, wished, char_set, echo_set};
+ghost use Rattle.tn_server.specs.Lines.{half, waiting};
+ghost use Rattle.tn_server.specs.Screen.{queue, size};
+ghost use Rattle.tn_server.specs.Terms.{mode, asked, chars, options, sends_mode};
+ghost use Rattle.tn_server.specs.Replies.{opening};
+ghost use Rattle.tn_server.specs.Faults.{IsOfItem};
+ghost use Rattle.tn_server.specs.Standing.{Stands, Goes, Feeds, Halts};
+
+use crate::faults::ServerFault;
+use crate::screen::{SYMBOL_BYTES, spell_all};
+use crate::sending::put_char;
+use crate::terms::Negotiation;
+use crate::wishes::Editing;
+use std::alloc::Global;
+use std::marker::Model;
+use tn_codes::{Command, Func};
+use tn_discipline::{CharFault, Chars, Entry, Settings, Sig};
+use tn_linemode::ServerTable;
+use tn_nvt::{Decoder, put_cmd};
+use tn_option::{QState, SUPPRESS_GO_AHEAD, Side};
+use tn_pty::Pair;
+
+/// The opening words: DO LINEMODE, DO NAWS, WILL SUPPRESS-GO-AHEAD, DO SUPPRESS-GO-AHEAD, WILL ECHO.
+const OPENING: [u8; 15] = [
+    255, 253, 34, 255, 253, 31, 255, 251, 3, 255, 253, 3, 255, 251, 1,
+];
+
+/// The server end of one connection. Its owner feeds it what comes from the network, sends what it
+/// appends, and is the job behind the terminal: it takes entries and writes output.
+#[derive(Drop)]
+pub struct ServerEnd {
+    pub(crate) alloc: Global,
+    pub(crate) decoder: Decoder,
+    pub(crate) terms: Negotiation,
+    pub(crate) table: ServerTable,
+    pub(crate) pair: Pair,
+    pub(crate) pulled: bool,
+    pub(crate) failed: bool,
+}
+
+impl Model for ServerEnd {
+    ghost use Rattle.tn_server.specs.Standing.{End};
+
+    ghost Value = { End };
+
+    ghost view = { λ e. record { decoder = e.decoder; terms = record { options = e.terms.options; wish = e.terms.wish }; modes = e.terms.modes; table = e.table; terminal = e.pair; pulled = e.pulled; failed = e.failed } };
+}
+
+impl ServerEnd {
+    /// Starts an end over a terminal with these settings, and appends the opening words.
+    pub fn start(
+        alloc: Global,
+        settings: Settings,
+        out: &mut Vec<u8>,
+    ) -> Result<ServerEnd, ServerFault>
+        ensures stands { IfOk result (λ end. Stands (begun settings) end) }
+        ensures reads { IfOk result (λ end. HasRead end.decoder [] []) }
+        ensures runs { IfOk result (λ end. end.failed ≡ false) }
+        ensures out { OnOk result (out.new.items ≡ out.old.items ++ opening) }
+        ensures err { OnErr result (out.new.items ≡ out.old.items) }
+        ensures fault { IfErr result (λ fault. fault ≡ ServerFault.Memory) }
+    {
+        let table = ServerTable::new(settings.chars);
+        let pair = match Pair::new(alloc, settings) {
+            Ok(pair) => pair,
+            Err(_) => return Err(ServerFault::Memory),
+        };
+        match out.extend_from_slice(&OPENING) {
+            Ok(()) => {},
+            Err(_) => return Err(ServerFault::Memory),
+        }
+        Ok(ServerEnd {
+            alloc,
+            decoder: Decoder::new(alloc),
+            terms: Negotiation::new(),
+            table,
+            pair,
+            pulled: false,
+            failed: false,
+        })
+    }
+
+    /// Takes a piece of what comes from the client, cut anywhere, and appends the replies. After any
+    /// refusal the end has failed, and `out` may hold replies to what came before the refusal.
+    pub fn feed(&mut self, piece: &[u8], out: &mut Vec<u8>) -> Result<(), ServerFault>
+        ensures ok { OnOk result (Feeds self.old piece.now out.old.items out.new.items self.new) }
+        ensures failed { IsErrOf result ServerFault.Failed ↔ (self.old.failed ≡ true) }
+        ensures failed_stays { IsErrOf result ServerFault.Failed → self.new ≡ self.old }
+        ensures failed_appends { IsErrOf result ServerFault.Failed → out.new.items ≡ out.old.items }
+        ensures halts { IfErr result (λ fault. IsOfItem fault → Halts self.old piece.now out.old.items out.new.items self.new) }
+        ensures err { OnErr result (self.new.failed ≡ true) }
+        ensures no_char { (fault : CharFault) → result ≢ Err (ServerFault.Char fault) }
+    {
+        if self.failed {
+            return Err(ServerFault::Failed);
+        }
+        let mut items = Vec::new(self.alloc);
+        let decoded = self.decoder.feed(piece, &mut items);
+        match self.items(items, out) {
+            Ok(()) => match decoded {
+                Ok(()) => Ok(()),
+                Err(_) => {
+                    self.failed = true;
+                    Err(ServerFault::Memory)
+                },
+            },
+            Err(fault) => {
+                self.failed = true;
+                Err(fault)
+            },
+        }
+    }
+
+    /// Writes output of a job to the terminal's screen: the first bytes, as many as fit.
+    pub fn write(&mut self, bytes: &[u8]) -> usize
+        ensures goes { (before : List ℕ) → Goes self.old (wrote bytes.now) before before self.new }
+        ensures count { (h : History) → Stands h self.old → result ≡ fits (queue h) bytes.now }
+    {
+        self.pair.write(bytes)
+    }
+
+    /// Takes the first entry that waits. Where none waits it may append GA (RFC 858).
+    pub fn take(&mut self, out: &mut Vec<u8>) -> Result<Option<Entry>, ServerFault>
+        ensures ok { OnOk result (Goes self.old took out.old.items out.new.items self.new) }
+        ensures entry { IfOk result (λ entry. (h : History) → Stands h self.old → MatchOption entry (waiting h ≡ []) (λ e. waiting h ≡ e ∷ waiting (next h took))) }
+        ensures err { OnErr result (self.new ≡ self.old) }
+        ensures err_appends { OnErr result (out.new.items ≡ out.old.items) }
+        ensures fault { IfErr result (λ fault. fault ≡ ServerFault.Memory) }
+    {
+        if let Some(entry) = self.pair.take() {
+            return Ok(Some(entry));
+        }
+        if !self.owes_ga() {
+            return Ok(None);
+        }
+        match put_cmd(Command::Ga, out) {
+            Ok(()) => {
+                self.pulled = false;
+                Ok(None)
+            },
+            Err(_) => Err(ServerFault::Memory),
+        }
+    }
+
+    // Symbols were pulled since the last GA, and GA is not suppressed.
+    fn owes_ga(&self) -> bool
+        ensures { result ≡ (not (is_yes (state_of self.now.terms.options Us 3)) && self.now.pulled) }
+    {
+        !self.terms.options.is_on(Side::Us, SUPPRESS_GO_AHEAD) && self.pulled
+    }
+
+    /// Appends the first symbols of the screen in their spelling, at most `max` of them, and answers
+    /// how many symbols.
+    pub fn pull(&mut self, max: usize, out: &mut Vec<u8>) -> Result<usize, ServerFault>
+        ensures ok { IfOk result (λ n. Goes self.old (pulled n) out.old.items out.new.items self.new) }
+        ensures count { IfOk result (λ n. (h : History) → Stands h self.old → n ≡ min max (length (queue h))) }
+        ensures err { OnErr result (self.new ≡ self.old) }
+        ensures err_appends { OnErr result (out.new.items ≡ out.old.items) }
+        ensures fault { IfErr result (λ fault. fault ≡ ServerFault.Memory) }
+    {
+        let most = max.min(self.pair.queued());
+        match out.reserve(SYMBOL_BYTES * most) {
+            Ok(()) => {},
+            Err(_) => return Err(ServerFault::Memory),
+        }
+        let mut symbols = Vec::new(self.alloc);
+        match self.pair.pull(most, &mut symbols) {
+            Ok(count) => {
+                spell_all(&symbols, out);
+                self.pulled = self.pulled || !symbols.is_empty();
+                Ok(count)
+            },
+            Err(_) => Err(ServerFault::Memory),
+        }
+    }
+
+    /// Wishes for editing at one side, and appends what follows: a MODE where LINEMODE is on and the
+    /// mask is not asked for already. Answers whether one was sent. The client acknowledges it before
+    /// it is in force.
+    pub fn wish(&mut self, editing: Editing, out: &mut Vec<u8>) -> Result<bool, ServerFault>
+        ensures ok { OnOk result (Goes self.old (wished editing) out.old.items out.new.items self.new) }
+        ensures sent { IfOk result (λ sent. (h : History) → Stands h self.old → sent ≡ sends_mode h editing) }
+        ensures failed { IsErrOf result ServerFault.Failed ↔ (self.old.failed ≡ true) }
+        ensures err { OnErr result (self.new ≡ self.old) }
+        ensures err_appends { OnErr result (out.new.items ≡ out.old.items) }
+        ensures fault { IfErr result (λ fault. (fault ≡ ServerFault.Failed) ⊎ (fault ≡ ServerFault.Memory)) }
+    {
+        if self.failed {
+            return Err(ServerFault::Failed);
+        }
+        let start = out.len();
+        match self.wish_for(editing, out) {
+            Ok(sent) => Ok(sent),
+            Err(_) => {
+                out.truncate(start);
+                Err(ServerFault::Memory)
+            },
+        }
+    }
+
+    /// Changes a special character, or disables it, and tells the client by one triple where LINEMODE
+    /// is on and something changed (RFC 1184, section 2.4).
+    pub fn set_char(
+        &mut self,
+        func: Func,
+        value: Option<u8>,
+        out: &mut Vec<u8>,
+    ) -> Result<(), ServerFault>
+        ensures ok { OnOk result (Goes self.old (char_set func value) out.old.items out.new.items self.new) }
+        ensures failed { IsErrOf result ServerFault.Failed ↔ (self.old.failed ≡ true) }
+        ensures accepted { OnOk result ((h : History) → Stands h self.old → char_fault (chars h) func value ≡ None) }
+        ensures char { (fault : CharFault) → result ≡ Err (ServerFault.Char fault) → (h : History) → Stands h self.old → char_fault (chars h) func value ≡ Some fault }
+        ensures err { OnErr result (self.new ≡ self.old) }
+        ensures err_appends { OnErr result (out.new.items ≡ out.old.items) }
+    {
+        if self.failed {
+            return Err(ServerFault::Failed);
+        }
+        let before = self.table.chars().get(func);
+        let mut table = self.table;
+        match table.set(func, value) {
+            Ok(()) => {},
+            Err(fault) => return Err(ServerFault::Char(fault)),
+        }
+        let is_told = self.terms.has_linemode() && before != value;
+        match put_char(self.alloc, is_told, func, value, out) {
+            Ok(()) => {
+                self.table = table;
+                self.pair.set_chars(table.chars());
+                Ok(())
+            },
+            Err(_) => Err(ServerFault::Memory),
+        }
+    }
+
+    /// Sets or clears the terminal's flag ECHO, and appends the word for the option ECHO, if one is due.
+    pub fn set_echo(&mut self, on: bool, out: &mut Vec<u8>) -> Result<(), ServerFault>
+        ensures ok { OnOk result (Goes self.old (echo_set on) out.old.items out.new.items self.new) }
+        ensures failed { IsErrOf result ServerFault.Failed ↔ (self.old.failed ≡ true) }
+        ensures err { OnErr result (self.new ≡ self.old) }
+        ensures err_appends { OnErr result (out.new.items ≡ out.old.items) }
+        ensures fault { IfErr result (λ fault. (fault ≡ ServerFault.Failed) ⊎ (fault ≡ ServerFault.Memory)) }
+    {
+        if self.failed {
+            return Err(ServerFault::Failed);
+        }
+        let mut flags = self.pair.settings().flags;
+        flags.echo = on;
+        let mut terms = self.terms;
+        match terms.ask_echo(true, &flags, out) {
+            Ok(()) => {
+                self.terms = terms;
+                self.pair.set_flags(flags);
+                Ok(())
+            },
+            Err(_) => Err(ServerFault::Memory),
+        }
+    }
+
+    /// An entry that waits, by its place from the first on.
+    pub fn waiting(&self, index: usize) -> Option<&Entry>
+        ensures { (h : History) → Stands h self.now → option_copied result ≡ slice_get (waiting h) index }
+    {
+        self.pair.waiting(index)
+    }
+
+    /// The first signal among the entries that wait.
+    pub fn signal_waiting(&self) -> Option<Sig>
+        ensures { (h : History) → Stands h self.now → result ≡ first_signal (waiting h) }
+    {
+        self.pair.signal_waiting()
+    }
+
+    /// The window's width and height in characters; 0 is unspecified (RFC 1073).
+    pub fn size(&self) -> (u16, u16)
+        ensures { (h : History) → Stands h self.now → result ≡ size h }
+    {
+        self.pair.size()
+    }
+
+    /// The mask in force: the bits EDIT and TRAPSIG of the MODE that the client acknowledged last.
+    pub fn mode(&self) -> u8
+        ensures { (h : History) → Stands h self.now → result ≡ mode h }
+    {
+        self.terms.modes.current()
+    }
+
+    /// The mask that the client was asked for.
+    pub fn asked(&self) -> u8
+        ensures { (h : History) → Stands h self.now → result ≡ asked h }
+    {
+        self.terms.modes.asked()
+    }
+
+    /// The half line that the terminal holds.
+    pub fn half(&self) -> &[u8]
+        ensures { (h : History) → Stands h self.now → result.now ≡ half h }
+    {
+        self.pair.half()
+    }
+
+    /// The special characters in force.
+    pub fn chars(&self) -> Chars
+        ensures { (h : History) → Stands h self.now → result ≡ chars h }
+    {
+        self.table.chars()
+    }
+
+    /// Where an option stands.
+    pub fn option(&self, side: Side, option: u8) -> QState
+        ensures { (h : History) → Stands h self.now → result ≡ state_of (options h) side option }
+    {
+        self.terms.options.q_state(side, option)
+    }
+
+    /// Whether a call of `feed` was refused.
+    pub fn failed(&self) -> bool
+        ensures { result ≡ self.now.failed }
+    {
+        self.failed
+    }
+}

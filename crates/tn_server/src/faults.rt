@@ -1,0 +1,34 @@
+//! Why a call of a server end was refused.
+
+ghost use Rattle.std.specs.Prelude.{◌≡◌};
+ghost use Rattle.tn_server.specs.declared.faults.ServerFault.TheVariants.{Memory};
+
+use std::alloc::AllocError;
+use thiserror::Error;
+use tn_discipline::CharFault;
+use tn_pty::PtyFault;
+
+/// Why a call of a server end was refused.
+#[derive(Clone, Copy, Debug, PartialEq, Eq, Error)]
+pub enum ServerFault {
+    /// The pair behind the end refused a key or a command. The end has failed.
+    #[error("pseudoterminal: {0}")]
+    Pty(PtyFault),
+    /// Memory was wanting; from `feed` the end has failed.
+    #[error("out of memory")]
+    Memory,
+    /// A call of `feed` was refused before.
+    #[error("the end has failed before")]
+    Failed,
+    /// A special character was not changed.
+    #[error("special character: {0}")]
+    Char(CharFault),
+}
+
+impl From<AllocError> for ServerFault {
+    ghost from_gives = { λ _ fault. fault ≡ Memory };
+
+    fn from(_error: AllocError) -> ServerFault {
+        ServerFault::Memory
+    }
+}

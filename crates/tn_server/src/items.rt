@@ -1,0 +1,220 @@
+//! What a server end does with an item that came.
+
+ghost use Rattle.std.specs.Prelude.{◌≡◌, ◌≤◌, ◌++◌, ◌⊎◌, true, false, Some, None, [], length, IfOk, IfErr, IfSome, IfNone, OnOk, OnErr, option_map};
+ghost use Rattle.tn_codes.specs.Payloads.{IsShort};
+ghost use Rattle.tn_codes.specs.declared.payloads.Payload.TheVariants as payload;
+ghost use Rattle.tn_nvt.specs.declared.items.Item.TheVariants as item;
+ghost use Rattle.tn_server.specs.Events.{got};
+ghost use Rattle.tn_server.specs.Terms.{payload_at, mask_for};
+ghost use Rattle.tn_server.specs.Replies.{list_answered};
+ghost use Rattle.tn_server.specs.Standing.{Goes, Gets, Refuses, Stops};
+ghost use Rattle.tn_server.specs.Faults.{IsOfItem};
+ghost use Rattle.tn_server.specs.Steps.{typed_byte, typed_command, IsShut, Cuts, after_words, says_words, after_wished, says_wished, sends_wished, after_mode_got, says_mode_got, after_list, after_sub, says_sub};
+
+use crate::end::ServerEnd;
+use crate::faults::ServerFault;
+use crate::sending::{put_list, put_word};
+use crate::terms::announce;
+use crate::wishes::Editing;
+use std::alloc::AllocError;
+use tn_codes::{Command, Payload, PayloadFault, Triples, Verb, read_payload};
+use tn_linemode::EDIT;
+use tn_nvt::{Item, Params};
+use tn_option::Side;
+use tn_pty::PtyFault;
+
+/// How many parameters a subnegotiation of a stream has at most.
+const MOST_PARAMS: usize = 512;
+
+/// How many triples a list of local characters has at most.
+const MOST_TRIPLES: usize = 170;
+
+impl ServerEnd {
+    pub(crate) fn items(&mut self, items: Vec<Item>, out: &mut Vec<u8>) -> Result<(), ServerFault>
+        ensures ok { OnOk result (Gets self.old items.items out.old.items out.new.items self.new) }
+        ensures err { OnErr result (Stops self.old items.items out.old.items out.new.items self.new) }
+        ensures fault { IfErr result IsOfItem }
+    {
+        for item in items {
+            self.item(item, out)?;
+        }
+        Ok(())
+    }
+
+    fn item(&mut self, item: Item, out: &mut Vec<u8>) -> Result<(), ServerFault>
+        ensures ok { OnOk result (Goes self.old (got item) out.old.items out.new.items self.new) }
+        ensures err { OnErr result (Refuses self.old (got item) out.old.items out.new.items self.new) }
+        ensures fault { IfErr result IsOfItem }
+    {
+        match item {
+            Item::Byte(byte) => match self.byte(byte) {
+                Ok(()) => Ok(()),
+                Err(fault) => Err(ServerFault::Pty(fault)),
+            },
+            Item::Newline => match self.byte(b'\n') {
+                Ok(()) => Ok(()),
+                Err(fault) => Err(ServerFault::Pty(fault)),
+            },
+            Item::Cmd(command) => match self.command(command) {
+                Ok(()) => Ok(()),
+                Err(fault) => Err(ServerFault::Pty(fault)),
+            },
+            Item::Neg(verb, option) => match self.word(verb, option, out) {
+                Ok(()) => Ok(()),
+                Err(_) => Err(ServerFault::Memory),
+            },
+            Item::Sub(option, params) => match self.subnegotiation(option, &params, out) {
+                Ok(()) => Ok(()),
+                Err(_) => Err(ServerFault::Memory),
+            },
+        }
+    }
+
+    // A byte of data: a key, or a byte of a line that the client edited.
+    fn byte(&mut self, byte: u8) -> Result<(), PtyFault>
+        ensures ok { OnOk result (self.new ≡ typed_byte self.old byte) }
+        ensures err { OnErr result (IsShut self.old self.new) }
+    {
+        if self.terms.modes.current() & EDIT != 0 {
+            return self.pair.edited_byte(byte);
+        }
+        let echo = self.terms.echoes();
+        self.pair.raw_key(byte, echo)
+    }
+
+    fn command(&mut self, command: Command) -> Result<(), PtyFault>
+        ensures ok { OnOk result (self.new ≡ typed_command self.old command) }
+        ensures err { OnErr result (IsShut self.old self.new) }
+    {
+        self.pair.command(command)
+    }
+
+    // An option word: it is answered, and what follows from it is said.
+    fn word(&mut self, verb: Verb, option: u8, out: &mut Vec<u8>) -> Result<(), AllocError>
+        ensures ok { OnOk result (self.new ≡ after_words self.old verb option) }
+        ensures out { OnOk result (out.new.items ≡ out.old.items ++ says_words self.old verb option) }
+        ensures cut { OnErr result (Cuts (says_words self.old verb option) out.old.items out.new.items) }
+        ensures err { OnErr result (self.new ≡ self.old) }
+    {
+        let was_on = self.terms.has_linemode();
+        let flags = self.pair.settings().flags;
+        let mut terms = self.terms;
+        let said = terms.options.got(verb, option);
+        put_word(said, out)?;
+        let _sent = terms.settle(self.alloc, was_on, false, &flags, &self.table, out)?;
+        self.terms = terms;
+        Ok(())
+    }
+
+    /// Wishes for editing at one side, where the terminal's flags allow it, and says what follows.
+    /// Answers whether a MODE was sent.
+    pub(crate) fn wish_for(
+        &mut self,
+        editing: Editing,
+        out: &mut Vec<u8>,
+    ) -> Result<bool, AllocError>
+        ensures ok { OnOk result (self.new ≡ after_wished self.old (mask_for self.old.terminal.settings.flags editing)) }
+        ensures sent { IfOk result (λ sent. sent ≡ sends_wished self.old (mask_for self.old.terminal.settings.flags editing)) }
+        ensures out { OnOk result (out.new.items ≡ out.old.items ++ says_wished self.old (mask_for self.old.terminal.settings.flags editing)) }
+        ensures cut { OnErr result (Cuts (says_wished self.old (mask_for self.old.terminal.settings.flags editing)) out.old.items out.new.items) }
+        ensures err { OnErr result (self.new ≡ self.old) }
+    {
+        let flags = self.pair.settings().flags;
+        let Some(mask) = editing.mask(&flags) else {
+            return Ok(false);
+        };
+        let was_on = self.terms.has_linemode();
+        let mut terms = self.terms;
+        terms.wish = mask;
+        let sent = terms.settle(self.alloc, was_on, false, &flags, &self.table, out)?;
+        self.terms = terms;
+        Ok(sent)
+    }
+
+    // A MODE of the client: an acknowledgement is in force from here on, and any other is a wish.
+    fn mode_got(&mut self, mask: u8, out: &mut Vec<u8>) -> Result<(), AllocError>
+        ensures ok { OnOk result (self.new ≡ after_mode_got self.old mask) }
+        ensures out { OnOk result (out.new.items ≡ out.old.items ++ says_mode_got self.old mask) }
+        ensures cut { OnErr result (Cuts (says_mode_got self.old mask) out.old.items out.new.items) }
+        ensures err { OnErr result (self.new ≡ self.old) }
+    {
+        let mut modes = self.terms.modes;
+        match modes.got(mask) {
+            None => {
+                self.terms.modes = modes;
+                Ok(())
+            },
+            Some(true) => {
+                let _sent = self.wish_for(Editing::Local, out)?;
+                Ok(())
+            },
+            Some(false) => {
+                let _sent = self.wish_for(Editing::Remote, out)?;
+                Ok(())
+            },
+        }
+    }
+
+    // A list of local characters: the answers in one list, and the whole table if it was asked for.
+    fn list(&mut self, triples: &Triples, out: &mut Vec<u8>) -> Result<(), AllocError>
+        requires { length triples.now ≤ 170 }
+        ensures ok { OnOk result (self.new ≡ after_list self.old triples.now) }
+        ensures out { OnOk result (out.new.items ≡ out.old.items ++ list_answered self.old.table (Some (payload.Slc triples.now))) }
+        ensures cut { OnErr result (Cuts (list_answered self.old.table (Some (payload.Slc triples.now))) out.old.items out.new.items) }
+        ensures err { OnErr result (self.new ≡ self.old) }
+    {
+        let mut table = self.table;
+        let mut answers = Vec::new(self.alloc);
+        let is_asked = table.got(triples.as_slice(), &mut answers)?;
+        put_list(self.alloc, answers, out)?;
+        if is_asked {
+            announce(self.alloc, &table, out)?;
+        }
+        self.table = table;
+        self.pair.set_chars(table.chars());
+        Ok(())
+    }
+
+    fn subnegotiation(
+        &mut self,
+        option: u8,
+        params: &Params,
+        out: &mut Vec<u8>,
+    ) -> Result<(), AllocError>
+        ensures ok { OnOk result (self.new ≡ after_sub self.old (payload_at self.old.terms.options (item.Sub option params.now))) }
+        ensures out { OnOk result (out.new.items ≡ out.old.items ++ says_sub self.old (payload_at self.old.terms.options (item.Sub option params.now))) }
+        ensures cut { OnErr result (Cuts (says_sub self.old (payload_at self.old.terms.options (item.Sub option params.now))) out.old.items out.new.items) }
+        ensures err { OnErr result (self.new ≡ self.old) }
+    {
+        match self.payload(option, params)? {
+            Some(Payload::Naws { width, height }) => {
+                self.pair.resize(width, height);
+                Ok(())
+            },
+            Some(Payload::Mode(mask)) => self.mode_got(mask, out),
+            Some(Payload::Slc(triples)) => self.list(&triples, out),
+            Some(
+                Payload::ForwardOn(_)
+                | Payload::ForwardOff
+                | Payload::ForwardYes
+                | Payload::ForwardNo,
+            )
+            | None => Ok(()),
+        }
+    }
+
+    // What a subnegotiation says to this end, where its option is on.
+    fn payload(&self, option: u8, params: &Params) -> Result<Option<Payload>, AllocError>
+        ensures value { IfOk result (λ payload. payload ≡ payload_at self.now.terms.options (item.Sub option params.now)) }
+        ensures short { IfOk result (λ payload. IfSome payload IsShort) }
+    {
+        if !self.terms.options.is_on(Side::Them, option) || params.len() > MOST_PARAMS {
+            return Ok(None);
+        }
+        match read_payload(self.alloc, option, params.as_slice()) {
+            Ok(payload) => Ok(Some(payload)),
+            Err(PayloadFault::Memory) => Err(AllocError),
+            Err(_) => Ok(None),
+        }
+    }
+}

@@ -1,0 +1,18 @@
+//! The server end of a Telnet connection, with the pseudoterminal pair behind it.
+#![tactic(auto)]
+
+pub use end::ServerEnd;
+pub use faults::ServerFault;
+pub use wishes::Editing;
+
+mod end;
+mod faults;
+mod items;
+#[cfg(test)]
+mod plain;
+mod screen;
+mod sending;
+mod terms;
+#[cfg(test)]
+mod tests;
+mod wishes;

@@ -1,0 +1,162 @@
+//! What a server end has agreed on with its client.
+
+ghost use Rattle.std.specs.Prelude.{◌≡◌, ◌++◌, true, is_some, IfOk, OnOk, OnErr};
+ghost use Rattle.tn_linemode.specs.Modes.{no_mode};
+ghost use Rattle.tn_server.specs.Terms.{opened, linemode, echoes, echo_asked, wants_echo};
+ghost use Rattle.tn_server.specs.Replies.{table_told, listed, echo_told};
+ghost use Rattle.tn_linemode.specs.Exchange.{announcement};
+ghost use Rattle.tn_server.specs.Steps.{told_now, masks_by, settled, settling, Cuts};
+
+use crate::sending::{put_list, put_mode, put_word};
+use std::alloc::{AllocError, Global};
+use tn_discipline::Flags;
+use tn_linemode::{EDIT, ServerMode, ServerTable};
+use tn_option::{Agree, ECHO, Engine, LINEMODE, NAWS, SUPPRESS_GO_AHEAD, Side};
+
+/// The options, the masks, and the mask of the last wish that was allowed.
+#[derive(Clone, Copy)]
+pub(crate) struct Negotiation {
+    pub(crate) options: Engine,
+    pub(crate) modes: ServerMode,
+    pub(crate) wish: u8,
+}
+
+impl Negotiation {
+    /// The opening wishes have been said.
+    pub(crate) fn new() -> Negotiation
+        ensures options { result.options ≡ opened }
+        ensures modes { result.modes ≡ no_mode }
+        ensures wish { result.wish ≡ 0 }
+    {
+        Negotiation {
+            options: opening_options(),
+            modes: ServerMode::new(),
+            wish: 0,
+        }
+    }
+
+    pub(crate) fn has_linemode(&self) -> bool
+        ensures { result ≡ linemode self.now.options }
+    {
+        self.options.is_on(Side::Them, LINEMODE)
+    }
+
+    pub(crate) fn echoes(&self) -> bool
+        ensures { result ≡ echoes self.now.options }
+    {
+        self.options.is_on(Side::Us, ECHO)
+    }
+
+    /// Asks for the wish where LINEMODE is on: the MODE to send. A change of LINEMODE forgets what was
+    /// asked and acknowledged before.
+    pub(crate) fn ask_mode(&mut self, was_on: bool) -> Option<u8>
+        ensures told { result ≡ told_now was_on self.old }
+        ensures masks { self.new ≡ record self.old { modes = masks_by was_on self.old } }
+    {
+        let is_on = self.has_linemode();
+        if is_on != was_on {
+            self.modes.reset();
+        }
+        if is_on {
+            self.modes.wish(self.wish)
+        } else {
+            None
+        }
+    }
+
+    /// Where it is due, asks for the server's own ECHO, or asks to be rid of it, and appends the word, if
+    /// one is to be said.
+    pub(crate) fn ask_echo(
+        &mut self,
+        is_due: bool,
+        flags: &Flags,
+        out: &mut Vec<u8>,
+    ) -> Result<(), AllocError>
+        ensures options { OnOk result (self.new ≡ record self.old { options = echo_asked is_due (wants_echo self.old.modes.asked flags.now) self.old.options }) }
+        ensures out { OnOk result (out.new.items ≡ out.old.items ++ echo_told is_due (wants_echo self.old.modes.asked flags.now) self.old.options) }
+        ensures err { OnErr result (out.new.items ≡ out.old.items) }
+    {
+        if !is_due {
+            return Ok(());
+        }
+        let wanted = self.modes.asked() & EDIT == 0 || !flags.echo;
+        match self.options.ask(Side::Us, ECHO, wanted) {
+            Ok(said) => {
+                put_word(said, out)?;
+                Ok(())
+            },
+            Err(_) => Ok(()),
+        }
+    }
+
+    /// Says what follows from new options, a wish or a flag: the table where LINEMODE came on, the MODE
+    /// that was not asked before, and the word for ECHO. Answers whether a MODE was sent.
+    pub(crate) fn settle(
+        &mut self,
+        alloc: Global,
+        was_on: bool,
+        is_set: bool,
+        flags: &Flags,
+        table: &ServerTable,
+        out: &mut Vec<u8>,
+    ) -> Result<bool, AllocError>
+        ensures sent { IfOk result (λ sent. sent ≡ is_some (told_now was_on self.old)) }
+        ensures terms { OnOk result (self.new ≡ settled was_on is_set flags.now self.old) }
+        ensures out { OnOk result (out.new.items ≡ out.old.items ++ settling was_on is_set flags.now table.now self.old) }
+        ensures err { OnErr result (Cuts (settling was_on is_set flags.now table.now self.old) out.old.items out.new.items) }
+    {
+        let is_on = self.has_linemode();
+        put_table(alloc, was_on, is_on, table, out)?;
+        let told = self.ask_mode(was_on);
+        put_mode(told, out)?;
+        let is_due = is_on != was_on || (told.is_some() || is_set);
+        self.ask_echo(is_due, flags, out)?;
+        Ok(told.is_some())
+    }
+}
+
+// Appends the whole table, where LINEMODE came on.
+fn put_table(
+    alloc: Global,
+    was_on: bool,
+    is_on: bool,
+    table: &ServerTable,
+    out: &mut Vec<u8>,
+) -> Result<(), AllocError>
+    ensures ok { OnOk result (out.new.items ≡ out.old.items ++ table_told was_on is_on table.now) }
+    ensures err { OnErr result (out.new.items ≡ out.old.items) }
+{
+    if was_on || !is_on {
+        return Ok(());
+    }
+    announce(alloc, table, out)
+}
+
+/// Appends the whole table.
+pub(crate) fn announce(
+    alloc: Global,
+    table: &ServerTable,
+    out: &mut Vec<u8>,
+) -> Result<(), AllocError>
+    ensures ok { OnOk result (out.new.items ≡ out.old.items ++ listed (announcement table.now)) }
+    ensures err { OnErr result (out.new.items ≡ out.old.items) }
+{
+    let mut triples = Vec::new(alloc);
+    table.announce(&mut triples)?;
+    put_list(alloc, triples, out)
+}
+
+fn opening_options() -> Engine
+    ensures { result ≡ opened }
+{
+    let mut options = Engine::new(Agree {
+        us: [true, true, false, false],
+        them: [false, true, true, true],
+    });
+    let _linemode = options.ask(Side::Them, LINEMODE, true);
+    let _naws = options.ask(Side::Them, NAWS, true);
+    let _ours = options.ask(Side::Us, SUPPRESS_GO_AHEAD, true);
+    let _theirs = options.ask(Side::Them, SUPPRESS_GO_AHEAD, true);
+    let _echo = options.ask(Side::Us, ECHO, true);
+    options
+}
