@@ -7,6 +7,7 @@ ghost use Rattle.tn_nvt.specs.Standing.{HasRead};
 ghost use Rattle.tn_option.specs.Options.{state_of, is_yes};
 ghost use Rattle.tn_option.specs.declared.q_method.Side.TheVariants.{Us};
 ghost use Rattle.tn_pty.specs.Terminal.{fits, first_signal};
+ghost use Rattle.tn_pty.specs.declared.pty.PtyFault.{PtyFault};
 ghost use Rattle.tn_server.specs.Events.{History, begun, next, took, wrote, pulled, wished, char_set, echo_set};
 ghost use Rattle.tn_server.specs.Lines.{half, waiting};
 ghost use Rattle.tn_server.specs.Screen.{queue, size};
@@ -219,6 +220,7 @@ impl ServerEnd {
         ensures failed { IsErrOf result ServerFault.Failed ↔ (self.old.failed ≡ true) }
         ensures accepted { OnOk result ((h : History) → Stands h self.old → char_fault (chars h) func value ≡ None) }
         ensures char { (fault : CharFault) → result ≡ Err (ServerFault.Char fault) → (h : History) → Stands h self.old → char_fault (chars h) func value ≡ Some fault }
+        ensures no_pty { (fault : PtyFault) → result ≢ Err (ServerFault.Pty fault) }
         ensures err { OnErr result (self.new ≡ self.old) }
         ensures err_appends { OnErr result (out.new.items ≡ out.old.items) }
     {

@@ -1,0 +1,245 @@
+-- What keys and changes of the mode do to the relation between what was typed, the server once it has read all that
+-- is in flight to it, and the client.
+use Rattle.std.proofs.Common.{◌≡◌, ◌≤◌, inl, inr, ℕ, ◌+◌, Bool, true, false, not, ◌&&◌, List, [], ◌∷◌, ◌++◌, length, refl, sym, ap, ◌∙◌, if◌then◌else◌, subst, arith, append-nil, append_assoc, length-append}
+use Rattle.tn_discipline.specs.declared.reads.Entry.{Entry}
+use Rattle.tn_discipline.specs.Admitted.{is_dropped}
+use Rattle.tn_discipline.specs.Entries.{entries_of, half_of}
+use Rattle.tn_discipline.specs.Steps.{half_after, half_next, gain_next}
+use Rattle.tn_discipline.specs.Keys.{role_of_mapped, role_of_key, roles_of}
+use Rattle.tn_discipline.specs.declared.termios.Settings.{Settings}
+use Rattle.tn_discipline.proofs.Histories.{half_of-fits, length_by_test}
+use Rattle.tn_world.specs.Machine.{Mode, Rules, Item, byte, mode_ack, other, Server, Client, Message, mode, forward_at, chatter, read, read_all, bytes, as_client, edit_key, remote_item, count_next, keyed, is_same, mode_taken, mode_came, came, allows_local, remote_mode, local_mode}
+use Rattle.tn_world.specs.Headline.{IsAskable}
+use Rattle.tn_world.proofs.Reading.{at, AreOrdinary, read-bytes_then, half-typed, entries-typed}
+use Rattle.tn_world.proofs.Typing.{Follows, literal_key, key-follows}
+
+-- The relation, between the typed keys and the taken entries, the server once it has read what is in flight, and the client.
+pub record Agrees (rules : Rules) (typed : List ℕ) (taken : List Entry) (v : Server) (c : Client) : Type 0 where
+  pub half : List ℕ
+  pub waiting : List Entry
+  pub is : v ≡ at c.mask.edit half waiting
+  pub entries : entries_of (roles_of rules.settings typed) ≡ taken ++ waiting
+  pub line : half_of (roles_of rules.settings typed) ≡ half ++ c.held
+  pub askable : IsAskable rules.settings c.mask
+  pub ahead : c.mask.edit ≡ true → length half ≡ c.ahead
+  pub none : c.mask.edit ≡ false → c.held ≡ []
+  pub plain : AreOrdinary rules.settings.chars c.held
+  pub count : rules.resumes ≡ true → c.mask.edit ≡ false → allows_local rules.settings ≡ true → (if rules.settings.flags.isig then c.trapped else c.plain) ≡ length half
+
+pub local_of : (s : Settings) (m : Mode) → IsAskable s m → m.edit ≡ true → (allows_local s ≡ true) × (m ≡ local_mode s)
+local_of s m (inl p) e = absurd (let q : m.edit ≡ false = ap (λ (n : Mode). n.edit) p in cc)
+local_of s m (inr p) e = p
+
+pub remote_of : (s : Settings) (m : Mode) → IsAskable s m → m.edit ≡ false → m ≡ remote_mode
+remote_of s m (inl p) e = p
+remote_of s m (inr p) e = absurd (let q : m.edit ≡ true = ap (λ (n : Mode). n.edit) p.1 in cc)
+
+and_left : (a b : Bool) → (a && b) ≡ true → a ≡ true
+and_left true b h = refl
+and_left false b h = h
+
+and_right : (a b : Bool) → (a && b) ≡ true → b ≡ true
+and_right true b h = h
+and_right false b h = absurd (cc)
+
+unset : (a : Bool) → not a ≡ true → a ≡ false
+unset true h = sym h
+unset false h = refl
+
+-- where Local is allowed, the client reads keys as the server's terminal does
+pub same_role : (s : Settings) (key : ℕ) → allows_local s ≡ true → role_of_key (as_client s s.flags.isig) key ≡ role_of_key s key
+same_role s key h =
+    let later = and_right s.flags.icrnl (not s.flags.inlcr && not s.flags.igncr) h in
+    let icrnl = and_left s.flags.icrnl (not s.flags.inlcr && not s.flags.igncr) h in
+    let inlcr = unset s.flags.inlcr (and_left (not s.flags.inlcr) (not s.flags.igncr) later) in
+    let igncr = unset s.flags.igncr (and_right (not s.flags.inlcr) (not s.flags.igncr) later) in
+    let flags = (as_client s s.flags.isig).flags in
+    ap (λ (x : Bool). role_of_key (record { chars = s.chars; flags = record flags { icrnl = x; inlcr = false; igncr = false } }) key) (sym icrnl)
+    ∙ ap (λ (x : Bool). role_of_key (record { chars = s.chars; flags = record flags { icrnl = s.flags.icrnl; inlcr = x; igncr = false } }) key) (sym inlcr)
+    ∙ ap (λ (x : Bool). role_of_key (record { chars = s.chars; flags = record flags { icrnl = s.flags.icrnl; inlcr = s.flags.inlcr; igncr = x } }) key) (sym igncr)
+
+fits_at : (s : Settings) (typed half held : List ℕ) → half_of (roles_of s typed) ≡ half ++ held → length (half ++ held) ≤ 254
+fits_at s typed half held line = subst (λ x. length x ≤ 254) line (half_of-fits (roles_of s typed))
+
+-- the count at the client, after one more key
+count-step : (s : Settings) (key : ℕ) (trapped plain : ℕ) (half : List ℕ) (b : Bool) → s.flags.isig ≡ b → allows_local s ≡ true → (if b then trapped else plain) ≡ length half → (if b then count_next trapped (role_of_key (as_client s true) key) else count_next plain (role_of_key (as_client s false) key)) ≡ length (half_next half (role_of_key s key))
+count-step s key trapped plain half true isig allowed count =
+    ap (λ r. count_next trapped r) (ap (λ (b : Bool). role_of_key (as_client s b) key) (sym isig) ∙ same_role s key allowed)
+    ∙ sym (length_by_test (is_dropped trapped (role_of_key s key)) half trapped (role_of_key s key) (sym count))
+    ∙ ap (λ n. length (if is_dropped n (role_of_key s key) then half else half_after half (role_of_key s key))) count
+count-step s key trapped plain half false isig allowed count =
+    ap (λ r. count_next plain r) (ap (λ (b : Bool). role_of_key (as_client s b) key) (sym isig) ∙ same_role s key allowed)
+    ∙ sym (length_by_test (is_dropped plain (role_of_key s key)) half plain (role_of_key s key) (sym count))
+    ∙ ap (λ n. length (if is_dropped n (role_of_key s key) then half else half_after half (role_of_key s key))) count
+
+-- a key
+pub key-agrees : (rules : Rules) (typed : List ℕ) (taken : List Entry) (v : Server) (c : Client) (key : ℕ) (e : Bool) → c.mask.edit ≡ e → Agrees rules typed taken v c → Agrees rules (typed ++ key ∷ []) taken (read_all rules.settings v (keyed rules e c key).items) (keyed rules e c key).client
+key-agrees rules typed taken v c key true is_edit a =
+    let ok = local_of rules.settings c.mask a.askable is_edit in
+    let same : role_of_key (as_client rules.settings c.mask.trapsig) key ≡ role_of_key rules.settings key =
+    ap (λ (m : Mode). role_of_key (as_client rules.settings m.trapsig) key) ok.1 ∙ same_role rules.settings key ok.0 in
+    let f : Follows rules.settings a.half a.waiting c.held (role_of_key rules.settings key) (edit_key c (role_of_key (as_client rules.settings c.mask.trapsig) key)) =
+    subst (λ r. Follows rules.settings a.half a.waiting c.held (role_of_key rules.settings key) (edit_key c r)) (sym same)
+    (key-follows rules.settings a.half a.waiting c (role_of_key rules.settings key) (literal_key rules.settings key) a.plain (a.ahead is_edit) (fits_at rules.settings typed a.half c.held a.line)) in
+    record {
+      half = f.half;
+      waiting = a.waiting ++ gain_next (a.half ++ c.held) (role_of_key rules.settings key);
+      is =
+          ap (λ x. read_all rules.settings x (keyed rules true c key).items) a.is
+          ∙ ap (λ e. read_all rules.settings (at e a.half a.waiting) (keyed rules true c key).items) is_edit
+          ∙ f.reads
+          ∙ ap (λ e. at e f.half (a.waiting ++ gain_next (a.half ++ c.held) (role_of_key rules.settings key))) (sym is_edit);
+      entries =
+          entries-typed rules.settings typed key
+          ∙ ap (λ x. x ++ gain_next (half_of (roles_of rules.settings typed)) (role_of_key rules.settings key)) a.entries
+          ∙ ap (λ x. (taken ++ a.waiting) ++ gain_next x (role_of_key rules.settings key)) a.line
+          ∙ append_assoc taken a.waiting (gain_next (a.half ++ c.held) (role_of_key rules.settings key));
+      line = half-typed rules.settings typed key ∙ ap (λ x. half_next x (role_of_key rules.settings key)) a.line ∙ f.line;
+      askable = a.askable;
+      ahead = λ e. f.ahead;
+      none = λ e. absurd (cc);
+      plain = f.plain;
+      count = λ r e allowed. absurd (cc);
+    }
+key-agrees rules typed taken v c key false is_remote a =
+    let ok = remote_of rules.settings c.mask a.askable is_remote in
+    let item : remote_item c.mask.trapsig (role_of_mapped (as_client rules.settings c.mask.trapsig) key) key ≡ byte key =
+    ap (λ (m : Mode). remote_item m.trapsig (role_of_mapped (as_client rules.settings m.trapsig) key) key) ok in
+    let whole : half_of (roles_of rules.settings typed) ≡ a.half = a.line ∙ ap (λ x. a.half ++ x) (a.none is_remote) ∙ append-nil a.half in
+    record {
+      half = half_next a.half (role_of_key rules.settings key);
+      waiting = a.waiting ++ gain_next a.half (role_of_key rules.settings key);
+      is =
+          ap (λ x. read_all rules.settings x (keyed rules false c key).items) a.is
+          ∙ ap (λ i. read rules.settings (at c.mask.edit a.half a.waiting) i) item
+          ∙ ap (λ e. read rules.settings (at e a.half a.waiting) (byte key)) is_remote
+          ∙ ap (λ e. at e (half_next a.half (role_of_key rules.settings key)) (a.waiting ++ gain_next a.half (role_of_key rules.settings key))) (sym is_remote);
+      entries =
+          entries-typed rules.settings typed key
+          ∙ ap (λ x. x ++ gain_next (half_of (roles_of rules.settings typed)) (role_of_key rules.settings key)) a.entries
+          ∙ ap (λ x. (taken ++ a.waiting) ++ gain_next x (role_of_key rules.settings key)) whole
+          ∙ append_assoc taken a.waiting (gain_next a.half (role_of_key rules.settings key));
+      line =
+          half-typed rules.settings typed key
+          ∙ ap (λ x. half_next x (role_of_key rules.settings key)) whole
+          ∙ sym (ap (λ x. half_next a.half (role_of_key rules.settings key) ++ x) (a.none is_remote) ∙ append-nil (half_next a.half (role_of_key rules.settings key)));
+      askable = a.askable;
+      ahead = λ e. absurd (cc);
+      none = a.none;
+      plain = a.plain;
+      count = λ r e allowed. count-step rules.settings key c.trapped c.plain a.half rules.settings.flags.isig refl allowed (a.count r e allowed);
+    }
+
+same_if : (b : Bool) (n : ℕ) → (if b then n else n) ≡ n
+same_if true n = refl
+same_if false n = refl
+
+empty_left : (xs ys : List ℕ) → xs ++ ys ≡ [] → xs ≡ []
+empty_left [] ys h = refl
+empty_left (x ∷ xs) ys h = absurd (cc)
+
+-- how many bytes are ahead where EDIT begins
+resumed : (rules : Rules) (typed half : List ℕ) (c : Client) (m : Mode) (b : Bool) → rules.resumes ≡ b → m ≡ local_mode rules.settings → half_of (roles_of rules.settings typed) ≡ half ++ c.held → (rules.resumes ≡ true → (if rules.settings.flags.isig then c.trapped else c.plain) ≡ length half) → (rules.resumes ≡ false → half_of (roles_of rules.settings typed) ≡ []) → length half ≡ (if b then (if m.trapsig then c.trapped else c.plain) else 0)
+resumed rules typed half c m true is local line count quiet =
+    sym (count is) ∙ ap (λ (n : Mode). if n.trapsig then c.trapped else c.plain) (sym local)
+resumed rules typed half c m false is local line count quiet =
+    ap length (empty_left half c.held (sym line ∙ quiet is))
+
+-- a mode that changes something
+taken-agrees : (rules : Rules) (typed : List ℕ) (taken : List Entry) (v : Server) (c : Client) (m : Mode) (e f : Bool) → c.mask.edit ≡ e → m.edit ≡ f → Agrees rules typed taken v c → IsAskable rules.settings m → (rules.resumes ≡ false → half_of (roles_of rules.settings typed) ≡ []) → Agrees rules typed taken (read_all rules.settings v (mode_taken rules c m e f).items) (mode_taken rules c m e f).client
+taken-agrees rules typed taken v c m true false before after a askable quiet =
+    record {
+      half = a.half ++ c.held;
+      waiting = a.waiting;
+      is =
+          ap (λ x. read_all rules.settings x (bytes c.held ++ mode_ack m ∷ [])) a.is
+          ∙ ap (λ e. read_all rules.settings (at e a.half a.waiting) (bytes c.held ++ mode_ack m ∷ [])) before
+          ∙ read-bytes_then rules.settings a.half a.waiting c.held (mode_ack m) a.plain (let fits = fits_at rules.settings typed a.half c.held a.line in omega (arith, length-append a.half c.held))
+          ∙ ap (λ x. at m.edit (a.half ++ c.held) x) (append-nil a.waiting);
+      entries = a.entries;
+      line = a.line ∙ sym (append-nil (a.half ++ c.held));
+      askable = askable;
+      ahead = λ e. absurd (cc);
+      none = λ e. refl;
+      plain = tt;
+      count = λ r e allowed.
+          same_if rules.settings.flags.isig (c.ahead + length c.held)
+          ∙ ap (λ n. n + length c.held) (sym (a.ahead before))
+          ∙ sym (length-append a.half c.held);
+    }
+taken-agrees rules typed taken v c m false true before after a askable quiet =
+    record {
+      half = a.half;
+      waiting = a.waiting;
+      is = ap (λ x. read rules.settings x (mode_ack m)) a.is ∙ ap (λ x. at m.edit a.half x) (append-nil a.waiting);
+      entries = a.entries;
+      line = a.line ∙ ap (λ x. a.half ++ x) (a.none before);
+      askable = askable;
+      ahead = λ e. resumed rules typed a.half c m rules.resumes refl (local_of rules.settings m askable after).1 a.line (λ r. a.count r before (local_of rules.settings m askable after).0) quiet;
+      none = λ e. refl;
+      plain = tt;
+      count = λ r e allowed. absurd (cc);
+    }
+taken-agrees rules typed taken v c m true true before after a askable quiet =
+    record {
+      half = a.half;
+      waiting = a.waiting;
+      is = ap (λ x. read rules.settings x (mode_ack m)) a.is ∙ ap (λ x. at m.edit a.half x) (append-nil a.waiting);
+      entries = a.entries;
+      line = a.line;
+      askable = askable;
+      ahead = λ e. a.ahead before;
+      none = λ e. absurd (cc);
+      plain = a.plain;
+      count = λ r e allowed. absurd (cc);
+    }
+taken-agrees rules typed taken v c m false false before after a askable quiet =
+    record {
+      half = a.half;
+      waiting = a.waiting;
+      is = ap (λ x. read rules.settings x (mode_ack m)) a.is ∙ ap (λ x. at m.edit a.half x) (append-nil a.waiting);
+      entries = a.entries;
+      line = a.line;
+      askable = askable;
+      ahead = λ e. absurd (cc);
+      none = λ e. a.none before;
+      plain = a.plain;
+      count = λ r e allowed. a.count r before allowed;
+    }
+
+mode-agrees : (rules : Rules) (typed : List ℕ) (taken : List Entry) (v : Server) (c : Client) (m : Mode) (b : Bool) → is_same c.mask m ≡ b → Agrees rules typed taken v c → IsAskable rules.settings m → (rules.resumes ≡ false → is_same c.mask m ≡ false → half_of (roles_of rules.settings typed) ≡ []) → Agrees rules typed taken (read_all rules.settings v (mode_came rules c m b).items) (mode_came rules c m b).client
+mode-agrees rules typed taken v c m true same a askable quiet = a
+mode-agrees rules typed taken v c m false differs a askable quiet =
+    taken-agrees rules typed taken v c m c.mask.edit m.edit refl refl a askable (λ r. quiet r differs)
+
+-- the modes of these messages
+abbrev pub IsAskableMessage : Settings → Message → Type 0
+IsAskableMessage s (mode m) = IsAskable s m
+IsAskableMessage s (forward_at f) = Unit
+IsAskableMessage s chatter = Unit
+
+abbrev pub IsCalm : Rules → List ℕ → Client → Message → Type 0
+IsCalm rules typed c (mode m) = is_same c.mask m ≡ false → half_of (roles_of rules.settings typed) ≡ []
+IsCalm rules typed c (forward_at f) = Unit
+IsCalm rules typed c chatter = Unit
+
+-- an item that has no role and changes no mode
+pub skipped : (rules : Rules) (typed : List ℕ) (taken : List Entry) (v : Server) (c new : Client) (item : Item) → ((e : Bool) (h : List ℕ) (w : List Entry) → read rules.settings (at e h w) item ≡ at e h (w ++ [])) → new ≡ record c { forward = new.forward } → Agrees rules typed taken v c → Agrees rules typed taken (read rules.settings v item) new
+skipped rules typed taken v c new item silent same a =
+    subst (λ x. Agrees rules typed taken (read rules.settings v item) x) (sym same) (record {
+      half = a.half;
+      waiting = a.waiting;
+      is = ap (λ x. read rules.settings x item) a.is ∙ silent c.mask.edit a.half a.waiting ∙ ap (λ x. at c.mask.edit a.half x) (append-nil a.waiting);
+      entries = a.entries;
+      line = a.line;
+      askable = a.askable;
+      ahead = a.ahead;
+      none = a.none;
+      plain = a.plain;
+      count = a.count;
+    })
+
+pub message-agrees : (rules : Rules) (typed : List ℕ) (taken : List Entry) (v : Server) (c : Client) (m : Message) → Agrees rules typed taken v c → IsAskableMessage rules.settings m → (rules.resumes ≡ false → IsCalm rules typed c m) → Agrees rules typed taken (read_all rules.settings v (came rules c m).items) (came rules c m).client
+message-agrees rules typed taken v c (mode m) a askable quiet = mode-agrees rules typed taken v c m (is_same c.mask m) refl a askable quiet
+message-agrees rules typed taken v c (forward_at f) a askable quiet = skipped rules typed taken v c (record c { forward = f }) other (λ e h w. refl) refl a
+message-agrees rules typed taken v c chatter a askable quiet = skipped rules typed taken v c c other (λ e h w. refl) refl a

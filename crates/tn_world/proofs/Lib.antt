@@ -1,0 +1,16 @@
+pub mod Bodies
+pub mod Changing
+pub mod ClientSteps
+pub mod ClientWrites
+pub mod Cut
+pub mod Following
+pub mod Marking
+pub mod Promise
+pub mod Reading
+pub mod Relation
+pub mod Resting
+pub mod ServerItems
+pub mod ServerSteps
+pub mod Soundness
+pub mod Tied
+pub mod Typing

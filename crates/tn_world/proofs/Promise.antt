@@ -1,0 +1,209 @@
+-- What both ends do is what the relation wants of them, so that it holds in every world.
+use Rattle.std.proofs.Common.{◌≡◌, inl, inr, ℕ, List, [], ◌∷◌, ◌++◌, ◌≤◌, ◌<◌, ◌+◌, suc, take, drop, refl, sym, ap, ◌∙◌, subst, length, arith}
+use Rattle.std.proofs.Math.ListN.{get_or}
+use Rattle.std.proofs.Math.Seq.{drop-cons}
+use Rattle.std.proofs.lemmas.List.{take_more, take_all, take-append-drop, length-take-le}
+use Rattle.tn_discipline.specs.declared.reads.Entry.{Entry}
+use Rattle.tn_discipline.specs.declared.termios.Settings.{Settings}
+use Rattle.tn_server.specs.Events as asked
+use Rattle.tn_world.specs.Headline.{IsPrefixOf, local_entries}
+use Rattle.tn_world.specs.Opened.{anew}
+use Rattle.tn_world.specs.Quiet.{IsBetweenLines, Nowhere, Passes, IsQuietEvent, AreQuiet, IsQuiet, IsMark, Follows, NoneFailed, NothingFlies, ComeWhere}
+use Rattle.tn_world.specs.Settled.{IsSettled, IsSound}
+use Rattle.tn_world.specs.Worlds.{World, Does, Refuses, Runs, Ends, made}
+use Rattle.tn_nvt.specs.declared.items.Item.{Item}
+use Rattle.tn_option.specs.Options.{Options}
+use Rattle.tn_client.specs.Terms.{heard, mode_at}
+use Rattle.tn_world.specs.declared.events.Event.{Event}
+use Rattle.tn_world.specs.declared.events.Event.TheVariants.{Key, ToServer, ToClient, Write, Pull, Take, Wish, Resize, SetChar, Propose, Echo, ServerStops, ClientStops}
+use Rattle.tn_world.specs.declared.faults.Cause.{Cause}
+use Rattle.tn_world.proofs.ClientSteps as client_steps
+use Rattle.tn_world.proofs.ClientWrites as client_writes
+use Rattle.tn_world.proofs.Following.{IsPlainCall, Simulates, rules_of, picture, holds_passes}
+use Rattle.tn_world.proofs.Marking.{mark_holds}
+use Rattle.tn_world.proofs.ServerItems as server_items
+use Rattle.tn_world.proofs.ServerSteps as server_steps
+use Rattle.tn_world.proofs.Soundness.{Speech, sound_does}
+use Rattle.tn_world.proofs.Tied.{tied-prefix, tied-complete}
+
+pub speech : Speech
+speech = record {
+  server_call = λ h old new e before after s g. let m = server_items.says_items h e in record { items = m.items; spelled = sym (g.adds h s) ∙ m.spelled; fit = m.fit };
+  server_feed = λ h old new piece before after s f. let m = server_items.feeds_made h old new piece before after s f in record { items = m.items; spelled = m.spelled; fit = m.fit };
+  client_call = client_writes.sends_items;
+  client_feed = client_writes.feeds_items;
+}
+
+-- a plain call, as the server's lemmas name it
+keeps : (e : asked.Event) → IsPlainCall e → server_steps.KeepsEntries e
+keeps (asked.wrote bytes) p = tt
+keeps (asked.pulled n) p = tt
+keeps (asked.wished editing) p = tt
+keeps (asked.echo_set on) p = tt
+keeps (asked.got item) p = absurd (p)
+keeps asked.took p = absurd (p)
+keeps (asked.char_set func value) p = absurd (p)
+
+calls : (e : asked.Event) → IsPlainCall e → server_steps.IsCall e
+calls (asked.wrote bytes) p = tt
+calls (asked.pulled n) p = tt
+calls (asked.wished editing) p = tt
+calls (asked.echo_set on) p = tt
+calls (asked.got item) p = absurd (p)
+calls asked.took p = absurd (p)
+calls (asked.char_set func value) p = absurd (p)
+
+pub simulates : Simulates
+simulates = record {
+  feeds_core = server_steps.feeds_core;
+  feeds_stays = server_steps.feeds_stays;
+  feeds_replies = server_steps.feeds_replies;
+  call_replies = λ rules h old new e before after p. server_steps.says_replies rules h old new e before after (calls e p);
+  call_stays = λ rules h old new e before after p. server_steps.says_stays rules h old new e before after (calls e p);
+  call_core = λ h old new e before after p. server_steps.says_core h old new e before after (keeps e p);
+  took_replies = λ rules h old new before after. server_steps.says_replies rules h old new asked.took before after tt;
+  took_stays = λ rules h old new before after. server_steps.says_stays rules h old new asked.took before after tt;
+  took_core = server_steps.took_core;
+  keys_done = client_steps.keys_done;
+  keys_stay = client_steps.keys_stay;
+  client_feeds_done = client_steps.feeds_done;
+  client_feeds_stay = client_steps.feeds_stay;
+  client_feeds_quiet = client_steps.feeds_quiet;
+  resized_done = client_steps.resized_done;
+  resized_stays = client_steps.resized_stays;
+}
+
+-- the invariant of a world
+pub still_sound : (old new : World) (e : Event) → Does old e new → IsSound old → IsSound new
+still_sound old new e d s = sound_does speech old new e d s
+
+-- the headline
+pub passes_prefix : (s : Settings) (start new : World) (events : List Event) → IsMark s start → Passes (IsBetweenLines s) start events new → NoneFailed new → IsPrefixOf (made new) (local_entries s new.typed)
+passes_prefix s start new events m p none =
+    let h = holds_passes simulates speech s start new events none p (mark_holds s start m) in
+    tied-prefix (rules_of s h.linemode) (picture new h.trapped h.plain) h.tied
+
+pub passes_complete : (s : Settings) (start new : World) (events : List Event) → IsMark s start → Passes (IsBetweenLines s) start events new → NoneFailed new → NothingFlies new → made new ≡ local_entries s new.typed
+passes_complete s start new events m p none nothing =
+    let h = holds_passes simulates speech s start new events none p (mark_holds s start m) in
+    tied-complete (rules_of s h.linemode) (picture new h.trapped h.plain) h.tied nothing.0
+
+pub follows_prefix : (s : Settings) (w : World) → Follows s w → NoneFailed w → IsPrefixOf (made w) (local_entries s w.typed)
+follows_prefix s w f none = passes_prefix s f.start w f.events f.mark f.passes none
+
+pub follows_complete : (s : Settings) (w : World) → Follows s w → NoneFailed w → NothingFlies w → made w ≡ local_entries s w.typed
+follows_complete s w f none nothing = passes_complete s f.start w f.events f.mark f.passes none nothing
+
+passes_on : (may : List ℕ → Type 0) (old mid new : World) (xs ys : List Event) → Passes may old xs mid → Passes may mid ys new → Passes may old (xs ++ ys) new
+passes_on may old mid new [] ys p q = subst (λ w. Passes may w ys new) p q
+passes_on may old mid new (e ∷ xs) ys p q = (p.0, p.1, p.2, passes_on may p.0 mid new xs ys p.3 q)
+
+pub follows_on : (s : Settings) (old new : World) (events : List Event) → Follows s old → Passes (IsBetweenLines s) old events new → Follows s new
+follows_on s old new events f p = record { start = f.start; mark = f.mark; events = f.events ++ events; passes = passes_on (IsBetweenLines s) f.start old new f.events events f.passes p }
+
+-- a run of quiet events
+runs_pass : (may : List ℕ → Type 0) (old new : World) (events : List Event) → AreQuiet may old events → Runs old events new → Passes may old events new
+runs_pass may old new [] quiet r = r
+runs_pass may old new (e ∷ events) quiet r = (r.0, quiet.0, inl r.1, runs_pass may r.0 new events (quiet.1 r.0 (inl r.1)) r.2)
+
+-- a run up to the event that was refused
+ends_pass : (may : List ℕ → Type 0) (old mid new : World) (done left : List Event) (e : Event) (cause : Cause) → AreQuiet may old (done ++ e ∷ left) → Runs old done mid → Refuses mid e cause new → Passes may old (done ++ e ∷ []) new
+ends_pass may old mid new [] left e cause quiet r refused = subst (λ w. Passes may w (e ∷ []) new) r (new, (subst (λ w. AreQuiet may w (e ∷ left)) (sym r) quiet).0, inr (cause, refused), refl)
+ends_pass may old mid new (d ∷ done) left e cause quiet r refused = (r.0, quiet.0, inl r.1, ends_pass may r.0 mid new done left e cause (quiet.1 r.0 (inl r.1)) r.2 refused)
+
+pub follows_runs : (s : Settings) (old new : World) (events : List Event) → Follows s old → IsQuiet s old events → Runs old events new → Follows s new
+follows_runs s old new events f quiet r = follows_on s old new events f (runs_pass (IsBetweenLines s) old new events quiet r)
+
+pub follows_ends : (s : Settings) (old new : World) (events : List Event) (at : ℕ) (cause : Cause) → Follows s old → IsQuiet s old events → Ends old events at cause new → Follows s new
+follows_ends s old new events at cause f quiet e =
+    follows_on s old new (e.done ++ e.event ∷ []) f
+    (ends_pass (IsBetweenLines s) old e.mid new e.done e.left e.event cause (subst (λ l. IsQuiet s old l) e.whole quiet) e.runs e.refuses)
+
+-- a mode that changes nowhere is one that changes between lines alone
+come_nowhere : (may : Type 0) (o : Options) (mode : ℕ) (items : List Item) → ComeWhere ⊥ o mode items → ComeWhere may o mode items
+come_nowhere may o mode [] h = tt
+come_nowhere may o mode (item ∷ items) h = (λ differs. absurd (h.0 differs), come_nowhere may (heard o item) (mode_at o mode item) items h.1)
+
+quiet_nowhere : (s : Settings) (w : World) (e : Event) → IsQuietEvent Nowhere w e → IsQuietEvent (IsBetweenLines s) w e
+quiet_nowhere s w (Key key) q = tt
+quiet_nowhere s w (ToServer n) q = tt
+quiet_nowhere s w (ToClient n) q = λ items next adds. come_nowhere (IsBetweenLines s w.typed) w.client.options w.client.mode items (q items next adds)
+quiet_nowhere s w (Write bytes) q = tt
+quiet_nowhere s w (Pull n) q = tt
+quiet_nowhere s w Take q = tt
+quiet_nowhere s w (Wish editing) q = tt
+quiet_nowhere s w (Resize width height) q = tt
+quiet_nowhere s w (SetChar func value) q = absurd (q)
+quiet_nowhere s w (Propose func value) q = absurd (q)
+quiet_nowhere s w (Echo on) q = tt
+quiet_nowhere s w ServerStops q = tt
+quiet_nowhere s w ClientStops q = tt
+
+pub passes_nowhere : (s : Settings) (old new : World) (events : List Event) → Passes Nowhere old events new → Passes (IsBetweenLines s) old events new
+passes_nowhere s old new [] p = p
+passes_nowhere s old new (e ∷ events) p = (p.0, quiet_nowhere s old e p.1, p.2, passes_nowhere s p.0 new events p.3)
+
+-- the world whose lists begin anew
+pub anew_settled : (w : World) → IsSettled w → IsSettled (anew w)
+anew_settled w m =
+    record {
+      idle = record { to_server = m.idle.to_server; to_client = m.idle.to_client; server_stopped = m.idle.server_stopped; server_failed = m.idle.server_failed; client_stopped = m.idle.client_stopped; client_failed = m.idle.client_failed };
+      agreed = record { linemode = m.agreed.linemode; mask = m.agreed.mask; chars = m.agreed.chars; server_steady = m.agreed.server_steady; client_steady = m.agreed.client_steady };
+      empty = record { half = m.empty.half; held = m.empty.held; ahead = m.empty.ahead; waiting = m.empty.waiting };
+    }
+
+pub anew_sound : (w : World) → IsSound w → IsSound (anew w)
+anew_sound w s =
+    record {
+      history = s.history;
+      server = s.server;
+      client = s.client;
+      flights = λ a b. let f = s.flights a b in record { items = f.items; to_server = f.to_server; messages = f.messages; to_client = f.to_client };
+    }
+
+pub mark_follows : (w : World) → IsSound w → IsSettled w → Follows w.server.terminal.settings (anew w)
+mark_follows w s m =
+    record {
+      start = anew w;
+      mark = record { sound = anew_sound w s; settled = anew_settled w m; settings = refl; typed = refl; taken = refl };
+      events = [];
+      passes = refl;
+    }
+
+pub marked : (old w : World) (typed : List ℕ) (taken : List Entry) → w ≡ old → IsSound w → IsSettled old → typed ≡ [] → taken ≡ [] → Follows old.server.terminal.settings (record w { typed = typed; taken = taken })
+marked old w typed taken is sound settled no_keys no_entries =
+    subst (λ x. Follows old.server.terminal.settings (record w { typed = x; taken = taken })) (sym no_keys)
+    (subst (λ x. Follows old.server.terminal.settings (record w { typed = []; taken = x })) (sym no_entries)
+    (subst (λ x. Follows x.server.terminal.settings (anew w)) is (mark_follows w sound (subst (λ x. IsSettled x) (sym is) settled))))
+
+-- the run goes on
+runs_on : (old mid new : World) (xs : List Event) (e : Event) → Runs old xs mid → Does mid e new → Runs old (xs ++ e ∷ []) new
+runs_on old mid new [] e r d = (new, subst (λ w. Does w e new) r d, refl)
+runs_on old mid new (x ∷ xs) e r d = (r.0, r.1, runs_on r.0 mid new xs e r.2 d)
+
+pub runs_more : (old mid new : World) (events : List Event) (n : ℕ) (e : Event) → n < length events → e ≡ get_or events n e → Runs old (take n events) mid → Does mid e new → Runs old (take (n + 1) events) new
+runs_more old mid new events n e within is r d =
+    subst (λ l. Runs old l new) (ap (λ x. take n events ++ x ∷ []) is ∙ sym (take_more events n e within)) (runs_on old mid new (take n events) e r d)
+
+pub runs_whole : (old new : World) (events : List Event) (n : ℕ) → length events ≤ n → Runs old (take n events) new → Runs old events new
+runs_whole old new events n over r = subst (λ l. Runs old l new) (take_all n events over) r
+
+pub runs_stop : (old mid new : World) (events : List Event) (n : ℕ) (e : Event) (cause : Cause) → n < length events → e ≡ get_or events n e → Runs old (take n events) mid → Refuses mid e cause new → Ends old events n cause new
+runs_stop old mid new events n e cause within is r refuses =
+    record {
+      done = take n events;
+      event = e;
+      left = drop (suc n) events;
+      whole = sym (take-append-drop n events) ∙ ap (λ l. take n events ++ l) (drop-cons events n e within ∙ ap (λ x. x ∷ drop (suc n) events) (sym is));
+      place = length-take-le n events (omega (arith, within));
+      mid = mid;
+      runs = r;
+      refuses = refuses;
+    }
+
+-- the promises of a run
+pub run_follows : (old new : World) (events : List Event) → Runs old events new → (s : Settings) → Follows s old → IsQuiet s old events → Follows s new
+run_follows old new events r s f quiet = follows_runs s old new events f quiet r
+
+pub end_follows : (old new : World) (events : List Event) (at : ℕ) (cause : Cause) → Ends old events at cause new → (s : Settings) → Follows s old → IsQuiet s old events → Follows s new
+end_follows old new events at cause e s f quiet = follows_ends s old new events at cause f quiet e

@@ -1,0 +1,637 @@
+-- What a server end does after a mark: with items that are calm, and with its owner's calls.
+use Rattle.std.proofs.Common.{◌≡◌, ◌≢◌, ◌≤◌, inl, inr, ℕ, ◌+◌, ◌==◌, nat_lt, nat_le, Bool, true, false, not, ◌&&◌, Option, Some, None, Result, Ok, Err, option_to_list, List, [], ◌∷◌, ◌++◌, length, take, drop, flat_map, refl, sym, ap, ◌∙◌, if◌then◌else◌, subst, arith, append-nil, append_assoc, length-append}
+use Rattle.std.specs.Prelude.{All, MatchOption}
+use Rattle.std.proofs.lemmas.Bool.{eqb-false, ltb-true}
+use Rattle.std.proofs.lemmas.Bool.Decides.{nat_tests}
+use Rattle.std.proofs.lemmas.Grind.{flat_map-append}
+use Rattle.std.proofs.lemmas.List.{append_cancel_left, drop-append-le, drop-drop}
+use Rattle.std.proofs.lemmas.List.Elements.{All-nil, All-cons, All-head, All-tail, All-append}
+use Rattle.std.proofs.lemmas.Nat.{and_assoc}
+use Rattle.tn_codes.specs.PayloadOf.{payload_of}
+use Rattle.tn_codes.specs.declared.codes.Command.TheVariants.{Ga}
+use Rattle.tn_codes.specs.declared.codes.Verb.{Verb}
+use Rattle.tn_codes.specs.declared.payloads.Payload.{Payload}
+use Rattle.tn_codes.specs.declared.payloads.Payload.TheVariants as payload
+use Rattle.tn_codes.proofs.Telling.{says}
+use Rattle.tn_discipline.specs.Characters.{Characters}
+use Rattle.tn_discipline.specs.Steps.{half_next, gain_next}
+use Rattle.tn_discipline.specs.declared.echo.Symbol.{Symbol}
+use Rattle.tn_discipline.specs.declared.echo.Symbol.TheVariants as symbol
+use Rattle.tn_discipline.specs.declared.keys.Role.{Role}
+use Rattle.tn_discipline.specs.declared.keys.Role.TheVariants as role
+use Rattle.tn_discipline.specs.declared.reads.Entry.{Entry}
+use Rattle.tn_discipline.specs.declared.termios.Flags.{Flags}
+use Rattle.tn_discipline.specs.declared.termios.Settings.{Settings}
+use Rattle.tn_linemode.specs.Modes.{Modes, mode_of, is_acknowledged, edits}
+use Rattle.tn_nvt.specs.Spelling.{spelling, Fits}
+use Rattle.tn_nvt.specs.declared.items.Item.{Item}
+use Rattle.tn_nvt.specs.declared.items.Item.TheVariants.{Byte, Newline, Cmd, Neg, Sub}
+use Rattle.tn_option.specs.QMethod.{side_of, cause_of, said, answered, wish_for}
+use Rattle.tn_option.specs.Options.{Options, known, cell_now, refused, said_now, answered_now, after_word, reply_to, answer_to, state_of, is_yes}
+use Rattle.tn_option.specs.declared.known.Known.{Known}
+use Rattle.tn_option.specs.declared.q_method.Answer.{Answer}
+use Rattle.tn_option.specs.declared.q_method.Answer.TheVariants as answer
+use Rattle.tn_option.specs.declared.q_method.AskFault.{AskFault}
+use Rattle.tn_option.specs.declared.q_method.Cause.{Cause}
+use Rattle.tn_option.specs.declared.q_method.Cause.TheVariants.{HeardOn, HeardOff, WishOn, WishOff}
+use Rattle.tn_option.specs.declared.q_method.Side.{Side}
+use Rattle.tn_option.specs.declared.q_method.Side.TheVariants.{Us, Them}
+use Rattle.tn_option.proofs.OptionLaws.{LeavesOthers-moved}
+use Rattle.tn_server.specs.Events.{Event, History, next, got, took, wrote, pulled, wished, char_set, echo_set, gets}
+use Rattle.tn_server.specs.Terms.{Terms, terms, options, flags, chars, settings, mode, linemode, payload_at, heard, wish_in, wished_after, mask_for, mask_or, asked_of, asked_while, mode_sent, told_by, asks_echo, wants_echo, terms_by, differ, mode_after, chars_after}
+use Rattle.tn_server.specs.Lines.{role_at, roles, entries, half, taken, waiting}
+use Rattle.tn_server.specs.Screen.{queue, sends_ga, none_waits, due}
+use Rattle.tn_server.specs.Replies.{word, asked_word, word_back, subnegotiated, table_told, mode_told, echo_told, says_by, list_answered, spelled, adds, sent}
+use Rattle.tn_server.specs.Standing.{End, Stands, Goes, Feeds, Halts}
+use Rattle.tn_server.specs.declared.wishes.Editing.{Editing}
+use Rattle.tn_server.specs.declared.wishes.Editing.TheVariants.{Remote, Local}
+use Rattle.tn_server.proofs.Settling.{differ_self, told_again, table_again}
+use Rattle.tn_server.proofs.Standings.{line_is}
+use Rattle.tn_server.proofs.Turning.{echo_keeps_linemode}
+use Rattle.tn_server.proofs.Calling.{waits_are}
+use Rattle.tn_world.specs.Calm.{bits, SaysCalmly, IsCalmToServer, IsCalmToClient, seen_payload, seen}
+use Rattle.tn_world.specs.Ends.{spells, seen_all, Replies, ServerFeeds, ServerSays, Took}
+use Rattle.tn_world.specs.Headline.{IsAskable}
+use Rattle.tn_world.specs.Machine as machine
+use Rattle.tn_world.specs.Machine.{Rules, Server, item_role, edit_after, read, read_all, allows_local, local_mode}
+use Rattle.tn_world.specs.Pictures.{server_core, server_picture, ServerStays}
+use Rattle.tn_world.proofs.Reading.{half-role, entries-role}
+
+-- WHOLE ITEMS, of which each is such as is said
+pub record Made (P : Item → Type 0) (out : List ℕ) : Type 0 where
+  pub items : List Item
+  pub spelled : out ≡ spells items
+  pub fit : All Fits items
+  pub each : All P items
+
+pub nothing : (P : Item → Type 0) → Made P []
+nothing P = record { items = []; spelled = refl; fit = All-nil Fits; each = All-nil P }
+
+pub one : (P : Item → Type 0) (item : Item) → Fits item → P item → Made P (spelling item)
+one P item f p = record {
+  items = item ∷ [];
+  spelled = sym (append-nil (spelling item));
+  fit = All-cons Fits item [] f (All-nil Fits);
+  each = All-cons P item [] p (All-nil P);
+}
+
+pub both : (P : Item → Type 0) (a b : List ℕ) → Made P a → Made P b → Made P (a ++ b)
+both P a b x y = record {
+  items = x.items ++ y.items;
+  spelled =
+      ap (λ (out : List ℕ). out ++ b) x.spelled
+      ∙ ap (λ (out : List ℕ). spells x.items ++ out) y.spelled
+      ∙ sym (flat_map-append spelling x.items y.items);
+  fit = All-append Fits x.items y.items x.fit y.fit;
+  each = All-append P x.items y.items x.each y.each;
+}
+
+-- no bytes, seen otherwise
+pub none_made : (P : Item → Type 0) (out : List ℕ) → out ≡ [] → Made P out
+none_made P out e = subst (Made P) (sym e) (nothing P)
+
+pub replies_of : (rules : Rules) (out : List ℕ) → Made (IsCalmToClient rules.settings) out → Replies rules out
+replies_of rules out m = record { items = m.items; spelled = m.spelled; fit = m.fit; calm = m.each }
+
+-- OPTION WORDS answer with the option that they were asked about
+abbrev pub Speaks : ℕ → Option (Verb × ℕ) → Type 0
+Speaks option None = Unit {0}
+Speaks option (Some word) = word.1 ≡ option
+
+abbrev pub SpeaksAsked : ℕ → Result (Option (Verb × ℕ)) AskFault → Type 0
+SpeaksAsked option (Ok word) = Speaks option word
+SpeaksAsked option (Err fault) = Unit {0}
+
+refused_speaks : (side : Side) (option : ℕ) (cause : Cause) → Speaks option (refused side option cause)
+refused_speaks side option HeardOn = refl
+refused_speaks side option HeardOff = tt
+refused_speaks side option WishOn = tt
+refused_speaks side option WishOff = tt
+
+said_speaks : (side : Side) (option : ℕ) (a : Answer) → Speaks option (said side option a)
+said_speaks side option answer.Nothing = tt
+said_speaks side option answer.SayOn = refl
+said_speaks side option answer.SayOff = refl
+said_speaks side option answer.AlreadySo = tt
+said_speaks side option answer.AlreadyAsked = tt
+said_speaks side option answer.AlreadyQueued = tt
+
+now_speaks : (o : Options) (side : Side) (option : ℕ) (cause : Cause) (k : Option Known) → Speaks option (said_now o side option cause k)
+now_speaks o side option cause None = refused_speaks side option cause
+now_speaks o side option cause (Some k) = said_speaks side option (cell_now o side k cause).1
+
+pub reply_speaks : (o : Options) (verb : Verb) (option : ℕ) → Speaks option (reply_to o verb option)
+unfolding reply_to
+reply_speaks o verb option = now_speaks o (side_of verb) option (cause_of verb) (known option)
+
+answered_speaks : (side : Side) (option : ℕ) (a : Answer) → SpeaksAsked option (answered side option a)
+answered_speaks side option answer.Nothing = tt
+answered_speaks side option answer.SayOn = refl
+answered_speaks side option answer.SayOff = refl
+answered_speaks side option answer.AlreadySo = tt
+answered_speaks side option answer.AlreadyAsked = tt
+answered_speaks side option answer.AlreadyQueued = tt
+
+asked_speaks : (o : Options) (side : Side) (option : ℕ) (cause : Cause) (k : Option Known) → SpeaksAsked option (answered_now o side option cause k)
+asked_speaks o side option cause None = tt
+asked_speaks o side option cause (Some k) = answered_speaks side option (cell_now o side k cause).1
+
+pub wish_speaks : (o : Options) (side : Side) (option : ℕ) (on : Bool) → SpeaksAsked option (answer_to o side option on)
+unfolding answer_to
+wish_speaks o side option on = asked_speaks o side option (wish_for on) (known option)
+
+pub word_made : (P : Item → Type 0) (option : ℕ) (w : Option (Verb × ℕ)) → Speaks option w → ((verb : Verb) → P (Neg verb option)) → Made P (word w)
+word_made P option None s p = nothing P
+word_made P option (Some said) s p = one P (Neg said.0 said.1) tt (subst (λ (c : ℕ). P (Neg said.0 c)) (sym s) (p said.0))
+
+pub asked_made : (P : Item → Type 0) (option : ℕ) (w : Result (Option (Verb × ℕ)) AskFault) → SpeaksAsked option w → ((verb : Verb) → P (Neg verb option)) → Made P (asked_word w)
+asked_made P option (Ok w) s p = word_made P option w s p
+asked_made P option (Err fault) s p = nothing P
+
+pub echo_made : (P : Item → Type 0) (due wanted : Bool) (o : Options) → ((verb : Verb) → P (Neg verb 1)) → Made P (echo_told due wanted o)
+echo_made P true wanted o p = asked_made P 1 (answer_to o Us 1 wanted) (wish_speaks o Us 1 wanted) p
+echo_made P false wanted o p = nothing P
+
+-- what is said once the options and perhaps a wish are new: the table, the mode, the server's ECHO
+pub settled_made : (P : Item → Type 0) (f : Flags) (c : Characters) (t : Terms) (o : Options) (ed : Option Editing) (set : Bool) → Made P (table_told (linemode t.options) (linemode o) c) → Made P (mode_told (told_by t o (wished_after f t.wish ed))) → ((verb : Verb) → P (Neg verb 1)) → Made P (says_by f c t o ed set)
+settled_made P f c t o ed set table told p =
+    let wish = wished_after f t.wish ed in
+    both P _ _ table (both P _ _ told (echo_made P (asks_echo t.options o (told_by t o wish) set) (wants_echo (asked_of o wish) f) o p))
+
+-- an option word on another option leaves LINEMODE as it is
+other_code : (option : ℕ) → (option == 34) ≡ false → 34 ≢ option
+other_code option e same = eqb-false option 34 e (sym same)
+
+pub words_keep_linemode : (o : Options) (verb : Verb) (option : ℕ) → (option == 34) ≡ false → linemode (after_word o verb option) ≡ linemode o
+unfolding after_word
+words_keep_linemode o verb option e =
+    ap is_yes (LeavesOthers-moved o (side_of verb) option (cause_of verb) Them 34 (inl (other_code option e)))
+
+-- WHAT STAYS AS IT WAS AT THE MARK, said of a history
+pub record IsKept (rules : Rules) (h : History) : Type 0 where
+  pub on : linemode (options h) ≡ rules.linemode
+  pub characters : chars h ≡ rules.settings.chars
+  pub others : flags h ≡ record (rules.settings.flags) { echo = (flags h).echo }
+  pub fits : taken h ≤ length (entries h)
+
+pub kept_at : (rules : Rules) (h : History) (end : End) → Stands h end → ServerStays rules end → IsKept rules h
+kept_at rules h end s k = record {
+  on = ap (λ (t : Terms). linemode t.options) (sym s.terms) ∙ k.linemode;
+  characters = sym s.table ∙ k.chars;
+  others =
+      let P : Flags → Type 0 = λ f. f ≡ record (rules.settings.flags) { echo = f.echo } in
+      subst P (ap (λ (x : Settings). x.flags) s.settings) k.flags;
+  fits = let e = ap length s.waits in omega (arith, e, s.count, length-append s.read end.terminal.entries);
+}
+
+pub stays_at : (rules : Rules) (h : History) (end : End) → Stands h end → IsKept rules h → ServerStays rules end
+stays_at rules h end s k = record {
+  linemode = ap (λ (t : Terms). linemode t.options) s.terms ∙ k.on;
+  chars = s.table ∙ k.characters;
+  flags =
+      let P : Flags → Type 0 = λ f. f ≡ record (rules.settings.flags) { echo = f.echo } in
+      subst P (sym (ap (λ (x : Settings). x.flags) s.settings)) k.others;
+}
+
+-- the server of a history
+abbrev pub core_of : History → Bool → Server
+core_of h failed = record { edit = edits (mode h); half = half h; waiting = waiting h; failed = failed }
+
+pub core_at : (h : History) (end : End) → Stands h end → server_core end ≡ core_of h end.failed
+core_at h end s =
+    ap (λ (m : Modes). record { edit = edits m.current; half = end.terminal.line.held; waiting = end.terminal.entries; failed = end.failed }) s.modes
+    ∙ ap (λ (held : List ℕ). record { edit = edits (mode h); half = held; waiting = end.terminal.entries; failed = end.failed }) (ap (λ l. l.held) (line_is h end s))
+    ∙ ap (λ (w : List Entry). record { edit = edits (mode h); half = half h; waiting = w; failed = end.failed }) (sym (waits_are h end s))
+
+-- A CALM ITEM brings no wish and no character
+calm_if : (b : Bool) (p : Option Payload) → SaysCalmly p → SaysCalmly (if b then p else None)
+calm_if true p c = c
+calm_if false p c = tt
+
+pub calm_at : (o : Options) (item : Item) → IsCalmToServer item → SaysCalmly (payload_at o item)
+calm_at o (Byte b) c = tt
+calm_at o Newline c = tt
+calm_at o (Cmd command) c = tt
+calm_at o (Neg verb option) c = tt
+calm_at o (Sub option params) c = calm_if (is_yes (state_of o Them option) && nat_le (length params) 512) (payload_of option params) c
+
+wish_none : (p : Option Payload) → SaysCalmly p → wish_in p ≡ None
+wish_none None c = refl
+wish_none (Some (payload.Mode mask)) c = rw c refl
+wish_none (Some (payload.Slc triples)) c = absurd c
+wish_none (Some p) c = refl
+
+same_characters : (cs : Characters) (p : Option Payload) → SaysCalmly p → chars_after cs p ≡ cs
+same_characters cs None c = refl
+same_characters cs (Some (payload.Slc triples)) c = absurd c
+same_characters cs (Some p) c = refl
+
+no_answers : (cs : Characters) (p : Option Payload) → SaysCalmly p → list_answered cs p ≡ []
+no_answers cs None c = refl
+no_answers cs (Some (payload.Slc triples)) c = absurd c
+no_answers cs (Some p) c = refl
+
+pub heard_keeps : (o : Options) (item : Item) → IsCalmToServer item → linemode (heard o (got item)) ≡ linemode o
+heard_keeps o (Byte b) c = refl
+heard_keeps o Newline c = refl
+heard_keeps o (Cmd command) c = refl
+heard_keeps o (Neg verb option) c = words_keep_linemode o verb option c
+heard_keeps o (Sub option params) c = refl
+
+-- with LINEMODE as it was and no wish, nothing is said and no ECHO is asked for
+terms_quiet : (f : Flags) (t : Terms) (o : Options) → linemode o ≡ linemode t.options → terms_by f t o None false ≡ record { options = o; wish = t.wish }
+terms_quiet f t o e = rw (e, told_again (linemode t.options) t.wish, differ_self (linemode t.options)) refl
+
+says_quiet : (f : Flags) (c : Characters) (t : Terms) (o : Options) → linemode o ≡ linemode t.options → says_by f c t o None false ≡ []
+says_quiet f c t o e = rw (e, told_again (linemode t.options) t.wish, differ_self (linemode t.options), table_again (linemode t.options) c) refl
+
+terms_got : (h : History) (item : Item) → IsCalmToServer item → terms (next h (got item)) ≡ record { options = heard (options h) (got item); wish = (terms h).wish }
+terms_got h item c =
+    ap (λ (w : Option Editing). terms_by (flags h) (terms h) (heard (options h) (got item)) w false) (wish_none (payload_at (options h) item) (calm_at (options h) item c))
+    ∙ terms_quiet (flags h) (terms h) (heard (options h) (got item)) (heard_keeps (options h) item c)
+
+pub linemode_got : (h : History) (item : Item) → IsCalmToServer item → linemode (options (next h (got item))) ≡ linemode (options h)
+linemode_got h item c = ap (λ (t : Terms). linemode t.options) (terms_got h item c) ∙ heard_keeps (options h) item c
+
+pub kept_got : (rules : Rules) (h : History) (item : Item) → IsKept rules h → IsCalmToServer item → IsKept rules (next h (got item))
+kept_got rules h item k c = record {
+  on = linemode_got h item c ∙ k.on;
+  characters = same_characters (chars h) (payload_at (options h) item) (calm_at (options h) item c) ∙ k.characters;
+  others = k.others;
+  fits =
+      let r = role_at (settings h) (edits (mode h)) item in
+      let more = ap length (entries-role (roles h) r) in
+      let gain = gain_next (half h) r in
+      let fits = k.fits in
+      omega (arith, more, fits, length-append (entries h) gain);
+}
+
+-- the role of an item is what it says; the flag ECHO has no part in it
+sub_role : (s : Settings) (edit on : Bool) (p : Option Payload) → role.Ignored ≡ item_role s edit (seen_payload on p)
+sub_role s edit true None = refl
+sub_role s edit true (Some (payload.Mode mask)) = refl
+sub_role s edit true (Some p) = refl
+sub_role s edit false p = refl
+
+role_seen : (s : Settings) (echo edit on : Bool) (item : Item) → role_at (record { flags = record (s.flags) { echo = echo }; chars = s.chars }) edit item ≡ item_role s edit (seen on item)
+role_seen s echo edit on (Byte b) = refl
+role_seen s echo edit on Newline = refl
+role_seen s echo edit on (Cmd command) = refl
+role_seen s echo edit on (Neg verb option) = refl
+role_seen s echo edit on (Sub option params) = sub_role s edit on (payload_of option params)
+
+pub role_is : (rules : Rules) (h : History) (item : Item) → IsKept rules h → role_at (settings h) (edits (mode h)) item ≡ item_role rules.settings (edits (mode h)) (seen rules.linemode item)
+role_is rules h item k =
+    ap (λ (f : Flags). role_at (record { flags = f; chars = chars h }) (edits (mode h)) item) k.others
+    ∙ ap (λ (c : Characters). role_at (record { flags = record (rules.settings.flags) { echo = (flags h).echo }; chars = c }) (edits (mode h)) item) k.characters
+    ∙ role_seen rules.settings (flags h).echo (edits (mode h)) rules.linemode item
+
+-- the mask after it
+abbrev IsNoMode : Payload → Type 0
+IsNoMode (payload.Mode mask) = ⊥
+IsNoMode _ = Unit {0}
+
+same_mask : (b : Bool) (m : ℕ) (p : Payload) → IsNoMode p → mode_after false m (if b then Some p else None) ≡ m
+same_mask false m p n = refl
+same_mask true m (payload.Mode mask) n = absurd n
+same_mask true m p n = refl
+
+other_seen : (on : Bool) (p : Payload) → IsNoMode p → seen_payload on (Some p) ≡ machine.other
+other_seen false p n = refl
+other_seen true (payload.Mode mask) n = absurd n
+other_seen true p n = refl
+
+no_payload : (b : Bool) (m : ℕ) → mode_after false m (if b then None else None) ≡ m
+no_payload true m = refl
+no_payload false m = refl
+
+none_seen : (on : Bool) → seen_payload on None ≡ machine.other
+none_seen true = refl
+none_seen false = refl
+
+pub edits-mode_of : (mask : ℕ) → edits (mode_of mask) ≡ edits mask
+edits-mode_of mask = ap (λ (n : ℕ). not (n == 0)) (and_assoc 1 mask 3)
+
+-- a mask that acknowledges counts where LINEMODE is on
+mask_seen : (on : Bool) (m mask : ℕ) → is_acknowledged mask ≡ true → edits (mode_after false m (if on then Some (payload.Mode mask) else None)) ≡ edit_after (edits m) (seen_payload on (Some (payload.Mode mask)))
+mask_seen true m mask acked = ap (λ (b : Bool). edits (if b then mode_of mask else m)) acked ∙ edits-mode_of mask
+mask_seen false m mask acked = refl
+
+short_enough : (n : ℕ) → n ≤ 512 → nat_le n 512 ≡ true
+short_enough n h = grind (arith, nat_tests)
+
+and_is : (a b c : Bool) → a ≡ c → b ≡ true → (a && b) ≡ c
+and_is true b c e f = f ∙ e
+and_is false b c e f = e
+
+sub_seen : (on : Bool) (o : Options) (m option : ℕ) (params : List ℕ) (p : Option Payload) → payload_of option params ≡ p → linemode o ≡ on → length params ≤ 512 → SaysCalmly p → edits (mode_after false m (if is_yes (state_of o Them option) && nat_le (length params) 512 then p else None)) ≡ edit_after (edits m) (seen_payload on p)
+sub_seen on o m option params None e l fits c =
+    ap edits (no_payload (is_yes (state_of o Them option) && nat_le (length params) 512) m) ∙ sym (ap (edit_after (edits m)) (none_seen on))
+sub_seen on o m option params (Some (payload.Mode mask)) e l fits c =
+    let is : option ≡ 34 = (says option params (payload.Mode mask) e).0 in
+    let counts : (is_yes (state_of o Them option) && nat_le (length params) 512) ≡ on =
+    and_is (is_yes (state_of o Them option)) (nat_le (length params) 512) on (ap (λ (n : ℕ). is_yes (state_of o Them n)) is ∙ l) (short_enough (length params) fits) in
+    ap (λ (b : Bool). edits (mode_after false m (if b then Some (payload.Mode mask) else None))) counts ∙ mask_seen on m mask c
+sub_seen on o m option params (Some p) e l fits c =
+    ap edits (same_mask (is_yes (state_of o Them option) && nat_le (length params) 512) m p tt) ∙ sym (ap (edit_after (edits m)) (other_seen on p tt))
+
+item_seen : (on : Bool) (o : Options) (m : ℕ) (item : Item) → linemode o ≡ on → Fits item → IsCalmToServer item → edits (mode_after false m (payload_at o item)) ≡ edit_after (edits m) (seen on item)
+item_seen on o m (Byte b) l f c = refl
+item_seen on o m Newline l f c = refl
+item_seen on o m (Cmd command) l f c = refl
+item_seen on o m (Neg verb option) l f c = refl
+item_seen on o m (Sub option params) l f c = sub_seen on o m option params (payload_of option params) refl l f c
+
+edit_got : (rules : Rules) (h : History) (item : Item) → IsKept rules h → Fits item → IsCalmToServer item → edits (mode (next h (got item))) ≡ edit_after (edits (mode h)) (seen rules.linemode item)
+edit_got rules h item k f c =
+    ap (λ (on : Bool). edits (mode_after (differ (linemode (options h)) on) (mode h) (payload_at (options h) item))) (linemode_got h item c)
+    ∙ ap (λ (b : Bool). edits (mode_after b (mode h) (payload_at (options h) item))) (differ_self (linemode (options h)))
+    ∙ item_seen rules.linemode (options h) (mode h) item k.on f c
+
+-- A calm item is read as what it says.
+pub core_got : (rules : Rules) (h : History) (item : Item) → IsKept rules h → Fits item → IsCalmToServer item → core_of (next h (got item)) false ≡ read rules.settings (core_of h false) (seen rules.linemode item)
+core_got rules h item k f c =
+    let r = role_at (settings h) (edits (mode h)) item in
+    let same = role_is rules h item k in
+    let e = edit_after (edits (mode h)) (seen rules.linemode item) in
+    let i : Role = item_role rules.settings (edits (mode h)) (seen rules.linemode item) in
+    let line : half (next h (got item)) ≡ half_next (half h) i = half-role (roles h) r ∙ ap (λ (x : Role). half_next (half h) x) same in
+    let waits : waiting (next h (got item)) ≡ waiting h ++ gain_next (half h) i =
+    ap (λ (es : List Entry). drop (taken h) es) (entries-role (roles h) r)
+    ∙ drop-append-le (taken h) (entries h) (gain_next (half h) r) k.fits
+    ∙ ap (λ (x : Role). waiting h ++ gain_next (half h) x) same in
+    ap (λ (b : Bool). record { edit = b; half = half (next h (got item)); waiting = waiting (next h (got item)); failed = false }) (edit_got rules h item k f c)
+    ∙ ap (λ (bytes : List ℕ). record { edit = e; half = bytes; waiting = waiting (next h (got item)); failed = false }) line
+    ∙ ap (λ (es : List Entry). record { edit = e; half = half_next (half h) i; waiting = es; failed = false }) waits
+
+-- and only an option word is answered
+adds_word : (rules : Rules) (h : History) (item : Item) → IsCalmToServer item → adds h (got item) ≡ word_back (options h) (got item)
+adds_word rules h item c =
+    let o = options h in
+    let back = word_back o (got item) in
+    let p = payload_at o item in
+    ap (λ (w : Option Editing). (back ++ says_by (flags h) (chars h) (terms h) (heard o (got item)) w false) ++ list_answered (chars h) p) (wish_none p (calm_at o item c))
+    ∙ ap (λ (xs : List ℕ). (back ++ xs) ++ list_answered (chars h) p) (says_quiet (flags h) (chars h) (terms h) (heard o (got item)) (heard_keeps o item c))
+    ∙ ap (λ (xs : List ℕ). (back ++ []) ++ xs) (no_answers (chars h) p (calm_at o item c))
+    ∙ append-nil (back ++ []) ∙ append-nil back
+
+back_calm : (s : Settings) (o : Options) (item : Item) → IsCalmToServer item → Made (IsCalmToClient s) (word_back o (got item))
+back_calm s o (Byte b) c = nothing (IsCalmToClient s)
+back_calm s o Newline c = nothing (IsCalmToClient s)
+back_calm s o (Cmd command) c = nothing (IsCalmToClient s)
+back_calm s o (Neg verb option) c = word_made (IsCalmToClient s) option (reply_to o verb option) (reply_speaks o verb option) (λ v. c)
+back_calm s o (Sub option params) c = nothing (IsCalmToClient s)
+
+pub calm_got : (rules : Rules) (h : History) (item : Item) → IsCalmToServer item → Made (IsCalmToClient rules.settings) (adds h (got item))
+calm_got rules h item c = subst (Made (IsCalmToClient rules.settings)) (sym (adds_word rules h item c)) (back_calm rules.settings (options h) item c)
+
+-- CALM ITEMS, one after another
+pub record After (rules : Rules) (h : History) (items : List Item) : Type 0 where
+  pub kept : IsKept rules (gets h items)
+  pub core : core_of (gets h items) false ≡ read_all rules.settings (core_of h false) (seen_all rules items)
+  pub bytes : List ℕ
+  pub sends : sent (gets h items) ≡ sent h ++ bytes
+  pub made : Made (IsCalmToClient rules.settings) bytes
+
+pub goes_on : (rules : Rules) (h : History) (items : List Item) → IsKept rules h → All Fits items → All IsCalmToServer items → After rules h items
+goes_on rules h [] k f c = record {
+  kept = k;
+  core = refl;
+  bytes = [];
+  sends = sym (append-nil (sent h));
+  made = nothing (IsCalmToClient rules.settings);
+}
+goes_on rules h (item ∷ items) k f c =
+    let calm = All-head IsCalmToServer item items c in
+    let later = goes_on rules (next h (got item)) items (kept_got rules h item k calm) (All-tail Fits item items f) (All-tail IsCalmToServer item items c) in
+    record {
+      kept = later.kept;
+      core = later.core ∙ ap (λ (v : Server). read_all rules.settings v (seen_all rules items)) (core_got rules h item k (All-head Fits item items f) calm);
+      bytes = adds h (got item) ++ later.bytes;
+      sends = later.sends ∙ append_assoc (sent h) (adds h (got item)) later.bytes;
+      made = both (IsCalmToClient rules.settings) (adds h (got item)) later.bytes (calm_got rules h item calm) later.made;
+    }
+
+-- THE LEMMAS ON A PIECE of calm items
+pub feeds_core : (rules : Rules) (h : History) (old new : End) (piece before after : List ℕ) → Stands h old → ServerStays rules old → old.failed ≡ false → (f : Feeds old piece before after new) → All Fits f.items → All IsCalmToServer f.items → server_core new ≡ read_all rules.settings (server_core old) (seen_all rules f.items)
+feeds_core rules h old new piece before after s stays works f fit calm =
+    let later = goes_on rules h f.items (kept_at rules h old s stays) fit calm in
+    core_at (gets h f.items) new (f.stands h s)
+    ∙ ap (core_of (gets h f.items)) (f.failed ∙ works)
+    ∙ later.core
+    ∙ ap (λ (v : Server). read_all rules.settings v (seen_all rules f.items)) (sym (core_at h old s ∙ ap (core_of h) works))
+
+pub feeds_stays : (rules : Rules) (h : History) (old new : End) (piece before after : List ℕ) → Stands h old → ServerStays rules old → old.failed ≡ false → (f : Feeds old piece before after new) → All Fits f.items → All IsCalmToServer f.items → ServerStays rules new
+feeds_stays rules h old new piece before after s stays works f fit calm =
+    stays_at rules (gets h f.items) new (f.stands h s) (goes_on rules h f.items (kept_at rules h old s stays) fit calm).kept
+
+pub feeds_replies : (rules : Rules) (h : History) (old new : End) (piece before after : List ℕ) → Stands h old → ServerStays rules old → old.failed ≡ false → (f : Feeds old piece before after new) → All Fits f.items → All IsCalmToServer f.items → Replies rules f.bytes
+feeds_replies rules h old new piece before after s stays works f fit calm =
+    let later = goes_on rules h f.items (kept_at rules h old s stays) fit calm in
+    replies_of rules f.bytes
+    (subst (Made (IsCalmToClient rules.settings)) (append_cancel_left (sent h) later.bytes f.bytes (sym later.sends ∙ f.sends h s)) later.made)
+
+-- the whole picture of a piece
+pub server_feeds : (rules : Rules) (h : History) (old new : End) (piece before after : List ℕ) → Stands h old → ServerStays rules old → old.failed ≡ false → (f : Feeds old piece before after new) → All Fits f.items → All IsCalmToServer f.items → ServerFeeds rules (server_picture old) piece f.bytes (server_picture new)
+server_feeds rules h old new piece before after s stays works f fit calm = record {
+  got = f.items;
+  decodes = record { items = f.items; appended = refl; adds = f.reads };
+  core = feeds_core rules h old new piece before after s stays works f fit calm;
+  replies = feeds_replies rules h old new piece before after s stays works f fit calm;
+}
+
+-- a piece that was refused: the items that were done
+pub halts_core : (rules : Rules) (h : History) (old new : End) (piece before after : List ℕ) → Stands h old → ServerStays rules old → old.failed ≡ false → (f : Halts old piece before after new) → All Fits f.done → All IsCalmToServer f.done → server_core new ≡ record (read_all rules.settings (server_core old) (seen_all rules f.done)) { failed = new.failed }
+halts_core rules h old new piece before after s stays works f fit calm =
+    let later = goes_on rules h f.done (kept_at rules h old s stays) fit calm in
+    core_at (gets h f.done) new (f.stands h s)
+    ∙ ap (λ (v : Server). record v { failed = new.failed }) (later.core ∙ ap (λ (v : Server). read_all rules.settings v (seen_all rules f.done)) (sym (core_at h old s ∙ ap (core_of h) works)))
+
+pub halts_stays : (rules : Rules) (h : History) (old new : End) (piece before after : List ℕ) → Stands h old → ServerStays rules old → old.failed ≡ false → (f : Halts old piece before after new) → All Fits f.done → All IsCalmToServer f.done → ServerStays rules new
+halts_stays rules h old new piece before after s stays works f fit calm =
+    stays_at rules (gets h f.done) new (f.stands h s) (goes_on rules h f.done (kept_at rules h old s stays) fit calm).kept
+
+-- THE OWNER'S CALLS that change no character
+abbrev pub IsCall : Event → Type 0
+IsCall (got item) = ⊥
+IsCall (char_set func value) = ⊥
+IsCall _ = Unit {0}
+
+-- those of them that take no entry
+abbrev pub KeepsEntries : Event → Type 0
+KeepsEntries (got item) = ⊥
+KeepsEntries (char_set func value) = ⊥
+KeepsEntries took = ⊥
+KeepsEntries _ = Unit {0}
+
+-- a mask that a server with these settings asks for
+abbrev IsAskedMask : Settings → ℕ → Type 0
+IsAskedMask s mask = (is_acknowledged (mode_of mask) ≡ false) × IsAskable s (bits (mode_of mask))
+
+local_mask : (s : Settings) (allowed isig : Bool) (mask : ℕ) → allows_local s ≡ allowed → s.flags.isig ≡ isig → (if allowed then Some (if isig then 3 else 1) else None) ≡ Some mask → IsAskedMask s mask
+local_mask s false isig mask a i e = absurd (cc)
+local_mask s true true mask a i e =
+    let same : 3 ≡ mask = cc in
+    subst (IsAskedMask s) same (refl, inr (a, ap (λ (b : Bool). record { edit = true; trapsig = b }) (sym i)))
+local_mask s true false mask a i e =
+    let same : 1 ≡ mask = cc in
+    subst (IsAskedMask s) same (refl, inr (a, ap (λ (b : Bool). record { edit = true; trapsig = b }) (sym i)))
+
+mask_by : (s : Settings) (echo : Bool) (ed : Editing) (mask : ℕ) → mask_for (record (s.flags) { echo = echo }) ed ≡ Some mask → IsAskedMask s mask
+mask_by s echo Remote mask e = let same : 0 ≡ mask = cc in subst (IsAskedMask s) same (refl, inl refl)
+mask_by s echo Local mask e = local_mask s (allows_local s) s.flags.isig mask refl refl e
+
+mask_asked : (s : Settings) (f : Flags) (ed : Editing) (mask : ℕ) → f ≡ record (s.flags) { echo = f.echo } → mask_for f ed ≡ Some mask → IsAskedMask s mask
+mask_asked s f ed mask same e = mask_by s f.echo ed mask (ap (λ (g : Flags). mask_for g ed) (sym same) ∙ e)
+
+pub mode_made : (P : Item → Type 0) (mask : ℕ) → P (Sub 34 (1 ∷ mask ∷ [])) → Made P (subnegotiated (payload.Mode mask))
+mode_made P mask p = one P (Sub 34 (1 ∷ mask ∷ [])) (omega arith) p
+
+unless_made : (P : Item → Type 0) (b : Bool) (mask : ℕ) → P (Sub 34 (1 ∷ mask ∷ [])) → Made P (mode_told (if b then None else Some mask))
+unless_made P true mask p = nothing P
+unless_made P false mask p = mode_made P mask p
+
+-- the MODE that is sent for a wish
+told_made : (P : Item → Type 0) (on : Bool) (before : ℕ) (mask : Option ℕ) → ((m : ℕ) → mask ≡ Some m → P (Sub 34 (1 ∷ mode_of m ∷ []))) → Made P (mode_told (mode_sent on (asked_while on before) (mask_or before mask)))
+told_made P on before None p = none_made P _ (ap mode_told (told_again on before))
+told_made P true before (Some m) p = unless_made P (mode_of m == mode_of before) (mode_of m) (p m refl)
+told_made P false before (Some m) p = nothing P
+
+wish_calm : (rules : Rules) (h : History) (ed : Editing) → IsKept rules h → Made (IsCalmToClient rules.settings) (mode_told (told_by (terms h) (options h) (wished_after (flags h) (terms h).wish (Some ed))))
+wish_calm rules h ed k =
+    told_made (IsCalmToClient rules.settings) (linemode (options h)) (terms h).wish (mask_for (flags h) ed) (λ m e. mask_asked rules.settings (flags h) ed m k.others e)
+
+-- where no wish is new, no MODE is sent
+unwished_made : (P : Item → Type 0) (t : Terms) → Made P (mode_told (told_by t t.options t.wish))
+unwished_made P t = none_made P _ (ap mode_told (told_again (linemode t.options) t.wish))
+
+untold_made : (P : Item → Type 0) (t : Terms) (c : Characters) → Made P (table_told (linemode t.options) (linemode t.options) c)
+untold_made P t c = none_made P _ (table_again (linemode t.options) c)
+
+-- symbols that are pulled
+pub pulled_made : (P : Item → Type 0) → ((b : ℕ) → P (Byte b)) → P Newline → (symbols : List Symbol) → Made P (flat_map spelled symbols)
+pulled_made P byte newline [] = nothing P
+pulled_made P byte newline (symbol.Byte b ∷ symbols) = both P _ _ (one P (Byte b) tt (byte b)) (pulled_made P byte newline symbols)
+pulled_made P byte newline (symbol.Newline ∷ symbols) = both P _ _ (one P Newline tt newline) (pulled_made P byte newline symbols)
+
+pub ga_made : (P : Item → Type 0) → P (Cmd Ga) → (b : Bool) → Made P (if b then spelling (Cmd Ga) else [])
+ga_made P p true = one P (Cmd Ga) tt p
+ga_made P p false = nothing P
+
+pub calm_call : (rules : Rules) (h : History) (e : Event) → IsCall e → IsKept rules h → Made (IsCalmToClient rules.settings) (adds h e)
+calm_call rules h (got item) is k = absurd is
+calm_call rules h (char_set func value) is k = absurd is
+calm_call rules h took is k = ga_made (IsCalmToClient rules.settings) tt (sends_ga (none_waits h) (options h) (due h))
+calm_call rules h (wrote bytes) is k = nothing (IsCalmToClient rules.settings)
+calm_call rules h (pulled n) is k = pulled_made (IsCalmToClient rules.settings) (λ b. tt) tt (take n (queue h))
+calm_call rules h (wished ed) is k =
+    settled_made (IsCalmToClient rules.settings) (flags h) (chars h) (terms h) (options h) (Some ed) false
+    (untold_made (IsCalmToClient rules.settings) (terms h) (chars h)) (wish_calm rules h ed k) (λ verb. refl)
+calm_call rules h (echo_set on) is k =
+    settled_made (IsCalmToClient rules.settings) (flags (next h (echo_set on))) (chars h) (terms h) (options h) None true
+    (untold_made (IsCalmToClient rules.settings) (terms h) (chars h)) (unwished_made (IsCalmToClient rules.settings) (terms h)) (λ verb. refl)
+
+-- a wish and the flag ECHO change nothing at LINEMODE
+terms_keep : (f : Flags) (t : Terms) (ed : Option Editing) (set : Bool) → linemode (terms_by f t t.options ed set).options ≡ linemode t.options
+terms_keep f t ed set =
+    let wish = wished_after f t.wish ed in
+    echo_keeps_linemode (asks_echo t.options t.options (told_by t t.options wish) set) (wants_echo (asked_of t.options wish) f) t.options
+
+one_more_fits : (b : Bool) (n m : ℕ) → nat_lt n m ≡ b → n ≤ m → (if b then n + 1 else n) ≤ m
+one_more_fits true n m e fits = let less = ltb-true n m e in omega (arith, less)
+one_more_fits false n m e fits = fits
+
+pub kept_call : (rules : Rules) (h : History) (e : Event) → IsCall e → IsKept rules h → IsKept rules (next h e)
+kept_call rules h (got item) is k = absurd is
+kept_call rules h (char_set func value) is k = absurd is
+kept_call rules h took is k = record { on = k.on; characters = k.characters; others = k.others; fits = one_more_fits (nat_lt (taken h) (length (entries h))) (taken h) (length (entries h)) refl k.fits }
+kept_call rules h (wrote bytes) is k = record { on = k.on; characters = k.characters; others = k.others; fits = k.fits }
+kept_call rules h (pulled n) is k = record { on = k.on; characters = k.characters; others = k.others; fits = k.fits }
+kept_call rules h (wished ed) is k = record {
+  on = terms_keep (flags h) (terms h) (Some ed) false ∙ k.on;
+  characters = k.characters;
+  others = k.others;
+  fits = k.fits;
+}
+kept_call rules h (echo_set on) is k = record {
+  on = terms_keep (flags (next h (echo_set on))) (terms h) None true ∙ k.on;
+  characters = k.characters;
+  others = ap (λ (f : Flags). record f { echo = on }) k.others;
+  fits = k.fits;
+}
+
+core_call : (h : History) (e : Event) (failed : Bool) → KeepsEntries e → core_of (next h e) failed ≡ core_of h failed
+core_call h (got item) failed is = absurd is
+core_call h (char_set func value) failed is = absurd is
+core_call h took failed is = absurd is
+core_call h (wrote bytes) failed is = refl
+core_call h (pulled n) failed is = refl
+core_call h (wished ed) failed is = refl
+core_call h (echo_set on) failed is = refl
+
+-- THE LEMMAS ON A CALL
+pub says_replies : (rules : Rules) (h : History) (old new : End) (e : Event) (before after : List ℕ) → IsCall e → Stands h old → ServerStays rules old → (g : Goes old e before after new) → Replies rules g.bytes
+says_replies rules h old new e before after is s stays g =
+    replies_of rules g.bytes (subst (Made (IsCalmToClient rules.settings)) (g.adds h s) (calm_call rules h e is (kept_at rules h old s stays)))
+
+pub says_stays : (rules : Rules) (h : History) (old new : End) (e : Event) (before after : List ℕ) → IsCall e → Stands h old → ServerStays rules old → Goes old e before after new → ServerStays rules new
+says_stays rules h old new e before after is s stays g =
+    stays_at rules (next h e) new (g.stands h s) (kept_call rules h e is (kept_at rules h old s stays))
+
+-- the decoder stays too, by `Goes.decoder`
+pub says_core : (h : History) (old new : End) (e : Event) (before after : List ℕ) → KeepsEntries e → Stands h old → Goes old e before after new → server_core new ≡ server_core old
+says_core h old new e before after is s g =
+    core_at (next h e) new (g.stands h s)
+    ∙ ap (core_of (next h e)) g.failed
+    ∙ core_call h e old.failed is
+    ∙ sym (core_at h old s)
+
+pub says_picture : (h : History) (old new : End) (e : Event) (before after : List ℕ) → KeepsEntries e → Stands h old → Goes old e before after new → server_picture new ≡ server_picture old
+says_picture h old new e before after is s g =
+    ap (λ d. record { decoder = d; core = server_core new }) g.decoder
+    ∙ ap (λ (v : Server). record { decoder = old.decoder; core = v }) (says_core h old new e before after is s g)
+
+abbrev calls_too : (e : Event) → KeepsEntries e → IsCall e
+calls_too (got item) is = absurd is
+calls_too (char_set func value) is = absurd is
+calls_too took is = absurd is
+calls_too (wrote bytes) is = tt
+calls_too (pulled n) is = tt
+calls_too (wished ed) is = tt
+calls_too (echo_set on) is = tt
+
+-- the whole picture of such a call
+pub server_says : (rules : Rules) (h : History) (old new : End) (e : Event) (before after : List ℕ) → KeepsEntries e → Stands h old → ServerStays rules old → (g : Goes old e before after new) → ServerSays rules (server_picture old) g.bytes (server_picture new)
+server_says rules h old new e before after is s stays g = record {
+  same = says_picture h old new e before after is s g;
+  replies = says_replies rules h old new e before after (calls_too e is) s stays g;
+}
+
+-- an entry is taken, or none waits: whatever the test says, none is left after none
+still_none : (b : Bool) (n : ℕ) (es : List Entry) → drop n es ≡ [] → drop (if b then n + 1 else n) es ≡ []
+still_none true n es e = sym (drop-drop 1 n es) ∙ ap (λ (xs : List Entry). drop 1 xs) e
+still_none false n es e = e
+
+-- what the call gives
+abbrev pub GivesEntry : History → Option Entry → Type 0
+GivesEntry h entry = MatchOption entry (waiting h ≡ []) (λ e. waiting h ≡ e ∷ waiting (next h took))
+
+took_picture : (h : History) (old new : End) (before after : List ℕ) → Stands h old → Goes old took before after new → server_picture new ≡ record { decoder = old.decoder; core = core_of (next h took) old.failed }
+took_picture h old new before after s g =
+    ap (λ d. record { decoder = d; core = server_core new }) g.decoder
+    ∙ ap (λ (v : Server). record { decoder = old.decoder; core = v }) (core_at (next h took) new (g.stands h s) ∙ ap (core_of (next h took)) g.failed)
+
+pub took_core : (h : History) (old new : End) (before after : List ℕ) (entry : Option Entry) → Stands h old → Goes old took before after new → GivesEntry h entry → Took (server_picture old) (option_to_list entry) (server_picture new)
+took_core h old new before after None s g gives = (
+  sym (waits_are h old s) ∙ gives,
+  took_picture h old new before after s g
+      ∙ ap (λ (w : List Entry). record { decoder = old.decoder; core = record (core_of h old.failed) { waiting = w } }) (still_none (nat_lt (taken h) (length (entries h))) (taken h) (entries h) gives ∙ sym gives)
+      ∙ ap (λ (v : Server). record { decoder = old.decoder; core = v }) (sym (core_at h old s)),
+)
+took_core h old new before after (Some e) s g gives = (
+  waiting (next h took),
+  sym (waits_are h old s) ∙ gives,
+  refl,
+  took_picture h old new before after s g
+      ∙ ap (λ (v : Server). record { decoder = old.decoder; core = record v { waiting = waiting (next h took) } }) (sym (core_at h old s)),
+)

@@ -1,0 +1,33 @@
+use Rattle.std.proofs.Common.{refl}
+use Rattle.tn_world.proofs.Promise.{runs_more, runs_whole, runs_stop, run_follows, end_follows, follows_prefix, follows_complete}
+use Rattle.tn_world.proofs.world.World.run.Goals as goal
+
+pub loop-at-init : goal.loop-at-init
+loop-at-init c = record { runs = refl }
+
+pub loop-at-preserved : goal.loop-at-preserved
+loop-at-preserved c = record { runs = runs_more c.args.self.now c.loop-at.self c.happen.new.self c.args.events.now c.loop-at.at c.index-events-at.result c.loop-at-test.true c.index-events-at.is c.loop-at.invariant.runs c.in-Ok.ensures.ok }
+
+pub returns-in-Err-clause-ends : goal.returns-in-Err-clause-ends
+returns-in-Err-clause-ends c = runs_stop c.args.self.now c.loop-at.self c.happen.new.self c.args.events.now c.loop-at.at c.index-events-at.result c.in-Err.cause c.loop-at-test.true c.index-events-at.is c.loop-at.invariant.runs c.in-Err.ensures.err
+
+pub returns-in-Err-clause-follows : goal.returns-in-Err-clause-follows
+returns-in-Err-clause-follows c = end_follows c.args.self.now c.happen.new.self c.args.events.now c.loop-at.at c.in-Err.cause (returns-in-Err-clause-ends c)
+
+pub returns-in-Err-clause-prefix : goal.returns-in-Err-clause-prefix
+returns-in-Err-clause-prefix c = λ s f quiet none. follows_prefix s c.happen.new.self (returns-in-Err-clause-follows c s f quiet) none
+
+pub returns-in-Err-clause-complete : goal.returns-in-Err-clause-complete
+returns-in-Err-clause-complete c = λ s f quiet none nothing. follows_complete s c.happen.new.self (returns-in-Err-clause-follows c s f quiet) none nothing
+
+pub returns-clause-runs : goal.returns-clause-runs
+returns-clause-runs c = runs_whole c.args.self.now c.loop-at.self c.args.events.now c.loop-at.at c.loop-at-test.false c.loop-at.invariant.runs
+
+pub returns-clause-follows : goal.returns-clause-follows
+returns-clause-follows c = run_follows c.args.self.now c.loop-at.self c.args.events.now (returns-clause-runs c)
+
+pub returns-clause-prefix : goal.returns-clause-prefix
+returns-clause-prefix c = λ s f quiet none. follows_prefix s c.loop-at.self (returns-clause-follows c s f quiet) none
+
+pub returns-clause-complete : goal.returns-clause-complete
+returns-clause-complete c = λ s f quiet none nothing. follows_complete s c.loop-at.self (returns-clause-follows c s f quiet) none nothing

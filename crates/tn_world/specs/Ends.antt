@@ -1,0 +1,140 @@
+-- Both ends as the relation between them sees them, and the two flights between them as bytes.
+use Rattle.std.specs.Prelude.{◌≡◌, ℕ, false, List, [], ◌∷◌, ◌++◌, map, take, drop, flat_map, All}
+use Rattle.tn_nvt.specs.declared.items.Item.{Item}
+use Rattle.tn_nvt.specs.Spelling.{spelling, Fits}
+use Rattle.tn_nvt.specs.Standing.{Standing, Gains}
+use Rattle.tn_discipline.specs.declared.reads.Entry.{Entry}
+use Rattle.tn_discipline.specs.Entries.{half_of}
+use Rattle.tn_discipline.specs.Keys.{roles_of}
+use Rattle.tn_world.specs.Machine as machine
+use Rattle.tn_world.specs.Machine.{Rules, Message, mode, forward_at, chatter, Server, read_all, Client, Sent, keyed, is_same, came}
+use Rattle.tn_world.specs.Calm.{IsCalmToServer, IsCalmToClient, seen, heard}
+
+pub record ServerEnd : Type 0 where
+  pub decoder : Standing
+  pub core : Server
+
+pub record ClientEnd : Type 0 where
+  pub decoder : Standing
+  pub core : Client
+
+abbrev pub spells : List Item → List ℕ
+spells items = flat_map spelling items
+
+-- what these items say to the server, and to the client
+abbrev pub seen_all : Rules → List Item → List machine.Item
+seen_all rules items = map (seen rules.linemode) items
+
+abbrev pub heard_all : Rules → List Item → List Message
+heard_all rules items = map (heard rules.linemode) items
+
+-- what the server appends: whole items, which are calm
+pub record Replies (rules : Rules) (out : List ℕ) : Type 0 where
+  pub items : List Item
+  pub spelled : out ≡ spells items
+  pub fit : All Fits items
+  pub calm : All (IsCalmToClient rules.settings) items
+
+pub record ServerFeeds (rules : Rules) (old : ServerEnd) (piece : List ℕ) (out : List ℕ) (new : ServerEnd) : Type 0 where
+  pub got : List Item
+  pub decodes : Gains old.decoder piece [] got new.decoder
+  pub core : new.core ≡ read_all rules.settings old.core (seen_all rules got)
+  pub replies : Replies rules out
+
+-- any other call of the server that gives no entry
+pub record ServerSays (rules : Rules) (old : ServerEnd) (out : List ℕ) (new : ServerEnd) : Type 0 where
+  pub same : new ≡ old
+  pub replies : Replies rules out
+
+abbrev pub without : Server → List Entry → Server
+without v entries = record v { waiting = entries }
+
+abbrev pub Took : ServerEnd → List Entry → ServerEnd → Type 0
+Took old [] new = (old.core.waiting ≡ []) × (new ≡ old)
+Took old (x ∷ none) new = (entries : List Entry) × (old.core.waiting ≡ x ∷ entries) × (none ≡ []) × (new ≡ record old { core = without old.core entries })
+
+-- what the client appends: whole items, which are calm, and say this to any server
+pub record Writes (rules : Rules) (says : List machine.Item) (out : List ℕ) : Type 0 where
+  pub items : List Item
+  pub spelled : out ≡ spells items
+  pub fit : All Fits items
+  pub calm : All IsCalmToServer items
+  pub says_so : (v : Server) → read_all rules.settings v (seen_all rules items) ≡ read_all rules.settings v says
+
+pub record ClientKeys (rules : Rules) (old : ClientEnd) (key : ℕ) (out : List ℕ) (new : ClientEnd) : Type 0 where
+  pub decoder : new.decoder ≡ old.decoder
+  pub core : new.core ≡ (keyed rules old.core.mask.edit old.core key).client
+  pub writes : Writes rules (keyed rules old.core.mask.edit old.core key).items out
+
+-- the client after these messages
+abbrev pub came_all : Rules → Client → List Message → Sent
+came_all rules c [] = record { client = c; items = [] }
+came_all rules c (m ∷ messages) =
+    record {
+      client = (came_all rules (came rules c m).client messages).client;
+      items = (came rules c m).items ++ (came_all rules (came rules c m).client messages).items;
+    }
+
+pub record ClientFeeds (rules : Rules) (old : ClientEnd) (piece : List ℕ) (out : List ℕ) (new : ClientEnd) : Type 0 where
+  pub got : List Item
+  pub decodes : Gains old.decoder piece [] got new.decoder
+  pub core : new.core ≡ (came_all rules old.core (heard_all rules got)).client
+  pub writes : Writes rules (came_all rules old.core (heard_all rules got)).items out
+
+-- any other call of the client says nothing that counts
+pub record ClientSays (rules : Rules) (old : ClientEnd) (out : List ℕ) (new : ClientEnd) : Type 0 where
+  pub same : new ≡ old
+  pub writes : Writes rules [] out
+
+pub record World : Type 0 where
+  pub typed : List ℕ
+  pub taken : List Entry
+  pub server : ServerEnd
+  pub client : ClientEnd
+  pub to_server : List ℕ
+  pub to_client : List ℕ
+
+pub data Event : Type 0 where
+  key : ℕ → Event
+  to_server : ℕ → Event
+  to_client : ℕ → Event
+  take_entry : Event
+  server_call : Event
+  client_call : Event
+
+-- what an event may do, where no end fails
+abbrev pub Happens : Rules → World → Event → World → Type 0
+Happens rules w (key k) new =
+    (client : ClientEnd) × (out : List ℕ) × ClientKeys rules w.client k out client × (new ≡ record w { typed = w.typed ++ k ∷ []; client = client; to_server = w.to_server ++ out })
+Happens rules w (to_server n) new =
+    (server : ServerEnd) × (out : List ℕ) × ServerFeeds rules w.server (take n w.to_server) out server × (new ≡ record w { server = server; to_server = drop n w.to_server; to_client = w.to_client ++ out })
+Happens rules w (to_client n) new =
+    (client : ClientEnd) × (out : List ℕ) × ClientFeeds rules w.client (take n w.to_client) out client × (new ≡ record w { client = client; to_client = drop n w.to_client; to_server = w.to_server ++ out })
+Happens rules w take_entry new =
+    (server : ServerEnd) × (out : List ℕ) × (entry : List Entry) × Took w.server entry server × Replies rules out × (new ≡ record w { taken = w.taken ++ entry; server = server; to_client = w.to_client ++ out })
+Happens rules w server_call new =
+    (server : ServerEnd) × (out : List ℕ) × ServerSays rules w.server out server × (new ≡ record w { server = server; to_client = w.to_client ++ out })
+Happens rules w client_call new =
+    (client : ClientEnd) × (out : List ℕ) × ClientSays rules w.client out client × (new ≡ record w { client = client; to_server = w.to_server ++ out })
+
+abbrev pub IsCalm : Rules → List ℕ → Client → Message → Type 0
+IsCalm rules typed c (mode m) = is_same c.mask m ≡ false → half_of (roles_of rules.settings typed) ≡ []
+IsCalm rules typed c (forward_at f) = Unit {0}
+IsCalm rules typed c chatter = Unit {0}
+
+-- each of these messages that changes the mode comes between two lines
+abbrev pub AreBetweenLines : Rules → List ℕ → Client → List Message → Type 0
+AreBetweenLines rules typed c [] = Unit {0}
+AreBetweenLines rules typed c (m ∷ messages) = IsCalm rules typed c m × AreBetweenLines rules typed (came rules c m).client messages
+
+abbrev pub IsQuietEvent : Rules → World → Event → Type 0
+IsQuietEvent rules w (to_client n) =
+    (got : List Item) (next : Standing) → Gains w.client.decoder (take n w.to_client) [] got next → AreBetweenLines rules w.typed w.client.core (heard_all rules got)
+IsQuietEvent rules w (key k) = Unit {0}
+IsQuietEvent rules w (to_server n) = Unit {0}
+IsQuietEvent rules w take_entry = Unit {0}
+IsQuietEvent rules w server_call = Unit {0}
+IsQuietEvent rules w client_call = Unit {0}
+
+abbrev pub made : World → List Entry
+made w = w.taken ++ w.server.core.waiting

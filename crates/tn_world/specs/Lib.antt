@@ -1,0 +1,10 @@
+pub mod Worlds
+pub mod Settled
+pub mod Opened
+pub mod Quiet
+pub mod Headline
+pub mod Flight
+pub mod Machine
+pub mod Calm
+pub mod Ends
+pub mod Pictures

@@ -1,0 +1,200 @@
+-- Both ends as far as lines go: what the server makes of what comes, and what the client does with keys and modes.
+use Rattle.std.specs.Prelude.{ℕ, ◌+◌, ◌-◌, ◌==◌, nat_lt, Bool, true, false, not, ◌&&◌, List, [], ◌∷◌, ◌++◌, length, map, if◌then◌else◌}
+use Rattle.tn_codes.specs.declared.codes.Command.{Command}
+use Rattle.tn_codes.specs.declared.codes.Command.TheVariants.{Eof, Susp, Abort, Ip, Ec, El}
+use Rattle.tn_discipline.specs.declared.reads.Entry.{Entry}
+use Rattle.tn_discipline.specs.Admitted.{most_counted, is_dropped, counted}
+use Rattle.tn_discipline.specs.Steps.{front, half_next, gain_next}
+use Rattle.tn_discipline.specs.Keys.{standard_flags, role_of_key, role_of_mapped}
+use Rattle.tn_discipline.specs.declared.termios.Settings.{Settings}
+use Rattle.tn_discipline.specs.declared.reads.Sig.{Sig}
+use Rattle.tn_discipline.specs.declared.reads.Sig.TheVariants.{Int, Quit, Tstp}
+use Rattle.tn_discipline.specs.declared.keys.Role.{Role}
+use Rattle.tn_discipline.specs.declared.keys.Role.TheVariants as role
+use Rattle.tn_pty.specs.Typing.{command_role}
+use Rattle.tn_server.specs.Lines.{role_of_byte}
+
+-- the two bits of a mode
+pub record Mode : Type 0 where
+  pub edit : Bool
+  pub trapsig : Bool
+
+-- what the keys mean, whether LINEMODE is on, and whether the client counts the half line while the server edits
+pub record Rules : Type 0 where
+  pub settings : Settings
+  pub linemode : Bool
+  pub resumes : Bool
+
+-- what is in flight to the server
+pub data Item : Type 0 where
+  byte : ℕ → Item
+  newline : Item
+  command : Command → Item
+  mode_ack : Mode → Item
+  other : Item
+
+-- what is in flight to the client
+pub data Message : Type 0 where
+  mode : Mode → Message
+  forward_at : (ℕ → Bool) → Message
+  chatter : Message
+
+-- the command of a signal
+abbrev pub command_of : Sig → Command
+command_of Int = Ip
+command_of Quit = Abort
+command_of Tstp = Susp
+
+-- The server: whether it takes bytes as edited, its half line, and the entries that wait.
+pub record Server : Type 0 where
+  pub edit : Bool
+  pub half : List ℕ
+  pub waiting : List Entry
+  pub failed : Bool
+
+abbrev pub item_role : Settings → Bool → Item → Role
+item_role s edit (byte b) = role_of_byte s edit b
+item_role s edit newline = role_of_byte s edit 10
+item_role s edit (command c) = command_role c
+item_role s edit (mode_ack m) = role.Ignored
+item_role s edit other = role.Ignored
+
+abbrev pub edit_after : Bool → Item → Bool
+edit_after edit (mode_ack m) = m.edit
+edit_after edit (byte b) = edit
+edit_after edit newline = edit
+edit_after edit (command c) = edit
+edit_after edit other = edit
+
+abbrev pub read_item : Settings → Server → Item → Server
+read_item s v item =
+    record {
+      edit = edit_after v.edit item;
+      half = half_next v.half (item_role s v.edit item);
+      waiting = v.waiting ++ gain_next v.half (item_role s v.edit item);
+      failed = false;
+    }
+
+-- the server after one item
+abbrev pub read : Settings → Server → Item → Server
+read s v item = if v.failed then v else read_item s v item
+
+-- the server after these items
+abbrev pub read_all : Settings → Server → List Item → Server
+read_all s v [] = v
+read_all s v (item ∷ items) = read_all s (read s v item) items
+
+pub record Client : Type 0 where
+  pub mask : Mode
+  pub held : List ℕ
+  pub ahead : ℕ
+  pub forward : ℕ → Bool
+  pub trapped : ℕ  -- the count with ISIG
+  pub plain : ℕ  -- the count without
+  pub failed : Bool
+
+-- what the client does with a typed key or a message
+pub record Sent : Type 0 where
+  pub client : Client
+  pub items : List Item
+
+-- what a key does to the half line at the client
+pub record Part : Type 0 where
+  pub held : List ℕ
+  pub ahead : ℕ
+  pub items : List Item
+
+abbrev pub bytes : List ℕ → List Item
+bytes bs = map (λ b. byte b) bs
+
+-- the settings by which the client reads keys
+abbrev pub as_client : Settings → Bool → Settings
+as_client s trapsig = record { flags = record standard_flags { isig = trapsig }; chars = s.chars }
+
+-- an ordinary byte, by whether the line is full and whether the byte is in the forward mask
+abbrev pub ordinary_key : Bool → Bool → Client → ℕ → Part
+ordinary_key true forwards c b = record { held = c.held; ahead = c.ahead; items = [] }
+ordinary_key false true c b = record { held = []; ahead = c.ahead + length (c.held ++ b ∷ []); items = bytes (c.held ++ b ∷ []) }
+ordinary_key false false c b = record { held = c.held ++ b ∷ []; ahead = c.ahead; items = [] }
+
+-- an erasure, by whether a byte is held and whether one is ahead
+abbrev pub erase_key : Bool → Bool → Client → Part
+erase_key true further c = record { held = front c.held; ahead = c.ahead; items = [] }
+erase_key false true c = record { held = c.held; ahead = c.ahead - 1; items = command Ec ∷ [] }
+erase_key false false c = record { held = c.held; ahead = c.ahead; items = [] }
+
+abbrev pub kill_key : Bool → Part
+kill_key true = record { held = []; ahead = 0; items = command El ∷ [] }
+kill_key false = record { held = []; ahead = 0; items = [] }
+
+-- a key with EDIT
+abbrev pub edit_key : Client → Role → Part
+edit_key c (role.Ordinary b) = ordinary_key (c.ahead + length c.held == most_counted) (c.forward b) c b
+edit_key c role.Nl = record { held = []; ahead = 0; items = bytes c.held ++ newline ∷ [] }
+edit_key c (role.Eol b) = record { held = []; ahead = 0; items = bytes c.held ++ byte b ∷ [] }
+edit_key c role.Eof = record { held = []; ahead = 0; items = bytes c.held ++ command Eof ∷ [] }
+edit_key c (role.Signal sig) = record { held = c.held; ahead = c.ahead; items = command (command_of sig) ∷ [] }
+edit_key c role.Erase = erase_key (nat_lt 0 (length c.held)) (nat_lt 0 c.ahead) c
+edit_key c role.Kill = kill_key (nat_lt 0 c.ahead)
+edit_key c role.Ignored = record { held = c.held; ahead = c.ahead; items = [] }
+
+-- a key without EDIT: with TRAPSIG a signal character is sent as its command
+abbrev pub remote_item : Bool → Role → ℕ → Item
+remote_item false r key = byte key
+remote_item true (role.Signal sig) key = command (command_of sig)
+remote_item true r key = byte key
+
+-- a count of the half line, after one more key
+abbrev pub count_next : ℕ → Role → ℕ
+count_next n r = if is_dropped n r then n else counted n r
+
+-- a key, by whether EDIT is set
+abbrev pub keyed : Rules → Bool → Client → ℕ → Sent
+keyed rules true c key =
+    let part = edit_key c (role_of_key (as_client rules.settings c.mask.trapsig) key) in
+    record { client = record c { held = part.held; ahead = part.ahead }; items = part.items }
+keyed rules false c key =
+    record {
+      client = record c {
+        trapped = count_next c.trapped (role_of_key (as_client rules.settings true) key);
+        plain = count_next c.plain (role_of_key (as_client rules.settings false) key);
+      };
+      items = remote_item c.mask.trapsig (role_of_mapped (as_client rules.settings c.mask.trapsig) key) key ∷ [];
+    }
+
+abbrev pub bits_same : Bool → Bool → Bool
+bits_same true b = b
+bits_same false b = not b
+
+abbrev pub is_same : Mode → Mode → Bool
+is_same m n = bits_same m.edit n.edit && bits_same m.trapsig n.trapsig
+
+-- the client takes a mode, by EDIT before and after
+abbrev pub mode_taken : Rules → Client → Mode → Bool → Bool → Sent
+mode_taken rules c m true false =
+    let count = c.ahead + length c.held in
+    record { client = record c { mask = m; held = []; ahead = 0; trapped = count; plain = count }; items = bytes c.held ++ mode_ack m ∷ [] }
+mode_taken rules c m false true =
+    let ahead = (if rules.resumes then (if m.trapsig then c.trapped else c.plain) else 0) in
+    record { client = record c { mask = m; held = []; ahead = ahead; trapped = 0; plain = 0 }; items = mode_ack m ∷ [] }
+mode_taken rules c m true true = record { client = record c { mask = m }; items = mode_ack m ∷ [] }
+mode_taken rules c m false false = record { client = record c { mask = m }; items = mode_ack m ∷ [] }
+
+abbrev pub mode_came : Rules → Client → Mode → Bool → Sent
+mode_came rules c m true = record { client = c; items = [] }
+mode_came rules c m false = mode_taken rules c m c.mask.edit m.edit
+
+abbrev pub came : Rules → Client → Message → Sent
+came rules c (mode m) = mode_came rules c m (is_same c.mask m)
+came rules c (forward_at f) = record { client = record c { forward = f }; items = other ∷ [] }
+came rules c chatter = record { client = c; items = other ∷ [] }
+
+-- whether the settings allow Local
+abbrev pub allows_local : Settings → Bool
+allows_local s = s.flags.icrnl && (not s.flags.inlcr && not s.flags.igncr)
+
+abbrev pub remote_mode : Mode
+remote_mode = record { edit = false; trapsig = false }
+
+abbrev pub local_mode : Settings → Mode
+local_mode s = record { edit = true; trapsig = s.flags.isig }

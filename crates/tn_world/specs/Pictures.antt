@@ -1,0 +1,42 @@
+-- The ends as the relation between them sees them, and what stays as it was at a mark.
+use Rattle.std.specs.Prelude.{◌≡◌, ℕ, false}
+use Rattle.tn_linemode.specs.Modes.{edits}
+use Rattle.tn_server.specs.Standing as server
+use Rattle.tn_server.specs.Terms as server_terms
+use Rattle.tn_client.specs.Standing as client
+use Rattle.tn_client.specs.Terms as client_terms
+use Rattle.tn_world.specs.Machine.{Rules, Server, Client}
+use Rattle.tn_world.specs.Calm.{bits}
+use Rattle.tn_world.specs.Ends.{ServerEnd, ClientEnd}
+
+abbrev pub server_core : server.End → Server
+server_core end = record { edit = edits end.modes.current; half = end.terminal.line.held; waiting = end.terminal.entries; failed = end.failed }
+
+abbrev pub server_picture : server.End → ServerEnd
+server_picture end = record { decoder = end.decoder; core = server_core end }
+
+-- The client keeps no forward mask and no counts; the relation keeps two counts for it.
+abbrev pub client_core : client.End → ℕ → ℕ → Client
+client_core end trapped plain =
+    record {
+      mask = bits end.mode;
+      held = end.line.held;
+      ahead = end.line.ahead;
+      forward = λ b. false;
+      trapped = trapped;
+      plain = plain;
+      failed = end.failed;
+    }
+
+abbrev pub client_picture : client.End → ℕ → ℕ → ClientEnd
+client_picture end trapped plain = record { decoder = end.decoder; core = client_core end trapped plain }
+
+-- LINEMODE, the special characters and every flag but ECHO are as they were
+pub record ServerStays (rules : Rules) (end : server.End) : Type 0 where
+  pub linemode : server_terms.linemode end.terms.options ≡ rules.linemode
+  pub chars : end.table ≡ rules.settings.chars
+  pub flags : end.terminal.settings.flags ≡ record (rules.settings.flags) { echo = end.terminal.settings.flags.echo }
+
+pub record ClientStays (rules : Rules) (end : client.End) : Type 0 where
+  pub linemode : client_terms.linemode end.options ≡ rules.linemode
+  pub chars : end.table ≡ rules.settings.chars

@@ -1,0 +1,77 @@
+-- Where a mode may change, and the lists of events after which the headline holds.
+use Rattle.std.specs.Prelude.{◌≡◌, ◌≢◌, ◌⊎◌, ℕ, false, List, [], ◌∷◌, take}
+use Rattle.tn_discipline.specs.Entries.{half_of}
+use Rattle.tn_discipline.specs.Keys.{roles_of}
+use Rattle.tn_discipline.specs.declared.termios.Settings.{Settings}
+use Rattle.tn_nvt.specs.Standing.{Standing, Adds}
+use Rattle.tn_nvt.specs.declared.items.Item.{Item}
+use Rattle.tn_option.specs.Options.{Options}
+use Rattle.tn_client.specs.Terms.{heard, mode_at}
+use Rattle.tn_world.specs.Settled.{IsSound, IsSettled}
+use Rattle.tn_world.specs.Worlds.{World, Does, Refuses}
+use Rattle.tn_world.specs.declared.events.Event.{Event}
+use Rattle.tn_world.specs.declared.events.Event.TheVariants.{ToClient, SetChar, Propose}
+use Rattle.tn_world.specs.declared.faults.Cause.{Cause}
+
+-- Each of these items that gives a client of these options another mask comes where that may be.
+abbrev pub ComeWhere : Type 0 → Options → ℕ → List Item → Type 0
+ComeWhere may o mode [] = Unit {0}
+ComeWhere may o mode (item ∷ items) = (mode_at o mode item ≢ mode → may) × ComeWhere may (heard o item) (mode_at o mode item) items
+
+-- no key is typed of the line that is to come
+abbrev pub IsBetweenLines : Settings → List ℕ → Type 0
+IsBetweenLines s typed = half_of (roles_of s typed) ≡ []
+
+abbrev pub ComeBetweenLines : Settings → List ℕ → Options → ℕ → List Item → Type 0
+ComeBetweenLines s typed o mode items = ComeWhere (IsBetweenLines s typed) o mode items
+
+-- the event is done or refused
+abbrev pub Occurs : World → Event → World → Type 0
+Occurs old e new = Does old e new ⊎ ((cause : Cause) × Refuses old e cause new)
+
+-- no special character is set or proposed, and a delivery changes the client's mask only where that may be
+abbrev pub IsQuietEvent : (List ℕ → Type 0) → World → Event → Type 0
+IsQuietEvent may w (ToClient n) =
+    (items : List Item) (next : Standing) → Adds w.client.decoder (take n w.to_client) items next → ComeWhere (may w.typed) w.client.options w.client.mode items
+IsQuietEvent may w (SetChar func value) = ⊥
+IsQuietEvent may w (Propose func value) = ⊥
+IsQuietEvent may w e = Unit {0}
+
+-- these events, each quiet where it comes, lead from one world to the other
+abbrev pub Passes : (List ℕ → Type 0) → World → List Event → World → Type 0
+Passes may old [] new = new ≡ old
+Passes may old (e ∷ events) new = (mid : World) × IsQuietEvent may old e × Occurs old e mid × Passes may mid events new
+
+-- the list is quiet, whatever its events come to
+abbrev pub AreQuiet : (List ℕ → Type 0) → World → List Event → Type 0
+AreQuiet may w [] = Unit {0}
+AreQuiet may w (e ∷ events) = IsQuietEvent may w e × ((mid : World) → Occurs w e mid → AreQuiet may mid events)
+
+-- the mode changes between lines alone
+abbrev pub IsQuiet : Settings → World → List Event → Type 0
+IsQuiet s w events = AreQuiet (IsBetweenLines s) w events
+
+-- nowhere
+abbrev pub Nowhere : List ℕ → Type 0
+Nowhere typed = ⊥
+
+-- A settled moment, from which lists begin anew.
+pub record IsMark (s : Settings) (w : World) : Type 0 where
+  pub sound : IsSound w
+  pub settled : IsSettled w
+  pub settings : w.server.terminal.settings ≡ s
+  pub typed : w.typed ≡ []
+  pub taken : w.taken ≡ []
+
+-- This world came from a settled moment at rest, at which the server had these settings, by a quiet list of events.
+pub record Follows (s : Settings) (w : World) : Type 0 where
+  pub start : World
+  pub mark : IsMark s start
+  pub events : List Event
+  pub passes : Passes (IsBetweenLines s) start events w
+
+abbrev pub NoneFailed : World → Type 0
+NoneFailed w = (w.server.failed ≡ false) × (w.client.failed ≡ false)
+
+abbrev pub NothingFlies : World → Type 0
+NothingFlies w = (w.to_server ≡ []) × (w.to_client ≡ [])

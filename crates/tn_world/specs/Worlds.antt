@@ -1,0 +1,176 @@
+-- Both ends and the two streams between them, and what an event does to them.
+use Rattle.std.specs.Prelude.{◌≡◌, ℕ, Bool, true, false, min, Option, Some, List, [], ◌∷◌, ◌++◌, length, take, drop, MatchOption, option_to_list}
+use Rattle.tn_discipline.specs.Characters.{char_fault}
+use Rattle.tn_discipline.specs.declared.reads.Entry.{Entry}
+use Rattle.tn_server.specs.Events as asked
+use Rattle.tn_server.specs.Faults.{IsOfItem}
+use Rattle.tn_server.specs.Lines.{waiting}
+use Rattle.tn_server.specs.Screen.{queue}
+use Rattle.tn_server.specs.Standing as server
+use Rattle.tn_server.specs.Terms.{chars}
+use Rattle.tn_server.specs.declared.faults.ServerFault.{ServerFault}
+use Rattle.tn_server.specs.declared.faults.ServerFault.TheVariants as refused
+use Rattle.tn_client.specs.Events as told
+use Rattle.tn_client.specs.Standing as client
+use Rattle.tn_client.specs.Standing.{call_fault, propose_fault, IsFault}
+use Rattle.tn_client.specs.declared.faults.ClientFault.{ClientFault}
+use Rattle.tn_client.specs.declared.faults.ClientFault.TheVariants as broken
+use Rattle.tn_world.specs.declared.events.Event.{Event}
+use Rattle.tn_world.specs.declared.events.Event.TheVariants.{Key, ToServer, ToClient, Write, Pull, Take, Wish, Resize, SetChar, Propose, Echo, ServerStops, ClientStops}
+use Rattle.tn_world.specs.declared.faults.Cause.{Cause}
+use Rattle.tn_world.specs.declared.faults.Cause.TheVariants as cause
+
+pub record World : Type 0 where
+  pub server : server.End
+  pub client : client.End
+  pub server_stopped : Bool
+  pub client_stopped : Bool
+  -- the bytes in flight
+  pub to_server : List ℕ
+  pub to_client : List ℕ
+  -- since the last mark
+  pub typed : List ℕ
+  pub taken : List Entry
+  -- what the server wrote on the client's screen, and the client's own echo
+  pub shown : List ℕ
+  pub echoed : List ℕ
+
+-- an end that was stopped does nothing
+abbrev pub Unless : Bool → World → World → Type 0 → Type 0
+Unless true old new happens = new ≡ old
+Unless false old new happens = happens
+
+-- A key is typed: what the client says joins the flight.
+pub record Types (old : World) (key : ℕ) (new : World) : Type 0 where
+  pub goes : client.Goes old.client (told.typed key) new.client
+  pub sends : client.Sends old.client (told.typed key) old.to_server new.to_server
+  pub shows : client.Shows old.client (told.typed key) old.echoed new.echoed
+  pub rest : new ≡ record old { client = new.client; to_server = new.to_server; echoed = new.echoed; typed = old.typed ++ key ∷ [] }
+
+-- Any other call of the client.
+pub record Tells (old : World) (e : told.Event) (new : World) : Type 0 where
+  pub goes : client.Goes old.client e new.client
+  pub sends : client.Sends old.client e old.to_server new.to_server
+  pub rest : new ≡ record old { client = new.client; to_server = new.to_server }
+
+-- The first bytes in flight arrive at the server, and its replies join the other flight.
+pub record Reaches (old : World) (n : ℕ) (new : World) : Type 0 where
+  pub feeds : server.Feeds old.server (take n old.to_server) old.to_client new.to_client new.server
+  pub rest : new ≡ record old { server = new.server; to_server = drop n old.to_server; to_client = new.to_client }
+
+-- The first bytes in flight arrive at the client.
+pub record Returns (old : World) (n : ℕ) (new : World) : Type 0 where
+  pub feeds : client.Feeds old.client (take n old.to_client) old.to_server new.to_server old.shown new.shown new.client
+  pub rest : new ≡ record old { client = new.client; to_client = drop n old.to_client; to_server = new.to_server; shown = new.shown }
+
+-- Any other call of the server: what it says joins the flight.
+pub record Asks (old : World) (e : asked.Event) (new : World) : Type 0 where
+  pub goes : server.Goes old.server e old.to_client new.to_client new.server
+  pub rest : new ≡ record old { server = new.server; to_client = new.to_client }
+
+-- Symbols are sent: as many as there are, and no more than were asked for.
+pub record Pulls (old : World) (n : ℕ) (new : World) : Type 0 where
+  pub count : ℕ
+  pub is_count : (h : asked.History) → server.Stands h old.server → count ≡ min n (length (queue h))
+  pub asks : Asks old (asked.pulled count) new
+
+-- The job takes the first entry that waits, if one does.
+pub record Takes (old : World) (new : World) : Type 0 where
+  pub entry : Option Entry
+  pub is_first : (h : asked.History) → server.Stands h old.server → MatchOption entry (waiting h ≡ []) (λ e. waiting h ≡ e ∷ waiting (asked.next h asked.took))
+  pub goes : server.Goes old.server asked.took old.to_client new.to_client new.server
+  pub rest : new ≡ record old { server = new.server; to_client = new.to_client; taken = old.taken ++ option_to_list entry }
+
+-- the event is done
+abbrev pub Does : World → Event → World → Type 0
+Does old (Key key) new = Unless old.client_stopped old new (Types old key new)
+Does old (ToServer n) new = Unless old.server_stopped old new (Reaches old n new)
+Does old (ToClient n) new = Unless old.client_stopped old new (Returns old n new)
+Does old (Write bytes) new = Unless old.server_stopped old new (Asks old (asked.wrote bytes) new)
+Does old (Pull n) new = Unless old.server_stopped old new (Pulls old n new)
+Does old Take new = Takes old new
+Does old (Wish editing) new = Unless old.server_stopped old new (Asks old (asked.wished editing) new)
+Does old (Resize width height) new = Unless old.client_stopped old new (Tells old (told.resized width height) new)
+Does old (SetChar func value) new = Unless old.server_stopped old new (Asks old (asked.char_set func value) new)
+Does old (Propose func value) new = Unless old.client_stopped old new (Tells old (told.proposed func value) new)
+Does old (Echo on) new = Unless old.server_stopped old new (Asks old (asked.echo_set on) new)
+Does old ServerStops new = new ≡ record old { server_stopped = true }
+Does old ClientStops new = new ≡ record old { client_stopped = true }
+
+-- no delivery is refused for a character
+abbrev pub IsDeliveryFault : ServerFault → Type 0
+IsDeliveryFault (refused.Char fault) = ⊥
+IsDeliveryFault fault = Unit {0}
+
+-- A delivery that the server refused: its bytes have left the flight. An end that failed before did nothing more.
+pub record ServerRefuses (old : World) (n : ℕ) (fault : ServerFault) (new : World) : Type 0 where
+  pub is_fault : IsDeliveryFault fault
+  pub again : (fault ≡ refused.Failed) → (old.server.failed ≡ true) × (new ≡ record old { to_server = drop n old.to_server })
+  pub halts : IsOfItem fault → server.Halts old.server (take n old.to_server) old.to_client new.to_client new.server
+  pub failed : new.server.failed ≡ true
+  pub rest : new ≡ record old { server = new.server; to_server = drop n old.to_server; to_client = new.to_client }
+
+-- The same at the client.
+pub record ClientRefuses (old : World) (n : ℕ) (fault : ClientFault) (new : World) : Type 0 where
+  pub is_fault : IsFault (call_fault old.client) fault
+  pub again : (fault ≡ broken.Failed) → new ≡ record old { to_client = drop n old.to_client }
+  pub breaks : (fault ≡ broken.Memory) → client.Breaks old.client (take n old.to_client) old.to_server new.to_server old.shown new.shown
+  pub failed : new.client.failed ≡ true
+  pub rest : new ≡ record old { client = new.client; to_client = drop n old.to_client; to_server = new.to_server; shown = new.shown }
+
+-- why a call of the server other than a delivery may be refused
+abbrev pub IsServerFault : server.End → Event → ServerFault → Type 0
+IsServerFault end Take refused.Failed = ⊥
+IsServerFault end (Pull n) refused.Failed = ⊥
+IsServerFault end e refused.Failed = end.failed ≡ true
+IsServerFault end (SetChar func value) (refused.Char fault) = (h : asked.History) → server.Stands h end → char_fault (chars h) func value ≡ Some fault
+IsServerFault end e (refused.Char fault) = ⊥
+IsServerFault end e (refused.Pty fault) = ⊥
+IsServerFault end e refused.Memory = Unit {0}
+
+abbrev pub IsClientFault : client.End → Event → ClientFault → Type 0
+IsClientFault end (Propose func value) fault = IsFault (propose_fault end func value) fault
+IsClientFault end e fault = IsFault (call_fault end) fault
+
+-- which events are the server's, and which the client's
+abbrev pub IsAtServer : Event → Bool
+IsAtServer (Pull n) = true
+IsAtServer Take = true
+IsAtServer (Wish editing) = true
+IsAtServer (SetChar func value) = true
+IsAtServer (Echo on) = true
+IsAtServer e = false
+
+abbrev pub IsAtClient : Event → Bool
+IsAtClient (Key key) = true
+IsAtClient (Resize width height) = true
+IsAtClient (Propose func value) = true
+IsAtClient e = false
+
+-- the event is refused: where it is no delivery, nothing changes
+abbrev pub Refuses : World → Event → Cause → World → Type 0
+Refuses old e cause.Memory new = new ≡ old
+Refuses old (ToServer n) (cause.Server fault) new = ServerRefuses old n fault new
+Refuses old (ToClient n) (cause.Client fault) new = ClientRefuses old n fault new
+Refuses old e (cause.Server fault) new = (IsAtServer e ≡ true) × IsServerFault old.server e fault × (new ≡ old)
+Refuses old e (cause.Client fault) new = (IsAtClient e ≡ true) × IsClientFault old.client e fault × (new ≡ old)
+
+-- each of these events is done
+abbrev pub Runs : World → List Event → World → Type 0
+Runs old [] new = new ≡ old
+Runs old (e ∷ events) new = (mid : World) × Does old e mid × Runs mid events new
+
+-- The event at this place is refused, and those before it are done.
+pub record Ends (old : World) (events : List Event) (at : ℕ) (cause : Cause) (new : World) : Type 0 where
+  pub done : List Event
+  pub event : Event
+  pub left : List Event
+  pub whole : events ≡ done ++ event ∷ left
+  pub place : length done ≡ at
+  pub mid : World
+  pub runs : Runs old done mid
+  pub refuses : Refuses mid event cause new
+
+-- what jobs took, and what waits for them
+abbrev pub made : World → List Entry
+made w = w.taken ++ w.server.terminal.entries

@@ -1,0 +1,43 @@
+//! What may happen in a world.
+
+use tn_codes::Func;
+use tn_discipline::Text;
+use tn_server::Editing;
+
+/// One event: a call of an end, or a delivery of some of the bytes that are in flight.
+#[derive(Debug, Drop)]
+pub enum Event {
+    /// The user types this key at the client.
+    Key(u8),
+    /// The first bytes in flight to the server arrive, or all where there are fewer.
+    ToServer(usize),
+    /// The first bytes in flight to the client arrive, or all where there are fewer.
+    ToClient(usize),
+    /// The job writes this; what does not fit into the terminal is not written.
+    Write(Text),
+    /// The server sends at most so many symbols of the terminal's screen.
+    Pull(usize),
+    /// The job asks for an entry.
+    Take,
+    /// The server wishes for editing at one side.
+    Wish(Editing),
+    /// The client's window has this width and height, in characters.
+    Resize(u16, u16),
+    /// The server sets a special character, or disables it.
+    SetChar(Func, Option<u8>),
+    /// The client proposes a special character, or that it is disabled.
+    Propose(Func, Option<u8>),
+    /// The server sets or clears the terminal's flag ECHO.
+    Echo(bool),
+    /// The server is gone: from here on it does nothing but give entries.
+    ServerStops,
+    /// The client is gone: from here on it does nothing.
+    ClientStops,
+}
+
+/// Which end bytes are on their way to.
+#[derive(Clone, Copy, Debug, PartialEq, Eq)]
+pub enum ToWhom {
+    Server,
+    Client,
+}

@@ -1,0 +1,26 @@
+//! The headline, as laws over the definitions alone. A world at a settled moment at rest goes through
+//! events; where it ends with no end failed, the entries that jobs took and those that wait are
+//! compared with those of the typed keys at a local terminal.
+
+ghost use Rattle.std.specs.Prelude.{◌≡◌, List};
+ghost use Rattle.tn_discipline.specs.declared.termios.Settings.{Settings};
+ghost use Rattle.tn_world.specs.Headline.{IsPrefixOf, local_entries};
+ghost use Rattle.tn_world.specs.Quiet.{IsMark, Passes, Nowhere, IsBetweenLines, NoneFailed, NothingFlies};
+ghost use Rattle.tn_world.specs.Worlds.{World, made};
+ghost use Rattle.tn_world.specs.declared.events.Event.{Event};
+
+/// Under a mode that stays, what was made is a prefix of what the keys give.
+pub fn headline_prefix()
+    ensures { (s : Settings) (start end : World) (events : List Event) → IsMark s start → Passes Nowhere start events end → NoneFailed end → IsPrefixOf (made end) (local_entries s end.typed) }
+{}
+
+/// Under a mode that stays, it is all of it where nothing is in flight.
+pub fn headline_complete()
+    ensures { (s : Settings) (start end : World) (events : List Event) → IsMark s start → Passes Nowhere start events end → NoneFailed end → NothingFlies end → made end ≡ local_entries s end.typed }
+{}
+
+/// The same where the mode changes between lines.
+pub fn headline_mode_changes()
+    ensures prefix { (s : Settings) (start end : World) (events : List Event) → IsMark s start → Passes (IsBetweenLines s) start events end → NoneFailed end → IsPrefixOf (made end) (local_entries s end.typed) }
+    ensures complete { (s : Settings) (start end : World) (events : List Event) → IsMark s start → Passes (IsBetweenLines s) start events end → NoneFailed end → NothingFlies end → made end ≡ local_entries s end.typed }
+{}

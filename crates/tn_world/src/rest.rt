@@ -1,0 +1,116 @@
+//! Whether a world is at rest.
+
+ghost use Rattle.std.specs.Prelude.{◌≡◌, ◌↔◌, true};
+ghost use Rattle.std.specs.List.{list_all};
+ghost use Rattle.tn_world.specs.Settled.{IsSettled, IsSteady, in_order, AgreeOnLinemode, AgreeOnMask, IsIdle, IsAgreed, IsEmpty};
+
+use crate::world::World;
+use tn_option::{ECHO, LINEMODE, NAWS, QState, SUPPRESS_GO_AHEAD, Side};
+
+// Where the options of an end stand, at both sides.
+macro_rules! states {
+    ($end:expr) => {
+        [
+            $end.option(Side::Us, ECHO),
+            $end.option(Side::Us, SUPPRESS_GO_AHEAD),
+            $end.option(Side::Us, NAWS),
+            $end.option(Side::Us, LINEMODE),
+            $end.option(Side::Them, ECHO),
+            $end.option(Side::Them, SUPPRESS_GO_AHEAD),
+            $end.option(Side::Them, NAWS),
+            $end.option(Side::Them, LINEMODE),
+        ]
+    };
+}
+
+impl World {
+    pub(crate) fn is_settled(&self) -> bool
+        ensures { result ≡ true ↔ IsSettled self.now }
+    {
+        self.is_idle() && self.is_agreed() && self.is_empty()
+    }
+
+    // Nothing is in flight, and nobody has stopped or failed.
+    fn is_idle(&self) -> bool
+        ensures { result ≡ true ↔ IsIdle self.now }
+    {
+        self.to_server.is_empty()
+            && self.to_client.is_empty()
+            && !self.server_stopped
+            && !self.server.failed()
+            && !self.client_stopped
+            && !self.client.failed()
+    }
+
+    // The ends agree on options, masks and special characters.
+    fn is_agreed(&self) -> bool
+        ensures { result ≡ true ↔ IsAgreed self.now }
+    {
+        if !self.is_linemode_agreed() || !self.are_masks_agreed() {
+            return false;
+        }
+        if self.server.chars() != self.client.chars() {
+            return false;
+        }
+        self.is_server_steady() && self.is_client_steady()
+    }
+
+    // The mask that was asked for is in force at both ends.
+    fn are_masks_agreed(&self) -> bool
+        ensures { result ≡ true ↔ AgreeOnMask self.now }
+    {
+        let mode = self.server.mode();
+        self.server.asked() == mode && mode == self.client.mode()
+    }
+
+    fn is_linemode_agreed(&self) -> bool
+        ensures { result ≡ true ↔ AgreeOnLinemode self.now.server.terms.options self.now.client.options }
+    {
+        match self.server.option(Side::Them, LINEMODE) {
+            QState::Yes => self.client.option(Side::Us, LINEMODE) == QState::Yes,
+            QState::No => self.client.option(Side::Us, LINEMODE) == QState::No,
+            _ => false,
+        }
+    }
+
+    fn is_server_steady(&self) -> bool
+        ensures { result ≡ true ↔ IsSteady self.now.server.terms.options }
+    {
+        are_in_order(&states!(self.server))
+    }
+
+    fn is_client_steady(&self) -> bool
+        ensures { result ≡ true ↔ IsSteady self.now.client.options }
+    {
+        are_in_order(&states!(self.client))
+    }
+
+    // No line is half typed, and no entry waits.
+    fn is_empty(&self) -> bool
+        ensures { result ≡ true ↔ IsEmpty self.now }
+    {
+        if !self.server.half().is_empty() || !self.client.half().is_empty() {
+            return false;
+        }
+        if self.client.ahead() != 0 {
+            return false;
+        }
+        self.server.waiting(0).is_none()
+    }
+}
+
+fn are_in_order(states: &[QState]) -> bool
+    ensures { result ≡ list_all in_order states.now }
+{
+    states.iter().all(|state| is_in_order(*state))
+}
+
+// No wish waits behind another (RFC 1143).
+fn is_in_order(state: QState) -> bool
+    ensures { result ≡ in_order state }
+{
+    match state {
+        QState::WantNoOpposite | QState::WantYesOpposite => false,
+        QState::No | QState::Yes | QState::WantNoEmpty | QState::WantYesEmpty => true,
+    }
+}

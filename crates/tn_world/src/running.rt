@@ -1,0 +1,240 @@
+//! What each event does.
+
+ghost use Rattle.std.specs.Prelude.{◌≡◌, ℕ, take, drop, IfOk, IfErr, OnOk, OnErr};
+ghost use Rattle.tn_discipline.specs.declared.termios.Settings.{Settings};
+ghost use Rattle.tn_world.specs.Headline.{IsPrefixOf, local_entries};
+ghost use Rattle.tn_world.specs.Quiet.{Follows, IsQuiet, NoneFailed, NothingFlies};
+ghost use Rattle.tn_world.specs.Worlds.{Does, Refuses, Runs, Ends, made};
+ghost use Rattle.tn_world.specs.declared.events.Event.TheVariants as event;
+
+use crate::events::Event;
+use crate::faults::{Cause, WorldFault};
+use crate::world::World;
+use std::alloc::AllocError;
+use std::mem;
+use tn_codes::Func;
+use tn_discipline::Text;
+use tn_server::Editing;
+
+impl World {
+    /// Does these events, one after another, up to the first that is refused.
+    pub fn run(&mut self, events: &[Event]) -> Result<(), WorldFault>
+        ensures runs { OnOk result (Runs self.old events.now self.new) }
+        ensures ends { IfErr result (λ fault. Ends self.old events.now fault.at fault.cause self.new) }
+        ensures follows { (s : Settings) → Follows s self.old → IsQuiet s self.old events.now → Follows s self.new }
+        ensures prefix { (s : Settings) → Follows s self.old → IsQuiet s self.old events.now → NoneFailed self.new → IsPrefixOf (made self.new) (local_entries s self.new.typed) }
+        ensures complete { (s : Settings) → Follows s self.old → IsQuiet s self.old events.now → NoneFailed self.new → NothingFlies self.new → made self.new ≡ local_entries s self.new.typed }
+    {
+        for (at, event) in events.iter().enumerate() {
+            match self.happen(event) {
+                Ok(()) => {},
+                Err(cause) => return Err(WorldFault { at, cause }),
+            }
+        }
+        Ok(())
+    }
+
+    fn happen(&mut self, event: &Event) -> Result<(), Cause>
+        ensures ok { OnOk result (Does self.old event.now self.new) }
+        ensures err { IfErr result (λ cause. Refuses self.old event.now cause self.new) }
+    {
+        match event {
+            Event::Key(key) => self.key(*key),
+            Event::ToServer(count) => self.reach_server(*count),
+            Event::ToClient(count) => self.reach_client(*count),
+            Event::Write(bytes) => {
+                self.write(bytes);
+                Ok(())
+            },
+            Event::Pull(most) => self.pull(*most),
+            Event::Take => self.take(),
+            Event::Wish(editing) => self.wish(*editing),
+            Event::Resize(width, height) => self.resize(*width, *height),
+            Event::SetChar(func, value) => self.set_char(*func, *value),
+            Event::Propose(func, value) => self.propose(*func, *value),
+            Event::Echo(on) => self.echo(*on),
+            Event::ServerStops => {
+                self.server_stopped = true;
+                Ok(())
+            },
+            Event::ClientStops => {
+                self.client_stopped = true;
+                Ok(())
+            },
+        }
+    }
+
+    fn key(&mut self, key: u8) -> Result<(), Cause>
+        ensures ok { OnOk result (Does self.old (event.Key key) self.new) }
+        ensures err { IfErr result (λ cause. Refuses self.old (event.Key key) cause self.new) }
+    {
+        if self.client_stopped {
+            return Ok(());
+        }
+        match self.typed.reserve(1) {
+            Ok(()) => {},
+            Err(_) => return Err(Cause::Memory),
+        }
+        match self.client.key(key, &mut self.to_server, &mut self.echoed) {
+            Ok(()) => {
+                self.typed.push_reserved(key);
+                Ok(())
+            },
+            Err(fault) => Err(Cause::Client(fault)),
+        }
+    }
+
+    fn reach_server(&mut self, count: usize) -> Result<(), Cause>
+        ensures ok { OnOk result (Does self.old (event.ToServer count) self.new) }
+        ensures err { IfErr result (λ cause. Refuses self.old (event.ToServer count) cause self.new) }
+    {
+        if self.server_stopped {
+            return Ok(());
+        }
+        let piece = match take_front(&mut self.to_server, count) {
+            Ok(piece) => piece,
+            Err(_) => return Err(Cause::Memory),
+        };
+        match self.server.feed(&piece, &mut self.to_client) {
+            Ok(()) => Ok(()),
+            Err(fault) => Err(Cause::Server(fault)),
+        }
+    }
+
+    fn reach_client(&mut self, count: usize) -> Result<(), Cause>
+        ensures ok { OnOk result (Does self.old (event.ToClient count) self.new) }
+        ensures err { IfErr result (λ cause. Refuses self.old (event.ToClient count) cause self.new) }
+    {
+        if self.client_stopped {
+            return Ok(());
+        }
+        let piece = match take_front(&mut self.to_client, count) {
+            Ok(piece) => piece,
+            Err(_) => return Err(Cause::Memory),
+        };
+        match self
+            .client
+            .feed(&piece, &mut self.to_server, &mut self.shown)
+        {
+            Ok(()) => Ok(()),
+            Err(fault) => Err(Cause::Client(fault)),
+        }
+    }
+
+    fn write(&mut self, bytes: &Text)
+        ensures { Does self.old (event.Write bytes.now) self.new }
+    {
+        if !self.server_stopped {
+            let _count = self.server.write(bytes.as_slice());
+        }
+    }
+
+    fn pull(&mut self, most: usize) -> Result<(), Cause>
+        ensures ok { OnOk result (Does self.old (event.Pull most) self.new) }
+        ensures err { IfErr result (λ cause. Refuses self.old (event.Pull most) cause self.new) }
+    {
+        if self.server_stopped {
+            return Ok(());
+        }
+        match self.server.pull(most, &mut self.to_client) {
+            Ok(_) => {},
+            Err(fault) => return Err(Cause::Server(fault)),
+        }
+        Ok(())
+    }
+
+    fn take(&mut self) -> Result<(), Cause>
+        ensures ok { OnOk result (Does self.old event.Take self.new) }
+        ensures err { IfErr result (λ cause. Refuses self.old event.Take cause self.new) }
+    {
+        match self.taken.reserve(1) {
+            Ok(()) => {},
+            Err(_) => return Err(Cause::Memory),
+        }
+        match self.server.take(&mut self.to_client) {
+            Ok(Some(entry)) => {
+                self.taken.push_reserved(entry);
+                Ok(())
+            },
+            Ok(None) => Ok(()),
+            Err(fault) => Err(Cause::Server(fault)),
+        }
+    }
+
+    fn wish(&mut self, editing: Editing) -> Result<(), Cause>
+        ensures ok { OnOk result (Does self.old (event.Wish editing) self.new) }
+        ensures err { IfErr result (λ cause. Refuses self.old (event.Wish editing) cause self.new) }
+    {
+        if self.server_stopped {
+            return Ok(());
+        }
+        match self.server.wish(editing, &mut self.to_client) {
+            Ok(_) => Ok(()),
+            Err(fault) => Err(Cause::Server(fault)),
+        }
+    }
+
+    fn set_char(&mut self, func: Func, value: Option<u8>) -> Result<(), Cause>
+        ensures ok { OnOk result (Does self.old (event.SetChar func value) self.new) }
+        ensures err { IfErr result (λ cause. Refuses self.old (event.SetChar func value) cause self.new) }
+    {
+        if self.server_stopped {
+            return Ok(());
+        }
+        match self.server.set_char(func, value, &mut self.to_client) {
+            Ok(()) => {},
+            Err(fault) => return Err(Cause::Server(fault)),
+        }
+        Ok(())
+    }
+
+    fn echo(&mut self, on: bool) -> Result<(), Cause>
+        ensures ok { OnOk result (Does self.old (event.Echo on) self.new) }
+        ensures err { IfErr result (λ cause. Refuses self.old (event.Echo on) cause self.new) }
+    {
+        if self.server_stopped {
+            return Ok(());
+        }
+        match self.server.set_echo(on, &mut self.to_client) {
+            Ok(()) => Ok(()),
+            Err(fault) => Err(Cause::Server(fault)),
+        }
+    }
+
+    fn resize(&mut self, width: u16, height: u16) -> Result<(), Cause>
+        ensures ok { OnOk result (Does self.old (event.Resize width height) self.new) }
+        ensures err { IfErr result (λ cause. Refuses self.old (event.Resize width height) cause self.new) }
+    {
+        if self.client_stopped {
+            return Ok(());
+        }
+        match self.client.resize(width, height, &mut self.to_server) {
+            Ok(()) => Ok(()),
+            Err(fault) => Err(Cause::Client(fault)),
+        }
+    }
+
+    fn propose(&mut self, func: Func, value: Option<u8>) -> Result<(), Cause>
+        ensures ok { OnOk result (Does self.old (event.Propose func value) self.new) }
+        ensures err { IfErr result (λ cause. Refuses self.old (event.Propose func value) cause self.new) }
+    {
+        if self.client_stopped {
+            return Ok(());
+        }
+        match self.client.propose(func, value, &mut self.to_server) {
+            Ok(()) => Ok(()),
+            Err(fault) => Err(Cause::Client(fault)),
+        }
+    }
+}
+
+// Takes the first bytes out of a flight, or all where there are fewer.
+fn take_front(flight: &mut Vec<u8>, count: usize) -> Result<Vec<u8>, AllocError>
+    ensures piece { IfOk result (λ piece. piece.items ≡ take count flight.old.items) }
+    ensures left { OnOk result (flight.new.items ≡ drop count flight.old.items) }
+    ensures err { OnErr result (flight.new.items ≡ flight.old.items) }
+{
+    let at = count.min(flight.len());
+    let left = flight.split_off(at)?;
+    Ok(mem::replace(flight, left))
+}

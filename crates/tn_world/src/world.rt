@@ -1,0 +1,148 @@
+//! Both ends and the two streams between them.
+
+ghost use Rattle.std.specs.Prelude.{◌≡◌, ◌↔◌, true, false, [], ◌++◌, IfOk, IfErr, OnOk, OnErr, option_copied, slice_get};
+ghost use Rattle.tn_world.specs.Settled.{IsSettled};
+ghost use Rattle.tn_world.specs.Opened.{IsOpened, IsOpenFault, anew};
+ghost use Rattle.tn_world.specs.Quiet.{Follows};
+ghost use Rattle.tn_world.specs.declared.events.ToWhom.TheVariants as to;
+
+use crate::events::ToWhom;
+use crate::faults::{Cause, WorldFault};
+use std::alloc::Global;
+use std::marker::Model;
+use tn_client::ClientEnd;
+use tn_discipline::{Entry, Settings};
+use tn_server::ServerEnd;
+
+/// A server end, a client end, and the bytes on their way between them. Each event is one call of an
+/// end or one delivery, so that every order of keys, output and network bytes is a list of events.
+#[derive(Drop)]
+pub struct World {
+    pub(crate) alloc: Global,
+    pub(crate) server: ServerEnd,
+    pub(crate) client: ClientEnd,
+    pub(crate) server_stopped: bool,
+    pub(crate) client_stopped: bool,
+    pub(crate) to_server: Vec<u8>,
+    pub(crate) to_client: Vec<u8>,
+    pub(crate) typed: Vec<u8>,
+    pub(crate) taken: Vec<Entry>,
+    pub(crate) shown: Vec<u8>,
+    pub(crate) echoed: Vec<u8>,
+}
+
+impl Model for World {
+    ghost use Rattle.tn_world.specs.Worlds as worlds;
+    ghost use Rattle.tn_world.specs.Settled.{IsSound};
+
+    ghost Value = { worlds.World };
+
+    ghost view = { λ w. record { server = w.server; client = w.client; server_stopped = w.server_stopped; client_stopped = w.client_stopped; to_server = w.to_server.items; to_client = w.to_client.items; typed = w.typed.items; taken = w.taken.items; shown = w.shown.items; echoed = w.echoed.items } };
+
+    ghost invariant = { λ w. IsSound (record { server = w.server; client = w.client; server_stopped = w.server_stopped; client_stopped = w.client_stopped; to_server = w.to_server.items; to_client = w.to_client.items; typed = w.typed.items; taken = w.taken.items; shown = w.shown.items; echoed = w.echoed.items }) };
+}
+
+impl World {
+    /// Opens a world: both ends are started, the client's window with this width and height in
+    /// characters, and the server's opening words are in flight.
+    pub fn open(
+        alloc: Global,
+        settings: Settings,
+        width: u16,
+        height: u16,
+    ) -> Result<World, WorldFault>
+        ensures opened { IfOk result (λ world. IsOpened settings width height world) }
+        ensures fault { IfErr result (λ fault. IsOpenFault fault) }
+    {
+        let mut to_client = Vec::new(alloc);
+        let server = match ServerEnd::start(alloc, settings, &mut to_client) {
+            Ok(server) => server,
+            Err(fault) => return Err(refused(Cause::Server(fault))),
+        };
+        let client = match ClientEnd::start(alloc, width, height) {
+            Ok(client) => client,
+            Err(fault) => return Err(refused(Cause::Client(fault))),
+        };
+        Ok(World {
+            alloc,
+            server,
+            client,
+            server_stopped: false,
+            client_stopped: false,
+            to_server: Vec::new(alloc),
+            to_client,
+            typed: Vec::new(alloc),
+            taken: Vec::new(alloc),
+            shown: Vec::new(alloc),
+            echoed: Vec::new(alloc),
+        })
+    }
+
+    /// Whether all is at rest: nothing is in flight and nobody has stopped, the ends agree, and no
+    /// line is half typed. Where it is, the lists of typed keys and taken entries begin anew.
+    pub fn mark(&mut self) -> bool
+        ensures settled { result ≡ true ↔ IsSettled self.old }
+        ensures anew { result ≡ true → self.new ≡ anew self.old }
+        ensures else_same { result ≡ false → self.new ≡ self.old }
+        ensures follows { result ≡ true → Follows self.old.server.terminal.settings self.new }
+    {
+        if !self.is_settled() {
+            return false;
+        }
+        self.typed.clear();
+        self.taken.clear();
+        true
+    }
+
+    /// The keys that were typed since the last mark.
+    pub fn typed(&self) -> &[u8]
+        ensures { result.now ≡ self.now.typed }
+    {
+        self.typed.as_slice()
+    }
+
+    /// The entries that jobs took since the last mark.
+    pub fn taken(&self) -> &[Entry]
+        ensures { result.now ≡ self.now.taken }
+    {
+        self.taken.as_slice()
+    }
+
+    /// An entry that waits for a job, by its place from the first on.
+    pub fn waiting(&self, index: usize) -> Option<&Entry>
+        ensures { option_copied result ≡ slice_get self.now.server.terminal.entries index }
+    {
+        self.server.waiting(index)
+    }
+
+    /// The server's text on the client's screen.
+    pub fn shown(&self) -> &[u8]
+        ensures { result.now ≡ self.now.shown }
+    {
+        self.shown.as_slice()
+    }
+
+    /// What the client echoed on its screen.
+    pub fn echoed(&self) -> &[u8]
+        ensures { result.now ≡ self.now.echoed }
+    {
+        self.echoed.as_slice()
+    }
+
+    /// The bytes that are on their way to an end.
+    pub fn in_flight(&self, whom: ToWhom) -> &[u8]
+        ensures server { whom ≡ to.Server → result.now ≡ self.now.to_server }
+        ensures client { whom ≡ to.Client → result.now ≡ self.now.to_client }
+    {
+        match whom {
+            ToWhom::Server => self.to_server.as_slice(),
+            ToWhom::Client => self.to_client.as_slice(),
+        }
+    }
+}
+
+fn refused(cause: Cause) -> WorldFault
+    ensures { result ≡ record { at = 0; cause = cause } }
+{
+    WorldFault { at: 0, cause }
+}
