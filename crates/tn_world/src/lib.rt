@@ -11,3 +11,5 @@ pub mod laws;
 mod rest;
 mod running;
 mod world;
+#[cfg(test)]
+mod tests;
