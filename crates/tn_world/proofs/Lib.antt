@@ -11,6 +11,7 @@ pub mod Relation
 pub mod Resting
 pub mod ServerItems
 pub mod ServerSteps
+pub mod Showing
 pub mod Soundness
 pub mod Tied
 pub mod Typing

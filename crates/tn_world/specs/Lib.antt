@@ -8,3 +8,4 @@ pub mod Machine
 pub mod Calm
 pub mod Ends
 pub mod Pictures
+pub mod Output

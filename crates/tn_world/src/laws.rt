@@ -1,12 +1,14 @@
-//! The headline, as laws over the definitions alone. A world at a settled moment at rest goes through
-//! events; where it ends with no end failed, the entries that jobs took and those that wait are
-//! compared with those of the typed keys at a local terminal.
+//! The headline and Output, as laws over the definitions alone. A world at a settled moment at rest
+//! goes through events; where it ends with no end failed, the entries that jobs took and those that
+//! wait are compared with those of the typed keys at a local terminal.
 
-ghost use Rattle.std.specs.Prelude.{◌≡◌, List};
+ghost use Rattle.std.specs.Prelude.{◌≡◌, ℕ, false, List};
 ghost use Rattle.tn_discipline.specs.declared.termios.Settings.{Settings};
 ghost use Rattle.tn_world.specs.Headline.{IsPrefixOf, local_entries};
+ghost use Rattle.tn_world.specs.Output.{IsOutput, Grows, Begins};
 ghost use Rattle.tn_world.specs.Quiet.{IsMark, Passes, Nowhere, IsBetweenLines, NoneFailed, NothingFlies};
-ghost use Rattle.tn_world.specs.Worlds.{World, made};
+ghost use Rattle.tn_world.specs.Settled.{IsSound};
+ghost use Rattle.tn_world.specs.Worlds.{World, Does, made};
 ghost use Rattle.tn_world.specs.declared.events.Event.{Event};
 
 /// Under a mode that stays, what was made is a prefix of what the keys give.
@@ -23,4 +25,15 @@ pub fn headline_complete()
 pub fn headline_mode_changes()
     ensures prefix { (s : Settings) (start end : World) (events : List Event) → IsMark s start → Passes (IsBetweenLines s) start events end → NoneFailed end → IsPrefixOf (made end) (local_entries s end.typed) }
     ensures complete { (s : Settings) (start end : World) (events : List Event) → IsMark s start → Passes (IsBetweenLines s) start events end → NoneFailed end → NothingFlies end → made end ≡ local_entries s end.typed }
+{}
+
+/// Until a delivery to the client is refused, each event appends to Output exactly what the terminal's
+/// queue took in it; a pull and a delivery to the client append nothing.
+pub fn output()
+    ensures { (old new : World) (e : Event) (text : List ℕ) → IsSound old → old.client.failed ≡ false → Does old e new → IsOutput old text → Grows old e new text }
+{}
+
+/// What is shown on the client's screen comes first in Output.
+pub fn shown_first()
+    ensures { (w : World) (text : List ℕ) → IsOutput w text → Begins w.shown text }
 {}

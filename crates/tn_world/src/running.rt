@@ -1,8 +1,9 @@
 //! What each event does.
 
-ghost use Rattle.std.specs.Prelude.{◌≡◌, ℕ, take, drop, IfOk, IfErr, OnOk, OnErr};
+ghost use Rattle.std.specs.Prelude.{◌≡◌, ℕ, false, List, take, drop, IfOk, IfErr, OnOk, OnErr};
 ghost use Rattle.tn_discipline.specs.declared.termios.Settings.{Settings};
 ghost use Rattle.tn_world.specs.Headline.{IsPrefixOf, local_entries};
+ghost use Rattle.tn_world.specs.Output.{IsOutput, GrowsAll, GrowsBefore};
 ghost use Rattle.tn_world.specs.Quiet.{Follows, IsQuiet, NoneFailed, NothingFlies};
 ghost use Rattle.tn_world.specs.Worlds.{Does, Refuses, Runs, Ends, made};
 ghost use Rattle.tn_world.specs.declared.events.Event.TheVariants as event;
@@ -24,7 +25,11 @@ impl World {
         ensures follows { (s : Settings) → Follows s self.old → IsQuiet s self.old events.now → Follows s self.new }
         ensures prefix { (s : Settings) → Follows s self.old → IsQuiet s self.old events.now → NoneFailed self.new → IsPrefixOf (made self.new) (local_entries s self.new.typed) }
         ensures complete { (s : Settings) → Follows s self.old → IsQuiet s self.old events.now → NoneFailed self.new → NothingFlies self.new → made self.new ≡ local_entries s self.new.typed }
+        ensures output { OnOk result ((text : List ℕ) → IsOutput self.old text → self.old.client.failed ≡ false → GrowsAll self.old events.now self.new text) }
+        ensures output_before { IfErr result (λ fault. (text : List ℕ) → IsOutput self.old text → self.old.client.failed ≡ false → GrowsBefore self.old events.now fault.at fault.cause self.new text) }
     {
+        // Nothing is done here; the proof of Output begins with what every world keeps.
+        let _ = &self.shown;
         for (at, event) in events.iter().enumerate() {
             match self.happen(event) {
                 Ok(()) => {},

@@ -3,6 +3,7 @@
 ghost use Rattle.std.specs.Prelude.{◌≡◌, ◌↔◌, true, false, [], ◌++◌, IfOk, IfErr, OnOk, OnErr, option_copied, slice_get};
 ghost use Rattle.tn_world.specs.Settled.{IsSettled};
 ghost use Rattle.tn_world.specs.Opened.{IsOpened, IsOpenFault, anew};
+ghost use Rattle.tn_world.specs.Output.{IsOutput};
 ghost use Rattle.tn_world.specs.Quiet.{Follows};
 ghost use Rattle.tn_world.specs.declared.events.ToWhom.TheVariants as to;
 
@@ -53,6 +54,7 @@ impl World {
     ) -> Result<World, WorldFault>
         ensures opened { IfOk result (λ world. IsOpened settings width height world) }
         ensures fault { IfErr result (λ fault. IsOpenFault fault) }
+        ensures output { IfOk result (λ world. IsOutput world []) }
     {
         let mut to_client = Vec::new(alloc);
         let server = match ServerEnd::start(alloc, settings, &mut to_client) {

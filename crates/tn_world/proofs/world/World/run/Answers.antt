@@ -1,5 +1,8 @@
-use Rattle.std.proofs.Common.{refl}
+use Rattle.std.proofs.Common.{refl, subst}
 use Rattle.tn_world.proofs.Promise.{runs_more, runs_whole, runs_stop, run_follows, end_follows, follows_prefix, follows_complete}
+use Rattle.tn_world.proofs.Showing.{runs_grow, ends_grow}
+use Rattle.tn_world.specs.Settled.{IsSound}
+use Rattle.tn_world.specs.Worlds.{World}
 use Rattle.tn_world.proofs.world.World.run.Goals as goal
 
 pub loop-at-init : goal.loop-at-init
@@ -31,3 +34,11 @@ returns-clause-prefix c = λ s f quiet none. follows_prefix s c.loop-at.self (re
 
 pub returns-clause-complete : goal.returns-clause-complete
 returns-clause-complete c = λ s f quiet none nothing. follows_complete s c.loop-at.self (returns-clause-follows c s f quiet) none nothing
+
+pub returns-in-Err-clause-output_before : goal.returns-in-Err-clause-output_before
+returns-in-Err-clause-output_before c = λ text output runs.
+    ends_grow c.args.self.now c.happen.new.self c.args.events.now c.loop-at.at c.in-Err.cause text (subst (λ (w : World). IsSound w) c.self.view_is c.self.invariant) runs (returns-in-Err-clause-ends c) output
+
+pub returns-clause-output : goal.returns-clause-output
+returns-clause-output c = λ text output runs.
+    runs_grow c.args.self.now c.loop-at.self c.args.events.now text (subst (λ (w : World). IsSound w) c.self.view_is c.self.invariant) runs (returns-clause-runs c) output

@@ -1,0 +1,284 @@
+-- Each event appends to Output exactly what the pair's queue took in it.
+use Rattle.std.proofs.Common.{◌≡◌, ℕ, Bool, true, false, List, [], ◌∷◌, ◌++◌, take, drop, refl, sym, ap, ◌∙◌, subst, append-nil, append_assoc}
+use Rattle.std.specs.Prelude.{All}
+use Rattle.std.specs.List.{flat_map}
+use Rattle.std.proofs.lemmas.Grind.{flat_map-append}
+use Rattle.std.proofs.lemmas.List.{take-append-drop}
+use Rattle.std.proofs.lemmas.List.Elements.{All-nil, All-cons, All-head, All-tail}
+use Rattle.tn_discipline.specs.declared.echo.Symbol.{Symbol}
+use Rattle.tn_discipline.specs.declared.echo.Symbol.TheVariants as symbol
+use Rattle.tn_nvt.specs.Spelling.{spelling, Fits}
+use Rattle.tn_nvt.specs.Standing.{Standing, HasRead}
+use Rattle.tn_nvt.specs.declared.items.Item.{Item}
+use Rattle.tn_nvt.specs.declared.items.Item.TheVariants.{Byte, Newline}
+use Rattle.tn_server.specs.Events as asked
+use Rattle.tn_server.specs.Replies.{opening, spelled}
+use Rattle.tn_server.specs.Screen.{queue}
+use Rattle.tn_server.specs.Standing as server
+use Rattle.tn_client.specs.Events as told
+use Rattle.tn_client.specs.Screen.{item_shown}
+use Rattle.tn_world.specs.Ends.{spells}
+use Rattle.tn_world.specs.Flight.{InFlight}
+use Rattle.tn_world.specs.Output.{symbol_shown, screen, text_of, IsOutput, Queues, IsNoneAt, Grows, GrowsAll, GrowsBefore, Begins}
+use Rattle.tn_world.specs.Settled.{IsSound}
+use Rattle.tn_world.specs.Worlds.{World, Unless, Types, Tells, Reaches, Returns, Asks, Pulls, Takes, Does, Runs, Ends}
+use Rattle.tn_world.specs.declared.events.Event.{Event}
+use Rattle.tn_world.specs.declared.events.Event.TheVariants.{Key, ToServer, ToClient, Write, Pull, Take, Wish, Resize, SetChar, Propose, Echo, ServerStops, ClientStops}
+use Rattle.tn_world.specs.declared.faults.Cause.{Cause}
+use Rattle.tn_world.proofs.ClientWrites.{feeds_text}
+use Rattle.tn_world.proofs.Cut.{start}
+use Rattle.tn_world.proofs.Promise.{still_sound}
+use Rattle.tn_world.proofs.ServerItems.{IsSilent, IsUnpulled, silent_adds, opening_made, feeds_made, feeds_queue, goes_queue}
+use Rattle.tn_world.proofs.ServerSteps.{Made, nothing}
+use Rattle.tn_world.proofs.Tied.{behind, cut_at}
+
+silent_text : (items : List Item) → All IsSilent items → text_of items ≡ []
+silent_text [] a = refl
+silent_text (item ∷ items) a = ap (λ (xs : List ℕ). xs ++ text_of items) (All-head IsSilent item items a) ∙ silent_text items (All-tail IsSilent item items a)
+
+-- PARTS OF A TEXT
+joined : (text shown flying waiting more : List ℕ) → text ≡ shown ++ (flying ++ waiting) → text ++ more ≡ shown ++ (flying ++ (waiting ++ more))
+joined text shown flying waiting more is =
+    ap (λ (x : List ℕ). x ++ more) is ∙ append_assoc shown (flying ++ waiting) more ∙ ap (λ (x : List ℕ). shown ++ x) (append_assoc flying waiting more)
+
+parts : (a b c d e f : List ℕ) → a ≡ d → b ≡ e → c ≡ f → a ++ (b ++ c) ≡ d ++ (e ++ f)
+parts a b c d e f p q r =
+    ap (λ (x : List ℕ). x ++ (b ++ c)) p ∙ ap (λ (x : List ℕ). d ++ (x ++ c)) q ∙ ap (λ (x : List ℕ). d ++ (e ++ x)) r
+
+-- the server said silent items, and its queue took these symbols
+says_output : (old new : World) (text out : List ℕ) (more : List Symbol) → Made IsSilent out → new.client.decoder ≡ old.client.decoder → new.shown ≡ old.shown → new.to_client ≡ old.to_client ++ out → new.server.terminal.queue ≡ old.server.terminal.queue ++ more → IsOutput old text → IsOutput new (text ++ screen more)
+says_output old new text out more m decoder shown said took o =
+    record {
+      items = o.items ++ m.items;
+      flight =
+          subst (λ (d : Standing). InFlight d new.to_client (o.items ++ m.items)) (sym decoder)
+          (subst (λ (x : List ℕ). InFlight old.client.decoder x (o.items ++ m.items)) (sym said)
+          (behind old.client.decoder old.to_client out o.items m.items m.fit m.spelled o.flight));
+      is =
+          joined text old.shown (text_of o.items) (screen old.server.terminal.queue) (screen more) o.is
+          ∙ parts old.shown (text_of o.items) (screen old.server.terminal.queue ++ screen more) new.shown (text_of (o.items ++ m.items)) (screen new.server.terminal.queue)
+          (sym shown)
+          (sym (append-nil (text_of o.items)) ∙ ap (λ (x : List ℕ). text_of o.items ++ x) (sym (silent_text m.items m.each)) ∙ sym (flat_map-append item_shown o.items m.items))
+          (sym (flat_map-append symbol_shown old.server.terminal.queue more) ∙ ap screen (sym took));
+    }
+
+-- nothing was said
+still_output : (old new : World) (text : List ℕ) → new.client.decoder ≡ old.client.decoder → new.shown ≡ old.shown → new.to_client ≡ old.to_client → new.server.terminal.queue ≡ old.server.terminal.queue → IsOutput old text → IsOutput new (text ++ [])
+still_output old new text decoder shown said took o =
+    says_output old new text [] [] (nothing IsSilent) decoder shown (said ∙ sym (append-nil old.to_client)) (took ∙ sym (append-nil old.server.terminal.queue)) o
+
+none_queued : (old new : World) (e : Event) → new.server.terminal.queue ≡ old.server.terminal.queue → Queues old e [] new
+none_queued old new (Pull n) is = refl
+none_queued old new e is = is ∙ sym (append-nil old.server.terminal.queue)
+
+none_at : (e : Event) → IsNoneAt e []
+none_at (Pull n) = refl
+none_at (ToClient n) = refl
+none_at e = tt
+
+still_grows : (old new : World) (e : Event) (text : List ℕ) → new.client.decoder ≡ old.client.decoder → new.shown ≡ old.shown → new.to_client ≡ old.to_client → new.server.terminal.queue ≡ old.server.terminal.queue → IsOutput old text → Grows old e new text
+still_grows old new e text decoder shown said took o =
+    record { symbols = []; took = none_queued old new e took; none = none_at e; output = still_output old new text decoder shown said took o }
+
+same_grows : (old new : World) (e : Event) (text : List ℕ) → new ≡ old → IsOutput old text → Grows old e new text
+same_grows old new e text is o =
+    still_grows old new e text (ap (λ (w : World). w.client.decoder) is) (ap (λ (w : World). w.shown) is) (ap (λ (w : World). w.to_client) is) (ap (λ (w : World). w.server.terminal.queue) is) o
+
+types_grows : (old new : World) (key : ℕ) (text : List ℕ) → Types old key new → IsOutput old text → Grows old (Key key) new text
+types_grows old new key text t o =
+    still_grows old new (Key key) text t.goes.decoder (ap (λ (w : World). w.shown) t.rest) (ap (λ (w : World). w.to_client) t.rest) (ap (λ (w : World). w.server.terminal.queue) t.rest) o
+
+tells_grows : (old new : World) (call : told.Event) (e : Event) (text : List ℕ) → Tells old call new → IsOutput old text → Grows old e new text
+tells_grows old new call e text t o =
+    still_grows old new e text t.goes.decoder (ap (λ (w : World). w.shown) t.rest) (ap (λ (w : World). w.to_client) t.rest) (ap (λ (w : World). w.server.terminal.queue) t.rest) o
+
+-- A CALL OF THE SERVER
+pub record Took (old new : World) (text : List ℕ) : Type 0 where
+  pub symbols : List Symbol
+  pub took : new.server.terminal.queue ≡ old.server.terminal.queue ++ symbols
+  pub output : IsOutput new (text ++ screen symbols)
+
+goes_took : (old new : World) (e : asked.Event) (text : List ℕ) → IsUnpulled e → IsSound old → server.Goes old.server e old.to_client new.to_client new.server → new.client.decoder ≡ old.client.decoder → new.shown ≡ old.shown → IsOutput old text → Took old new text
+goes_took old new e text is s g decoder shown o =
+    let more = goes_queue s.history old.server new.server e old.to_client new.to_client is s.server g in
+    let m = subst (Made IsSilent) (g.adds s.history s.server) (silent_adds s.history e is) in
+    record {
+      symbols = more.0;
+      took = more.1;
+      output = says_output old new text g.bytes more.0 m decoder shown g.appended more.1 o;
+    }
+
+asks_took : (old new : World) (e : asked.Event) (text : List ℕ) → IsUnpulled e → IsSound old → Asks old e new → IsOutput old text → Took old new text
+asks_took old new e text is s a o = goes_took old new e text is s a.goes (ap (λ (w : World). w.client.decoder) a.rest) (ap (λ (w : World). w.shown) a.rest) o
+
+takes_took : (old new : World) (text : List ℕ) → IsSound old → Takes old new → IsOutput old text → Took old new text
+takes_took old new text s a o = goes_took old new asked.took text tt s a.goes (ap (λ (w : World). w.client.decoder) a.rest) (ap (λ (w : World). w.shown) a.rest) o
+
+-- a delivery to the server
+reaches_took : (old new : World) (n : ℕ) (text : List ℕ) → IsSound old → Reaches old n new → IsOutput old text → Took old new text
+reaches_took old new n text s r o =
+    let more = feeds_queue s.history old.server new.server (take n old.to_server) old.to_client new.to_client s.server r.feeds in
+    let m = feeds_made s.history old.server new.server (take n old.to_server) old.to_client new.to_client s.server r.feeds in
+    record {
+      symbols = more.0;
+      took = more.1;
+      output = says_output old new text r.feeds.bytes more.0 m (ap (λ (w : World). w.client.decoder) r.rest) (ap (λ (w : World). w.shown) r.rest) r.feeds.appended more.1 o;
+    }
+
+-- A PULL: symbols leave the queue as items
+pub record Sent (symbols : List Symbol) : Type 0 where
+  pub items : List Item
+  pub says : flat_map spelled symbols ≡ spells items
+  pub fit : All Fits items
+  pub text : text_of items ≡ screen symbols
+
+sent_one : (item : Item) (x : Symbol) (symbols : List Symbol) → Fits item → spelled x ≡ spelling item → item_shown item ≡ symbol_shown x → Sent symbols → Sent (x ∷ symbols)
+sent_one item x symbols f says text more = record {
+  items = item ∷ more.items;
+  says = ap (λ (b : List ℕ). b ++ flat_map spelled symbols) says ∙ ap (λ (b : List ℕ). spelling item ++ b) more.says;
+  fit = All-cons Fits item more.items f more.fit;
+  text = ap (λ (b : List ℕ). b ++ text_of more.items) text ∙ ap (λ (b : List ℕ). symbol_shown x ++ b) more.text;
+}
+
+sent_items : (symbols : List Symbol) → Sent symbols
+sent_items [] = record { items = []; says = refl; fit = All-nil Fits; text = refl }
+sent_items (symbol.Byte b ∷ symbols) = sent_one (Byte b) (symbol.Byte b) symbols tt refl refl (sent_items symbols)
+sent_items (symbol.Newline ∷ symbols) = sent_one Newline symbol.Newline symbols tt refl refl (sent_items symbols)
+
+-- the front of the queue comes behind what is in flight
+moved : (flying waiting front back : List ℕ) → front ++ back ≡ waiting → flying ++ waiting ≡ (flying ++ front) ++ back
+moved flying waiting front back is = ap (λ (x : List ℕ). flying ++ x) (sym is) ∙ sym (append_assoc flying front back)
+
+cut_screen : (n : ℕ) (symbols : List Symbol) → screen (take n symbols) ++ screen (drop n symbols) ≡ screen symbols
+cut_screen n symbols = sym (flat_map-append symbol_shown (take n symbols) (drop n symbols)) ∙ ap screen (take-append-drop n symbols)
+
+pulls_grows : (old new : World) (n : ℕ) (text : List ℕ) → IsSound old → Pulls old n new → IsOutput old text → Grows old (Pull n) new text
+pulls_grows old new n text s p o =
+    let h = s.history in
+    let g = p.asks.goes in
+    let m = sent_items (take p.count (queue h)) in
+    let stands = g.stands h s.server in
+    record {
+      symbols = [];
+      took = refl;
+      none = refl;
+      output = record {
+        items = o.items ++ m.items;
+        flight =
+            subst (λ (d : Standing). InFlight d new.to_client (o.items ++ m.items)) (sym (ap (λ (w : World). w.client.decoder) p.asks.rest))
+            (subst (λ (x : List ℕ). InFlight old.client.decoder x (o.items ++ m.items)) (sym g.appended)
+            (behind old.client.decoder old.to_client g.bytes o.items m.items m.fit (sym (g.adds h s.server) ∙ m.says) o.flight));
+        is =
+            append-nil text ∙ o.is
+            ∙ ap (λ (x : List ℕ). old.shown ++ x) (moved (text_of o.items) (screen old.server.terminal.queue) (screen (take p.count (queue h))) (screen (drop p.count (queue h))) (cut_screen p.count (queue h) ∙ ap screen (sym s.server.queue)))
+            ∙ parts old.shown (text_of o.items ++ screen (take p.count (queue h))) (screen (drop p.count (queue h))) new.shown (text_of (o.items ++ m.items)) (screen new.server.terminal.queue)
+            (sym (ap (λ (w : World). w.shown) p.asks.rest))
+            (ap (λ (x : List ℕ). text_of o.items ++ x) (sym m.text) ∙ sym (flat_map-append item_shown o.items m.items))
+            (ap screen (sym stands.queue));
+      };
+    }
+
+-- A DELIVERY TO THE CLIENT: items leave the flight, and are shown
+shown_more : (shown got left waiting : List ℕ) → shown ++ ((got ++ left) ++ waiting) ≡ (shown ++ got) ++ (left ++ waiting)
+shown_more shown got left waiting = ap (λ (x : List ℕ). shown ++ x) (append_assoc got left waiting) ∙ sym (append_assoc shown got (left ++ waiting))
+
+returns_grows : (old new : World) (n : ℕ) (text : List ℕ) → IsSound old → old.client.failed ≡ false → Returns old n new → IsOutput old text → Grows old (ToClient n) new text
+returns_grows old new n text s runs r o =
+    let f = r.feeds in
+    let before = s.client runs in
+    let d = cut_at old.client.decoder new.client.decoder n old.to_client o.items f.items o.flight (record { items = f.items; appended = refl; adds = f.reads }) in
+    let is_shown : new.shown ≡ old.shown ++ text_of f.items =
+    f.displayed ∙ ap (λ (x : List ℕ). old.shown ++ x) (feeds_text before.0 old.client new.client (take n old.to_client) old.to_server new.to_server old.shown new.shown before.1 f) in
+    let queued : new.server.terminal.queue ≡ old.server.terminal.queue = ap (λ (w : World). w.server.terminal.queue) r.rest in
+    record {
+      symbols = [];
+      took = queued ∙ sym (append-nil old.server.terminal.queue);
+      none = refl;
+      output = record {
+        items = d.left;
+        flight = subst (λ (x : List ℕ). InFlight new.client.decoder x d.left) (sym (ap (λ (w : World). w.to_client) r.rest)) d.flight;
+        is =
+            append-nil text ∙ o.is
+            ∙ ap (λ (x : List ℕ). old.shown ++ (x ++ screen old.server.terminal.queue)) (ap text_of d.all ∙ flat_map-append item_shown f.items d.left)
+            ∙ shown_more old.shown (text_of f.items) (text_of d.left) (screen old.server.terminal.queue)
+            ∙ parts (old.shown ++ text_of f.items) (text_of d.left) (screen old.server.terminal.queue) new.shown (text_of d.left) (screen new.server.terminal.queue) (sym is_shown) refl (ap screen (sym queued));
+      };
+    }
+
+-- EVERY EVENT
+unless : (stopped : Bool) (old new : World) (e : Event) (text : List ℕ) (happens : Type 0) → (happens → Grows old e new text) → IsOutput old text → Unless stopped old new happens → Grows old e new text
+unless true old new e text happens done o is = same_grows old new e text is o
+unless false old new e text happens done o is = done is
+
+pub output_grows : (old new : World) (e : Event) (text : List ℕ) → IsSound old → old.client.failed ≡ false → Does old e new → IsOutput old text → Grows old e new text
+output_grows old new (Key key) text s runs d o = unless old.client_stopped old new (Key key) text (Types old key new) (λ t. types_grows old new key text t o) o d
+output_grows old new (ToServer n) text s runs d o =
+    unless old.server_stopped old new (ToServer n) text (Reaches old n new) (λ r. let t = reaches_took old new n text s r o in record { symbols = t.symbols; took = t.took; none = tt; output = t.output }) o d
+output_grows old new (ToClient n) text s runs d o = unless old.client_stopped old new (ToClient n) text (Returns old n new) (λ r. returns_grows old new n text s runs r o) o d
+output_grows old new (Write bytes) text s runs d o =
+    unless old.server_stopped old new (Write bytes) text (Asks old (asked.wrote bytes) new) (λ a. let t = asks_took old new (asked.wrote bytes) text tt s a o in record { symbols = t.symbols; took = t.took; none = tt; output = t.output }) o d
+output_grows old new (Pull n) text s runs d o = unless old.server_stopped old new (Pull n) text (Pulls old n new) (λ p. pulls_grows old new n text s p o) o d
+output_grows old new Take text s runs d o = let t = takes_took old new text s d o in record { symbols = t.symbols; took = t.took; none = tt; output = t.output }
+output_grows old new (Wish editing) text s runs d o =
+    unless old.server_stopped old new (Wish editing) text (Asks old (asked.wished editing) new) (λ a. let t = asks_took old new (asked.wished editing) text tt s a o in record { symbols = t.symbols; took = t.took; none = tt; output = t.output }) o d
+output_grows old new (Resize width height) text s runs d o =
+    unless old.client_stopped old new (Resize width height) text (Tells old (told.resized width height) new) (λ t. tells_grows old new (told.resized width height) (Resize width height) text t o) o d
+output_grows old new (SetChar func value) text s runs d o =
+    unless old.server_stopped old new (SetChar func value) text (Asks old (asked.char_set func value) new) (λ a. let t = asks_took old new (asked.char_set func value) text tt s a o in record { symbols = t.symbols; took = t.took; none = tt; output = t.output }) o d
+output_grows old new (Propose func value) text s runs d o =
+    unless old.client_stopped old new (Propose func value) text (Tells old (told.proposed func value) new) (λ t. tells_grows old new (told.proposed func value) (Propose func value) text t o) o d
+output_grows old new (Echo on) text s runs d o =
+    unless old.server_stopped old new (Echo on) text (Asks old (asked.echo_set on) new) (λ a. let t = asks_took old new (asked.echo_set on) text tt s a o in record { symbols = t.symbols; took = t.took; none = tt; output = t.output }) o d
+output_grows old new ServerStops text s runs d o =
+    still_grows old new ServerStops text (ap (λ (w : World). w.client.decoder) d) (ap (λ (w : World). w.shown) d) (ap (λ (w : World). w.to_client) d) (ap (λ (w : World). w.server.terminal.queue) d) o
+output_grows old new ClientStops text s runs d o =
+    still_grows old new ClientStops text (ap (λ (w : World). w.client.decoder) d) (ap (λ (w : World). w.shown) d) (ap (λ (w : World). w.to_client) d) (ap (λ (w : World). w.server.terminal.queue) d) o
+
+-- THE CLIENT GOES ON: an event that is done fails no end
+abbrev pub KeepsOn : World → World → Type 0
+KeepsOn old new = new.client.failed ≡ old.client.failed
+
+on_unless : (stopped : Bool) (old new : World) (happens : Type 0) → (happens → KeepsOn old new) → Unless stopped old new happens → KeepsOn old new
+on_unless true old new happens done is = ap (λ (w : World). w.client.failed) is
+on_unless false old new happens done is = done is
+
+asks_on : (old new : World) (e : asked.Event) → Asks old e new → KeepsOn old new
+asks_on old new e a = ap (λ (w : World). w.client.failed) a.rest
+
+pub goes_on : (old new : World) (e : Event) → Does old e new → KeepsOn old new
+goes_on old new (Key key) d = on_unless old.client_stopped old new (Types old key new) (λ t. t.goes.failed) d
+goes_on old new (ToServer n) d = on_unless old.server_stopped old new (Reaches old n new) (λ r. ap (λ (w : World). w.client.failed) r.rest) d
+goes_on old new (ToClient n) d = on_unless old.client_stopped old new (Returns old n new) (λ r. r.feeds.failed) d
+goes_on old new (Write bytes) d = on_unless old.server_stopped old new (Asks old (asked.wrote bytes) new) (asks_on old new (asked.wrote bytes)) d
+goes_on old new (Pull n) d = on_unless old.server_stopped old new (Pulls old n new) (λ p. asks_on old new (asked.pulled p.count) p.asks) d
+goes_on old new Take d = ap (λ (w : World). w.client.failed) d.rest
+goes_on old new (Wish editing) d = on_unless old.server_stopped old new (Asks old (asked.wished editing) new) (asks_on old new (asked.wished editing)) d
+goes_on old new (Resize width height) d = on_unless old.client_stopped old new (Tells old (told.resized width height) new) (λ t. t.goes.failed) d
+goes_on old new (SetChar func value) d = on_unless old.server_stopped old new (Asks old (asked.char_set func value) new) (asks_on old new (asked.char_set func value)) d
+goes_on old new (Propose func value) d = on_unless old.client_stopped old new (Tells old (told.proposed func value) new) (λ t. t.goes.failed) d
+goes_on old new (Echo on) d = on_unless old.server_stopped old new (Asks old (asked.echo_set on) new) (asks_on old new (asked.echo_set on)) d
+goes_on old new ServerStops d = ap (λ (w : World). w.client.failed) d
+goes_on old new ClientStops d = ap (λ (w : World). w.client.failed) d
+
+-- one event after another
+pub runs_grow : (old new : World) (events : List Event) (text : List ℕ) → IsSound old → old.client.failed ≡ false → Runs old events new → IsOutput old text → GrowsAll old events new text
+runs_grow old new [] text s runs r o = r
+runs_grow old new (e ∷ events) text s runs r o =
+    let g = output_grows old r.0 e text s runs r.1 o in
+    (r.0, r.1, g, runs_grow r.0 new events (text ++ screen g.symbols) (still_sound old r.0 e r.1 s) (goes_on old r.0 e r.1 ∙ runs) r.2 g.output)
+
+pub ends_grow : (old new : World) (events : List Event) (at : ℕ) (cause : Cause) (text : List ℕ) → IsSound old → old.client.failed ≡ false → Ends old events at cause new → IsOutput old text → GrowsBefore old events at cause new text
+ends_grow old new events at cause text s runs e o = record { ends = e; grows = runs_grow old e.mid e.done text s runs e.runs o }
+
+-- what is shown comes first
+pub shown_begins : (w : World) (text : List ℕ) → IsOutput w text → Begins w.shown text
+shown_begins w text o = (text_of o.items ++ screen w.server.terminal.queue, sym o.is)
+
+-- a new world shows nothing, and its opening words are silent
+pub opened_output : (w : World) → HasRead w.client.decoder [] [] → w.to_client ≡ opening → w.shown ≡ [] → w.server.terminal.queue ≡ [] → IsOutput w []
+opened_output w began said shown none =
+    record {
+      items = opening_made.items;
+      flight = behind w.client.decoder [] w.to_client [] opening_made.items opening_made.fit (said ∙ opening_made.spelled) (start w.client.decoder began);
+      is = parts [] [] [] w.shown (text_of opening_made.items) (screen w.server.terminal.queue) (sym shown) (sym (silent_text opening_made.items opening_made.each)) (ap screen (sym none));
+    }

@@ -1,0 +1,63 @@
+-- Output: the text shown, then what is in flight to the client, then what the pair's queue holds, as screen bytes.
+use Rattle.std.specs.Prelude.{◌≡◌, ℕ, List, [], ◌∷◌, ◌++◌}
+use Rattle.std.specs.List.{flat_map}
+use Rattle.tn_discipline.specs.declared.echo.Symbol.{Symbol}
+use Rattle.tn_discipline.specs.declared.echo.Symbol.TheVariants as symbol
+use Rattle.tn_nvt.specs.declared.items.Item.{Item}
+use Rattle.tn_client.specs.Screen.{item_shown}
+use Rattle.tn_world.specs.Flight.{InFlight}
+use Rattle.tn_world.specs.Worlds.{World, Does, Ends}
+use Rattle.tn_world.specs.declared.events.Event.{Event}
+use Rattle.tn_world.specs.declared.events.Event.TheVariants.{ToClient, Pull}
+use Rattle.tn_world.specs.declared.faults.Cause.{Cause}
+
+-- a new line on a screen is CR and LF
+abbrev pub symbol_shown : Symbol → List ℕ
+symbol_shown (symbol.Byte byte) = byte ∷ []
+symbol_shown symbol.Newline = 13 ∷ 10 ∷ []
+
+abbrev pub screen : List Symbol → List ℕ
+screen symbols = flat_map symbol_shown symbols
+
+-- what these items show
+abbrev pub text_of : List Item → List ℕ
+text_of items = flat_map item_shown items
+
+-- The text is the world's Output. What is in flight is read on from the client's unfinished rest.
+pub record IsOutput (w : World) (text : List ℕ) : Type 0 where
+  pub items : List Item
+  pub flight : InFlight w.client.decoder w.to_client items
+  pub is : text ≡ w.shown ++ (text_of items ++ screen w.server.terminal.queue)
+
+-- what the pair's queue took in an event: a pull only takes out of it
+abbrev pub Queues : World → Event → List Symbol → World → Type 0
+Queues old (Pull n) symbols new = symbols ≡ []
+Queues old e symbols new = new.server.terminal.queue ≡ old.server.terminal.queue ++ symbols
+
+-- in a pull and in a delivery to the client the queue takes nothing
+abbrev pub IsNoneAt : Event → List Symbol → Type 0
+IsNoneAt (Pull n) symbols = symbols ≡ []
+IsNoneAt (ToClient n) symbols = symbols ≡ []
+IsNoneAt e symbols = Unit {0}
+
+-- The event appends to this Output exactly what the pair's queue took in it.
+pub record Grows (old : World) (e : Event) (new : World) (text : List ℕ) : Type 0 where
+  pub symbols : List Symbol
+  pub took : Queues old e symbols new
+  pub none : IsNoneAt e symbols
+  pub output : IsOutput new (text ++ screen symbols)
+
+-- each of these events does so
+abbrev pub GrowsAll : World → List Event → World → List ℕ → Type 0
+GrowsAll old [] new text = new ≡ old
+GrowsAll old (e ∷ events) new text =
+    (mid : World) × Does old e mid × (grows : Grows old e mid text) × GrowsAll mid events new (text ++ screen grows.symbols)
+
+-- The event at this place is refused, and each of those before it does so.
+pub record GrowsBefore (old : World) (events : List Event) (at : ℕ) (cause : Cause) (new : World) (text : List ℕ) : Type 0 where
+  pub ends : Ends old events at cause new
+  pub grows : GrowsAll old ends.done ends.mid text
+
+-- the list begins so
+abbrev pub Begins : List ℕ → List ℕ → Type 0
+Begins front whole = (rest : List ℕ) × (front ++ rest ≡ whole)
