@@ -1,10 +1,9 @@
 -- One key more of keys that are typed at one line.
-use Rattle.std.proofs.Common.{◌≡◌, ℕ, List, [], ◌∷◌, ◌++◌, refl, sym, ap, ◌∙◌, arith, ◌≤◌}
-use Rattle.std.specs.List.{flat_map}
+use Rattle.std.proofs.Common.{◌≡◌, ℕ, List, [], ◌∷◌, ◌++◌, refl, sym, ap, ◌∙◌, arith}
 use Rattle.std.proofs.lemmas.Grind.{flat_map-append}
 use Rattle.tn_discipline.specs.Entries.{entries_of}
 use Rattle.tn_discipline.specs.Keys.{roles_of}
-use Rattle.tn_discipline.specs.Leaves.{Leaves, Advances}
+use Rattle.tn_discipline.specs.Leaves.{Advances}
 use Rattle.tn_discipline.specs.HalfLine.{gained}
 use Rattle.tn_discipline.specs.declared.half_line.Effect.{Effect}
 use Rattle.tn_discipline.specs.declared.half_line.Effect.TheVariants as effect
@@ -12,7 +11,7 @@ use Rattle.tn_discipline.specs.declared.reads.Entry.{Entry}
 use Rattle.tn_discipline.specs.declared.keys.Role.{Role}
 use Rattle.tn_discipline.proofs.KeyRoles.{roles_of-append}
 use Rattle.tn_cli.specs.Printed.{printed, printed_entry}
-use Rattle.tn_cli.specs.Typing.{HasTyped, local_output, standard}
+use Rattle.tn_cli.specs.Typing.{HasTyped, standard}
 use Rattle.tn_cli.specs.declared.typing.Typing.{Typing}
 
 pub typed_more : (old new : Typing) (key : ℕ) (gain : List Entry) → new.settings ≡ old.settings → Advances old.line (roles_of old.settings (key ∷ [])) gain new.line → new.printed.items ≡ old.printed.items ++ printed gain → (keys : List ℕ) → HasTyped keys old → HasTyped (keys ++ key ∷ []) new

@@ -1,3 +1,6 @@
 pub mod Items
 pub mod Keys
+pub mod Numbers
+pub mod Outputs
+pub mod Played
 pub mod Writing

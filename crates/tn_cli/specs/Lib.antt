@@ -1,7 +1,9 @@
 pub mod Faults
+pub mod Playing
 pub mod Printed
 pub mod Replay
 pub mod Runs
+pub mod Scripts
 pub mod Streams
 pub mod Typing
 pub mod Words

@@ -1,16 +1,19 @@
 -- What a run of the program writes.
 use Rattle.std.specs.Prelude.{ℕ, ◌⊎◌, Option, IfSome, List}
 use Rattle.std.specs.Io.KnownBytes.{Appends}
+use Rattle.tn_cli.specs.Playing.{AppendsText, PrintsWhole}
 use Rattle.tn_cli.specs.Replay.{Replays}
+use Rattle.tn_cli.specs.Scripts.{lines_of}
 use Rattle.tn_cli.specs.Typing.{local_output}
 use Rattle.tn_cli.specs.Words.{Parses}
 use Rattle.tn_cli.specs.declared.words.Asked.{Asked}
-use Rattle.tn_cli.specs.declared.words.Asked.TheVariants.{Local, Replay}
+use Rattle.tn_cli.specs.declared.words.Asked.TheVariants.{Local, Replay, World}
 
 -- where the reader tells its bytes and the writer what it holds, the run has appended what was asked for
 abbrev pub Runs : Asked → Option (List ℕ) → Option (List ℕ) → Option (List ℕ) → Type 0
 Runs Local input old new = IfSome input (λ keys. Appends old new (local_output keys))
 Runs Replay input old new = IfSome input (λ stream. Replays stream old new)
+Runs World input old new = IfSome input (λ script. AppendsText (PrintsWhole (lines_of script)) old new)
 
 -- the run that the words ask for, or their help
 abbrev pub DoesAsAsked : List (List ℕ) → Option (List ℕ) → Option (List ℕ) → Option (List ℕ) → Type 0

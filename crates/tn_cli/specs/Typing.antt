@@ -1,5 +1,5 @@
 -- What `tn local` prints of keys.
-use Rattle.std.specs.Prelude.{◌≡◌, ℕ, List, ◌++◌}
+use Rattle.std.specs.Prelude.{◌≡◌, ℕ, List}
 use Rattle.tn_discipline.specs.Keys.{roles_of, standard_flags}
 use Rattle.tn_discipline.specs.Characters.{standard_characters}
 use Rattle.tn_discipline.specs.Entries.{entries_of}

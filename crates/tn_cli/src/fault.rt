@@ -14,6 +14,12 @@ pub enum CliFault {
     /// The input is longer than 1,048,576 bytes.
     #[error("input too long")]
     TooLong,
+    /// The line of this number, counted from 1, is no command.
+    #[error("line {0}: bad command")]
+    Script(usize),
+    /// The world refused an event of the command in the line of this number.
+    #[error("line {0}: refused")]
+    World(usize),
     /// A write of the output failed, or took none of the bytes that it was handed.
     #[error("write")]
     Write,
@@ -27,7 +33,8 @@ impl CliFault {
         ensures { result ≡ status_of self }
     {
         match self {
-            CliFault::TooLong => 2,
+            CliFault::TooLong | CliFault::Script(_) => 2,
+            CliFault::World(_) => 3,
             CliFault::Read | CliFault::Write | CliFault::Memory => 1,
         }
     }

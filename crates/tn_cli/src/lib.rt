@@ -6,14 +6,18 @@ pub use local::run_local;
 pub use program::{refuse_words, run_words};
 pub use replay::run_replay;
 pub use words::{Asked, WordsFault, read_words};
+pub use world::run_world;
 
 mod fault;
 mod local;
+mod playing;
 mod printed;
 mod program;
 mod replay;
+mod scripts;
 mod streams;
 #[cfg(test)]
 mod tests;
 mod typing;
 mod words;
+mod world;

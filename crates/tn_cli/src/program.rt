@@ -9,6 +9,7 @@ use crate::local::run_local;
 use crate::replay::run_replay;
 use crate::streams::write_whole;
 use crate::words::{Asked, WordsFault, read_words};
+use crate::world::run_world;
 use std::alloc::{AllocError, Global};
 use std::fmt::Display;
 use std::io::{ErrorKind, Read, Write};
@@ -107,5 +108,6 @@ fn run_asked<R: Read, W: Write>(
     match asked {
         Asked::Local => run_local(alloc, reader, writer),
         Asked::Replay => run_replay(alloc, reader, writer),
+        Asked::World => run_world(alloc, reader, writer),
     }
 }

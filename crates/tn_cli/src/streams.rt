@@ -24,6 +24,8 @@ pub(crate) fn read_whole<R: Read>(alloc: Global, reader: &mut R) -> Result<Vec<u
     ensures short { IfOk result (λ input. length input.items ≤ 1048576) }
     ensures too_long { IsErrOf result CliFault.TooLong → IfSome (R.remaining reader.old) (λ input. 1048576 < length input) }
     ensures no_write { result ≢ Err CliFault.Write }
+    ensures no_script { (line : ℕ) → result ≢ Err (CliFault.Script line) }
+    ensures no_world { (line : ℕ) → result ≢ Err (CliFault.World line) }
 {
     let mut input = Vec::new(alloc);
     let mut piece = [0; PIECE_BYTES];

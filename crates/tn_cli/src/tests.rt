@@ -5,6 +5,8 @@ use std::alloc::{AllocError, Global};
 use std::io::{self, ErrorKind, Read, Write};
 use std::process::Abort;
 
+mod worlds;
+
 fn local(alloc: Global, keys: &[u8]) -> Result<Vec<u8>, CliFault> {
     let mut reader = keys;
     let mut output = Vec::new(alloc);
@@ -98,7 +100,9 @@ fn words_ask_for_runs(rt: HostRuntime) {
         (&["tn"], None),
         (&["tn", "frobnicate"], None),
         (&["tn", "local", "x"], None),
-        (&["tn", "world"], None),
+        (&["tn", "world"], Some(Asked::World)),
+        (&["tn", "world", "x"], None),
+        (&["tn", "serve"], None),
     ] {
         match read_words(alloc, words) {
             Ok(asked) => assert_eq!(rt; Some(asked), wanted),

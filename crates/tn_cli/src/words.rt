@@ -14,6 +14,7 @@ use thiserror::Error as ErrorText;
 pub enum Asked {
     Local,
     Replay,
+    World,
 }
 
 /// Why the words ask for no run.
@@ -56,6 +57,7 @@ fn asked_of(matches: &ArgMatches<'_>) -> Option<Asked>
     match matches.subcommand_name()? {
         "local" => Some(Asked::Local),
         "replay" => Some(Asked::Replay),
+        "world" => Some(Asked::World),
         _ => None,
     }
 }
@@ -78,7 +80,8 @@ fn tn_command<'a>(alloc: Global) -> Result<Command<'a>, AllocError> {
         .subcommand_required(true)
         .disable_help_subcommand(true)
         .subcommand(local_command(alloc))?
-        .subcommand(replay_command(alloc))
+        .subcommand(replay_command(alloc))?
+        .subcommand(world_command(alloc))
 }
 
 fn local_command<'a>(alloc: Global) -> Command<'a> {
@@ -102,4 +105,32 @@ fn replay_command<'a>(alloc: Global) -> Command<'a> {
              over. Prints the entries as `tn local` does.",
         )
         .after_help("Example:\n  printf '\\377\\377\\r\\0' | tn replay\n  text ff0a")
+}
+
+fn world_command<'a>(alloc: Global) -> Command<'a> {
+    Command::new(alloc, "world")
+        .about("Does a script of what happens at a Telnet server, at its client and between them")
+        .long_about(
+            "Reads a script from standard input, one command a line, and does it in a world of one server, \
+             one client and the bytes on their way between them. Empty lines are passed over. HEX is pairs \
+             of digits in lower case; N is a number up to 1,000,000, and up to 65,535 in `resize`, where \
+             zeros may lead; F is one of `ip`, `abort`, `eof`, `susp`, `ec`, `el` and `forw1`.\n\n\
+             key HEX: the user types these keys\n\
+             to-server N, to-client N: the first N bytes in flight arrive\n\
+             settle: all that is in flight arrives, until nothing is in flight, in at most 64 rounds\n\
+             write HEX: the job writes this\n\
+             pull N: the server sends the first N symbols of the terminal's screen\n\
+             wish local, wish remote: the server asks for editing at one side\n\
+             echo on, echo off: the server sets its terminal's flag ECHO\n\
+             resize N N: the client's window has this width and height\n\
+             set F HEX, propose F HEX: a special character, or `ff` for none\n\
+             take: the job asks for an entry, which is printed as by `tn local`, or `none`\n\
+             mark: prints whether all is at rest\n\
+             flight: prints the bytes in flight\n\
+             shown: prints the server's text on the client's screen\n\
+             server-stops, client-stops: this end is gone",
+        )
+        .after_help(
+            "Example:\n  printf 'settle\\nkey 610d\\nsettle\\ntake\\n' | tn world\n  text 610a",
+        )
 }

@@ -143,8 +143,12 @@ fn follows_modes(rt: HostRuntime) -> Result<(), Fail> {
     }
     assert_eq!(rt; end.mode(), 2);
     let refused = [255, 250, 34, 252, 2, 255, 240];
-    let asked = [255, 250, 34, 253, 2, 8, 255, 240];
-    says(&rt, rt.alloc(), &mut end, &asked, &refused)?;
+    for asked in [
+        [255, 250, 34, 253, 2, 8, 255, 240].as_slice(),
+        &[255, 250, 34, 254, 2, 255, 240],
+    ] {
+        says(&rt, rt.alloc(), &mut end, asked, &refused)?;
+    }
     Ok(())
 }
 

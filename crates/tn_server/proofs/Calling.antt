@@ -25,7 +25,7 @@ use Rattle.tn_server.specs.declared.terms.Negotiation.{Negotiation}
 use Rattle.tn_server.specs.declared.wishes.Editing.{Editing}
 use Rattle.tn_server.proofs.Settling.{differ_self, told_again, table_again}
 use Rattle.tn_server.proofs.Turning.{sound, with_all, echo_keeps_linemode}
-use Rattle.tn_server.proofs.Wishing.{wish_done, wish_said, wished_decoder, wished_failed}
+use Rattle.tn_server.proofs.Wishing.{wish_done, wish_said, wished_decoder, wished_failed, wished_closed}
 
 pub goes_wrote : (old : End) (new : Terminal) (bytes before : List ℕ) → new ≡ record (old.terminal) { queue = old.terminal.queue ++ outputs old.terminal.settings.flags (take (fits old.terminal.queue bytes) bytes) } → Goes old (wrote bytes) before before (record old { terminal = new })
 goes_wrote old new bytes before is = record {
@@ -48,6 +48,7 @@ goes_wrote old new bytes before is = record {
   };
   decoder = refl;
   failed = refl;
+  closed = ap (λ t. t.closed) is;
 }
   where
     written : (x y : Settings) (p q : List Symbol) → x ≡ y → p ≡ q → p ++ outputs x.flags (take (fits p bytes) bytes) ≡ q ++ outputs y.flags (take (fits q bytes) bytes)
@@ -96,6 +97,7 @@ goes_took old new r before first is = record {
       };
   decoder = refl;
   failed = refl;
+  closed = ap (λ t. t.closed) is;
 }
 
 -- none waits, and GA is said or not
@@ -125,6 +127,7 @@ goes_idle old ga before after none is said = record {
       };
   decoder = refl;
   failed = refl;
+  closed = refl;
 }
 
 drop_read : (read rest : List Entry) (n : ℕ) (es : List Entry) → length read ≡ n → es ≡ read ++ rest → drop n es ≡ rest
@@ -183,6 +186,7 @@ goes_wished old new editing before after is said =
           subst (Stands (next h (wished editing))) (wish_done old editing mask None old.terminal refl refl refl refl (sound h old s) ∙ sym is) (stands_wished h old editing s);
       decoder = ap (λ (e : End). e.decoder) is ∙ wished_decoder old mask;
       failed = ap (λ (e : End). e.failed) is ∙ wished_failed old mask;
+      closed = ap (λ (e : End). e.terminal.closed) is ∙ wished_closed old mask;
     }
 
 -- symbols are pulled
@@ -207,6 +211,7 @@ goes_pulled old new n owed before after is said now = record {
   };
   decoder = refl;
   failed = refl;
+  closed = ap (λ t. t.closed) is;
 }
 
 -- a character is set
@@ -236,6 +241,7 @@ goes_char old c new func value told before after set is tells said = record {
       };
   decoder = refl;
   failed = refl;
+  closed = ap (λ t. t.closed) is;
 }
 
 or_true : (a b : Bool) → (a || (b || true)) ≡ true
@@ -302,6 +308,7 @@ goes_echo old o new on before after asks is said = record {
       };
   decoder = refl;
   failed = refl;
+  closed = ap (λ t. t.closed) is;
 }
 
 -- the same, seen from what was negotiated

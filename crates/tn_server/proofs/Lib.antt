@@ -8,3 +8,4 @@ pub mod Standings
 pub mod Turning
 pub mod Wishing
 pub mod Halting
+pub mod Histories

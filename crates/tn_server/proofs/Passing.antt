@@ -18,6 +18,7 @@ gets_none old before = record {
   stands = λ h s. s;
   decoder = refl;
   failed = refl;
+  closed = refl;
 }
 
 pub gets_push : (h : History) (items : List Item) (item : Item) → gets h (items ++ item ∷ []) ≡ next (gets h items) (got item)
@@ -36,6 +37,7 @@ gets_more old mid new items item before between after g e = record {
   stands = λ h s. rw (gets_push h items item) (e.stands (gets h items) (g.stands h s));
   decoder = e.decoder ∙ g.decoder;
   failed = e.failed ∙ g.failed;
+  closed = e.closed ∙ g.closed;
 }
 
 pub stands_decoder : (h : History) (old : End) (d : Standing) → Stands h old → Stands h (record old { decoder = d })
@@ -53,6 +55,7 @@ feeds_of old new d piece before after first items none gains gets' =
       stands = λ h s. all.stands h (stands_decoder h old d s);
       reads = λ stream had read. rw all.decoder (gains.adds stream had read);
       failed = all.failed;
+      closed = all.closed;
     }
 
 pub stands_shut : (h : History) (old : End) → Stands h old → Stands h (record old { terminal = shut old.terminal })

@@ -37,14 +37,15 @@ sound h old s = record {
   chars = s.table ∙ ap (λ (x : Settings). x.chars) (sym s.settings);
 }
 
-pub goes_from : (old new : End) (item : Item) (before after bytes : List ℕ) → after ≡ before ++ bytes → (IsSound old → says_got old item ≡ bytes) → (IsSound old → after_got old item ≡ new) → new.decoder ≡ old.decoder → new.failed ≡ old.failed → Goes old (got item) before after new
-goes_from old new item before after bytes appended says is decoder failed = record {
+pub goes_from : (old new : End) (item : Item) (before after bytes : List ℕ) → after ≡ before ++ bytes → (IsSound old → says_got old item ≡ bytes) → (IsSound old → after_got old item ≡ new) → new.decoder ≡ old.decoder → new.failed ≡ old.failed → new.terminal.closed ≡ old.terminal.closed → Goes old (got item) before after new
+goes_from old new item before after bytes appended says is decoder failed closed = record {
   bytes = bytes;
   appended = appended;
   adds = λ h s. adds_got h old item s ∙ says (sound h old s);
   stands = λ h s. subst (Stands (next h (got item))) (is (sound h old s)) (stands_got h old item s);
   decoder = decoder;
   failed = failed;
+  closed = closed;
 }
 
 -- the terminal once nothing is typed
@@ -129,7 +130,7 @@ typed_got old item h p s = quiet_got old item None h p refl s ∙ ap (λ (t : Te
 pub goes_typed : (old new : End) (item : Item) → ((o : Options) → heard o (got item) ≡ o) → ((o : Options) → word_back o (got item) ≡ []) → ((o : Options) → payload_at o item ≡ None) → new ≡ record old { terminal = typed_by old item } → (before : List ℕ) → Goes old (got item) before before new
 goes_typed old new item h b p is before =
     goes_from old new item before before [] (sym (append-nil before)) (λ s. quiet_says old item None (h old.terms.options) (b old.terms.options) (p old.terms.options) refl)
-    (λ s. typed_got old item (h old.terms.options) (p old.terms.options) s ∙ sym is) (ap (λ (e : End). e.decoder) is) (ap (λ (e : End). e.failed) is)
+    (λ s. typed_got old item (h old.terms.options) (p old.terms.options) s ∙ sym is) (ap (λ (e : End). e.decoder) is) (ap (λ (e : End). e.failed) is) (ap (λ (e : End). e.terminal.closed) is)
 
 -- the item types nothing
 abbrev pub TypesNothing : End → Item → Type 0
@@ -202,4 +203,4 @@ words_said old verb option s =
 pub goes_words : (old new : End) (verb : Verb) (option : ℕ) (before after : List ℕ) → new ≡ after_words old verb option → after ≡ before ++ says_words old verb option → Goes old (got (Neg verb option)) before after new
 goes_words old new verb option before after is said =
     goes_from old new (Neg verb option) before after (says_words old verb option) said (words_said old verb option)
-    (λ s. words_got old verb option s ∙ sym is) (ap (λ (e : End). e.decoder) is) (ap (λ (e : End). e.failed) is)
+    (λ s. words_got old verb option s ∙ sym is) (ap (λ (e : End). e.decoder) is) (ap (λ (e : End). e.failed) is) (ap (λ (e : End). e.terminal.closed) is)

@@ -112,7 +112,7 @@ sub_said old option params (Some ForwardOff) p s = quiet_says old (Sub option pa
 sub_said old option params (Some ForwardYes) p s = quiet_says old (Sub option params) (Some ForwardYes) refl refl p refl
 sub_said old option params (Some ForwardNo) p s = quiet_says old (Sub option params) (Some ForwardNo) refl refl p refl
 
--- each payload keeps the decoder, and whether the end has failed
+-- each payload keeps the decoder, whether the end has failed, and whether its terminal is shut
 pub wished_decoder : (old : End) (mask : Option ℕ) → (after_wished old mask).decoder ≡ old.decoder
 wished_decoder old None = refl
 wished_decoder old (Some mask) = refl
@@ -121,6 +121,10 @@ pub wished_failed : (old : End) (mask : Option ℕ) → (after_wished old mask).
 wished_failed old None = refl
 wished_failed old (Some mask) = refl
 
+pub wished_closed : (old : End) (mask : Option ℕ) → (after_wished old mask).terminal.closed ≡ old.terminal.closed
+wished_closed old None = refl
+wished_closed old (Some mask) = refl
+
 mode_decoder : (old : End) (mask : ℕ) (wish : Option Bool) → (after_mode_by old mask wish).decoder ≡ old.decoder
 mode_decoder old mask None = refl
 mode_decoder old mask (Some edit) = wished_decoder old (mask_wished old edit)
@@ -128,6 +132,10 @@ mode_decoder old mask (Some edit) = wished_decoder old (mask_wished old edit)
 mode_failed : (old : End) (mask : ℕ) (wish : Option Bool) → (after_mode_by old mask wish).failed ≡ old.failed
 mode_failed old mask None = refl
 mode_failed old mask (Some edit) = wished_failed old (mask_wished old edit)
+
+mode_closed : (old : End) (mask : ℕ) (wish : Option Bool) → (after_mode_by old mask wish).terminal.closed ≡ old.terminal.closed
+mode_closed old mask None = refl
+mode_closed old mask (Some edit) = wished_closed old (mask_wished old edit)
 
 sub_decoder : (old : End) (payload : Option Payload) → (after_sub old payload).decoder ≡ old.decoder
 sub_decoder old None = refl
@@ -149,8 +157,18 @@ sub_failed old (Some ForwardOff) = refl
 sub_failed old (Some ForwardYes) = refl
 sub_failed old (Some ForwardNo) = refl
 
+sub_closed : (old : End) (payload : Option Payload) → (after_sub old payload).terminal.closed ≡ old.terminal.closed
+sub_closed old None = refl
+sub_closed old (Some (Naws width height)) = refl
+sub_closed old (Some (Mode mask)) = mode_closed old mask (wished_by mask)
+sub_closed old (Some (Slc triples)) = refl
+sub_closed old (Some (ForwardOn mask)) = refl
+sub_closed old (Some ForwardOff) = refl
+sub_closed old (Some ForwardYes) = refl
+sub_closed old (Some ForwardNo) = refl
+
 pub goes_sub : (old new : End) (option : ℕ) (params : List ℕ) (before after : List ℕ) → new ≡ after_sub old (payload_at old.terms.options (Sub option params)) → after ≡ before ++ says_sub old (payload_at old.terms.options (Sub option params)) → Goes old (got (Sub option params)) before after new
 goes_sub old new option params before after is said =
     let payload = payload_at old.terms.options (Sub option params) in
     goes_from old new (Sub option params) before after (says_sub old payload) said (sub_said old option params payload refl)
-    (λ s. sub_got old option params payload refl s ∙ sym is) (ap (λ (e : End). e.decoder) is ∙ sub_decoder old payload) (ap (λ (e : End). e.failed) is ∙ sub_failed old payload)
+    (λ s. sub_got old option params payload refl s ∙ sym is) (ap (λ (e : End). e.decoder) is ∙ sub_decoder old payload) (ap (λ (e : End). e.failed) is ∙ sub_failed old payload) (ap (λ (e : End). e.terminal.closed) is ∙ sub_closed old payload)

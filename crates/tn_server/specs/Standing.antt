@@ -47,6 +47,7 @@ pub record Goes (old : End) (e : Event) (before after : List ℕ) (new : End) : 
   pub stands : (h : History) → Stands h old → Stands (next h e) new
   pub decoder : new.decoder ≡ old.decoder
   pub failed : new.failed ≡ old.failed
+  pub closed : new.terminal.closed ≡ old.terminal.closed
 
 -- the same for some items, one after another
 pub record Gets (old : End) (items : List Item) (before after : List ℕ) (new : End) : Type 0 where
@@ -56,6 +57,7 @@ pub record Gets (old : End) (items : List Item) (before after : List ℕ) (new :
   pub stands : (h : History) → Stands h old → Stands (gets h items) new
   pub decoder : new.decoder ≡ old.decoder
   pub failed : new.failed ≡ old.failed
+  pub closed : new.terminal.closed ≡ old.terminal.closed
 
 -- the same for a piece of the stream, however that was cut before
 pub record Feeds (old : End) (piece before after : List ℕ) (new : End) : Type 0 where
@@ -66,6 +68,7 @@ pub record Feeds (old : End) (piece before after : List ℕ) (new : End) : Type 
   pub stands : (h : History) → Stands h old → Stands (gets h items) new
   pub reads : (stream : List ℕ) (had : List Item) → HasRead old.decoder stream had → HasRead new.decoder (stream ++ piece) (had ++ items)
   pub failed : new.failed ≡ old.failed
+  pub closed : new.terminal.closed ≡ old.terminal.closed
 
 -- an item was refused: the end stands where it stood, and a front of the replies was appended
 pub record Refuses (old : End) (e : Event) (before after : List ℕ) (new : End) : Type 0 where

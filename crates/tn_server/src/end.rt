@@ -6,14 +6,15 @@ ghost use Rattle.tn_discipline.specs.declared.characters.CharFault.{CharFault};
 ghost use Rattle.tn_nvt.specs.Standing.{HasRead};
 ghost use Rattle.tn_option.specs.Options.{state_of, is_yes};
 ghost use Rattle.tn_option.specs.declared.q_method.Side.TheVariants.{Us};
-ghost use Rattle.tn_pty.specs.Terminal.{fits, first_signal};
+ghost use Rattle.tn_pty.specs.Terminal.{fits, first_signal, most_waiting};
 ghost use Rattle.tn_pty.specs.declared.pty.PtyFault.{PtyFault};
+ghost use Rattle.tn_pty.specs.declared.pty.PtyFault.TheVariants.{TooFarAhead, Closed};
 ghost use Rattle.tn_server.specs.Events.{History, begun, next, took, wrote, pulled, wished, char_set, echo_set};
 ghost use Rattle.tn_server.specs.Lines.{half, waiting};
-ghost use Rattle.tn_server.specs.Screen.{queue, size};
+ghost use Rattle.tn_server.specs.Screen.{queue, size, sends_ga, none_waits, due};
 ghost use Rattle.tn_server.specs.Terms.{mode, asked, chars, options, sends_mode};
 ghost use Rattle.tn_server.specs.Replies.{opening};
-ghost use Rattle.tn_server.specs.Faults.{IsOfItem};
+ghost use Rattle.tn_server.specs.Faults.{IsOfItem, IsFault, char_refusal};
 ghost use Rattle.tn_server.specs.Standing.{Stands, Goes, Feeds, Halts};
 
 use crate::faults::ServerFault;
@@ -66,6 +67,7 @@ impl ServerEnd {
         ensures stands { IfOk result (λ end. Stands (begun settings) end) }
         ensures reads { IfOk result (λ end. HasRead end.decoder [] []) }
         ensures runs { IfOk result (λ end. end.failed ≡ false) }
+        ensures opens { IfOk result (λ end. end.terminal.closed ≡ false) }
         ensures out { OnOk result (out.new.items ≡ out.old.items ++ opening) }
         ensures err { OnErr result (out.new.items ≡ out.old.items) }
         ensures fault { IfErr result (λ fault. fault ≡ ServerFault.Memory) }
@@ -100,6 +102,10 @@ impl ServerEnd {
         ensures halts { IfErr result (λ fault. IsOfItem fault → Halts self.old piece.now out.old.items out.new.items self.new) }
         ensures err { OnErr result (self.new.failed ≡ true) }
         ensures no_char { (fault : CharFault) → result ≢ Err (ServerFault.Char fault) }
+
+        // Whatever led here, as many entries wait as may; and no terminal is shut that was not.
+        ensures too_far { IsErrOf result (ServerFault.Pty TooFarAhead) → (h : History) → Stands h self.new → length (waiting h) ≡ most_waiting }
+        ensures shut { IsErrOf result (ServerFault.Pty Closed) → self.old.terminal.closed ≡ true }
     {
         if self.failed {
             return Err(ServerFault::Failed);
@@ -136,6 +142,9 @@ impl ServerEnd {
         ensures err { OnErr result (self.new ≡ self.old) }
         ensures err_appends { OnErr result (out.new.items ≡ out.old.items) }
         ensures fault { IfErr result (λ fault. fault ≡ ServerFault.Memory) }
+
+        // An entry that waits takes no memory.
+        ensures needs { OnErr result ((h : History) → Stands h self.old → sends_ga (none_waits h) (options h) (due h) ≡ true) }
     {
         if let Some(entry) = self.pair.take() {
             return Ok(Some(entry));
@@ -221,6 +230,7 @@ impl ServerEnd {
         ensures accepted { OnOk result ((h : History) → Stands h self.old → char_fault (chars h) func value ≡ None) }
         ensures char { (fault : CharFault) → result ≡ Err (ServerFault.Char fault) → (h : History) → Stands h self.old → char_fault (chars h) func value ≡ Some fault }
         ensures no_pty { (fault : PtyFault) → result ≢ Err (ServerFault.Pty fault) }
+        ensures fault { IfErr result (λ fault. (h : History) → Stands h self.old → IsFault (char_refusal self.old.failed (char_fault (chars h) func value)) fault) }
         ensures err { OnErr result (self.new ≡ self.old) }
         ensures err_appends { OnErr result (out.new.items ≡ out.old.items) }
     {

@@ -1,6 +1,7 @@
 //! What a server end does with an item that came.
 
-ghost use Rattle.std.specs.Prelude.{◌≡◌, ◌≤◌, ◌++◌, ◌⊎◌, true, false, Some, None, [], length, IfOk, IfErr, IfSome, IfNone, OnOk, OnErr, option_map};
+ghost use Rattle.std.specs.Prelude.{◌≡◌, ◌≤◌, ◌++◌, ◌⊎◌, true, false, Some, None, [], length, IfOk, IfErr, IfSome, IfNone, OnOk, OnErr, IsErrOf, option_map};
+ghost use Rattle.tn_pty.specs.Terminal.{most_waiting};
 ghost use Rattle.tn_codes.specs.Payloads.{IsShort};
 ghost use Rattle.tn_codes.specs.declared.payloads.Payload.TheVariants as payload;
 ghost use Rattle.tn_nvt.specs.declared.items.Item.TheVariants as item;
@@ -34,6 +35,8 @@ impl ServerEnd {
         ensures ok { OnOk result (Gets self.old items.items out.old.items out.new.items self.new) }
         ensures err { OnErr result (Stops self.old items.items out.old.items out.new.items self.new) }
         ensures fault { IfErr result IsOfItem }
+        ensures too_far { IsErrOf result (ServerFault.Pty PtyFault.TooFarAhead) → length self.new.terminal.entries ≡ most_waiting }
+        ensures shut { IsErrOf result (ServerFault.Pty PtyFault.Closed) → self.old.terminal.closed ≡ true }
     {
         for item in items {
             self.item(item, out)?;
@@ -45,6 +48,8 @@ impl ServerEnd {
         ensures ok { OnOk result (Goes self.old (got item) out.old.items out.new.items self.new) }
         ensures err { OnErr result (Refuses self.old (got item) out.old.items out.new.items self.new) }
         ensures fault { IfErr result IsOfItem }
+        ensures too_far { IsErrOf result (ServerFault.Pty PtyFault.TooFarAhead) → length self.new.terminal.entries ≡ most_waiting }
+        ensures shut { IsErrOf result (ServerFault.Pty PtyFault.Closed) → self.old.terminal.closed ≡ true }
     {
         match item {
             Item::Byte(byte) => match self.byte(byte) {
@@ -74,6 +79,8 @@ impl ServerEnd {
     fn byte(&mut self, byte: u8) -> Result<(), PtyFault>
         ensures ok { OnOk result (self.new ≡ typed_byte self.old byte) }
         ensures err { OnErr result (IsShut self.old self.new) }
+        ensures too_far { IsErrOf result PtyFault.TooFarAhead → length self.new.terminal.entries ≡ most_waiting }
+        ensures shut { IsErrOf result PtyFault.Closed → self.old.terminal.closed ≡ true }
     {
         if self.terms.modes.current() & EDIT != 0 {
             return self.pair.edited_byte(byte);
@@ -85,6 +92,8 @@ impl ServerEnd {
     fn command(&mut self, command: Command) -> Result<(), PtyFault>
         ensures ok { OnOk result (self.new ≡ typed_command self.old command) }
         ensures err { OnErr result (IsShut self.old self.new) }
+        ensures too_far { IsErrOf result PtyFault.TooFarAhead → length self.new.terminal.entries ≡ most_waiting }
+        ensures shut { IsErrOf result PtyFault.Closed → self.old.terminal.closed ≡ true }
     {
         self.pair.command(command)
     }

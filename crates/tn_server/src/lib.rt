@@ -8,6 +8,7 @@ pub use wishes::Editing;
 mod end;
 mod faults;
 mod items;
+pub mod laws;
 #[cfg(test)]
 mod plain;
 mod screen;

@@ -144,6 +144,9 @@ fn changes_characters(rt: HostRuntime) -> Result<(), Fail> {
         assert_eq!(rt; end.set_char(func, value, &mut out), answer);
         assert_eq!(rt; out.as_slice(), list(10, 2, 8).as_slice());
     }
+    // The server has its ECHO, and wants it without the flag too.
+    assert_eq!(rt; end.set_echo(false, &mut out), Ok(()));
+    assert_eq!(rt; out.len(), 9);
     Ok(())
 }
 
@@ -189,6 +192,23 @@ fn edits_once_it_is_acknowledged(rt: HostRuntime) -> Result<(), Fail> {
         Some(text(rt.alloc(), b"a\x7f\x04\n")?),
         Some(Entry::Eof),
         Some(Entry::Signal(Sig::Int)),
+        None,
+    ] {
+        takes(&rt, rt.alloc(), &mut end, entry, &[])?;
+    }
+    Ok(())
+}
+
+// What a client that edits sends of the keys `a`, INTR and EOF: the signal at once, and then the line.
+#[test]
+fn takes_a_line_that_the_client_edited(rt: HostRuntime) -> Result<(), Fail> {
+    let mut end = wishing(&rt, rt.alloc())?;
+    let answers = b"\xff\xfa\x22\x01\x07\xff\xf0\xff\xfe\x01";
+    says(&rt, rt.alloc(), &mut end, answers, &[])?;
+    says(&rt, rt.alloc(), &mut end, b"\xff\xf4a\xff\xec", &[])?;
+    for entry in [
+        Some(Entry::Signal(Sig::Int)),
+        Some(text(rt.alloc(), b"a")?),
         None,
     ] {
         takes(&rt, rt.alloc(), &mut end, entry, &[])?;

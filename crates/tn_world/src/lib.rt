@@ -10,6 +10,6 @@ mod faults;
 pub mod laws;
 mod rest;
 mod running;
-mod world;
 #[cfg(test)]
 mod tests;
+mod world;

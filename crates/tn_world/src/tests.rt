@@ -88,7 +88,10 @@ fn opened(alloc: Global) -> Result<World, WorldFault> {
 // At rest, with editing at this side.
 fn rested(rt: &impl Abort, alloc: Global, editing: Editing) -> Result<World, WorldFault> {
     let mut world = opened(alloc)?;
-    walk(&mut world, &[Step::Settle, Step::Wish(editing), Step::Settle])?;
+    walk(
+        &mut world,
+        &[Step::Settle, Step::Wish(editing), Step::Settle],
+    )?;
     assert!(rt; world.mark());
     Ok(world)
 }
@@ -127,7 +130,10 @@ fn edits_at_the_client(rt: HostRuntime) -> Result<(), Fail> {
     let mut world = rested(&rt, rt.alloc(), Editing::Local)?;
     types(&mut world, b"a\x03\x04")?;
     flies(&rt, &world, &[255, 244, b'a', 255, 236], &[]);
-    walk(&mut world, &[Step::ToServer(5), Step::Take, Step::Take, Step::Take])?;
+    walk(
+        &mut world,
+        &[Step::ToServer(5), Step::Take, Step::Take, Step::Take],
+    )?;
     assert_eq!(rt; world.taken().len(), 2);
     assert_eq!(rt; world.taken().first(), Some(&Entry::Signal(Sig::Int)));
     assert!(rt; is_text(world.taken().last(), b"a"));
@@ -154,7 +160,10 @@ fn edits_at_the_server(rt: HostRuntime) -> Result<(), Fail> {
 fn changes_a_character(rt: HostRuntime) -> Result<(), Fail> {
     let mut world = opened(rt.alloc())?;
     let proposed = Step::Propose(Func::Ec, Some(8));
-    walk(&mut world, &[Step::ToClient(15), Step::ToServer(24), proposed])?;
+    walk(
+        &mut world,
+        &[Step::ToClient(15), Step::ToServer(24), proposed],
+    )?;
     let table = [
         255, 250, 34, 3, 3, 2, 3, 7, 2, 28, 8, 2, 4, 9, 2, 26, 10, 2, 127, 11, 2, 21, 17, 0, 0,
         255, 240,
@@ -187,13 +196,23 @@ fn changes_its_mode_between_lines(rt: HostRuntime) -> Result<(), Fail> {
 fn names_the_event_that_is_refused(rt: HostRuntime) -> Result<(), Fail> {
     let mut world = opened(rt.alloc())?;
     assert_eq!(rt;
-        world.run(&[Event::Take, Event::Propose(Func::Ec, Some(8)), Event::Key(b'a')]),
-        Err(WorldFault { at: 1, cause: Cause::Client(ClientFault::NotOn) })
+        world.run(&[
+            Event::Take,
+            Event::Propose(Func::Ec, Some(8)),
+            Event::Key(b'a')
+        ]),
+        Err(WorldFault {
+            at: 1,
+            cause: Cause::Client(ClientFault::NotOn)
+        })
     );
     assert!(rt; world.typed().is_empty());
     assert_eq!(rt;
         walk(&mut world, &[Step::SetChar(Func::El, Some(127))]),
-        Err(WorldFault { at: 0, cause: Cause::Server(ServerFault::Char(CharFault::Taken)) })
+        Err(WorldFault {
+            at: 0,
+            cause: Cause::Server(ServerFault::Char(CharFault::Taken))
+        })
     );
     Ok(())
 }
@@ -327,7 +346,10 @@ fn is_a_local_terminal_in_every_order(rt: HostRuntime) -> Result<(), Fail> {
             // A line is ended, and the mode may change before the next.
             if dice.roll(30) == 0 {
                 let wish = Step::Wish(dice.editing());
-                walk(&mut world, &[Step::Key(13), Step::Settle, wish, Step::ToClient(ALL)])?;
+                walk(
+                    &mut world,
+                    &[Step::Key(13), Step::Settle, wish, Step::ToClient(ALL)],
+                )?;
             }
             walk(&mut world, &[step])?;
             agrees(&rt, rt.alloc(), &world)?;

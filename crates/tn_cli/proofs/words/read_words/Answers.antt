@@ -1,4 +1,4 @@
-use Rattle.std.proofs.Common.{rules, sym, ◌∙◌}
+use Rattle.std.proofs.Common.{sym}
 use Rattle.clap.specs.Words.{app_of}
 use Rattle.tn_cli.proofs.words.read_words.Goals as goal
 

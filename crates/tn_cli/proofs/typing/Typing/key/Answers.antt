@@ -1,5 +1,4 @@
 use Rattle.std.proofs.Common.{[], ◌∷◌, ◌++◌, refl, sym, ap, ◌∙◌, append-nil}
-use Rattle.tn_discipline.specs.HalfLine.{gained}
 use Rattle.tn_cli.specs.Printed.{printed_entry}
 use Rattle.tn_cli.proofs.Keys.{typed_more, none_gained}
 use Rattle.tn_cli.proofs.typing.Typing.key.Goals as goal

@@ -1,0 +1,176 @@
+-- What a world's script does and prints.
+use Rattle.std.specs.Prelude.{◌≡◌, ◌≢◌, ◌⊎◌, ℕ, zero, suc, ◌+◌, ◌≤◌, Option, Some, None, option_to_list, List, [], ◌∷◌, ◌++◌, map, length, codes}
+use Rattle.std.specs.Io.KnownBytes.{Appends}
+use Rattle.hex.specs.Hex.{encode_lower}
+use Rattle.tn_discipline.specs.declared.reads.Entry.{Entry}
+use Rattle.tn_world.specs.Opened.{IsOpened, anew}
+use Rattle.tn_world.specs.Quiet.{NothingFlies}
+use Rattle.tn_world.specs.Settled.{IsSettled}
+use Rattle.tn_world.specs.Worlds.{World, Runs, Ends}
+use Rattle.tn_world.specs.declared.events.Event.{Event}
+use Rattle.tn_world.specs.declared.events.Event.TheVariants as event
+use Rattle.tn_world.specs.declared.faults.Cause.{Cause}
+use Rattle.tn_cli.specs.Printed.{printed_entry}
+use Rattle.tn_cli.specs.Scripts.{command_of}
+use Rattle.tn_cli.specs.Streams.{AppendsFront}
+use Rattle.tn_cli.specs.Typing.{standard}
+use Rattle.tn_cli.specs.declared.fault.CliFault.{CliFault}
+use Rattle.tn_cli.specs.declared.fault.CliFault.TheVariants as fault
+use Rattle.tn_cli.specs.declared.scripts.Command.{Command}
+use Rattle.tn_cli.specs.declared.scripts.Command.TheVariants.{Keys, Happen, Settle, Take, Mark, Flight, Shown}
+
+-- bytes in lower hexadecimal, or a dash where there are none
+abbrev pub printed_bytes : List ℕ → List ℕ
+printed_bytes [] = codes "-\n"
+printed_bytes (b ∷ bs) = encode_lower (b ∷ bs) ++ codes "\n"
+
+abbrev pub printed_flight : World → List ℕ
+printed_flight w = codes "to-server " ++ printed_bytes w.to_server ++ codes "to-client " ++ printed_bytes w.to_client
+
+abbrev pub printed_read : Option Entry → List ℕ
+printed_read (Some entry) = printed_entry entry
+printed_read None = codes "none\n"
+
+-- one of the events is refused
+abbrev pub RefusesEvents : World → List Event → Type 0
+RefusesEvents w events = (at : ℕ) × (cause : Cause) × (new : World) × Ends w events at cause new
+
+-- All that is in flight to the client arrives, and then all that is in flight to the server.
+pub record Delivers (old new : World) : Type 0 where
+  pub mid : World
+  pub returned : Runs old (event.ToClient (length old.to_client) ∷ []) mid
+  pub reached : Runs mid (event.ToServer (length mid.to_server) ∷ []) new
+
+-- such a round is refused
+abbrev pub RefusesRound : World → Type 0
+RefusesRound w =
+    RefusesEvents w (event.ToClient (length w.to_client) ∷ [])
+    ⊎ ((mid : World) × Runs w (event.ToClient (length w.to_client) ∷ []) mid × RefusesEvents mid (event.ToServer (length mid.to_server) ∷ []))
+
+-- so many rounds, something being in flight before each
+abbrev pub Rounds : ℕ → World → World → Type 0
+Rounds zero old new = new ≡ old
+Rounds (suc n) old new = (mid : World) × Rounds n old mid × (¬ NothingFlies mid) × Delivers mid new
+
+-- Rounds until nothing is in flight, and at most 64.
+pub record Settles (old new : World) : Type 0 where
+  pub count : ℕ
+  pub rounds : Rounds count old new
+  pub most : count ≤ 64
+  pub ended : NothingFlies new ⊎ (count ≡ 64)
+
+-- A round after fewer than 64 is refused.
+pub record RefusesToSettle (old : World) : Type 0 where
+  pub count : ℕ
+  pub mid : World
+  pub rounds : Rounds count old mid
+  pub less : count + 1 ≤ 64
+  pub flies : ¬ NothingFlies mid
+  pub refuses : RefusesRound mid
+
+-- The job asks for an entry: the one that it got, or none, is printed.
+pub record TakesOne (old : World) (text : List ℕ) (new : World) : Type 0 where
+  pub entry : Option Entry
+  pub runs : Runs old (event.Take ∷ []) new
+  pub gained : new.taken ≡ old.taken ++ option_to_list entry
+  pub printed : text ≡ printed_read entry
+
+-- At rest the lists of typed keys and taken entries begin anew.
+abbrev pub Marks : World → List ℕ → World → Type 0
+Marks old text new =
+    (IsSettled old × (text ≡ codes "mark true\n") × (new ≡ anew old))
+    ⊎ ((¬ IsSettled old) × (text ≡ codes "mark false\n") × (new ≡ old))
+
+-- the command is done and prints this text
+abbrev pub Performs : World → Command → List ℕ → World → Type 0
+Performs old (Keys keys) text new = Runs old (map event.Key keys) new × (text ≡ [])
+Performs old (Happen e) text new = Runs old (e ∷ []) new × (text ≡ [])
+Performs old Settle text new = Settles old new × (text ≡ [])
+Performs old Take text new = TakesOne old text new
+Performs old Mark text new = Marks old text new
+Performs old Flight text new = (text ≡ printed_flight old) × (new ≡ old)
+Performs old Shown text new = (text ≡ codes "shown " ++ printed_bytes old.shown) × (new ≡ old)
+
+-- what does this, from one world to another, appended its text
+abbrev pub Prints : (List ℕ → World → Type 0) → List ℕ → List ℕ → World → Type 0
+Prints does before after new = (text : List ℕ) × does text new × (after ≡ before ++ text)
+
+-- an event of the command is refused
+abbrev pub RefusesCommand : World → Command → Type 0
+RefusesCommand w (Keys keys) = RefusesEvents w (map event.Key keys)
+RefusesCommand w (Happen e) = RefusesEvents w (e ∷ [])
+RefusesCommand w Settle = RefusesToSettle w
+RefusesCommand w Take = RefusesEvents w (event.Take ∷ [])
+RefusesCommand w Mark = ⊥
+RefusesCommand w Flight = ⊥
+RefusesCommand w Shown = ⊥
+
+-- a line is done: an empty one is passed over
+abbrev pub Plays : World → List ℕ → List ℕ → World → Type 0
+Plays old [] text new = (text ≡ []) × (new ≡ old)
+Plays old (b ∷ bs) text new = (command : Command) × (command_of (b ∷ bs) ≡ Some command) × Performs old command text new
+
+-- a line that is not empty, and no command
+abbrev pub IsBad : List ℕ → Type 0
+IsBad line = (line ≢ []) × (command_of line ≡ None)
+
+-- an event of the line's command is refused
+abbrev pub RefusesLine : World → List ℕ → Type 0
+RefusesLine w line = (line ≢ []) × (command : Command) × (command_of line ≡ Some command) × RefusesCommand w command
+
+-- lines are done, one after another
+abbrev pub PlaysAll : World → List (List ℕ) → List ℕ → World → Type 0
+PlaysAll old [] text new = (text ≡ []) × (new ≡ old)
+PlaysAll old (line ∷ lines) text new =
+    (mid : World) × (head : List ℕ) × (rest : List ℕ) × Plays old line head mid × PlaysAll mid lines rest new × (text ≡ head ++ rest)
+
+-- These lines were done in a world that was opened with standard settings and a window of 80 by 24, and printed this text.
+pub record HasPlayed (lines : List (List ℕ)) (text : List ℕ) (new : World) : Type 0 where
+  pub start : World
+  pub opened : IsOpened standard 80 24 start
+  pub plays : PlaysAll start lines text new
+
+-- all of these lines were done and printed this text
+abbrev pub PrintsWhole : List (List ℕ) → List ℕ → Type 0
+PrintsWhole lines text = (new : World) × HasPlayed lines text new
+
+-- A script stops at the line of this number, counted from 1: those before it were done and printed this text.
+pub record StopsAt (lines : List (List ℕ)) (number : ℕ) (text : List ℕ) : Type 0 where
+  pub done : List (List ℕ)
+  pub line : List ℕ
+  pub left : List (List ℕ)
+  pub whole : lines ≡ done ++ line ∷ left
+  pub place : number ≡ length done + 1
+  pub world : World
+  pub played : HasPlayed done text world
+
+-- that line is no command
+abbrev pub StopsAtBad : List (List ℕ) → ℕ → List ℕ → Type 0
+StopsAtBad lines number text = (stop : StopsAt lines number text) × IsBad stop.line
+
+-- an event of that line's command is refused
+abbrev pub StopsAtRefused : List (List ℕ) → ℕ → List ℕ → Type 0
+StopsAtRefused lines number text = (stop : StopsAt lines number text) × RefusesLine stop.world stop.line
+
+-- how a script ended, and what it had printed
+abbrev pub EndsWith : List (List ℕ) → Option CliFault → List ℕ → Type 0
+EndsWith lines None text = PrintsWhole lines text
+EndsWith lines (Some (fault.Script number)) text = StopsAtBad lines number text
+EndsWith lines (Some (fault.World number)) text = StopsAtRefused lines number text
+EndsWith lines (Some f) text = ⊥
+
+-- what a script prints, whole or up to where it stops
+abbrev pub PrintsSome : List (List ℕ) → List ℕ → Type 0
+PrintsSome lines text = (end : Option CliFault) × EndsWith lines end text
+
+-- such a text was appended
+abbrev pub Adds : (List ℕ → Type 0) → List ℕ → List ℕ → Type 0
+Adds is old new = (text : List ℕ) × is text × (new ≡ old ++ text)
+
+-- such a text was appended, where the writer tells what it holds
+abbrev pub AppendsText : (List ℕ → Type 0) → Option (List ℕ) → Option (List ℕ) → Type 0
+AppendsText is old new = (text : List ℕ) × is text × Appends old new text
+
+-- a front of such a text was appended
+abbrev pub AppendsFrontOfText : (List ℕ → Type 0) → Option (List ℕ) → Option (List ℕ) → Type 0
+AppendsFrontOfText is old new = (text : List ℕ) × is text × AppendsFront old new text

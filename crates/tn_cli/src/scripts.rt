@@ -1,0 +1,290 @@
+//! The lines of a world's script.
+
+ghost use Rattle.std.specs.Prelude.{◌≡◌, ◌==◌, IfOk, map, option_and_then};
+ghost use Rattle.std.specs.List.{slice_split, list_all};
+ghost use Rattle.tn_cli.specs.Scripts as script;
+
+use hex::FromHexError;
+use std::alloc::{AllocError, Global};
+use tn_codes::Func;
+use tn_discipline::Text;
+use tn_server::Editing;
+use tn_world::Event;
+
+/// The greatest count of bytes or symbols in a line.
+const MOST_COUNTED: u32 = 1_000_000;
+
+/// The greatest width or height in a line.
+const MOST_SIZE: u32 = 65_535;
+
+/// What one line of a script asks for.
+#[derive(Debug, Drop)]
+pub(crate) enum Command {
+    /// The user types these keys.
+    Keys(Text),
+    /// One event, which prints nothing.
+    Happen(Event),
+    /// All that is in flight is delivered, again and again.
+    Settle,
+    /// The job asks for an entry, which is printed.
+    Take,
+    /// Whether all is at rest is printed.
+    Mark,
+    /// The bytes in flight are printed.
+    Flight,
+    /// The server's text on the client's screen is printed.
+    Shown,
+}
+
+/// The parts of some bytes between the places where this byte stands.
+pub(crate) fn parts<'a>(
+    alloc: Global,
+    bytes: &'a [u8],
+    mark: u8,
+) -> Result<Vec<&'a [u8]>, AllocError>
+    ensures { IfOk result (λ parts. map (λ part. part.now) parts.items ≡ slice_split (λ byte. byte == mark) bytes.entry.now) }
+{
+    bytes.split(|byte| *byte == mark).collect(alloc)
+}
+
+/// The command that a line is, where it is one.
+pub(crate) fn read_command(alloc: Global, line: &[u8]) -> Result<Option<Command>, AllocError>
+    ensures { IfOk result (λ command. command ≡ script.command_of line.now) }
+{
+    let words = parts(alloc, line, b' ')?;
+    match words.as_slice() {
+        [verb] => Ok(alone(verb)),
+        [verb, word] => {
+            let command = with_word(alloc, verb, word)?;
+            Ok(command)
+        },
+        [verb, first, second] => {
+            let command = with_words(alloc, verb, first, second)?;
+            Ok(command)
+        },
+        [] => Ok(None),
+        [_, _, _, _, ..] => Ok(None),
+    }
+}
+
+// The value beside the word that this one is, where it is one of them.
+macro_rules! value_of_word {
+    ($word:expr; $($name:literal => $value:expr,)+) => {{
+        let word: &[u8] = $word;
+        $(if word == $name.as_slice() {
+            return Some($value);
+        })+
+        None
+    }};
+}
+
+fn alone(verb: &[u8]) -> Option<Command>
+    ensures { result ≡ script.alone verb.now }
+{
+    value_of_word! { verb;
+        b"settle" => Command::Settle,
+        b"take" => Command::Take,
+        b"mark" => Command::Mark,
+        b"flight" => Command::Flight,
+        b"shown" => Command::Shown,
+        b"server-stops" => Command::Happen(Event::ServerStops),
+        b"client-stops" => Command::Happen(Event::ClientStops),
+    }
+}
+
+fn with_word(alloc: Global, verb: &[u8], word: &[u8]) -> Result<Option<Command>, AllocError>
+    ensures { IfOk result (λ command. command ≡ script.with_word verb.now word.now) }
+{
+    if let Some(command) = with_name(verb, word) {
+        return Ok(Some(command));
+    }
+    if let Some(command) = counted(verb, word) {
+        return Ok(Some(command));
+    }
+    match hex_bytes(alloc, word)? {
+        Some(bytes) => Ok(with_bytes(verb, bytes)),
+        None => Ok(None),
+    }
+}
+
+fn with_name(verb: &[u8], name: &[u8]) -> Option<Command>
+    ensures { result ≡ script.with_name verb.now name.now }
+{
+    if verb == b"wish".as_slice() {
+        return wished(name);
+    }
+    if verb == b"echo".as_slice() {
+        return echoed(name);
+    }
+    None
+}
+
+fn wished(name: &[u8]) -> Option<Command>
+    ensures { result ≡ script.wished name.now }
+{
+    value_of_word! { name;
+        b"local" => Command::Happen(Event::Wish(Editing::Local)),
+        b"remote" => Command::Happen(Event::Wish(Editing::Remote)),
+    }
+}
+
+fn echoed(name: &[u8]) -> Option<Command>
+    ensures { result ≡ script.echoed name.now }
+{
+    value_of_word! { name;
+        b"on" => Command::Happen(Event::Echo(true)),
+        b"off" => Command::Happen(Event::Echo(false)),
+    }
+}
+
+fn counted(verb: &[u8], word: &[u8]) -> Option<Command>
+    ensures { result ≡ option_and_then (script.with_number verb.now) (script.number_within 1000000 word.now) }
+{
+    let number = number_within(MOST_COUNTED, word)?;
+    with_number(verb, number as usize)
+}
+
+fn with_number(verb: &[u8], number: usize) -> Option<Command>
+    ensures { result ≡ script.with_number verb.now number }
+{
+    value_of_word! { verb;
+        b"to-server" => Command::Happen(Event::ToServer(number)),
+        b"to-client" => Command::Happen(Event::ToClient(number)),
+        b"pull" => Command::Happen(Event::Pull(number)),
+    }
+}
+
+fn with_bytes(verb: &[u8], bytes: Text) -> Option<Command>
+    ensures { result ≡ script.with_bytes verb.now bytes }
+{
+    value_of_word! { verb;
+        b"key" => Command::Keys(bytes),
+        b"write" => Command::Happen(Event::Write(bytes)),
+    }
+}
+
+fn with_words(
+    alloc: Global,
+    verb: &[u8],
+    first: &[u8],
+    second: &[u8],
+) -> Result<Option<Command>, AllocError>
+    ensures { IfOk result (λ command. command ≡ script.with_words verb.now first.now second.now) }
+{
+    if let Some(command) = resized(verb, first, second) {
+        return Ok(Some(command));
+    }
+    let Some(func) = func_named(first) else {
+        return Ok(None);
+    };
+    match hex_bytes(alloc, second)? {
+        Some(bytes) => Ok(with_value(verb, func, bytes.as_slice())),
+        None => Ok(None),
+    }
+}
+
+fn resized(verb: &[u8], first: &[u8], second: &[u8]) -> Option<Command>
+    ensures { result ≡ option_and_then (λ width. option_and_then (script.with_size verb.now width) (script.number_within 65535 second.now)) (script.number_within 65535 first.now) }
+{
+    let width = number_within(MOST_SIZE, first)?;
+    let height = number_within(MOST_SIZE, second)?;
+    with_size(verb, width as u16, height as u16)
+}
+
+fn with_size(verb: &[u8], width: u16, height: u16) -> Option<Command>
+    ensures { result ≡ script.with_size verb.now width height }
+{
+    value_of_word! { verb;
+        b"resize" => Command::Happen(Event::Resize(width, height)),
+    }
+}
+
+fn with_value(verb: &[u8], func: Func, bytes: &[u8]) -> Option<Command>
+    ensures { result ≡ option_and_then (script.with_character verb.now func) (script.character bytes.now) }
+{
+    let value = character(bytes)?;
+    with_character(verb, func, value)
+}
+
+fn with_character(verb: &[u8], func: Func, value: Option<u8>) -> Option<Command>
+    ensures { result ≡ script.with_character verb.now func value }
+{
+    value_of_word! { verb;
+        b"set" => Command::Happen(Event::SetChar(func, value)),
+        b"propose" => Command::Happen(Event::Propose(func, value)),
+    }
+}
+
+fn func_named(name: &[u8]) -> Option<Func>
+    ensures { result ≡ script.func_named name.now }
+{
+    value_of_word! { name;
+        b"ip" => Func::Ip,
+        b"abort" => Func::Abort,
+        b"eof" => Func::Eof,
+        b"susp" => Func::Susp,
+        b"ec" => Func::Ec,
+        b"el" => Func::El,
+        b"forw1" => Func::Forw1,
+    }
+}
+
+// One byte is a special character, of which 255 stands for none.
+fn character(bytes: &[u8]) -> Option<Option<u8>>
+    ensures { result ≡ script.character bytes.now }
+{
+    match bytes {
+        [255] => Some(None),
+        [byte] => Some(Some(*byte)),
+        _ => None,
+    }
+}
+
+// What decimal digits spell, without a sign, where it is within a limit. Zeros may lead.
+fn number_within(most: u32, word: &[u8]) -> Option<u32>
+    ensures { result ≡ script.number_within most word.now }
+{
+    if word.is_empty() {
+        return None;
+    }
+    let mut number: u64 = 0;
+    for digit in word {
+        if !digit.is_ascii_digit() {
+            return None;
+        }
+        number = number * 10 + u64::from(*digit - b'0');
+        if number > u64::from(most) {
+            return None;
+        }
+    }
+    Some(number as u32)
+}
+
+// The bytes that pairs of hexadecimal digits in lower case spell, at least one of them.
+fn hex_bytes(alloc: Global, word: &[u8]) -> Result<Option<Text>, AllocError>
+    ensures { IfOk result (λ bytes. bytes ≡ script.hex_bytes word.now) }
+{
+    if word.is_empty() {
+        return Ok(None);
+    }
+    if !are_lower_digits(word) {
+        return Ok(None);
+    }
+    match hex::decode(alloc, word) {
+        Ok(bytes) => Ok(Some(Text::from(bytes))),
+        Err(FromHexError::OutOfMemory) => Err(AllocError),
+        Err(_) => Ok(None),
+    }
+}
+
+fn are_lower_digits(word: &[u8]) -> bool
+    ensures { result ≡ list_all script.is_lower_digit word.now }
+{
+    word.iter().all(|digit| is_lower_digit(*digit))
+}
+
+fn is_lower_digit(digit: u8) -> bool
+    ensures { result ≡ script.is_lower_digit digit }
+{
+    digit.is_ascii_digit() || (b'a'..=b'f').contains(&digit)
+}

@@ -1,0 +1,83 @@
+//! `tn world`: a script in, what its commands print out.
+
+ghost use Rattle.std.specs.Prelude.{◌≡◌, ◌≢◌, ◌<◌, ◌≤◌, ℕ, length, IfSome, OnOk, OnErr, IfOk, IsErrOf, Err, map};
+ghost use Rattle.tn_cli.specs.Playing as play;
+ghost use Rattle.tn_cli.specs.Scripts.{lines_of};
+
+use crate::fault::CliFault;
+use crate::playing::{Stop, play_line};
+use crate::scripts::parts;
+use crate::streams::{read_whole, write_whole};
+use std::alloc::{AllocError, Global};
+use std::io::{Read, Write};
+use tn_discipline::Settings;
+use tn_world::World;
+
+/// How wide the client's window is, in characters.
+const WIDTH: u16 = 80;
+
+/// How high the client's window is, in characters.
+const HEIGHT: u16 = 24;
+
+/// Reads a script, one command a line, does its commands in a world that is opened with standard
+/// settings, and writes what they print. Nothing is written before the input has ended. Where a
+/// line is no command, or its command is refused, what the lines before it print is written.
+pub fn run_world<R: Read, W: Write>(
+    alloc: Global,
+    reader: &mut R,
+    writer: &mut W,
+) -> Result<(), CliFault>
+    ensures ok { OnOk result (IfSome (R.remaining reader.old) (λ text. play.AppendsText (play.PrintsWhole (lines_of text)) (W.contents writer.old) (W.contents writer.new))) }
+    ensures short { OnOk result (IfSome (R.remaining reader.old) (λ text. length text ≤ 1048576)) }
+
+    ensures script { (line : ℕ) → IsErrOf result (CliFault.Script line) → IfSome (R.remaining reader.old) (λ text. play.AppendsText (play.StopsAtBad (lines_of text) line) (W.contents writer.old) (W.contents writer.new)) }
+    ensures world { (line : ℕ) → IsErrOf result (CliFault.World line) → IfSome (R.remaining reader.old) (λ text. play.AppendsText (play.StopsAtRefused (lines_of text) line) (W.contents writer.old) (W.contents writer.new)) }
+    ensures too_long { IsErrOf result CliFault.TooLong → IfSome (R.remaining reader.old) (λ text. 1048576 < length text) }
+    ensures write { IsErrOf result CliFault.Write → IfSome (R.remaining reader.old) (λ text. play.AppendsFrontOfText (play.PrintsSome (lines_of text)) (W.contents writer.old) (W.contents writer.new)) }
+    ensures unwritten { OnErr result (result ≢ Err CliFault.Write → ((line : ℕ) → result ≢ Err (CliFault.Script line)) → ((line : ℕ) → result ≢ Err (CliFault.World line)) → W.contents writer.new ≡ W.contents writer.old) }
+{
+    let script = read_whole(alloc, reader)?;
+    let mut printed = Vec::new(alloc);
+    let Ok(end) = play_script(alloc, &script, &mut printed) else {
+        return Err(CliFault::Memory);
+    };
+    write_whole(writer, &printed)?;
+    match end {
+        None => Ok(()),
+        Some(fault) => Err(fault),
+    }
+}
+
+// Does the lines of a script and appends what they print, up to the line that ends it with a fault.
+fn play_script(
+    alloc: Global,
+    script: &[u8],
+    printed: &mut Vec<u8>,
+) -> Result<Option<CliFault>, AllocError>
+    ensures { IfOk result (λ end. play.Adds (play.EndsWith (lines_of script.now) end) printed.old.items printed.new.items) }
+{
+    let lines = parts(alloc, script, b'\n')?;
+    let end = play_lines(alloc, &lines, printed)?;
+    Ok(end)
+}
+
+fn play_lines(
+    alloc: Global,
+    lines: &[&[u8]],
+    printed: &mut Vec<u8>,
+) -> Result<Option<CliFault>, AllocError>
+    ensures { IfOk result (λ end. play.Adds (play.EndsWith (map (λ line. line.now) lines.now) end) printed.old.items printed.new.items) }
+{
+    let Ok(mut world) = World::open(alloc, Settings::standard(), WIDTH, HEIGHT) else {
+        return Err(AllocError);
+    };
+    for (index, line) in lines.iter().enumerate() {
+        match play_line(alloc, &mut world, line, printed) {
+            Ok(()) => {},
+            Err(Stop::Bad) => return Ok(Some(CliFault::Script(index + 1))),
+            Err(Stop::Refused) => return Ok(Some(CliFault::World(index + 1))),
+            Err(Stop::Memory) => return Err(AllocError),
+        }
+    }
+    Ok(None)
+}
