@@ -12,10 +12,12 @@ use tn_server::{Editing, ServerFault};
 /// The most bytes of a delivery.
 const ALL: usize = usize::MAX;
 
-// An event that holds no text.
+// An event that holds no text, or some of them.
 #[derive(Clone, Copy)]
 enum Step {
     Key(u8),
+    // Each of these keys is typed.
+    Keys(&'static [u8]),
     ToServer(usize),
     ToClient(usize),
     Pull(usize),
@@ -45,7 +47,7 @@ fn event_of(step: Step) -> Event {
         Step::Echo(on) => Event::Echo(on),
         Step::ServerStops => Event::ServerStops,
         Step::ClientStops => Event::ClientStops,
-        Step::Settle => Event::ToClient(0),
+        Step::Keys(_) | Step::Settle => Event::ToClient(0),
     }
 }
 
@@ -63,20 +65,20 @@ fn settle(world: &mut World) -> Result<(), WorldFault> {
     Ok(())
 }
 
-fn walk(world: &mut World, steps: &[Step]) -> Result<(), WorldFault> {
-    for step in steps {
-        if matches!(step, Step::Settle) {
-            settle(world)?;
-        } else {
-            world.run(&[event_of(*step)])?;
-        }
+fn types(world: &mut World, keys: &[u8]) -> Result<(), WorldFault> {
+    for key in keys {
+        world.run(&[Event::Key(*key)])?;
     }
     Ok(())
 }
 
-fn types(world: &mut World, keys: &[u8]) -> Result<(), WorldFault> {
-    for key in keys {
-        world.run(&[Event::Key(*key)])?;
+fn walk(world: &mut World, steps: &[Step]) -> Result<(), WorldFault> {
+    for step in steps {
+        match step {
+            Step::Settle => settle(world)?,
+            Step::Keys(keys) => types(world, keys)?,
+            step => world.run(&[event_of(*step)])?,
+        }
     }
     Ok(())
 }
@@ -128,7 +130,7 @@ fn rests_once_all_has_arrived(rt: HostRuntime) -> Result<(), Fail> {
 #[test]
 fn edits_at_the_client(rt: HostRuntime) -> Result<(), Fail> {
     let mut world = rested(&rt, rt.alloc(), Editing::Local)?;
-    types(&mut world, b"a\x03\x04")?;
+    walk(&mut world, &[Step::Keys(b"a\x03\x04")])?;
     flies(&rt, &world, &[255, 244, b'a', 255, 236], &[]);
     walk(
         &mut world,
@@ -145,7 +147,7 @@ fn edits_at_the_client(rt: HostRuntime) -> Result<(), Fail> {
 #[test]
 fn edits_at_the_server(rt: HostRuntime) -> Result<(), Fail> {
     let mut world = rested(&rt, rt.alloc(), Editing::Remote)?;
-    types(&mut world, b"a\x7f\r")?;
+    walk(&mut world, &[Step::Keys(b"a\x7f\r")])?;
     flies(&rt, &world, b"a\x7f\r\0", &[]);
     walk(&mut world, &[Step::Settle, Step::Pull(99)])?;
     flies(&rt, &world, &[], b"a\x08 \x08\r\n");
@@ -172,8 +174,10 @@ fn changes_a_character(rt: HostRuntime) -> Result<(), Fail> {
     flies(&rt, &world, &list, &table);
     walk(&mut world, &[Step::Settle])?;
     assert!(rt; world.mark());
-    types(&mut world, b"a\x08\r")?;
-    walk(&mut world, &[Step::Settle, Step::Take])?;
+    walk(
+        &mut world,
+        &[Step::Keys(b"a\x08\r"), Step::Settle, Step::Take],
+    )?;
     assert!(rt; is_text(world.taken().first(), b"\n"));
     Ok(())
 }
@@ -182,10 +186,13 @@ fn changes_a_character(rt: HostRuntime) -> Result<(), Fail> {
 #[test]
 fn changes_its_mode_between_lines(rt: HostRuntime) -> Result<(), Fail> {
     let mut world = rested(&rt, rt.alloc(), Editing::Remote)?;
-    walk(&mut world, &[Step::Wish(Editing::Local)])?;
-    types(&mut world, b"a\r")?;
-    walk(&mut world, &[Step::Settle])?;
-    types(&mut world, b"b\r")?;
+    let keys = [
+        Step::Wish(Editing::Local),
+        Step::Keys(b"a\r"),
+        Step::Settle,
+        Step::Keys(b"b\r"),
+    ];
+    walk(&mut world, &keys)?;
     walk(&mut world, &[Step::Settle, Step::Take, Step::Take])?;
     assert!(rt; is_text(world.taken().first(), b"a\n"));
     assert!(rt; is_text(world.taken().last(), b"b\n"));
@@ -221,21 +228,22 @@ fn names_the_event_that_is_refused(rt: HostRuntime) -> Result<(), Fail> {
 #[test]
 fn goes_on_without_its_server(rt: HostRuntime) -> Result<(), Fail> {
     let mut world = rested(&rt, rt.alloc(), Editing::Local)?;
-    types(&mut world, b"a\r")?;
-    walk(&mut world, &[Step::Settle])?;
-    types(&mut world, b"b\r")?;
-    let text = b"x".to_vec(rt.alloc())?;
+    let text = Text::from(b"x".to_vec(rt.alloc())?);
     walk(
         &mut world,
         &[
+            Step::Keys(b"a\r"),
+            Step::Settle,
+            Step::Keys(b"b\r"),
             Step::ServerStops,
             Step::ToServer(ALL),
             Step::Wish(Editing::Remote),
             Step::Echo(false),
+            Step::Pull(9),
             Step::Take,
         ],
     )?;
-    world.run(&[Event::Write(Text::from(text)), Event::Pull(9)])?;
+    world.run(&[Event::Write(text)])?;
     flies(&rt, &world, b"b\r\n", &[]);
     assert!(rt; is_text(world.taken().first(), b"a\n"));
     assert!(rt; !world.mark());
@@ -245,10 +253,10 @@ fn goes_on_without_its_server(rt: HostRuntime) -> Result<(), Fail> {
 #[test]
 fn goes_on_without_its_client(rt: HostRuntime) -> Result<(), Fail> {
     let mut world = rested(&rt, rt.alloc(), Editing::Local)?;
-    types(&mut world, b"a\r")?;
     walk(
         &mut world,
         &[
+            Step::Keys(b"a\r"),
             Step::ClientStops,
             Step::Key(b'c'),
             Step::Resize(1),
