@@ -1,25 +1,43 @@
 //! Telnet with LINEMODE: the program `tn`.
 #![tactic(auto)]
 
+ghost use Rattle.std.specs.Prelude.{◌≡◌, IfOk, IsOk, map, string_bytes};
+ghost use Rattle.tn_cli.specs.Runs.{DoesAsAsked};
+
+use std::alloc::Global;
+use std::io::{Read, Write};
 use std::process::ExitCode;
 use tn_cli::{refuse_words, run_words};
 
 fn main(rt: HostRuntime) -> ExitCode {
     let alloc = rt.alloc();
-    let mut errors = rt.stderr();
     let words: std::io::Result<Vec<String>> = match std::env::args(&rt) {
         Ok(words) => words.collect(alloc).map_err(std::io::Error::from),
         Err(error) => Err(error),
     };
-    let status = match words {
-        Ok(words) => run_words(
-            alloc,
-            &words,
-            &mut rt.stdin(),
-            &mut rt.stdout(),
-            &mut errors,
-        ),
-        Err(error) => refuse_words(error.kind(), &mut errors),
-    };
+    let status = status_of(
+        alloc,
+        words,
+        &mut rt.stdin(),
+        &mut rt.stdout(),
+        &mut rt.stderr(),
+    );
     ExitCode::from(status)
+}
+
+// The status after what the words ask for, where they could be had. It is 0 only where that was done.
+fn status_of<R: Read, W: Write, E: Write>(
+    alloc: Global,
+    words: std::io::Result<Vec<String>>,
+    reader: &mut R,
+    writer: &mut W,
+    errors: &mut E,
+) -> u8
+    ensures had { result ≡ 0 → IsOk words }
+    ensures done { result ≡ 0 → IfOk words (λ words. DoesAsAsked (map string_bytes words.items) (R.remaining reader.old) (W.contents writer.old) (W.contents writer.new)) }
+{
+    match words {
+        Ok(words) => run_words(alloc, &words, reader, writer, errors),
+        Err(error) => refuse_words(error.kind(), errors),
+    }
 }

@@ -72,6 +72,7 @@ fn run_texts<R: Read, W: Write, E: Write>(
 pub fn refuse_words<E: Write>(kind: ErrorKind, errors: &mut E) -> u8
     ensures memory { kind ≡ ErrorKind.OutOfMemory → result ≡ 1 }
     ensures usage { kind ≢ ErrorKind.OutOfMemory → result ≡ 2 }
+    ensures failed { result ≢ 0 }
 {
     if kind == ErrorKind::OutOfMemory {
         return report(Err(CliFault::Memory), errors);

@@ -23,35 +23,34 @@ use Rattle.tn_world.specs.Settled.{IsSound}
 use Rattle.tn_world.specs.Worlds.{World, IsServerFault}
 use Rattle.tn_world.specs.declared.events.Event.TheVariants.{SetChar}
 use Rattle.tn_world.proofs.Cut.{start}
-use Rattle.tn_world.proofs.Promise.{speech}
 use Rattle.tn_world.proofs.ServerItems.{opening_made}
 use Rattle.tn_world.proofs.Soundness.{sound_types, sound_tells, sound_reaches, sound_returns, sound_asks, sound_takes}
 use Rattle.tn_world.proofs.Tied.{behind}
 
 pub key_sound : (old : World) (end : client.End) (key : ℕ) (later seen keys : List ℕ) → client.Goes old.client (told.typed key) end → client.Sends old.client (told.typed key) old.to_server later → client.Shows old.client (told.typed key) old.echoed seen → keys ≡ old.typed ++ key ∷ [] → IsSound old → IsSound (record old { client = end; to_server = later; echoed = seen; typed = keys })
 key_sound old end key later seen keys goes sends shows is s =
-    sound_types speech old (record old { client = end; to_server = later; echoed = seen; typed = keys }) key
+    sound_types old (record old { client = end; to_server = later; echoed = seen; typed = keys }) key
     (record { goes = goes; sends = sends; shows = shows; rest = ap (λ x. record old { client = end; to_server = later; echoed = seen; typed = x }) is }) s
 
 pub tells_sound : (old : World) (end : client.End) (e : told.Event) (later : List ℕ) → client.Goes old.client e end → client.Sends old.client e old.to_server later → IsSound old → IsSound (record old { client = end; to_server = later })
-tells_sound old end e later goes sends s = sound_tells speech old (record old { client = end; to_server = later }) e (record { goes = goes; sends = sends; rest = refl }) s
+tells_sound old end e later goes sends s = sound_tells old (record old { client = end; to_server = later }) e (record { goes = goes; sends = sends; rest = refl }) s
 
 pub asks_sound : (old : World) (end : server.End) (e : asked.Event) (later : List ℕ) → server.Goes old.server e old.to_client later end → IsSound old → IsSound (record old { server = end; to_client = later })
-asks_sound old end e later goes s = sound_asks speech old (record old { server = end; to_client = later }) e (record { goes = goes; rest = refl }) s
+asks_sound old end e later goes s = sound_asks old (record old { server = end; to_client = later }) e (record { goes = goes; rest = refl }) s
 
 pub takes_sound : (old : World) (end : server.End) (entry : Option Entry) (later : List ℕ) (entries : List Entry) → server.Goes old.server asked.took old.to_client later end → ((h : asked.History) → server.Stands h old.server → MatchOption entry (waiting h ≡ []) (λ e. waiting h ≡ e ∷ waiting (asked.next h asked.took))) → entries ≡ old.taken ++ option_to_list entry → IsSound old → IsSound (record old { server = end; to_client = later; taken = entries })
 takes_sound old end entry later entries goes is_first is s =
-    sound_takes speech old (record old { server = end; to_client = later; taken = entries })
+    sound_takes old (record old { server = end; to_client = later; taken = entries })
     (record { entry = entry; is_first = is_first; goes = goes; rest = ap (λ x. record old { server = end; to_client = later; taken = x }) is }) s
 
 pub reaches_sound : (old : World) (end : server.End) (n : ℕ) (piece left later : List ℕ) → piece ≡ take n old.to_server → left ≡ drop n old.to_server → server.Feeds old.server piece old.to_client later end → IsSound old → IsSound (record old { server = end; to_server = left; to_client = later })
 reaches_sound old end n piece left later is rest feeds s =
-    sound_reaches speech old (record old { server = end; to_server = left; to_client = later }) n
+    sound_reaches old (record old { server = end; to_server = left; to_client = later }) n
     (record { feeds = subst (λ x. server.Feeds old.server x old.to_client later end) is feeds; rest = ap (λ x. record old { server = end; to_server = x; to_client = later }) rest }) s
 
 pub returns_sound : (old : World) (end : client.End) (n : ℕ) (piece left later seen : List ℕ) → piece ≡ take n old.to_client → left ≡ drop n old.to_client → client.Feeds old.client piece old.to_server later old.shown seen end → IsSound old → IsSound (record old { client = end; to_client = left; to_server = later; shown = seen })
 returns_sound old end n piece left later seen is rest feeds s =
-    sound_returns speech old (record old { client = end; to_client = left; to_server = later; shown = seen }) n
+    sound_returns old (record old { client = end; to_client = left; to_server = later; shown = seen }) n
     (record { feeds = subst (λ x. client.Feeds old.client x old.to_server later old.shown seen end) is feeds; rest = ap (λ x. record old { client = end; to_client = x; to_server = later; shown = seen }) rest }) s
 
 -- a call that may be refused, and then changes nothing

@@ -3,28 +3,16 @@
 use Rattle.std.proofs.Common.{◌≡◌, ◌≤◌, inl, inr, ℕ, ◌+◌, Bool, true, false, not, ◌&&◌, List, [], ◌∷◌, ◌++◌, length, refl, sym, ap, ◌∙◌, if◌then◌else◌, subst, arith, append-nil, append_assoc, length-append}
 use Rattle.tn_discipline.specs.declared.reads.Entry.{Entry}
 use Rattle.tn_discipline.specs.Admitted.{is_dropped}
-use Rattle.tn_discipline.specs.Entries.{entries_of, half_of}
+use Rattle.tn_discipline.specs.Entries.{half_of}
 use Rattle.tn_discipline.specs.Steps.{half_after, half_next, gain_next}
 use Rattle.tn_discipline.specs.Keys.{role_of_mapped, role_of_key, roles_of}
 use Rattle.tn_discipline.specs.declared.termios.Settings.{Settings}
 use Rattle.tn_discipline.proofs.Histories.{half_of-fits, length_by_test}
 use Rattle.tn_world.specs.Machine.{Mode, Rules, Item, byte, mode_ack, other, Server, Client, Message, mode, forward_at, chatter, read, read_all, bytes, as_client, edit_key, remote_item, count_next, keyed, is_same, mode_taken, mode_came, came, allows_local, remote_mode, local_mode}
 use Rattle.tn_world.specs.Headline.{IsAskable}
-use Rattle.tn_world.proofs.Reading.{at, AreOrdinary, read-bytes_then, half-typed, entries-typed}
+use Rattle.tn_world.proofs.Reading.{read-bytes_then, half-typed, entries-typed}
 use Rattle.tn_world.proofs.Typing.{Follows, literal_key, key-follows}
-
--- The relation, between the typed keys and the taken entries, the server once it has read what is in flight, and the client.
-pub record Agrees (rules : Rules) (typed : List ℕ) (taken : List Entry) (v : Server) (c : Client) : Type 0 where
-  pub half : List ℕ
-  pub waiting : List Entry
-  pub is : v ≡ at c.mask.edit half waiting
-  pub entries : entries_of (roles_of rules.settings typed) ≡ taken ++ waiting
-  pub line : half_of (roles_of rules.settings typed) ≡ half ++ c.held
-  pub askable : IsAskable rules.settings c.mask
-  pub ahead : c.mask.edit ≡ true → length half ≡ c.ahead
-  pub none : c.mask.edit ≡ false → c.held ≡ []
-  pub plain : AreOrdinary rules.settings.chars c.held
-  pub count : rules.resumes ≡ true → c.mask.edit ≡ false → allows_local rules.settings ≡ true → (if rules.settings.flags.isig then c.trapped else c.plain) ≡ length half
+use Rattle.tn_world.specs.Relation.{Agrees, at}
 
 pub local_of : (s : Settings) (m : Mode) → IsAskable s m → m.edit ≡ true → (allows_local s ≡ true) × (m ≡ local_mode s)
 local_of s m (inl p) e = absurd (let q : m.edit ≡ false = ap (λ (n : Mode). n.edit) p in cc)

@@ -1,61 +1,43 @@
 -- From a settled moment at rest the relation of the ends holds after every quiet list of events at which no end failed.
-use Rattle.std.proofs.Common.{◌≡◌, inl, inr, ℕ, Bool, true, false, Option, List, [], ◌∷◌, ◌++◌, take, drop, flat_map, refl, sym, ap, ◌∙◌, subst}
-use Rattle.std.specs.Prelude.{All, option_to_list, MatchOption}
+use Rattle.std.proofs.Common.{◌≡◌, inl, inr, ℕ, Bool, true, false, List, [], ◌∷◌, ◌++◌, take, drop, flat_map, refl, sym, ap, ◌∙◌, subst}
+use Rattle.std.specs.Prelude.{All, option_to_list}
 use Rattle.std.proofs.lemmas.List.Elements.{All-nil, All-cons}
-use Rattle.tn_discipline.specs.declared.reads.Entry.{Entry}
 use Rattle.tn_discipline.specs.declared.termios.Settings.{Settings}
 use Rattle.tn_nvt.specs.Spelling.{Fits}
 use Rattle.tn_nvt.specs.Standing.{Standing, Adds, Gains}
 use Rattle.tn_nvt.specs.Stream.{Segment, spelled, lone_cr, escaped, unread, cut, Splits, gives, Reading}
 use Rattle.tn_nvt.specs.declared.items.Item.{Item}
 use Rattle.tn_server.specs.Events as asked
-use Rattle.tn_server.specs.Lines.{waiting}
-use Rattle.tn_server.specs.Standing as server
 use Rattle.tn_client.specs.Events as told
 use Rattle.tn_client.specs.Standing as client
-use Rattle.tn_world.specs.Calm.{bits, IsCalmToServer, IsCalmToClient}
+use Rattle.tn_world.specs.Calm.{IsCalmToServer, IsCalmToClient}
 use Rattle.tn_world.specs.Ends as ends
 use Rattle.tn_world.specs.Ends.{Replies, ServerFeeds, ServerSays, Took, Writes, ClientKeys, came_all, ClientFeeds, ClientSays, AreBetweenLines, seen_all, heard_all, Happens}
 use Rattle.tn_world.specs.Flight.{InFlight}
-use Rattle.tn_world.specs.Headline.{IsAskable}
-use Rattle.tn_world.specs.Machine.{Rules, read_all}
-use Rattle.tn_world.specs.Pictures.{server_core, server_picture, client_core, client_picture, ServerStays, ClientStays}
-use Rattle.tn_world.specs.Quiet.{ComeBetweenLines, IsBetweenLines, Occurs, IsQuietEvent, Passes, NoneFailed}
+use Rattle.tn_world.specs.Machine.{Rules}
+use Rattle.tn_world.specs.Pictures.{server_core, server_picture, client_picture, ServerStays, ClientStays}
+use Rattle.tn_world.specs.Quiet.{IsBetweenLines, Occurs, IsQuietEvent, Passes, NoneFailed}
 use Rattle.tn_world.specs.Settled.{IsSound}
 use Rattle.tn_world.specs.Worlds.{World, Unless, Types, Tells, Reaches, Returns, Asks, Pulls, Takes, Does, Refuses}
 use Rattle.tn_world.specs.declared.events.Event.{Event}
 use Rattle.tn_world.specs.declared.events.Event.TheVariants.{Key, ToServer, ToClient, Write, Pull, Take, Wish, Resize, SetChar, Propose, Echo, ServerStops, ClientStops}
 use Rattle.tn_world.specs.declared.faults.Cause.{Cause}
-use Rattle.tn_world.specs.declared.faults.Cause.TheVariants as cause
-use Rattle.tn_world.proofs.Soundness.{Speech, sound_does}
-use Rattle.tn_world.proofs.Tied.{Tied, all_parts, cut_at, happens-tied}
+use Rattle.tn_world.proofs.ClientSteps as client_steps
+use Rattle.tn_world.proofs.ServerSteps as server_steps
+use Rattle.tn_world.proofs.ServerSteps.{KeepsEntries, IsCall}
+use Rattle.tn_world.proofs.Soundness.{Refusal, unchanged, by_server, by_client, refusal_of, sound_does}
+use Rattle.tn_world.proofs.Tied.{all_parts, cut_at, happens-tied}
+use Rattle.tn_world.specs.Relation.{Holds, Tied, picture, rules_of}
 
--- the server's calls that make no entry, change no character and take none
-abbrev pub IsPlainCall : asked.Event → Type 0
-IsPlainCall (asked.wrote bytes) = Unit {0}
-IsPlainCall (asked.pulled n) = Unit {0}
-IsPlainCall (asked.wished editing) = Unit {0}
-IsPlainCall (asked.echo_set on) = Unit {0}
-IsPlainCall e = ⊥
-
--- each end does what the relation wants of it
-pub record Simulates : Type 0 where
-  pub feeds_core : (rules : Rules) (h : asked.History) (old new : server.End) (piece before after : List ℕ) → server.Stands h old → ServerStays rules old → old.failed ≡ false → (f : server.Feeds old piece before after new) → All Fits f.items → All IsCalmToServer f.items → server_core new ≡ read_all rules.settings (server_core old) (seen_all rules f.items)
-  pub feeds_stays : (rules : Rules) (h : asked.History) (old new : server.End) (piece before after : List ℕ) → server.Stands h old → ServerStays rules old → old.failed ≡ false → (f : server.Feeds old piece before after new) → All Fits f.items → All IsCalmToServer f.items → ServerStays rules new
-  pub feeds_replies : (rules : Rules) (h : asked.History) (old new : server.End) (piece before after : List ℕ) → server.Stands h old → ServerStays rules old → old.failed ≡ false → (f : server.Feeds old piece before after new) → All Fits f.items → All IsCalmToServer f.items → Replies rules f.bytes
-  pub call_replies : (rules : Rules) (h : asked.History) (old new : server.End) (e : asked.Event) (before after : List ℕ) → IsPlainCall e → server.Stands h old → ServerStays rules old → (g : server.Goes old e before after new) → Replies rules g.bytes
-  pub call_stays : (rules : Rules) (h : asked.History) (old new : server.End) (e : asked.Event) (before after : List ℕ) → IsPlainCall e → server.Stands h old → ServerStays rules old → server.Goes old e before after new → ServerStays rules new
-  pub call_core : (h : asked.History) (old new : server.End) (e : asked.Event) (before after : List ℕ) → IsPlainCall e → server.Stands h old → server.Goes old e before after new → server_core new ≡ server_core old
-  pub took_replies : (rules : Rules) (h : asked.History) (old new : server.End) (before after : List ℕ) → server.Stands h old → ServerStays rules old → (g : server.Goes old asked.took before after new) → Replies rules g.bytes
-  pub took_stays : (rules : Rules) (h : asked.History) (old new : server.End) (before after : List ℕ) → server.Stands h old → ServerStays rules old → server.Goes old asked.took before after new → ServerStays rules new
-  pub took_core : (h : asked.History) (old new : server.End) (before after : List ℕ) (entry : Option Entry) → server.Stands h old → server.Goes old asked.took before after new → MatchOption entry (waiting h ≡ []) (λ e. waiting h ≡ e ∷ waiting (asked.next h asked.took)) → Took (server_picture old) (option_to_list entry) (server_picture new)
-  pub keys_done : (rules : Rules) (h : told.History) (old new : client.End) (key trapped plain : ℕ) (before after : List ℕ) → client.Stands h old → ClientStays rules old → IsAskable rules.settings (bits old.mode) → old.failed ≡ false → client.Goes old (told.typed key) new → (g : client.Sends old (told.typed key) before after) → (t : ℕ) × (p : ℕ) × ClientKeys rules (client_picture old trapped plain) key g.bytes (client_picture new t p)
-  pub keys_stay : (rules : Rules) (h : told.History) (old new : client.End) (key : ℕ) → client.Stands h old → ClientStays rules old → client.Goes old (told.typed key) new → ClientStays rules new
-  pub client_feeds_done : (rules : Rules) (h : told.History) (old new : client.End) (trapped plain : ℕ) (piece before after seen now : List ℕ) → rules.resumes ≡ false → client.Stands h old → ClientStays rules old → old.failed ≡ false → (f : client.Feeds old piece before after seen now new) → All (IsCalmToClient rules.settings) f.items → (t : ℕ) × (p : ℕ) × (client_core new t p ≡ (came_all rules (client_core old trapped plain) (heard_all rules f.items)).client) × Writes rules (came_all rules (client_core old trapped plain) (heard_all rules f.items)).items f.bytes
-  pub client_feeds_stay : (rules : Rules) (h : told.History) (old new : client.End) (piece before after seen now : List ℕ) → client.Stands h old → ClientStays rules old → (f : client.Feeds old piece before after seen now new) → All (IsCalmToClient rules.settings) f.items → ClientStays rules new
-  pub client_feeds_quiet : (rules : Rules) (h : told.History) (old : client.End) (typed : List ℕ) (trapped plain : ℕ) (items : List Item) → rules.resumes ≡ false → client.Stands h old → ClientStays rules old → All (IsCalmToClient rules.settings) items → ComeBetweenLines rules.settings typed old.options old.mode items → AreBetweenLines rules typed (client_core old trapped plain) (heard_all rules items)
-  pub resized_done : (rules : Rules) (h : told.History) (old new : client.End) (width height trapped plain : ℕ) (before after : List ℕ) → client.Stands h old → client.Goes old (told.resized width height) new → (g : client.Sends old (told.resized width height) before after) → ClientSays rules (client_picture old trapped plain) g.bytes (client_picture new trapped plain)
-  pub resized_stays : (rules : Rules) (h : told.History) (old new : client.End) (width height : ℕ) → client.Stands h old → ClientStays rules old → client.Goes old (told.resized width height) new → ClientStays rules new
+-- a call that makes no entry and takes none changes no character either
+calls : (e : asked.Event) → KeepsEntries e → IsCall e
+calls (asked.wrote bytes) p = tt
+calls (asked.pulled n) p = tt
+calls (asked.wished editing) p = tt
+calls (asked.echo_set on) p = tt
+calls (asked.got item) p = absurd (p)
+calls asked.took p = absurd (p)
+calls (asked.char_set func value) p = absurd (p)
 
 -- the items of a reading fit
 segments_fit : (segments : List Segment) (rest stream : List ℕ) → Splits segments rest stream → All Fits (flat_map gives segments)
@@ -72,30 +54,6 @@ reading_fits stream items rest r = subst (λ l. All Fits l) (sym r.read) (segmen
 flight_fits : (d : Standing) (flight : List ℕ) (items : List Item) → InFlight d flight items → All Fits items
 flight_fits d flight items f = (all_parts Fits f.had items (reading_fits (f.stream ++ flight) (f.had ++ items) [] f.reads)).1
 
--- The world as the relation sees it.
-abbrev pub rules_of : Settings → Bool → Rules
-rules_of s linemode = record { settings = s; linemode = linemode; resumes = false }
-
-abbrev pub picture : World → ℕ → ℕ → ends.World
-picture w trapped plain =
-    record {
-      typed = w.typed;
-      taken = w.taken;
-      server = server_picture w.server;
-      client = client_picture w.client trapped plain;
-      to_server = w.to_server;
-      to_client = w.to_client;
-    }
-
-pub record Holds (s : Settings) (w : World) : Type 0 where
-  pub linemode : Bool
-  pub trapped : ℕ
-  pub plain : ℕ
-  pub tied : Tied (rules_of s linemode) (picture w trapped plain)
-  pub server : ServerStays (rules_of s linemode) w.server
-  pub client : ClientStays (rules_of s linemode) w.client
-  pub sound : IsSound w
-
 -- the client's history, while it has not failed
 stands : (w : World) → IsSound w → w.client.failed ≡ false → (h : told.History) × client.Stands h w.client
 stands w s runs = s.client runs
@@ -107,11 +65,11 @@ no_need : (rules : Rules) (w : ends.World) (n : ℕ) → rules.resumes ≡ false
 no_need rules w n r q = λ x. q
 
 -- a key
-holds_types : (does : Simulates) (s : Settings) (old new : World) (key : ℕ) → NoneFailed old → IsSound new → Types old key new → Holds s old → Holds s new
-holds_types does s old new key none sound t h =
+holds_types : (s : Settings) (old new : World) (key : ℕ) → NoneFailed old → IsSound new → Types old key new → Holds s old → Holds s new
+holds_types s old new key none sound t h =
     let rules = rules_of s h.linemode in
     let c = h.sound.client none.1 in
-    let k = does.keys_done rules c.0 old.client new.client key h.trapped h.plain old.to_server new.to_server c.1 h.client h.tied.agrees.askable none.1 t.goes t.sends in
+    let k = client_steps.keys_done rules c.0 old.client new.client key h.trapped h.plain old.to_server new.to_server c.1 h.client h.tied.agrees.askable none.1 t.goes t.sends in
     record {
       linemode = h.linemode;
       trapped = k.0;
@@ -123,13 +81,13 @@ holds_types does s old new key none sound t h =
         ap (λ w. picture w k.0 k.1) t.rest ∙ ap (λ x. record (picture old h.trapped h.plain) { typed = old.typed ++ key ∷ []; client = client_picture new.client k.0 k.1; to_server = x }) t.sends.appended,
       ) h.tied;
       server = subst (λ (w : World). ServerStays rules w.server) (sym t.rest) h.server;
-      client = does.keys_stay rules c.0 old.client new.client key c.1 h.client t.goes;
+      client = client_steps.keys_stay rules c.0 old.client new.client key c.1 h.client t.goes;
       sound = sound;
     }
 
 -- the window's size
-holds_resizes : (does : Simulates) (s : Settings) (old new : World) (width height : ℕ) → NoneFailed old → IsSound new → Tells old (told.resized width height) new → Holds s old → Holds s new
-holds_resizes does s old new width height none sound t h =
+holds_resizes : (s : Settings) (old new : World) (width height : ℕ) → NoneFailed old → IsSound new → Tells old (told.resized width height) new → Holds s old → Holds s new
+holds_resizes s old new width height none sound t h =
     let rules = rules_of s h.linemode in
     let c = h.sound.client none.1 in
     record {
@@ -139,17 +97,17 @@ holds_resizes does s old new width height none sound t h =
       tied = happens-tied rules (picture old h.trapped h.plain) (picture new h.trapped h.plain) ends.client_call (λ r. tt) (
         client_picture new.client h.trapped h.plain,
         t.sends.bytes,
-        does.resized_done rules c.0 old.client new.client width height h.trapped h.plain old.to_server new.to_server c.1 t.goes t.sends,
+        client_steps.resized_done rules c.0 old.client new.client width height h.trapped h.plain old.to_server new.to_server c.1 t.goes t.sends,
         ap (λ w. picture w h.trapped h.plain) t.rest ∙ ap (λ x. record (picture old h.trapped h.plain) { client = client_picture new.client h.trapped h.plain; to_server = x }) t.sends.appended,
       ) h.tied;
       server = subst (λ (w : World). ServerStays rules w.server) (sym t.rest) h.server;
-      client = does.resized_stays rules c.0 old.client new.client width height c.1 h.client t.goes;
+      client = client_steps.resized_stays rules c.0 old.client new.client width height c.1 h.client t.goes;
       sound = sound;
     }
 
 -- a call of the server that makes no entry and takes none
-holds_asks : (does : Simulates) (s : Settings) (old new : World) (e : asked.Event) → IsPlainCall e → IsSound new → Asks old e new → Holds s old → Holds s new
-holds_asks does s old new e plain sound t h =
+holds_asks : (s : Settings) (old new : World) (e : asked.Event) → KeepsEntries e → IsSound new → Asks old e new → Holds s old → Holds s new
+holds_asks s old new e plain sound t h =
     let rules = rules_of s h.linemode in
     record {
       linemode = h.linemode;
@@ -160,19 +118,19 @@ holds_asks does s old new e plain sound t h =
         t.goes.bytes,
         record {
           same = ap (λ d. record { decoder = d; core = server_core new.server }) t.goes.decoder
-              ∙ ap (λ c. record { decoder = old.server.decoder; core = c }) (does.call_core h.sound.history old.server new.server e old.to_client new.to_client plain h.sound.server t.goes);
-          replies = does.call_replies rules h.sound.history old.server new.server e old.to_client new.to_client plain h.sound.server h.server t.goes;
+              ∙ ap (λ c. record { decoder = old.server.decoder; core = c }) (server_steps.says_core h.sound.history old.server new.server e old.to_client new.to_client plain h.sound.server t.goes);
+          replies = server_steps.says_replies rules h.sound.history old.server new.server e old.to_client new.to_client (calls e plain) h.sound.server h.server t.goes;
         },
         ap (λ w. picture w h.trapped h.plain) t.rest ∙ ap (λ x. record (picture old h.trapped h.plain) { server = server_picture new.server; to_client = x }) t.goes.appended,
       ) h.tied;
-      server = does.call_stays rules h.sound.history old.server new.server e old.to_client new.to_client plain h.sound.server h.server t.goes;
+      server = server_steps.says_stays rules h.sound.history old.server new.server e old.to_client new.to_client (calls e plain) h.sound.server h.server t.goes;
       client = subst (λ (w : World). ClientStays rules w.client) (sym t.rest) h.client;
       sound = sound;
     }
 
 -- an entry is asked for
-holds_takes : (does : Simulates) (s : Settings) (old new : World) → IsSound new → Takes old new → Holds s old → Holds s new
-holds_takes does s old new sound t h =
+holds_takes : (s : Settings) (old new : World) → IsSound new → Takes old new → Holds s old → Holds s new
+holds_takes s old new sound t h =
     let rules = rules_of s h.linemode in
     record {
       linemode = h.linemode;
@@ -182,18 +140,18 @@ holds_takes does s old new sound t h =
         server_picture new.server,
         t.goes.bytes,
         option_to_list t.entry,
-        does.took_core h.sound.history old.server new.server old.to_client new.to_client t.entry h.sound.server t.goes (t.is_first h.sound.history h.sound.server),
-        does.took_replies rules h.sound.history old.server new.server old.to_client new.to_client h.sound.server h.server t.goes,
+        server_steps.took_core h.sound.history old.server new.server old.to_client new.to_client t.entry h.sound.server t.goes (t.is_first h.sound.history h.sound.server),
+        server_steps.says_replies rules h.sound.history old.server new.server asked.took old.to_client new.to_client tt h.sound.server h.server t.goes,
         ap (λ w. picture w h.trapped h.plain) t.rest ∙ ap (λ x. record (picture old h.trapped h.plain) { taken = old.taken ++ option_to_list t.entry; server = server_picture new.server; to_client = x }) t.goes.appended,
       ) h.tied;
-      server = does.took_stays rules h.sound.history old.server new.server old.to_client new.to_client h.sound.server h.server t.goes;
+      server = server_steps.says_stays rules h.sound.history old.server new.server asked.took old.to_client new.to_client tt h.sound.server h.server t.goes;
       client = subst (λ (w : World). ClientStays rules w.client) (sym t.rest) h.client;
       sound = sound;
     }
 
 -- a delivery to the server
-holds_reaches : (does : Simulates) (s : Settings) (old new : World) (n : ℕ) → NoneFailed old → IsSound new → Reaches old n new → Holds s old → Holds s new
-holds_reaches does s old new n none sound t h =
+holds_reaches : (s : Settings) (old new : World) (n : ℕ) → NoneFailed old → IsSound new → Reaches old n new → Holds s old → Holds s new
+holds_reaches s old new n none sound t h =
     let rules = rules_of s h.linemode in
     let gains : Gains old.server.decoder (take n old.to_server) [] t.feeds.items new.server.decoder = record { items = t.feeds.items; appended = refl; adds = t.feeds.reads } in
     let d = cut_at old.server.decoder new.server.decoder n old.to_server h.tied.items t.feeds.items h.tied.flight gains in
@@ -209,47 +167,47 @@ holds_reaches does s old new n none sound t h =
         record {
           got = t.feeds.items;
           decodes = gains;
-          core = does.feeds_core rules h.sound.history old.server new.server (take n old.to_server) old.to_client new.to_client h.sound.server h.server none.0 t.feeds fit calm;
-          replies = does.feeds_replies rules h.sound.history old.server new.server (take n old.to_server) old.to_client new.to_client h.sound.server h.server none.0 t.feeds fit calm;
+          core = server_steps.feeds_core rules h.sound.history old.server new.server (take n old.to_server) old.to_client new.to_client h.sound.server h.server none.0 t.feeds fit calm;
+          replies = server_steps.feeds_replies rules h.sound.history old.server new.server (take n old.to_server) old.to_client new.to_client h.sound.server h.server none.0 t.feeds fit calm;
         },
         ap (λ w. picture w h.trapped h.plain) t.rest ∙ ap (λ x. record (picture old h.trapped h.plain) { server = server_picture new.server; to_server = drop n old.to_server; to_client = x }) t.feeds.appended,
       ) h.tied;
-      server = does.feeds_stays rules h.sound.history old.server new.server (take n old.to_server) old.to_client new.to_client h.sound.server h.server none.0 t.feeds fit calm;
+      server = server_steps.feeds_stays rules h.sound.history old.server new.server (take n old.to_server) old.to_client new.to_client h.sound.server h.server none.0 t.feeds fit calm;
       client = subst (λ (w : World). ClientStays rules w.client) (sym t.rest) h.client;
       sound = sound;
     }
 
 -- what a quiet delivery is to the relation
-quiet_there : (does : Simulates) (s : Settings) (old : World) (n : ℕ) → NoneFailed old → (h : Holds s old) → IsQuietEvent (IsBetweenLines s) old (ToClient n) → ends.IsQuietEvent (rules_of s h.linemode) (picture old h.trapped h.plain) (ends.to_client n)
-quiet_there does s old n none h quiet = λ got next gains.
+quiet_there : (s : Settings) (old : World) (n : ℕ) → NoneFailed old → (h : Holds s old) → IsQuietEvent (IsBetweenLines s) old (ToClient n) → ends.IsQuietEvent (rules_of s h.linemode) (picture old h.trapped h.plain) (ends.to_client n)
+quiet_there s old n none h quiet = λ got next gains.
     let rules = rules_of s h.linemode in
     let c = h.sound.client none.1 in
     let d = cut_at old.client.decoder next n old.to_client h.tied.messages got h.tied.back gains in
     let calm = (all_parts (IsCalmToClient s) got d.left (subst (λ l. All (IsCalmToClient s) l) d.all h.tied.asked)).0 in
     let adds : Adds old.client.decoder (take n old.to_client) got next = subst (λ l. Adds old.client.decoder (take n old.to_client) l next) (sym gains.appended) gains.adds in
-    does.client_feeds_quiet rules c.0 old.client old.typed h.trapped h.plain got refl c.1 h.client calm (quiet got next adds)
+    client_steps.feeds_quiet rules c.0 old.client old.typed h.trapped h.plain got refl c.1 h.client calm (quiet got next adds)
 
 -- a delivery to the client
-holds_returns : (does : Simulates) (s : Settings) (old new : World) (n : ℕ) → NoneFailed old → IsSound new → IsQuietEvent (IsBetweenLines s) old (ToClient n) → Returns old n new → Holds s old → Holds s new
-holds_returns does s old new n none sound quiet t h =
+holds_returns : (s : Settings) (old new : World) (n : ℕ) → NoneFailed old → IsSound new → IsQuietEvent (IsBetweenLines s) old (ToClient n) → Returns old n new → Holds s old → Holds s new
+holds_returns s old new n none sound quiet t h =
     let rules = rules_of s h.linemode in
     let c = h.sound.client none.1 in
     let gains : Gains old.client.decoder (take n old.to_client) [] t.feeds.items new.client.decoder = record { items = t.feeds.items; appended = refl; adds = t.feeds.reads } in
     let d = cut_at old.client.decoder new.client.decoder n old.to_client h.tied.messages t.feeds.items h.tied.back gains in
     let calm = (all_parts (IsCalmToClient s) t.feeds.items d.left (subst (λ l. All (IsCalmToClient s) l) d.all h.tied.asked)).0 in
-    let k = does.client_feeds_done rules c.0 old.client new.client h.trapped h.plain (take n old.to_client) old.to_server new.to_server old.shown new.shown refl c.1 h.client none.1 t.feeds calm in
+    let k = client_steps.feeds_done rules c.0 old.client new.client h.trapped h.plain (take n old.to_client) old.to_server new.to_server old.shown new.shown refl c.1 h.client none.1 t.feeds calm in
     record {
       linemode = h.linemode;
       trapped = k.0;
       plain = k.1;
-      tied = happens-tied rules (picture old h.trapped h.plain) (picture new k.0 k.1) (ends.to_client n) (λ r. quiet_there does s old n none h quiet) (
+      tied = happens-tied rules (picture old h.trapped h.plain) (picture new k.0 k.1) (ends.to_client n) (λ r. quiet_there s old n none h quiet) (
         client_picture new.client k.0 k.1,
         t.feeds.bytes,
         record { got = t.feeds.items; decodes = gains; core = k.2; writes = k.3 },
         ap (λ w. picture w k.0 k.1) t.rest ∙ ap (λ x. record (picture old h.trapped h.plain) { client = client_picture new.client k.0 k.1; to_client = drop n old.to_client; to_server = x }) t.feeds.appended,
       ) h.tied;
       server = subst (λ (w : World). ServerStays rules w.server) (sym t.rest) h.server;
-      client = does.client_feeds_stay rules c.0 old.client new.client (take n old.to_client) old.to_server new.to_server old.shown new.shown c.1 h.client t.feeds calm;
+      client = client_steps.feeds_stay rules c.0 old.client new.client (take n old.to_client) old.to_server new.to_server old.shown new.shown c.1 h.client t.feeds calm;
       sound = sound;
     }
 
@@ -274,22 +232,22 @@ holds_stops s old new a b is sound h =
     }
 
 -- an event that is done
-holds_does : (does : Simulates) (s : Settings) (old new : World) (e : Event) → NoneFailed old → IsSound new → IsQuietEvent (IsBetweenLines s) old e → Does old e new → Holds s old → Holds s new
-holds_does does s old new (Key key) none sound quiet d h = unless s old.client_stopped old new (Types old key new) (holds_types does s old new key none sound) d h
-holds_does does s old new (ToServer n) none sound quiet d h = unless s old.server_stopped old new (Reaches old n new) (holds_reaches does s old new n none sound) d h
-holds_does does s old new (ToClient n) none sound quiet d h = unless s old.client_stopped old new (Returns old n new) (holds_returns does s old new n none sound quiet) d h
-holds_does does s old new (Write bytes) none sound quiet d h = unless s old.server_stopped old new (Asks old (asked.wrote bytes) new) (holds_asks does s old new (asked.wrote bytes) tt sound) d h
-holds_does does s old new (Pull n) none sound quiet d h =
-    unless s old.server_stopped old new (Pulls old n new) (λ p. holds_asks does s old new (asked.pulled p.count) tt sound p.asks) d h
-holds_does does s old new Take none sound quiet d h = holds_takes does s old new sound d h
-holds_does does s old new (Wish editing) none sound quiet d h = unless s old.server_stopped old new (Asks old (asked.wished editing) new) (holds_asks does s old new (asked.wished editing) tt sound) d h
-holds_does does s old new (Resize width height) none sound quiet d h =
-    unless s old.client_stopped old new (Tells old (told.resized width height) new) (holds_resizes does s old new width height none sound) d h
-holds_does does s old new (SetChar func value) none sound quiet d h = absurd (quiet)
-holds_does does s old new (Propose func value) none sound quiet d h = absurd (quiet)
-holds_does does s old new (Echo on) none sound quiet d h = unless s old.server_stopped old new (Asks old (asked.echo_set on) new) (holds_asks does s old new (asked.echo_set on) tt sound) d h
-holds_does does s old new ServerStops none sound quiet d h = holds_stops s old new true old.client_stopped d sound h
-holds_does does s old new ClientStops none sound quiet d h = holds_stops s old new old.server_stopped true d sound h
+holds_does : (s : Settings) (old new : World) (e : Event) → NoneFailed old → IsSound new → IsQuietEvent (IsBetweenLines s) old e → Does old e new → Holds s old → Holds s new
+holds_does s old new (Key key) none sound quiet d h = unless s old.client_stopped old new (Types old key new) (holds_types s old new key none sound) d h
+holds_does s old new (ToServer n) none sound quiet d h = unless s old.server_stopped old new (Reaches old n new) (holds_reaches s old new n none sound) d h
+holds_does s old new (ToClient n) none sound quiet d h = unless s old.client_stopped old new (Returns old n new) (holds_returns s old new n none sound quiet) d h
+holds_does s old new (Write bytes) none sound quiet d h = unless s old.server_stopped old new (Asks old (asked.wrote bytes) new) (holds_asks s old new (asked.wrote bytes) tt sound) d h
+holds_does s old new (Pull n) none sound quiet d h =
+    unless s old.server_stopped old new (Pulls old n new) (λ p. holds_asks s old new (asked.pulled p.count) tt sound p.asks) d h
+holds_does s old new Take none sound quiet d h = holds_takes s old new sound d h
+holds_does s old new (Wish editing) none sound quiet d h = unless s old.server_stopped old new (Asks old (asked.wished editing) new) (holds_asks s old new (asked.wished editing) tt sound) d h
+holds_does s old new (Resize width height) none sound quiet d h =
+    unless s old.client_stopped old new (Tells old (told.resized width height) new) (holds_resizes s old new width height none sound) d h
+holds_does s old new (SetChar func value) none sound quiet d h = absurd (quiet)
+holds_does s old new (Propose func value) none sound quiet d h = absurd (quiet)
+holds_does s old new (Echo on) none sound quiet d h = unless s old.server_stopped old new (Asks old (asked.echo_set on) new) (holds_asks s old new (asked.echo_set on) tt sound) d h
+holds_does s old new ServerStops none sound quiet d h = holds_stops s old new true old.client_stopped d sound h
+holds_does s old new ClientStops none sound quiet d h = holds_stops s old new old.server_stopped true d sound h
 
 -- What fails an end fails it for good, so that no end had failed before where none has now.
 bad : (b : Bool) (A : Type 0) → b ≡ true → b ≡ false → A
@@ -327,34 +285,13 @@ does_ran old new ServerStops d none = both_ran old new (ap (λ (w : World). w.se
 does_ran old new ClientStops d none = both_ran old new (ap (λ (w : World). w.server.failed) d) (ap (λ (w : World). w.client.failed) d) none
 
 -- a refusal at which no end failed changed nothing
+unrefused : (old new : World) → Refusal old new → NoneFailed new → new ≡ old
+unrefused old new (unchanged is) none = is
+unrefused old new (by_server n fault r) none = bad new.server.failed (new ≡ old) r.failed none.0
+unrefused old new (by_client n fault r) none = bad new.client.failed (new ≡ old) r.failed none.1
+
 refused_same : (old new : World) (e : Event) (c : Cause) → Refuses old e c new → NoneFailed new → new ≡ old
-refused_same old new e cause.Memory r none = r
-refused_same old new (ToServer n) (cause.Server fault) r none = bad new.server.failed (new ≡ old) r.failed none.0
-refused_same old new (ToClient n) (cause.Client fault) r none = bad new.client.failed (new ≡ old) r.failed none.1
-refused_same old new (Key key) (cause.Server fault) r none = r.2
-refused_same old new (ToClient n) (cause.Server fault) r none = r.2
-refused_same old new (Write bytes) (cause.Server fault) r none = r.2
-refused_same old new (Pull n) (cause.Server fault) r none = r.2
-refused_same old new Take (cause.Server fault) r none = r.2
-refused_same old new (Wish editing) (cause.Server fault) r none = r.2
-refused_same old new (Resize width height) (cause.Server fault) r none = r.2
-refused_same old new (SetChar func value) (cause.Server fault) r none = r.2
-refused_same old new (Propose func value) (cause.Server fault) r none = r.2
-refused_same old new (Echo on) (cause.Server fault) r none = r.2
-refused_same old new ServerStops (cause.Server fault) r none = r.2
-refused_same old new ClientStops (cause.Server fault) r none = r.2
-refused_same old new (Key key) (cause.Client fault) r none = r.2
-refused_same old new (ToServer n) (cause.Client fault) r none = r.2
-refused_same old new (Write bytes) (cause.Client fault) r none = r.2
-refused_same old new (Pull n) (cause.Client fault) r none = r.2
-refused_same old new Take (cause.Client fault) r none = r.2
-refused_same old new (Wish editing) (cause.Client fault) r none = r.2
-refused_same old new (Resize width height) (cause.Client fault) r none = r.2
-refused_same old new (SetChar func value) (cause.Client fault) r none = r.2
-refused_same old new (Propose func value) (cause.Client fault) r none = r.2
-refused_same old new (Echo on) (cause.Client fault) r none = r.2
-refused_same old new ServerStops (cause.Client fault) r none = r.2
-refused_same old new ClientStops (cause.Client fault) r none = r.2
+refused_same old new e c r none = unrefused old new (refusal_of old new e c r) none
 
 occurs_ran : (old new : World) (e : Event) → Occurs old e new → NoneFailed new → NoneFailed old
 occurs_ran old new e (inl d) none = does_ran old new e d none
@@ -364,11 +301,11 @@ pub passes_ran : (may : List ℕ → Type 0) (old new : World) (events : List Ev
 passes_ran may old new [] p none = as_before old new p none
 passes_ran may old new (e ∷ events) p none = occurs_ran old p.0 e p.2 (passes_ran may p.0 new events p.3 none)
 
-holds_occurs : (does : Simulates) (speech : Speech) (s : Settings) (old new : World) (e : Event) → NoneFailed new → IsQuietEvent (IsBetweenLines s) old e → Occurs old e new → Holds s old → Holds s new
-holds_occurs does speech s old new e none quiet (inl d) h = holds_does does s old new e (does_ran old new e d none) (sound_does speech old new e d h.sound) quiet d h
-holds_occurs does speech s old new e none quiet (inr r) h = holds_as s old new (refused_same old new e r.0 r.1 none) h
+holds_occurs : (s : Settings) (old new : World) (e : Event) → NoneFailed new → IsQuietEvent (IsBetweenLines s) old e → Occurs old e new → Holds s old → Holds s new
+holds_occurs s old new e none quiet (inl d) h = holds_does s old new e (does_ran old new e d none) (sound_does old new e d h.sound) quiet d h
+holds_occurs s old new e none quiet (inr r) h = holds_as s old new (refused_same old new e r.0 r.1 none) h
 
-pub holds_passes : (does : Simulates) (speech : Speech) (s : Settings) (old new : World) (events : List Event) → NoneFailed new → Passes (IsBetweenLines s) old events new → Holds s old → Holds s new
-holds_passes does speech s old new [] none p h = holds_as s old new p h
-holds_passes does speech s old new (e ∷ events) none p h =
-    holds_passes does speech s p.0 new events none p.3 (holds_occurs does speech s old p.0 e (passes_ran (IsBetweenLines s) p.0 new events p.3 none) p.1 p.2 h)
+pub holds_passes : (s : Settings) (old new : World) (events : List Event) → NoneFailed new → Passes (IsBetweenLines s) old events new → Holds s old → Holds s new
+holds_passes s old new [] none p h = holds_as s old new p h
+holds_passes s old new (e ∷ events) none p h =
+    holds_passes s p.0 new events none p.3 (holds_occurs s old p.0 e (passes_ran (IsBetweenLines s) p.0 new events p.3 none) p.1 p.2 h)

@@ -5,9 +5,9 @@ pub mod ClientWrites
 pub mod Cut
 pub mod Following
 pub mod Marking
+pub mod Prefixes
 pub mod Promise
 pub mod Reading
-pub mod Relation
 pub mod Resting
 pub mod ServerItems
 pub mod ServerSteps

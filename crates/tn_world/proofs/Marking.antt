@@ -20,10 +20,8 @@ use Rattle.tn_world.specs.Pictures.{server_core}
 use Rattle.tn_world.specs.Quiet.{IsMark}
 use Rattle.tn_world.specs.Settled.{AgreeOnLinemode}
 use Rattle.tn_world.specs.Worlds.{World}
-use Rattle.tn_world.proofs.Changing.{Agrees}
-use Rattle.tn_world.proofs.Following.{rules_of, picture, Holds}
-use Rattle.tn_world.proofs.Reading.{at}
 use Rattle.tn_world.proofs.Tied.{rest-agrees, no_items}
+use Rattle.tn_world.specs.Relation.{Agrees, Holds, at, picture, rules_of}
 
 -- a wish that was allowed
 abbrev IsAllowed : Flags → ℕ → Type 0

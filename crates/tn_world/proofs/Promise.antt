@@ -5,7 +5,6 @@ use Rattle.std.proofs.Math.Seq.{drop-cons}
 use Rattle.std.proofs.lemmas.List.{take_more, take_all, take-append-drop, length-take-le}
 use Rattle.tn_discipline.specs.declared.reads.Entry.{Entry}
 use Rattle.tn_discipline.specs.declared.termios.Settings.{Settings}
-use Rattle.tn_server.specs.Events as asked
 use Rattle.tn_world.specs.Headline.{IsPrefixOf, local_entries}
 use Rattle.tn_world.specs.Opened.{anew}
 use Rattle.tn_world.specs.Quiet.{IsBetweenLines, Nowhere, Passes, IsQuietEvent, AreQuiet, IsQuiet, IsMark, Follows, NoneFailed, NothingFlies, ComeWhere}
@@ -17,75 +16,20 @@ use Rattle.tn_client.specs.Terms.{heard, mode_at}
 use Rattle.tn_world.specs.declared.events.Event.{Event}
 use Rattle.tn_world.specs.declared.events.Event.TheVariants.{Key, ToServer, ToClient, Write, Pull, Take, Wish, Resize, SetChar, Propose, Echo, ServerStops, ClientStops}
 use Rattle.tn_world.specs.declared.faults.Cause.{Cause}
-use Rattle.tn_world.proofs.ClientSteps as client_steps
-use Rattle.tn_world.proofs.ClientWrites as client_writes
-use Rattle.tn_world.proofs.Following.{IsPlainCall, Simulates, rules_of, picture, holds_passes}
+use Rattle.tn_world.proofs.Following.{holds_passes}
 use Rattle.tn_world.proofs.Marking.{mark_holds}
-use Rattle.tn_world.proofs.ServerItems as server_items
-use Rattle.tn_world.proofs.ServerSteps as server_steps
-use Rattle.tn_world.proofs.Soundness.{Speech, sound_does}
 use Rattle.tn_world.proofs.Tied.{tied-prefix, tied-complete}
-
-pub speech : Speech
-speech = record {
-  server_call = λ h old new e before after s g. let m = server_items.says_items h e in record { items = m.items; spelled = sym (g.adds h s) ∙ m.spelled; fit = m.fit };
-  server_feed = λ h old new piece before after s f. let m = server_items.feeds_made h old new piece before after s f in record { items = m.items; spelled = m.spelled; fit = m.fit };
-  client_call = client_writes.sends_items;
-  client_feed = client_writes.feeds_items;
-}
-
--- a plain call, as the server's lemmas name it
-keeps : (e : asked.Event) → IsPlainCall e → server_steps.KeepsEntries e
-keeps (asked.wrote bytes) p = tt
-keeps (asked.pulled n) p = tt
-keeps (asked.wished editing) p = tt
-keeps (asked.echo_set on) p = tt
-keeps (asked.got item) p = absurd (p)
-keeps asked.took p = absurd (p)
-keeps (asked.char_set func value) p = absurd (p)
-
-calls : (e : asked.Event) → IsPlainCall e → server_steps.IsCall e
-calls (asked.wrote bytes) p = tt
-calls (asked.pulled n) p = tt
-calls (asked.wished editing) p = tt
-calls (asked.echo_set on) p = tt
-calls (asked.got item) p = absurd (p)
-calls asked.took p = absurd (p)
-calls (asked.char_set func value) p = absurd (p)
-
-pub simulates : Simulates
-simulates = record {
-  feeds_core = server_steps.feeds_core;
-  feeds_stays = server_steps.feeds_stays;
-  feeds_replies = server_steps.feeds_replies;
-  call_replies = λ rules h old new e before after p. server_steps.says_replies rules h old new e before after (calls e p);
-  call_stays = λ rules h old new e before after p. server_steps.says_stays rules h old new e before after (calls e p);
-  call_core = λ h old new e before after p. server_steps.says_core h old new e before after (keeps e p);
-  took_replies = λ rules h old new before after. server_steps.says_replies rules h old new asked.took before after tt;
-  took_stays = λ rules h old new before after. server_steps.says_stays rules h old new asked.took before after tt;
-  took_core = server_steps.took_core;
-  keys_done = client_steps.keys_done;
-  keys_stay = client_steps.keys_stay;
-  client_feeds_done = client_steps.feeds_done;
-  client_feeds_stay = client_steps.feeds_stay;
-  client_feeds_quiet = client_steps.feeds_quiet;
-  resized_done = client_steps.resized_done;
-  resized_stays = client_steps.resized_stays;
-}
-
--- the invariant of a world
-pub still_sound : (old new : World) (e : Event) → Does old e new → IsSound old → IsSound new
-still_sound old new e d s = sound_does speech old new e d s
+use Rattle.tn_world.specs.Relation.{picture, rules_of}
 
 -- the headline
 pub passes_prefix : (s : Settings) (start new : World) (events : List Event) → IsMark s start → Passes (IsBetweenLines s) start events new → NoneFailed new → IsPrefixOf (made new) (local_entries s new.typed)
 passes_prefix s start new events m p none =
-    let h = holds_passes simulates speech s start new events none p (mark_holds s start m) in
+    let h = holds_passes s start new events none p (mark_holds s start m) in
     tied-prefix (rules_of s h.linemode) (picture new h.trapped h.plain) h.tied
 
 pub passes_complete : (s : Settings) (start new : World) (events : List Event) → IsMark s start → Passes (IsBetweenLines s) start events new → NoneFailed new → NothingFlies new → made new ≡ local_entries s new.typed
 passes_complete s start new events m p none nothing =
-    let h = holds_passes simulates speech s start new events none p (mark_holds s start m) in
+    let h = holds_passes s start new events none p (mark_holds s start m) in
     tied-complete (rules_of s h.linemode) (picture new h.trapped h.plain) h.tied nothing.0
 
 pub follows_prefix : (s : Settings) (w : World) → Follows s w → NoneFailed w → IsPrefixOf (made w) (local_entries s w.typed)

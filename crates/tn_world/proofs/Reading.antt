@@ -12,19 +12,11 @@ use Rattle.tn_discipline.specs.declared.keys.Role.TheVariants as role
 use Rattle.tn_discipline.proofs.Histories.{half-next, entries-next}
 use Rattle.tn_discipline.proofs.KeyRoles.{roles_of-append, roles_of-one}
 use Rattle.tn_world.specs.Machine.{Item, byte, Server, read, read_all, bytes}
-
--- a server that goes on
-abbrev pub at : Bool → List ℕ → List Entry → Server
-at edit half waiting = record { edit = edit; half = half; waiting = waiting; failed = false }
+use Rattle.tn_world.specs.Relation.{AreOrdinary, at}
 
 pub read_all-append : (s : Settings) (v : Server) (xs ys : List Item) → read_all s v (xs ++ ys) ≡ read_all s (read_all s v xs) ys
 read_all-append s v [] ys = refl
 read_all-append s v (x ∷ xs) ys = read_all-append s (read s v x) xs ys
-
--- bytes that are ordinary as they are
-abbrev pub AreOrdinary : Characters → List ℕ → Type 0
-AreOrdinary chars [] = Unit
-AreOrdinary chars (b ∷ bs) = (literal_role chars b ≡ role.Ordinary b) × AreOrdinary chars bs
 
 pub ordinary-append : (chars : Characters) (xs ys : List ℕ) → AreOrdinary chars xs → AreOrdinary chars ys → AreOrdinary chars (xs ++ ys)
 ordinary-append chars [] ys p q = q

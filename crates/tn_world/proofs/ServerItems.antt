@@ -1,6 +1,5 @@
 -- What a server end says, whatever came and whatever its owner did: whole items, and for a screen only what is pulled.
 use Rattle.std.proofs.Common.{◌≡◌, ◌≤◌, ℕ, ◌+◌, nat_le, Bool, true, false, not, ◌&&◌, Option, Some, None, List, [], ◌∷◌, ◌++◌, length, take, refl, sym, ap, ◌∙◌, if◌then◌else◌, subst, arith, append-nil, append_assoc}
-use Rattle.std.specs.Prelude.{All}
 use Rattle.std.proofs.lemmas.Bool.Decides.{nat_tests}
 use Rattle.std.proofs.lemmas.List.{append_cancel_left}
 use Rattle.tn_codes.specs.PayloadOf.{payload_of}
@@ -17,7 +16,6 @@ use Rattle.tn_discipline.specs.declared.termios.Flags.{Flags}
 use Rattle.tn_linemode.specs.Exchange.{announcement, server_answers, server_is_asked, is_same_value}
 use Rattle.tn_linemode.specs.Modes.{edits}
 use Rattle.tn_linemode.specs.Triples.{triple_of}
-use Rattle.tn_nvt.specs.Spelling.{Fits}
 use Rattle.tn_nvt.specs.declared.items.Item.{Item}
 use Rattle.tn_nvt.specs.declared.items.Item.TheVariants.{Byte, Newline, Cmd, Neg, Sub}
 use Rattle.tn_option.specs.Options.{Options, reply_to, state_of, is_yes}
@@ -32,7 +30,7 @@ use Rattle.tn_server.specs.Standing.{End, Stands, Goes, Feeds}
 use Rattle.tn_server.specs.declared.wishes.Editing.{Editing}
 use Rattle.tn_server.proofs.Listing.{list_fits, length-announcement, says_short, answers_fit}
 use Rattle.tn_client.specs.Screen.{item_shown}
-use Rattle.tn_world.specs.Ends.{spells}
+use Rattle.tn_world.specs.Flight.{Whole}
 use Rattle.tn_world.proofs.ServerSteps.{Made, nothing, one, both, reply_speaks, word_made, settled_made, mode_made, pulled_made, ga_made}
 
 -- the item shows nothing on a screen
@@ -42,12 +40,6 @@ IsSilent item = item_shown item ≡ []
 abbrev pub IsUnpulled : Event → Type 0
 IsUnpulled (pulled n) = ⊥
 IsUnpulled _ = Unit {0}
-
-pub record SaysItems (h : History) (e : Event) : Type 0 where
-  pub items : List Item
-  pub spelled : adds h e ≡ spells items
-  pub fit : All Fits items
-  pub silent : IsUnpulled e → All IsSilent items
 
 -- a list of characters fits where it has at most 170 triples
 listed_made : (triples : List Triple) → length triples ≤ 170 → Made IsSilent (listed triples)
@@ -115,19 +107,23 @@ silent_adds h (wished ed) is = settled_silent (flags h) (chars h) (terms h) (opt
 silent_adds h (char_set func value) is = triple_silent (linemode (options h) && not (is_same_value (slot (chars h) func) value)) func value
 silent_adds h (echo_set on) is = settled_silent (flags (next h (echo_set on))) (chars h) (terms h) (options h) None true
 
-items_said : (h : History) (e : Event) → Made IsSilent (adds h e) → SaysItems h e
-items_said h e m = record { items = m.items; spelled = m.spelled; fit = m.fit; silent = λ is. m.each }
+whole_of : (out : List ℕ) → Made IsSilent out → Whole out
+whole_of out m = record { items = m.items; spelled = m.spelled; fit = m.fit }
 
-pub says_items : (h : History) (e : Event) → SaysItems h e
-says_items h (pulled n) =
+-- whatever it says are whole items
+says_whole : (h : History) (e : Event) → Whole (adds h e)
+says_whole h (pulled n) =
     let m = pulled_made (λ item. Unit {0}) (λ b. tt) tt (take n (queue h)) in
-    record { items = m.items; spelled = m.spelled; fit = m.fit; silent = λ is. absurd is }
-says_items h (got item) = items_said h (got item) (silent_adds h (got item) tt)
-says_items h took = items_said h took (silent_adds h took tt)
-says_items h (wrote bytes) = items_said h (wrote bytes) (silent_adds h (wrote bytes) tt)
-says_items h (wished ed) = items_said h (wished ed) (silent_adds h (wished ed) tt)
-says_items h (char_set func value) = items_said h (char_set func value) (silent_adds h (char_set func value) tt)
-says_items h (echo_set on) = items_said h (echo_set on) (silent_adds h (echo_set on) tt)
+    record { items = m.items; spelled = m.spelled; fit = m.fit }
+says_whole h (got item) = whole_of (adds h (got item)) (silent_adds h (got item) tt)
+says_whole h took = whole_of (adds h took) (silent_adds h took tt)
+says_whole h (wrote bytes) = whole_of (adds h (wrote bytes)) (silent_adds h (wrote bytes) tt)
+says_whole h (wished ed) = whole_of (adds h (wished ed)) (silent_adds h (wished ed) tt)
+says_whole h (char_set func value) = whole_of (adds h (char_set func value)) (silent_adds h (char_set func value) tt)
+says_whole h (echo_set on) = whole_of (adds h (echo_set on)) (silent_adds h (echo_set on) tt)
+
+pub goes_whole : (h : History) (old new : End) (e : Event) (before after : List ℕ) → Stands h old → (g : Goes old e before after new) → Whole g.bytes
+goes_whole h old new e before after s g = subst (λ (xs : List ℕ). Whole xs) (g.adds h s) (says_whole h e)
 
 -- the words that a new end begins with
 pub opening_made : Made IsSilent opening
@@ -136,12 +132,6 @@ opening_made =
     (both IsSilent _ _ (one IsSilent (Neg verb.DoIt 31) tt refl)
     (both IsSilent _ _ (one IsSilent (Neg verb.Will 3) tt refl)
     (both IsSilent _ _ (one IsSilent (Neg verb.DoIt 3) tt refl) (one IsSilent (Neg verb.Will 1) tt refl))))
-
--- a call, or an item, at an end
-pub goes_items : (h : History) (old new : End) (e : Event) (before after : List ℕ) → IsUnpulled e → Stands h old → (g : Goes old e before after new) → (items : List Item) × (g.bytes ≡ spells items) × All Fits items × All IsSilent items
-goes_items h old new e before after is s g =
-    let m = subst (Made IsSilent) (g.adds h s) (silent_adds h e is) in
-    (m.items, m.spelled, m.fit, m.each)
 
 -- items that came, one after another
 gets_silent : (h : History) (items : List Item) → (bytes : List ℕ) × (sent (gets h items) ≡ sent h ++ bytes) × Made IsSilent bytes
@@ -155,10 +145,8 @@ feeds_made h old new piece before after s f =
     let later = gets_silent h f.items in
     subst (Made IsSilent) (append_cancel_left (sent h) later.0 f.bytes (sym later.1 ∙ f.sends h s)) later.2
 
-pub feeds_items : (h : History) (old new : End) (piece before after : List ℕ) → Stands h old → (f : Feeds old piece before after new) → (items : List Item) × (f.bytes ≡ spells items) × All Fits items × All IsSilent items
-feeds_items h old new piece before after s f =
-    let m = feeds_made h old new piece before after s f in
-    (m.items, m.spelled, m.fit, m.each)
+pub feeds_whole : (h : History) (old new : End) (piece before after : List ℕ) → Stands h old → (f : Feeds old piece before after new) → Whole f.bytes
+feeds_whole h old new piece before after s f = whole_of f.bytes (feeds_made h old new piece before after s f)
 
 -- WHAT WAITS TO BE PULLED only grows, but for what is pulled
 fitted_more : (b : Bool) (q symbols : List Symbol) → (more : List Symbol) × ((if b then q ++ symbols else q) ≡ q ++ more)

@@ -27,7 +27,7 @@ use Rattle.tn_world.specs.declared.events.Event.TheVariants.{Key, ToServer, ToCl
 use Rattle.tn_world.specs.declared.faults.Cause.{Cause}
 use Rattle.tn_world.proofs.ClientWrites.{feeds_text}
 use Rattle.tn_world.proofs.Cut.{start}
-use Rattle.tn_world.proofs.Promise.{still_sound}
+use Rattle.tn_world.proofs.Soundness.{sound_does}
 use Rattle.tn_world.proofs.ServerItems.{IsSilent, IsUnpulled, silent_adds, opening_made, feeds_made, feeds_queue, goes_queue}
 use Rattle.tn_world.proofs.ServerSteps.{Made, nothing}
 use Rattle.tn_world.proofs.Tied.{behind, cut_at}
@@ -265,7 +265,7 @@ pub runs_grow : (old new : World) (events : List Event) (text : List ℕ) → Is
 runs_grow old new [] text s runs r o = r
 runs_grow old new (e ∷ events) text s runs r o =
     let g = output_grows old r.0 e text s runs r.1 o in
-    (r.0, r.1, g, runs_grow r.0 new events (text ++ screen g.symbols) (still_sound old r.0 e r.1 s) (goes_on old r.0 e r.1 ∙ runs) r.2 g.output)
+    (r.0, r.1, g, runs_grow r.0 new events (text ++ screen g.symbols) (sound_does old r.0 e r.1 s) (goes_on old r.0 e r.1 ∙ runs) r.2 g.output)
 
 pub ends_grow : (old new : World) (events : List Event) (at : ℕ) (cause : Cause) (text : List ℕ) → IsSound old → old.client.failed ≡ false → Ends old events at cause new → IsOutput old text → GrowsBefore old events at cause new text
 ends_grow old new events at cause text s runs e o = record { ends = e; grows = runs_grow old e.mid e.done text s runs e.runs o }

@@ -1,8 +1,6 @@
 -- Whatever happens, each end stands where some history leads, and what is in flight are whole items while no end has failed.
 use Rattle.std.proofs.Common.{◌≡◌, ℕ, Bool, true, false, List, ◌++◌, take, drop, refl, sym, ◌∙◌, subst}
-use Rattle.std.specs.Prelude.{All}
 use Rattle.tn_nvt.specs.declared.items.Item.{Item}
-use Rattle.tn_nvt.specs.Spelling.{Fits}
 use Rattle.tn_nvt.specs.Standing.{Standing}
 use Rattle.tn_server.specs.Events as asked
 use Rattle.tn_server.specs.Standing as server
@@ -11,7 +9,6 @@ use Rattle.tn_server.specs.declared.faults.ServerFault.TheVariants as refused
 use Rattle.tn_client.specs.Events as told
 use Rattle.tn_client.specs.Standing as client
 use Rattle.tn_client.specs.declared.faults.ClientFault.{ClientFault}
-use Rattle.tn_world.specs.Ends.{spells}
 use Rattle.tn_world.specs.Flight.{InFlight}
 use Rattle.tn_world.specs.Settled.{AreInFlight, IsSound}
 use Rattle.tn_world.specs.Worlds.{World, Unless, Types, Tells, Reaches, Returns, Asks, Pulls, Takes, Does, ServerRefuses, ClientRefuses, Refuses}
@@ -19,20 +16,10 @@ use Rattle.tn_world.specs.declared.events.Event.{Event}
 use Rattle.tn_world.specs.declared.events.Event.TheVariants.{Key, ToServer, ToClient, Write, Pull, Take, Wish, Resize, SetChar, Propose, Echo, ServerStops, ClientStops}
 use Rattle.tn_world.specs.declared.faults.Cause.{Cause}
 use Rattle.tn_world.specs.declared.faults.Cause.TheVariants as cause
+use Rattle.tn_world.specs.Flight.{Whole}
+use Rattle.tn_world.proofs.ClientWrites as client_writes
+use Rattle.tn_world.proofs.ServerItems as server_items
 use Rattle.tn_world.proofs.Tied.{behind, cut_at}
-
--- these bytes are whole items
-pub record Whole (out : List ℕ) : Type 0 where
-  pub items : List Item
-  pub spelled : out ≡ spells items
-  pub fit : All Fits items
-
--- each end says whole items
-pub record Speech : Type 0 where
-  pub server_call : (h : asked.History) (old new : server.End) (e : asked.Event) (before after : List ℕ) → server.Stands h old → (g : server.Goes old e before after new) → Whole g.bytes
-  pub server_feed : (h : asked.History) (old new : server.End) (piece before after : List ℕ) → server.Stands h old → (f : server.Feeds old piece before after new) → Whole f.bytes
-  pub client_call : (h : told.History) (old : client.End) (e : told.Event) (before after : List ℕ) → client.Stands h old → (s : client.Sends old e before after) → Whole s.bytes
-  pub client_feed : (h : told.History) (old new : client.End) (piece before after seen now : List ℕ) → client.Stands h old → (f : client.Feeds old piece before after seen now new) → Whole f.bytes
 
 opposite : (b : Bool) (A : Type 0) → b ≡ true → b ≡ false → A
 opposite b A p q = absurd (cc)
@@ -47,12 +34,12 @@ client_stays old c e g s runs =
     (told.next before.0 e, g.stands before.0 before.1)
 
 -- a call of the client
-told_flights : (speech : Speech) (old new : World) (e : told.Event) → client.Goes old.client e new.client → client.Sends old.client e old.to_server new.to_server → IsSound old → old.server.failed ≡ false → new.client.failed ≡ false → AreInFlight (record old { client = new.client; to_server = new.to_server })
-told_flights speech old new e g sends s server_runs client_runs =
+told_flights : (old new : World) (e : told.Event) → client.Goes old.client e new.client → client.Sends old.client e old.to_server new.to_server → IsSound old → old.server.failed ≡ false → new.client.failed ≡ false → AreInFlight (record old { client = new.client; to_server = new.to_server })
+told_flights old new e g sends s server_runs client_runs =
     let runs = sym g.failed ∙ client_runs in
     let before = s.client runs in
     let f = s.flights server_runs runs in
-    let w = speech.client_call before.0 old.client e old.to_server new.to_server before.1 sends in
+    let w = client_writes.sends_items before.0 old.client e old.to_server new.to_server before.1 sends in
     record {
       items = f.items ++ w.items;
       to_server = joins old.server.decoder old.to_server sends.bytes new.to_server f.items w sends.appended f.to_server;
@@ -60,31 +47,31 @@ told_flights speech old new e g sends s server_runs client_runs =
       to_client = subst (λ d. InFlight d old.to_client f.messages) (sym g.decoder) f.to_client;
     }
 
-pub sound_types : (speech : Speech) (old new : World) (key : ℕ) → Types old key new → IsSound old → IsSound new
-sound_types speech old new key t s =
+pub sound_types : (old new : World) (key : ℕ) → Types old key new → IsSound old → IsSound new
+sound_types old new key t s =
     subst (λ w. IsSound w) (sym t.rest) (record {
       history = s.history;
       server = s.server;
       client = client_stays old new.client (told.typed key) t.goes s;
       flights = λ a b.
-          let f = told_flights speech old new (told.typed key) t.goes t.sends s a b in
+          let f = told_flights old new (told.typed key) t.goes t.sends s a b in
           record { items = f.items; to_server = f.to_server; messages = f.messages; to_client = f.to_client };
     })
 
-pub sound_tells : (speech : Speech) (old new : World) (e : told.Event) → Tells old e new → IsSound old → IsSound new
-sound_tells speech old new e t s =
+pub sound_tells : (old new : World) (e : told.Event) → Tells old e new → IsSound old → IsSound new
+sound_tells old new e t s =
     subst (λ w. IsSound w) (sym t.rest) (record {
       history = s.history;
       server = s.server;
       client = client_stays old new.client e t.goes s;
-      flights = told_flights speech old new e t.goes t.sends s;
+      flights = told_flights old new e t.goes t.sends s;
     })
 
 -- a call of the server
-asked_flights : (speech : Speech) (old new : World) (e : asked.Event) → server.Goes old.server e old.to_client new.to_client new.server → IsSound old → new.server.failed ≡ false → old.client.failed ≡ false → AreInFlight (record old { server = new.server; to_client = new.to_client })
-asked_flights speech old new e g s server_runs client_runs =
+asked_flights : (old new : World) (e : asked.Event) → server.Goes old.server e old.to_client new.to_client new.server → IsSound old → new.server.failed ≡ false → old.client.failed ≡ false → AreInFlight (record old { server = new.server; to_client = new.to_client })
+asked_flights old new e g s server_runs client_runs =
     let f = s.flights (sym g.failed ∙ server_runs) client_runs in
-    let w = speech.server_call s.history old.server new.server e old.to_client new.to_client s.server g in
+    let w = server_items.goes_whole s.history old.server new.server e old.to_client new.to_client s.server g in
     record {
       items = f.items;
       to_server = subst (λ d. InFlight d old.to_server f.items) (sym g.decoder) f.to_server;
@@ -92,29 +79,29 @@ asked_flights speech old new e g s server_runs client_runs =
       to_client = joins old.client.decoder old.to_client g.bytes new.to_client f.messages w g.appended f.to_client;
     }
 
-pub sound_asks : (speech : Speech) (old new : World) (e : asked.Event) → Asks old e new → IsSound old → IsSound new
-sound_asks speech old new e t s =
+pub sound_asks : (old new : World) (e : asked.Event) → Asks old e new → IsSound old → IsSound new
+sound_asks old new e t s =
     subst (λ w. IsSound w) (sym t.rest) (record {
       history = asked.next s.history e;
       server = t.goes.stands s.history s.server;
       client = s.client;
-      flights = asked_flights speech old new e t.goes s;
+      flights = asked_flights old new e t.goes s;
     })
 
-pub sound_takes : (speech : Speech) (old new : World) → Takes old new → IsSound old → IsSound new
-sound_takes speech old new t s =
+pub sound_takes : (old new : World) → Takes old new → IsSound old → IsSound new
+sound_takes old new t s =
     subst (λ w. IsSound w) (sym t.rest) (record {
       history = asked.next s.history asked.took;
       server = t.goes.stands s.history s.server;
       client = s.client;
       flights = λ a b.
-          let f = asked_flights speech old new asked.took t.goes s a b in
+          let f = asked_flights old new asked.took t.goes s a b in
           record { items = f.items; to_server = f.to_server; messages = f.messages; to_client = f.to_client };
     })
 
 -- a delivery to the server
-pub sound_reaches : (speech : Speech) (old new : World) (n : ℕ) → Reaches old n new → IsSound old → IsSound new
-sound_reaches speech old new n t s =
+pub sound_reaches : (old new : World) (n : ℕ) → Reaches old n new → IsSound old → IsSound new
+sound_reaches old new n t s =
     subst (λ w. IsSound w) (sym t.rest) (record {
       history = asked.gets s.history t.feeds.items;
       server = t.feeds.stands s.history s.server;
@@ -122,7 +109,7 @@ sound_reaches speech old new n t s =
       flights = λ a b.
           let f = s.flights (sym t.feeds.failed ∙ a) b in
           let d = cut_at old.server.decoder new.server.decoder n old.to_server f.items t.feeds.items f.to_server (record { items = t.feeds.items; appended = refl; adds = t.feeds.reads }) in
-          let w = speech.server_feed s.history old.server new.server (take n old.to_server) old.to_client new.to_client s.server t.feeds in
+          let w = server_items.feeds_whole s.history old.server new.server (take n old.to_server) old.to_client new.to_client s.server t.feeds in
           record {
             items = d.left;
             to_server = d.flight;
@@ -132,8 +119,8 @@ sound_reaches speech old new n t s =
     })
 
 -- a delivery to the client
-pub sound_returns : (speech : Speech) (old new : World) (n : ℕ) → Returns old n new → IsSound old → IsSound new
-sound_returns speech old new n t s =
+pub sound_returns : (old new : World) (n : ℕ) → Returns old n new → IsSound old → IsSound new
+sound_returns old new n t s =
     subst (λ w. IsSound w) (sym t.rest) (record {
       history = s.history;
       server = s.server;
@@ -145,7 +132,7 @@ sound_returns speech old new n t s =
           let before = s.client runs in
           let f = s.flights a runs in
           let d = cut_at old.client.decoder new.client.decoder n old.to_client f.messages t.feeds.items f.to_client (record { items = t.feeds.items; appended = refl; adds = t.feeds.reads }) in
-          let w = speech.client_feed before.0 old.client new.client (take n old.to_client) old.to_server new.to_server old.shown new.shown before.1 t.feeds in
+          let w = client_writes.feeds_items before.0 old.client new.client (take n old.to_client) old.to_server new.to_server old.shown new.shown before.1 t.feeds in
           record {
             items = f.items ++ w.items;
             to_server = joins old.server.decoder old.to_server t.feeds.bytes new.to_server f.items w t.feeds.appended f.to_server;
@@ -158,25 +145,25 @@ unless : (stopped : Bool) (old new : World) (happens : Type 0) → (happens → 
 unless true old new happens done is s = subst (λ w. IsSound w) (sym is) s
 unless false old new happens done is s = done is s
 
-pub sound_does : (speech : Speech) (old new : World) (e : Event) → Does old e new → IsSound old → IsSound new
-sound_does speech old new (Key key) d s = unless old.client_stopped old new (Types old key new) (sound_types speech old new key) d s
-sound_does speech old new (ToServer n) d s = unless old.server_stopped old new (Reaches old n new) (sound_reaches speech old new n) d s
-sound_does speech old new (ToClient n) d s = unless old.client_stopped old new (Returns old n new) (sound_returns speech old new n) d s
-sound_does speech old new (Write bytes) d s = unless old.server_stopped old new (Asks old (asked.wrote bytes) new) (sound_asks speech old new (asked.wrote bytes)) d s
-sound_does speech old new (Pull n) d s =
-    unless old.server_stopped old new (Pulls old n new) (λ p. sound_asks speech old new (asked.pulled p.count) p.asks) d s
-sound_does speech old new Take d s = sound_takes speech old new d s
-sound_does speech old new (Wish editing) d s = unless old.server_stopped old new (Asks old (asked.wished editing) new) (sound_asks speech old new (asked.wished editing)) d s
-sound_does speech old new (Resize width height) d s =
-    unless old.client_stopped old new (Tells old (told.resized width height) new) (sound_tells speech old new (told.resized width height)) d s
-sound_does speech old new (SetChar func value) d s =
-    unless old.server_stopped old new (Asks old (asked.char_set func value) new) (sound_asks speech old new (asked.char_set func value)) d s
-sound_does speech old new (Propose func value) d s =
-    unless old.client_stopped old new (Tells old (told.proposed func value) new) (sound_tells speech old new (told.proposed func value)) d s
-sound_does speech old new (Echo on) d s = unless old.server_stopped old new (Asks old (asked.echo_set on) new) (sound_asks speech old new (asked.echo_set on)) d s
-sound_does speech old new ServerStops d s =
+pub sound_does : (old new : World) (e : Event) → Does old e new → IsSound old → IsSound new
+sound_does old new (Key key) d s = unless old.client_stopped old new (Types old key new) (sound_types old new key) d s
+sound_does old new (ToServer n) d s = unless old.server_stopped old new (Reaches old n new) (sound_reaches old new n) d s
+sound_does old new (ToClient n) d s = unless old.client_stopped old new (Returns old n new) (sound_returns old new n) d s
+sound_does old new (Write bytes) d s = unless old.server_stopped old new (Asks old (asked.wrote bytes) new) (sound_asks old new (asked.wrote bytes)) d s
+sound_does old new (Pull n) d s =
+    unless old.server_stopped old new (Pulls old n new) (λ p. sound_asks old new (asked.pulled p.count) p.asks) d s
+sound_does old new Take d s = sound_takes old new d s
+sound_does old new (Wish editing) d s = unless old.server_stopped old new (Asks old (asked.wished editing) new) (sound_asks old new (asked.wished editing)) d s
+sound_does old new (Resize width height) d s =
+    unless old.client_stopped old new (Tells old (told.resized width height) new) (sound_tells old new (told.resized width height)) d s
+sound_does old new (SetChar func value) d s =
+    unless old.server_stopped old new (Asks old (asked.char_set func value) new) (sound_asks old new (asked.char_set func value)) d s
+sound_does old new (Propose func value) d s =
+    unless old.client_stopped old new (Tells old (told.proposed func value) new) (sound_tells old new (told.proposed func value)) d s
+sound_does old new (Echo on) d s = unless old.server_stopped old new (Asks old (asked.echo_set on) new) (sound_asks old new (asked.echo_set on)) d s
+sound_does old new ServerStops d s =
     subst (λ w. IsSound w) (sym d) (record { history = s.history; server = s.server; client = s.client; flights = λ a b. let f = s.flights a b in record { items = f.items; to_server = f.to_server; messages = f.messages; to_client = f.to_client } })
-sound_does speech old new ClientStops d s =
+sound_does old new ClientStops d s =
     subst (λ w. IsSound w) (sym d) (record { history = s.history; server = s.server; client = s.client; flights = λ a b. let f = s.flights a b in record { items = f.items; to_server = f.to_server; messages = f.messages; to_client = f.to_client } })
 
 -- an end that has failed: nothing is said of flights
@@ -208,31 +195,45 @@ sound_client_refuses old new n fault r s =
 same : (old new : World) → new ≡ old → IsSound old → IsSound new
 same old new is s = subst (λ w. IsSound w) (sym is) s
 
+-- A refusal changed nothing, or it was of a delivery.
+pub data Refusal (old : World) (new : World) : Type 0 where
+  unchanged : new ≡ old → Refusal old new
+  by_server : (n : ℕ) (fault : ServerFault) → ServerRefuses old n fault new → Refusal old new
+  by_client : (n : ℕ) (fault : ClientFault) → ClientRefuses old n fault new → Refusal old new
+
+pub refusal_of : (old new : World) (e : Event) (c : Cause) → Refuses old e c new → Refusal old new
+refusal_of old new e cause.Memory r = unchanged r
+refusal_of old new (ToServer n) (cause.Server fault) r = by_server n fault r
+refusal_of old new (ToClient n) (cause.Client fault) r = by_client n fault r
+refusal_of old new (Key key) (cause.Server fault) r = unchanged r.2
+refusal_of old new (ToClient n) (cause.Server fault) r = unchanged r.2
+refusal_of old new (Write bytes) (cause.Server fault) r = unchanged r.2
+refusal_of old new (Pull n) (cause.Server fault) r = unchanged r.2
+refusal_of old new Take (cause.Server fault) r = unchanged r.2
+refusal_of old new (Wish editing) (cause.Server fault) r = unchanged r.2
+refusal_of old new (Resize width height) (cause.Server fault) r = unchanged r.2
+refusal_of old new (SetChar func value) (cause.Server fault) r = unchanged r.2
+refusal_of old new (Propose func value) (cause.Server fault) r = unchanged r.2
+refusal_of old new (Echo on) (cause.Server fault) r = unchanged r.2
+refusal_of old new ServerStops (cause.Server fault) r = unchanged r.2
+refusal_of old new ClientStops (cause.Server fault) r = unchanged r.2
+refusal_of old new (Key key) (cause.Client fault) r = unchanged r.2
+refusal_of old new (ToServer n) (cause.Client fault) r = unchanged r.2
+refusal_of old new (Write bytes) (cause.Client fault) r = unchanged r.2
+refusal_of old new (Pull n) (cause.Client fault) r = unchanged r.2
+refusal_of old new Take (cause.Client fault) r = unchanged r.2
+refusal_of old new (Wish editing) (cause.Client fault) r = unchanged r.2
+refusal_of old new (Resize width height) (cause.Client fault) r = unchanged r.2
+refusal_of old new (SetChar func value) (cause.Client fault) r = unchanged r.2
+refusal_of old new (Propose func value) (cause.Client fault) r = unchanged r.2
+refusal_of old new (Echo on) (cause.Client fault) r = unchanged r.2
+refusal_of old new ServerStops (cause.Client fault) r = unchanged r.2
+refusal_of old new ClientStops (cause.Client fault) r = unchanged r.2
+
+refused_sound : (old new : World) → Refusal old new → IsSound old → IsSound new
+refused_sound old new (unchanged is) s = same old new is s
+refused_sound old new (by_server n fault r) s = sound_server_refuses old new n fault r s
+refused_sound old new (by_client n fault r) s = sound_client_refuses old new n fault r s
+
 pub sound_refuses : (old new : World) (e : Event) (c : Cause) → Refuses old e c new → IsSound old → IsSound new
-sound_refuses old new e cause.Memory r s = same old new r s
-sound_refuses old new (ToServer n) (cause.Server fault) r s = sound_server_refuses old new n fault r s
-sound_refuses old new (ToClient n) (cause.Client fault) r s = sound_client_refuses old new n fault r s
-sound_refuses old new (Key key) (cause.Server fault) r s = same old new r.2 s
-sound_refuses old new (ToClient n) (cause.Server fault) r s = same old new r.2 s
-sound_refuses old new (Write bytes) (cause.Server fault) r s = same old new r.2 s
-sound_refuses old new (Pull n) (cause.Server fault) r s = same old new r.2 s
-sound_refuses old new Take (cause.Server fault) r s = same old new r.2 s
-sound_refuses old new (Wish editing) (cause.Server fault) r s = same old new r.2 s
-sound_refuses old new (Resize width height) (cause.Server fault) r s = same old new r.2 s
-sound_refuses old new (SetChar func value) (cause.Server fault) r s = same old new r.2 s
-sound_refuses old new (Propose func value) (cause.Server fault) r s = same old new r.2 s
-sound_refuses old new (Echo on) (cause.Server fault) r s = same old new r.2 s
-sound_refuses old new ServerStops (cause.Server fault) r s = same old new r.2 s
-sound_refuses old new ClientStops (cause.Server fault) r s = same old new r.2 s
-sound_refuses old new (Key key) (cause.Client fault) r s = same old new r.2 s
-sound_refuses old new (ToServer n) (cause.Client fault) r s = same old new r.2 s
-sound_refuses old new (Write bytes) (cause.Client fault) r s = same old new r.2 s
-sound_refuses old new (Pull n) (cause.Client fault) r s = same old new r.2 s
-sound_refuses old new Take (cause.Client fault) r s = same old new r.2 s
-sound_refuses old new (Wish editing) (cause.Client fault) r s = same old new r.2 s
-sound_refuses old new (Resize width height) (cause.Client fault) r s = same old new r.2 s
-sound_refuses old new (SetChar func value) (cause.Client fault) r s = same old new r.2 s
-sound_refuses old new (Propose func value) (cause.Client fault) r s = same old new r.2 s
-sound_refuses old new (Echo on) (cause.Client fault) r s = same old new r.2 s
-sound_refuses old new ServerStops (cause.Client fault) r s = same old new r.2 s
-sound_refuses old new ClientStops (cause.Client fault) r s = same old new r.2 s
+sound_refuses old new e c r s = refused_sound old new (refusal_of old new e c r) s

@@ -21,21 +21,12 @@ use Rattle.tn_world.specs.Headline.{IsPrefixOf, IsAskable, local_entries}
 use Rattle.tn_world.specs.Machine as machine
 use Rattle.tn_world.specs.Machine.{Mode, Rules, Message, mode, forward_at, chatter, Server, read_all, Client, keyed, came}
 use Rattle.tn_world.proofs.Cut.{appended, delivered}
-use Rattle.tn_world.proofs.Reading.{at, read_all-append}
+use Rattle.tn_world.proofs.Reading.{read_all-append}
 use Rattle.tn_world.proofs.Changing as was
-use Rattle.tn_world.proofs.Changing.{Agrees, key-agrees, message-agrees}
-use Rattle.tn_world.proofs.Relation.{take-agrees, agreed, prefix_after, prefix_same, prefix_trans, read-more}
+use Rattle.tn_world.proofs.Changing.{key-agrees, message-agrees}
+use Rattle.tn_world.proofs.Prefixes.{take-agrees, agreed, prefix_after, prefix_same, prefix_trans, read-more}
 use Rattle.tn_world.specs.Ends.{ServerEnd, ClientEnd, spells, seen_all, heard_all, Replies, ServerFeeds, without, Took, Writes, ClientKeys, came_all, ClientFeeds, ClientSays, IsCalm, AreBetweenLines, IsQuietEvent, World, Event, key, to_server, to_client, take_entry, server_call, client_call, Happens, made}
-
--- The relation.
-pub record Tied (rules : Rules) (w : World) : Type 0 where
-  pub items : List Item
-  pub flight : InFlight w.server.decoder w.to_server items
-  pub calm : All IsCalmToServer items
-  pub messages : List Item
-  pub back : InFlight w.client.decoder w.to_client messages
-  pub asked : All (IsCalmToClient rules.settings) messages
-  pub agrees : Agrees rules w.typed w.taken (read_all rules.settings w.server.core (seen_all rules items)) w.client.core
+use Rattle.tn_world.specs.Relation.{Agrees, Tied, at}
 
 -- both parts
 pub all_parts : {X : Type 0} (P : X → Type 0) (xs ys : List X) → All P (xs ++ ys) → All P xs × All P ys

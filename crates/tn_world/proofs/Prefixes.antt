@@ -7,8 +7,8 @@ use Rattle.tn_discipline.specs.Keys.{roles_of}
 use Rattle.tn_discipline.specs.declared.termios.Settings.{Settings}
 use Rattle.tn_world.specs.Machine.{Rules, Item, Server, item_role, read, read_item, read_all, Client}
 use Rattle.tn_world.specs.Headline.{IsPrefixOf}
-use Rattle.tn_world.proofs.Reading.{at, read_all-append}
-use Rattle.tn_world.proofs.Changing.{Agrees}
+use Rattle.tn_world.proofs.Reading.{read_all-append}
+use Rattle.tn_world.specs.Relation.{Agrees, at}
 
 -- prefixes
 pub prefix_trans : (xs ys zs : List Entry) → IsPrefixOf xs ys → IsPrefixOf ys zs → IsPrefixOf xs zs

@@ -1,0 +1,78 @@
+-- The relation between both ends that every quiet event keeps, while no end has failed.
+use Rattle.std.specs.Prelude.{◌≡◌, ℕ, Bool, true, false, All, List, [], ◌∷◌, ◌++◌, length, if◌then◌else◌}
+use Rattle.tn_discipline.specs.Characters.{Characters}
+use Rattle.tn_discipline.specs.Entries.{entries_of, half_of}
+use Rattle.tn_discipline.specs.Keys.{literal_role, roles_of}
+use Rattle.tn_discipline.specs.declared.keys.Role.TheVariants as role
+use Rattle.tn_discipline.specs.declared.reads.Entry.{Entry}
+use Rattle.tn_discipline.specs.declared.termios.Settings.{Settings}
+use Rattle.tn_nvt.specs.declared.items.Item.{Item}
+use Rattle.tn_world.specs.Calm.{IsCalmToServer, IsCalmToClient}
+use Rattle.tn_world.specs.Ends as ends
+use Rattle.tn_world.specs.Ends.{seen_all}
+use Rattle.tn_world.specs.Flight.{InFlight}
+use Rattle.tn_world.specs.Headline.{IsAskable}
+use Rattle.tn_world.specs.Machine.{Rules, Server, read_all, Client, allows_local}
+use Rattle.tn_world.specs.Pictures.{server_picture, client_picture, ServerStays, ClientStays}
+use Rattle.tn_world.specs.Settled.{IsSound}
+use Rattle.tn_world.specs.Worlds.{World}
+
+-- a server that goes on
+abbrev pub at : Bool → List ℕ → List Entry → Server
+at edit half waiting = record { edit = edit; half = half; waiting = waiting; failed = false }
+
+-- bytes that are ordinary as they are
+abbrev pub AreOrdinary : Characters → List ℕ → Type 0
+AreOrdinary chars [] = Unit {0}
+AreOrdinary chars (b ∷ bs) = (literal_role chars b ≡ role.Ordinary b) × AreOrdinary chars bs
+
+-- Between the typed keys and the taken entries, the server `v` once it has read what is in flight to it, and the client:
+-- the keys' entries are those taken and those that wait at `v`, and their half line is that of `v` followed by what the
+-- client holds. Where the client edits, it knows how long the half line of `v` is; where it does not, it holds nothing,
+-- and if it counts the half line, the count that ISIG names is that length.
+pub record Agrees (rules : Rules) (typed : List ℕ) (taken : List Entry) (v : Server) (c : Client) : Type 0 where
+  pub half : List ℕ
+  pub waiting : List Entry
+  pub is : v ≡ at c.mask.edit half waiting
+  pub entries : entries_of (roles_of rules.settings typed) ≡ taken ++ waiting
+  pub line : half_of (roles_of rules.settings typed) ≡ half ++ c.held
+  pub askable : IsAskable rules.settings c.mask
+  pub ahead : c.mask.edit ≡ true → length half ≡ c.ahead
+  pub none : c.mask.edit ≡ false → c.held ≡ []
+  pub plain : AreOrdinary rules.settings.chars c.held
+  pub count : rules.resumes ≡ true → c.mask.edit ≡ false → allows_local rules.settings ≡ true → (if rules.settings.flags.isig then c.trapped else c.plain) ≡ length half
+
+-- The same of both ends and the bytes between them, which are whole items and calm.
+pub record Tied (rules : Rules) (w : ends.World) : Type 0 where
+  pub items : List Item
+  pub flight : InFlight w.server.decoder w.to_server items
+  pub calm : All IsCalmToServer items
+  pub messages : List Item
+  pub back : InFlight w.client.decoder w.to_client messages
+  pub asked : All (IsCalmToClient rules.settings) messages
+  pub agrees : Agrees rules w.typed w.taken (read_all rules.settings w.server.core (seen_all rules items)) w.client.core
+
+-- Until the client counts the half line, a mode may change between lines alone.
+abbrev pub rules_of : Settings → Bool → Rules
+rules_of s linemode = record { settings = s; linemode = linemode; resumes = false }
+
+abbrev pub picture : World → ℕ → ℕ → ends.World
+picture w trapped plain =
+    record {
+      typed = w.typed;
+      taken = w.taken;
+      server = server_picture w.server;
+      client = client_picture w.client trapped plain;
+      to_server = w.to_server;
+      to_client = w.to_client;
+    }
+
+-- The same of a world, with the server's settings at its mark.
+pub record Holds (s : Settings) (w : World) : Type 0 where
+  pub linemode : Bool
+  pub trapped : ℕ
+  pub plain : ℕ
+  pub tied : Tied (rules_of s linemode) (picture w trapped plain)
+  pub server : ServerStays (rules_of s linemode) w.server
+  pub client : ClientStays (rules_of s linemode) w.client
+  pub sound : IsSound w
