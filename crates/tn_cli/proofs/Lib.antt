@@ -1,3 +1,4 @@
+pub mod Asking
 pub mod Items
 pub mod Keys
 pub mod Numbers

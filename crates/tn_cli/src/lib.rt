@@ -9,6 +9,7 @@ pub use words::{Asked, WordsFault, read_words};
 pub use world::run_world;
 
 mod fault;
+pub mod laws;
 mod local;
 mod playing;
 mod printed;

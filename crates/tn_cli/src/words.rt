@@ -1,8 +1,9 @@
 //! The words of the command line.
 
-ghost use Rattle.std.specs.Prelude.{◌≡◌, IfOk, map};
-ghost use Rattle.tn_cli.specs.Words.{asked_by, Parses};
-ghost use Rattle.clap.specs.Words.{subcommand_name_of};
+ghost use Rattle.std.specs.Prelude.{◌≡◌, Some, false, [], IfOk, OnOk, IfErr, map, codes};
+ghost use Rattle.tn_cli.specs.Words.{asked_by, asked_of, tn, plain, Refuses, TellsKind};
+ghost use Rattle.clap.specs.Words.{app_of, fault_of, kind_of, shape_of, subcommand_name_of};
+ghost use Rattle.clap.specs.declared.builder.command.Command.TheViews.{out-Command};
 
 use clap::error::ErrorKind;
 use clap::{ArgMatches, Command, Error};
@@ -31,6 +32,10 @@ pub enum WordsFault {
 }
 
 impl From<AllocError> for WordsFault {
+    ghost use Rattle.tn_cli.specs.declared.words.WordsFault.TheVariants as fault;
+
+    ghost from_gives = { λ _ e. e ≡ fault.Memory };
+
     fn from(_error: AllocError) -> WordsFault {
         WordsFault::Memory
     }
@@ -38,7 +43,9 @@ impl From<AllocError> for WordsFault {
 
 /// Reads the words of a command line, the program's name first.
 pub fn read_words(alloc: Global, words: &[&str]) -> Result<Asked, WordsFault>
-    ensures { IfOk result (λ asked. Parses (map (λ word. word.now) words.now) asked) }
+    ensures asked { IfOk result (λ asked. asked_of (map (λ word. word.now) words.now) ≡ Some asked) }
+    ensures faultless { OnOk result (fault_of tn (map (λ word. word.now) words.now) ≡ []) }
+    ensures refuses { IfErr result (Refuses (map (λ word. word.now) words.now)) }
 {
     let command = tn_command(alloc)?;
     let matches = match command.try_get_matches_from(words) {
@@ -62,7 +69,9 @@ fn asked_of(matches: &ArgMatches<'_>) -> Option<Asked>
     }
 }
 
-fn words_fault(alloc: Global, error: &Error) -> WordsFault {
+fn words_fault(alloc: Global, error: &Error) -> WordsFault
+    ensures { TellsKind (kind_of error.now) result }
+{
     match error.kind() {
         ErrorKind::DisplayHelp => match error.to_string(alloc) {
             Ok(text) => WordsFault::Help(text),
@@ -73,7 +82,9 @@ fn words_fault(alloc: Global, error: &Error) -> WordsFault {
     }
 }
 
-fn tn_command<'a>(alloc: Global) -> Result<Command<'a>, AllocError> {
+fn tn_command<'a>(alloc: Global) -> Result<Command<'a>, AllocError>
+    ensures { IfOk result (λ command. app_of command ≡ tn) }
+{
     Command::new(alloc, "tn")
         .about("Telnet with LINEMODE: the entries that a terminal's foreground job reads")
         .after_help("Example:\n  printf 'ab\\177c\\r' | tn local")
@@ -84,7 +95,10 @@ fn tn_command<'a>(alloc: Global) -> Result<Command<'a>, AllocError> {
         .subcommand(world_command(alloc))
 }
 
-fn local_command<'a>(alloc: Global) -> Command<'a> {
+fn local_command<'a>(alloc: Global) -> Command<'a>
+    ensures shape { shape_of result ≡ plain (codes "local") }
+    ensures local { (out-Command result).has_globals ≡ false }
+{
     Command::new(alloc, "local")
         .about("Reads typed keys, and prints the entries that they give")
         .long_about(
@@ -96,7 +110,10 @@ fn local_command<'a>(alloc: Global) -> Command<'a> {
         .after_help("Example:\n  printf 'ab\\177c\\r' | tn local\n  text 61630a")
 }
 
-fn replay_command<'a>(alloc: Global) -> Command<'a> {
+fn replay_command<'a>(alloc: Global) -> Command<'a>
+    ensures shape { shape_of result ≡ plain (codes "replay") }
+    ensures local { (out-Command result).has_globals ≡ false }
+{
     Command::new(alloc, "replay")
         .about("Reads a Telnet client's byte stream, and prints the entries that its keys give")
         .long_about(
@@ -107,7 +124,10 @@ fn replay_command<'a>(alloc: Global) -> Command<'a> {
         .after_help("Example:\n  printf '\\377\\377\\r\\0' | tn replay\n  text ff0a")
 }
 
-fn world_command<'a>(alloc: Global) -> Command<'a> {
+fn world_command<'a>(alloc: Global) -> Command<'a>
+    ensures shape { shape_of result ≡ plain (codes "world") }
+    ensures local { (out-Command result).has_globals ≡ false }
+{
     Command::new(alloc, "world")
         .about("Does a script of what happens at a Telnet server, at its client and between them")
         .long_about(

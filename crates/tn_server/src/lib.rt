@@ -5,6 +5,8 @@ pub use end::ServerEnd;
 pub use faults::ServerFault;
 pub use wishes::Editing;
 
+#[cfg(test)]
+mod beside;
 mod end;
 mod faults;
 mod items;

@@ -1,0 +1,82 @@
+-- What a parse of the words says of them.
+use Rattle.std.proofs.Common.{◌≡◌, ◌≢◌, ◌⊎◌, inl, inr, ℕ, Bool, true, false, Option, Some, None, List, [], ◌∷◌, codes, option_map, refl, sym, ap, ◌∙◌, subst}
+use Rattle.clap.specs.Words.{App, subcommand_name_of, HasMatchesOf, takes, fault_of, is_simple, is_simple_and_free, IsAmong}
+use Rattle.clap.specs.declared.error.kind.ErrorKind.{ErrorKind}
+use Rattle.clap.specs.declared.error.kind.ErrorKind.TheVariants as kind
+use Rattle.clap.specs.declared.parser.matches.ArgMatches.{ArgMatches}
+use Rattle.clap.specs.declared.parser.matches.ArgMatches.TheViews.{out-ArgMatches}
+use Rattle.clap.proofs.OnLiterals.{clap_on_literals}
+use Rattle.tn_cli.specs.Words.{tn, asked_by, asked_of, AsksForHelp, Refuses, TellsKind}
+use Rattle.tn_cli.specs.declared.words.Asked.TheVariants.{Local, Replay, World}
+use Rattle.tn_cli.specs.declared.words.WordsFault.{WordsFault}
+use Rattle.tn_cli.specs.declared.words.WordsFault.TheVariants as fault
+
+is_simple_tn : is_simple tn ≡ true
+unfolding clap_on_literals
+is_simple_tn = refl
+
+pub is_free_tn : is_simple_and_free tn ≡ true
+unfolding clap_on_literals
+is_free_tn = refl
+
+not_taken : (b : Bool) (k : ErrorKind) → (b ≡ true → k ≡ kind.OutOfMemory) → k ≢ kind.OutOfMemory → b ≡ false
+not_taken true k runs_out wants = absurd (wants (runs_out refl))
+not_taken false k runs_out wants = refl
+
+abbrev HasKind' : ErrorKind → List ErrorKind → Type 0
+HasKind' k kinds = (k ≡ kind.OutOfMemory) ⊎ IsAmong k kinds
+
+among : (k : ErrorKind) (words : List (List ℕ)) → k ≡ kind.DisplayHelp → HasKind' k (fault_of tn words) → AsksForHelp words
+among k words is (inl ran_out) = absurd (cc)
+among k words is (inr found) = subst (λ x. IsAmong x (fault_of tn words)) is found
+
+-- an error of the parse is told as it must be
+refused : (words : List (List ℕ)) (k : ErrorKind) (f : WordsFault) → (takes tn words ≡ true → k ≡ kind.OutOfMemory) → HasKind' k (fault_of tn words) → TellsKind k f → Refuses words f
+refused words k fault.Usage passes kinds tells = inl (not_taken (takes tn words) k passes tells)
+refused words k fault.Memory passes kinds tells = tt
+refused words k (fault.Help text) passes kinds tells = (not_taken (takes tn words) k passes (λ ran_out. absurd (cc)), among k words tells kinds)
+
+pub refused_by : (app : App) (words : List (List ℕ)) (k : ErrorKind) (f : WordsFault) → app ≡ tn → (takes app words ≡ true → k ≡ kind.OutOfMemory) → HasKind' k (fault_of app words) → TellsKind k f → Refuses words f
+refused_by app words k f is passes kinds tells =
+    refused words k f (subst (λ (a : App). takes a words ≡ true → k ≡ kind.OutOfMemory) is passes) (subst (λ (a : App). HasKind' k (fault_of a words)) is kinds) tells
+
+composed : {A B C : Type 0} (f : A → B) (g : B → C) (o : Option A) → option_map g (option_map f o) ≡ option_map (λ x. g (f x)) o
+composed f g None = refl
+composed f g (Some x) = refl
+
+-- a parse whose subcommand asks for no run
+pub none_asked : (words : List (List ℕ)) (m : ArgMatches) → HasMatchesOf tn words m → asked_by (subcommand_name_of m) ≡ None → asked_of words ≡ None
+none_asked words m h none = ap (λ o. asked_by (option_map (λ p. p.0) o)) (sym (h is_simple_tn).1) ∙ (ap asked_by (composed _ _ (out-ArgMatches m).subcommand) ∙ none)
+
+-- words that are written out
+pub asks_local : asked_of (codes "tn" ∷ codes "local" ∷ []) ≡ Some Local
+unfolding clap_on_literals
+asks_local = refl
+
+pub asks_replay : asked_of (codes "tn" ∷ codes "replay" ∷ []) ≡ Some Replay
+unfolding clap_on_literals
+asks_replay = refl
+
+pub asks_world : asked_of (codes "tn" ∷ codes "world" ∷ []) ≡ Some World
+unfolding clap_on_literals
+asks_world = refl
+
+pub local_is_taken : takes tn (codes "tn" ∷ codes "local" ∷ []) ≡ true
+unfolding clap_on_literals
+local_is_taken = refl
+
+pub more_is_not_taken : takes tn (codes "tn" ∷ codes "local" ∷ codes "x" ∷ []) ≡ false
+unfolding clap_on_literals
+more_is_not_taken = refl
+
+pub none_is_not_taken : takes tn (codes "tn" ∷ []) ≡ false
+unfolding clap_on_literals
+none_is_not_taken = refl
+
+pub asks_for_help : AsksForHelp (codes "tn" ∷ codes "--help" ∷ [])
+unfolding clap_on_literals
+asks_for_help = inl refl
+
+pub asks_for_its_help : AsksForHelp (codes "tn" ∷ codes "local" ∷ codes "-h" ∷ [])
+unfolding clap_on_literals
+asks_for_its_help = inl refl
