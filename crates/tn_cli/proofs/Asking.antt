@@ -6,7 +6,7 @@ use Rattle.clap.specs.declared.error.kind.ErrorKind.TheVariants as kind
 use Rattle.clap.specs.declared.parser.matches.ArgMatches.{ArgMatches}
 use Rattle.clap.specs.declared.parser.matches.ArgMatches.TheViews.{out-ArgMatches}
 use Rattle.clap.proofs.OnLiterals.{clap_on_literals}
-use Rattle.tn_cli.specs.Words.{tn, asked_by, asked_of, AsksForHelp, Refuses, TellsKind}
+use Rattle.tn_cli.specs.Words.{tn, asked_by, asked_of, AsksForHelp, AreWrong, Refuses, TellsKind}
 use Rattle.tn_cli.specs.declared.words.Asked.TheVariants.{Local, Replay, World}
 use Rattle.tn_cli.specs.declared.words.WordsFault.{WordsFault}
 use Rattle.tn_cli.specs.declared.words.WordsFault.TheVariants as fault
@@ -23,22 +23,26 @@ not_taken : (b : Bool) (k : ErrorKind) → (b ≡ true → k ≡ kind.OutOfMemor
 not_taken true k runs_out wants = absurd (wants (runs_out refl))
 not_taken false k runs_out wants = refl
 
-abbrev HasKind' : ErrorKind → List ErrorKind → Type 0
-HasKind' k kinds = (k ≡ kind.OutOfMemory) ⊎ IsAmong k kinds
+abbrev IsKind : ErrorKind → List ErrorKind → Type 0
+IsKind k kinds = (k ≡ kind.OutOfMemory) ⊎ IsAmong k kinds
 
-among : (k : ErrorKind) (words : List (List ℕ)) → k ≡ kind.DisplayHelp → HasKind' k (fault_of tn words) → AsksForHelp words
+among : (k : ErrorKind) (words : List (List ℕ)) → k ≡ kind.DisplayHelp → IsKind k (fault_of tn words) → AsksForHelp words
 among k words is (inl ran_out) = absurd (cc)
 among k words is (inr found) = subst (λ x. IsAmong x (fault_of tn words)) is found
 
+wrong : (k : ErrorKind) (words : List (List ℕ)) → k ≢ kind.OutOfMemory → k ≢ kind.DisplayHelp → IsKind k (fault_of tn words) → AreWrong words
+wrong k words wants other (inl ran_out) = absurd (wants ran_out)
+wrong k words wants other (inr found) = (k, other, found)
+
 -- an error of the parse is told as it must be
-refused : (words : List (List ℕ)) (k : ErrorKind) (f : WordsFault) → (takes tn words ≡ true → k ≡ kind.OutOfMemory) → HasKind' k (fault_of tn words) → TellsKind k f → Refuses words f
-refused words k fault.Usage passes kinds tells = inl (not_taken (takes tn words) k passes tells)
+refused : (words : List (List ℕ)) (k : ErrorKind) (f : WordsFault) → (takes tn words ≡ true → k ≡ kind.OutOfMemory) → IsKind k (fault_of tn words) → TellsKind k f → Refuses words f
+refused words k fault.Usage passes kinds tells = inl (not_taken (takes tn words) k passes tells.0, wrong k words tells.0 tells.1 kinds)
 refused words k fault.Memory passes kinds tells = tt
 refused words k (fault.Help text) passes kinds tells = (not_taken (takes tn words) k passes (λ ran_out. absurd (cc)), among k words tells kinds)
 
-pub refused_by : (app : App) (words : List (List ℕ)) (k : ErrorKind) (f : WordsFault) → app ≡ tn → (takes app words ≡ true → k ≡ kind.OutOfMemory) → HasKind' k (fault_of app words) → TellsKind k f → Refuses words f
+pub refused_by : (app : App) (words : List (List ℕ)) (k : ErrorKind) (f : WordsFault) → app ≡ tn → (takes app words ≡ true → k ≡ kind.OutOfMemory) → IsKind k (fault_of app words) → TellsKind k f → Refuses words f
 refused_by app words k f is passes kinds tells =
-    refused words k f (subst (λ (a : App). takes a words ≡ true → k ≡ kind.OutOfMemory) is passes) (subst (λ (a : App). HasKind' k (fault_of a words)) is kinds) tells
+    refused words k f (subst (λ (a : App). takes a words ≡ true → k ≡ kind.OutOfMemory) is passes) (subst (λ (a : App). IsKind k (fault_of a words)) is kinds) tells
 
 composed : {A B C : Type 0} (f : A → B) (g : B → C) (o : Option A) → option_map g (option_map f o) ≡ option_map (λ x. g (f x)) o
 composed f g None = refl

@@ -40,14 +40,18 @@ asked_of words = asked_by (option_map (λ p. p.0) (subcommand_of tn words))
 abbrev pub AsksForHelp : List (List ℕ) → Type 0
 AsksForHelp words = IsAmong kind.DisplayHelp (fault_of tn words)
 
+-- something else is wrong with them
+abbrev pub AreWrong : List (List ℕ) → Type 0
+AreWrong words = (k : ErrorKind) × (k ≢ kind.DisplayHelp) × IsAmong k (fault_of tn words)
+
 -- why words give no run: they are not taken, or name none; where memory is wanting, they may be any
 abbrev pub Refuses : List (List ℕ) → WordsFault → Type 0
-Refuses words fault.Usage = (takes tn words ≡ false) ⊎ (asked_of words ≡ None)
+Refuses words fault.Usage = ((takes tn words ≡ false) × AreWrong words) ⊎ (asked_of words ≡ None)
 Refuses words fault.Memory = ⊤
 Refuses words (fault.Help text) = (takes tn words ≡ false) × AsksForHelp words
 
 -- what an error of the parse is told as
 abbrev pub TellsKind : ErrorKind → WordsFault → Type 0
-TellsKind k fault.Usage = k ≢ kind.OutOfMemory
+TellsKind k fault.Usage = (k ≢ kind.OutOfMemory) × (k ≢ kind.DisplayHelp)
 TellsKind k fault.Memory = ⊤
 TellsKind k (fault.Help text) = k ≡ kind.DisplayHelp

@@ -48,17 +48,6 @@ gets_more old mid new items item before between after seen then now g is says sh
   failed = ap (λ (e : End). e.failed) is ∙ g.failed;
 }
 
--- all items were taken
-pub stops_at_end : (old new : End) (items : List Item) (before after seen now : List ℕ) → Gets old items before after seen now new → Stops old items before after seen now
-stops_at_end old new items before after seen now g = record {
-  bytes = g.bytes;
-  text = g.text;
-  appended = g.appended;
-  displayed = g.displayed;
-  sends = λ h s. ([], g.sends h s ∙ ap (λ (xs : List ℕ). sent h ++ xs) (sym (append-nil g.bytes)));
-  shows = λ h s. ([], g.shows h s ∙ ap (λ (xs : List ℕ). shown h ++ xs) (sym (append-nil g.text)));
-}
-
 regroup : (a b c d e : List ℕ) → ((a ++ b) ++ (c ++ d)) ++ e ≡ a ++ ((b ++ c) ++ (d ++ e))
 regroup a b c d e = simp append_assoc
 

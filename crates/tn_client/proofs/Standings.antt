@@ -1,6 +1,5 @@
 -- Where an event leads, from a history to the end.
-use Rattle.std.proofs.Common.{◌≡◌, ℕ, Bool, true, false, ◌&&◌, Option, List, [], ◌∷◌, ◌++◌, length, refl, sym, ap, ◌∙◌, if◌then◌else◌, arith, subst}
-use Rattle.tn_codes.specs.declared.codes.Func.{Func}
+use Rattle.std.proofs.Common.{◌≡◌, ℕ, Bool, true, false, ◌&&◌, List, [], ◌∷◌, ◌++◌, length, refl, sym, ap, ◌∙◌, if◌then◌else◌, arith, subst}
 use Rattle.tn_discipline.specs.Characters.{Characters}
 use Rattle.tn_discipline.specs.Keys.{roles_from}
 use Rattle.tn_discipline.specs.Entries.{half_of}
@@ -11,13 +10,13 @@ use Rattle.tn_discipline.proofs.Theorems.{advances}
 use Rattle.tn_linemode.specs.Modes.{edits}
 use Rattle.tn_nvt.specs.declared.items.Item.{Item}
 use Rattle.tn_option.specs.Options.{Options}
-use Rattle.tn_client.specs.Events.{History, next, typed, got, resized, proposed}
-use Rattle.tn_client.specs.Terms.{mode, chars, size, heard, mode_at, chars_by, payload_at, is_echoed, tells_size}
+use Rattle.tn_client.specs.Events.{History, next, typed, got}
+use Rattle.tn_client.specs.Terms.{mode, chars, size, heard, mode_at, chars_by, payload_at, is_echoed}
 use Rattle.tn_client.specs.Lines.{settings, role_of_typed, role_at, edited, half_line, held, line}
-use Rattle.tn_client.specs.Replies.{adds, key_sent, item_sent, size_sent}
+use Rattle.tn_client.specs.Replies.{adds, key_sent, item_sent}
 use Rattle.tn_client.specs.Screen.{shows, key_shown}
 use Rattle.tn_client.specs.Standing.{End, Stands, Goes, Sends, Shows}
-use Rattle.tn_client.specs.Steps.{role_now, line_typed, after_key, says_key, shows_key, line_left, after_got, says_got, after_resize, says_resize}
+use Rattle.tn_client.specs.Steps.{role_now, line_typed, after_key, says_key, shows_key, line_left, after_got, says_got}
 use Rattle.tn_client.proofs.Histories.{ahead-none, held-all, unedited}
 
 -- nothing is ahead of the line
@@ -141,29 +140,3 @@ adds_got h old item s =
     ∙ ap (λ (c : Characters). item_sent old.options old.mode c (size h) (line h) item) (sym s.table)
     ∙ ap (λ (z : ℕ × ℕ). item_sent old.options old.mode old.table z (line h) item) (sym s.size)
     ∙ ap (λ (l : HalfLine). item_sent old.options old.mode old.table (old.width, old.height) l item) (sym (line_is h old s))
-
--- A NEW SIZE
-pub goes_resized : (old new : End) (width height : ℕ) → new ≡ after_resize old width height → Goes old (resized width height) new
-goes_resized old new width height is = record {
-  stands = λ h s. subst (Stands (next h (resized width height))) (sym is)
-      (record { options = s.options; mode = s.mode; table = s.table; leaves = s.leaves; ahead = s.ahead; size = refl });
-  decoder = ap (λ (e : End). e.decoder) is;
-  failed = ap (λ (e : End). e.failed) is;
-}
-
-pub sends_resized : (old : End) (width height : ℕ) (before after : List ℕ) → after ≡ before ++ says_resize old width height → Sends old (resized width height) before after
-sends_resized old width height before after is = record {
-  bytes = says_resize old width height;
-  appended = is;
-  adds = λ h s.
-      ap (λ (o : Options). size_sent (tells_size o) (size h) (width, height)) (sym s.options)
-      ∙ ap (λ (z : ℕ × ℕ). size_sent (tells_size old.options) z (width, height)) (sym s.size);
-}
-
--- A PROPOSAL
-pub goes_proposed : (old : End) (func : Func) (value : Option ℕ) → Goes old (proposed func value) old
-goes_proposed old func value = record {
-  stands = λ h s. record { options = s.options; mode = s.mode; table = s.table; leaves = s.leaves; ahead = s.ahead; size = s.size };
-  decoder = refl;
-  failed = refl;
-}

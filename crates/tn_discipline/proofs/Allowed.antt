@@ -66,10 +66,6 @@ found_exactly c byte o allowed is g = (
   λ h. is ∙ finds c byte g allowed h special_functions (special c g byte h),
 )
 
--- a function that isn't settable
-pub not_settable : (c : Characters) (f : Func) (value : Option ℕ) → is_settable f ≡ false → char_fault c f value ≡ Some NotSettable
-not_settable c f value h = ap (λ (b : Bool). if b then value_fault c f value else Some NotSettable) h
-
 -- a function whose character is set, with the number of another, is the other
 same_holder : (c : Characters) (f k : Func) (byte : ℕ) → slot c f ≡ Some byte → is_same f k ≡ true → f ≡ k
 same_holder c func.Ip func.Ip byte h e = refl

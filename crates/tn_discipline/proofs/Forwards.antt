@@ -44,11 +44,3 @@ advances_of old new roles gain m =
           ∙ ap (λ x. entries_of history ++ x) (sym (m.entries none));
       ahead = m.ahead;
     }
-
--- a line with nothing ahead, as the server's
-pub moves_at_zero : (old new : HalfLine) (roles : List Role) (gain : List Entry) → old.ahead ≡ 0 → Moves old roles gain new → (new.held ≡ half_all old.held roles) × (new.ahead ≡ 0) × (gain ≡ gain_all old.held roles)
-moves_at_zero old new roles gain none m =
-    let next = m.half [] (sym none) in
-    let low = m.ahead in
-    let zero : new.ahead ≡ 0 = omega arith in
-    (sym (next.2 ∙ ap (λ x. x ++ new.held) (empty_of next.0 (next.1 ∙ zero))), zero, m.entries none)

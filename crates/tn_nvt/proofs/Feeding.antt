@@ -14,7 +14,7 @@ use Rattle.tn_nvt.specs.Spelling.{doubled}
 use Rattle.tn_nvt.specs.Stream.{spelled, escaped, cut, IsPartial}
 use Rattle.tn_nvt.specs.Standing.{StandsAt, HasRead, Adds, Gains, KeepsParameter, StopsWithin}
 use Rattle.tn_nvt.specs.Machine.{standing, Stands, Advances, Keeps}
-use Rattle.tn_nvt.proofs.Steps.{Splits-append, Advances-none, Advances-append}
+use Rattle.tn_nvt.proofs.Steps.{Splits-append, Advances-append}
 
 -- each place stands at less than a segment
 pub partial_of : (place : Place) (rest : List ℕ) → Stands place rest → IsPartial rest
@@ -89,9 +89,6 @@ pub record Appends (here : Place) (more : List ℕ) (before after : List Item) (
   pub items : List Item
   pub appended : after ≡ before ++ items
   pub advances : Advances here more items next
-
-pub Appends-none : (here : Place) (items : List Item) → Appends here [] items items here
-Appends-none here items = record { items = []; appended = sym (append-nil items); advances = Advances-none here }
 
 pub Appends-push : (here middle next : Place) (more : List ℕ) (b : ℕ) (given before between after : List Item) → Appends here more before between middle → Advances middle (b ∷ []) given next → after ≡ between ++ given → Appends here (more ++ b ∷ []) before after next
 Appends-push here middle next more b given before between after a f e = record {

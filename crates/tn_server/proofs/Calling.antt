@@ -1,11 +1,8 @@
 -- Where the owner's calls lead.
 use Rattle.std.proofs.Common.{◌≡◌, ℕ, ◌+◌, nat_lt, Bool, true, false, not, ◌&&◌, ◌||◌, Option, Some, None, is_some, List, [], ◌∷◌, ◌++◌, length, take, drop, refl, sym, ap, ◌∙◌, subst, arith, append-nil, append_assoc, length-append, if◌then◌else◌}
-use Rattle.std.specs.List.{flat_map}
-use Rattle.tn_codes.specs.declared.codes.Func.{Func}
-use Rattle.tn_linemode.specs.Exchange.{is_same_value}
 use Rattle.std.proofs.lemmas.Bool.{lt-ltb, le-ltb}
 use Rattle.std.proofs.Math.Seq.{drop-append_seam}
-use Rattle.tn_discipline.specs.Characters.{Characters, slot, with_slot}
+use Rattle.tn_discipline.specs.Characters.{Characters}
 use Rattle.tn_discipline.specs.declared.reads.Entry.{Entry}
 use Rattle.tn_discipline.specs.declared.echo.Symbol.{Symbol}
 use Rattle.tn_discipline.specs.declared.termios.Flags.{Flags}
@@ -14,11 +11,11 @@ use Rattle.tn_linemode.specs.Modes.{Modes}
 use Rattle.tn_option.specs.Options.{Options, state_of, is_yes}
 use Rattle.tn_option.specs.declared.q_method.Side.TheVariants.{Us}
 use Rattle.tn_pty.specs.Terminal.{Terminal, fits, outputs}
-use Rattle.tn_server.specs.Events.{History, next, took, wrote, pulled, wished, char_set, echo_set}
+use Rattle.tn_server.specs.Events.{History, next, took, wrote, wished, echo_set}
 use Rattle.tn_server.specs.Terms.{Terms, terms, terms_by, flags, chars, settings, asked, asked_of, asked_while, changes, differ, mode_after, linemode, mask_for, asks_echo, echo_asked, wants_echo, told_by}
 use Rattle.tn_server.specs.Lines.{entries, taken, waiting}
-use Rattle.tn_server.specs.Screen.{queue, due}
-use Rattle.tn_server.specs.Replies.{says_by, echo_told, mode_told, table_told, triple_told, spelled}
+use Rattle.tn_server.specs.Screen.{queue}
+use Rattle.tn_server.specs.Replies.{says_by, echo_told, mode_told, table_told}
 use Rattle.tn_server.specs.Standing.{End, Stands, Goes}
 use Rattle.tn_server.specs.Steps.{after_wished, says_wished, negotiated, with_negotiated}
 use Rattle.tn_server.specs.declared.terms.Negotiation.{Negotiation}
@@ -137,10 +134,6 @@ drop_read read rest n es e f = rw (← e, f) (drop-append_seam read rest)
 pub waits_are : (h : History) (end : End) → Stands h end → waiting h ≡ end.terminal.entries
 waits_are h end s = drop_read s.read end.terminal.entries (taken h) (entries h) s.count s.waits
 
-pub not_true : (b : Bool) → not b ≡ true → b ≡ false
-not_true true e = cc
-not_true false e = refl
-
 -- a wish changes the terms alone
 stands_wished : (h : History) (old : End) (editing : Editing) → Stands h old → Stands (next h (wished editing)) (with_all old (terms_by old.terminal.settings.flags old.terms old.terms.options (Some editing) false) None old.terminal)
 stands_wished h old editing s =
@@ -188,61 +181,6 @@ goes_wished old new editing before after is said =
       failed = ap (λ (e : End). e.failed) is ∙ wished_failed old mask;
       closed = ap (λ (e : End). e.terminal.closed) is ∙ wished_closed old mask;
     }
-
--- symbols are pulled
-pub goes_pulled : (old : End) (new : Terminal) (n : ℕ) (owed : Bool) (before after : List ℕ) → new ≡ record (old.terminal) { queue = drop n old.terminal.queue } → after ≡ before ++ flat_map spelled (take n old.terminal.queue) → owed ≡ (old.pulled || nat_lt 0 (length (take n old.terminal.queue))) → Goes old (pulled n) before after (record old { terminal = new; pulled = owed })
-goes_pulled old new n owed before after is said now = record {
-  bytes = flat_map spelled (take n old.terminal.queue);
-  appended = said;
-  adds = λ h s. ap (λ (q : List Symbol). flat_map spelled (take n q)) (sym s.queue);
-  stands = λ h s. record {
-    settings = ap (λ t. t.settings) is ∙ s.settings;
-    table = s.table;
-    terms = s.terms;
-    modes = s.modes;
-    leaves = rw (ap (λ t. t.line) is) s.leaves;
-    ahead = ap (λ t. t.line.ahead) is ∙ s.ahead;
-    read = s.read;
-    count = s.count;
-    waits = s.waits ∙ ap (λ (xs : List Entry). s.read ++ xs) (sym (ap (λ t. t.entries) is));
-    queue = ap (λ t. t.queue) is ∙ ap (λ (q : List Symbol). drop n q) s.queue;
-    size = ap (λ t. (t.width, t.height)) is ∙ s.size;
-    due = now ∙ ap (λ (b : Bool). b || nat_lt 0 (length (take n old.terminal.queue))) s.due ∙ ap (λ (q : List Symbol). due h || nat_lt 0 (length (take n q))) s.queue;
-  };
-  decoder = refl;
-  failed = refl;
-  closed = ap (λ t. t.closed) is;
-}
-
--- a character is set
-pub goes_char : (old : End) (c : Characters) (new : Terminal) (func : Func) (value : Option ℕ) (told : Bool) (before after : List ℕ) → c ≡ with_slot old.table func value → new ≡ record (old.terminal) { settings = record { flags = old.terminal.settings.flags; chars = c } } → told ≡ (linemode old.terms.options && not (is_same_value (slot old.table func) value)) → after ≡ before ++ triple_told told func value → Goes old (char_set func value) before after (record old { table = c; terminal = new })
-goes_char old c new func value told before after set is tells said = record {
-  bytes = triple_told told func value;
-  appended = said;
-  adds = λ h s.
-      ap (λ (t : Terms). triple_told (linemode t.options && not (is_same_value (slot (chars h) func) value)) func value) (sym s.terms)
-      ∙ ap (λ (x : Characters). triple_told (linemode old.terms.options && not (is_same_value (slot x func) value)) func value) (sym s.table)
-      ∙ ap (λ (b : Bool). triple_told b func value) (sym tells);
-  stands = λ h s.
-      let now : c ≡ chars (next h (char_set func value)) = set ∙ ap (λ (x : Characters). with_slot x func value) s.table in
-      record {
-        settings = ap (λ t. t.settings) is ∙ ap (λ (x : Characters). record { flags = old.terminal.settings.flags; chars = x }) now ∙ ap (λ (f : Flags). record { flags = f; chars = chars (next h (char_set func value)) }) (ap (λ (x : Settings). x.flags) s.settings);
-        table = now;
-        terms = s.terms;
-        modes = s.modes;
-        leaves = rw (ap (λ t. t.line) is) s.leaves;
-        ahead = ap (λ t. t.line.ahead) is ∙ s.ahead;
-        read = s.read;
-        count = s.count;
-        waits = s.waits ∙ ap (λ (xs : List Entry). s.read ++ xs) (sym (ap (λ t. t.entries) is));
-        queue = ap (λ t. t.queue) is ∙ s.queue;
-        size = ap (λ t. (t.width, t.height)) is ∙ s.size;
-        due = s.due;
-      };
-  decoder = refl;
-  failed = refl;
-  closed = ap (λ t. t.closed) is;
-}
 
 or_true : (a b : Bool) → (a || (b || true)) ≡ true
 or_true true b = refl

@@ -1,30 +1,24 @@
 -- The invariant of a world after each event, in the words of the calls that it makes.
-use Rattle.std.proofs.Common.{◌≡◌, ℕ, Bool, true, false, Option, Some, List, [], ◌∷◌, ◌++◌, take, drop, refl, sym, ap, ◌∙◌, subst}
+use Rattle.std.proofs.Common.{◌≡◌, ℕ, true, Option, List, [], ◌∷◌, ◌++◌, take, drop, refl, sym, ap, ◌∙◌, subst}
 use Rattle.std.specs.Prelude.{option_to_list, MatchOption, Result, Ok, Err, OnOk, OnErr}
-use Rattle.tn_codes.specs.declared.codes.Func.{Func}
-use Rattle.tn_discipline.specs.Characters.{char_fault}
-use Rattle.tn_discipline.specs.declared.characters.CharFault.{CharFault}
 use Rattle.tn_discipline.specs.declared.reads.Entry.{Entry}
 use Rattle.tn_discipline.specs.declared.termios.Settings.{Settings}
 use Rattle.tn_nvt.specs.Standing.{HasRead}
-use Rattle.tn_pty.specs.declared.pty.PtyFault.{PtyFault}
 use Rattle.tn_server.specs.Events as asked
 use Rattle.tn_server.specs.Faults.{IsOfItem}
 use Rattle.tn_server.specs.Lines.{waiting}
 use Rattle.tn_server.specs.Replies.{opening}
 use Rattle.tn_server.specs.Standing as server
-use Rattle.tn_server.specs.Terms.{chars}
 use Rattle.tn_server.specs.declared.faults.ServerFault.{ServerFault}
 use Rattle.tn_server.specs.declared.faults.ServerFault.TheVariants as refused
 use Rattle.tn_client.specs.Events as told
 use Rattle.tn_client.specs.Standing as client
 use Rattle.tn_world.specs.Flight.{InFlight}
 use Rattle.tn_world.specs.Settled.{IsSound}
-use Rattle.tn_world.specs.Worlds.{World, IsServerFault}
-use Rattle.tn_world.specs.declared.events.Event.TheVariants.{SetChar}
+use Rattle.tn_world.specs.Worlds.{World}
 use Rattle.tn_world.proofs.Cut.{start}
 use Rattle.tn_world.proofs.ServerItems.{opening_made}
-use Rattle.tn_world.proofs.Soundness.{sound_types, sound_tells, sound_reaches, sound_returns, sound_asks, sound_takes}
+use Rattle.tn_world.proofs.Soundness.{opposite, sound_types, sound_tells, sound_reaches, sound_returns, sound_asks, sound_takes}
 use Rattle.tn_world.proofs.Tied.{behind}
 
 pub key_sound : (old : World) (end : client.End) (key : ℕ) (later seen keys : List ℕ) → client.Goes old.client (told.typed key) end → client.Sends old.client (told.typed key) old.to_server later → client.Shows old.client (told.typed key) old.echoed seen → keys ≡ old.typed ++ key ∷ [] → IsSound old → IsSound (record old { client = end; to_server = later; echoed = seen; typed = keys })
@@ -64,19 +58,6 @@ tells_or_not old end e later (Ok x) goes sends same none s = tells_sound old end
 tells_or_not old end e later (Err x) goes sends same none s =
     subst (λ l. IsSound (record old { client = end; to_server = l })) (sym none) (subst (λ d. IsSound (record old { client = d })) (sym same) s)
 
-opposite : (b : Bool) (A : Type 0) → b ≡ true → b ≡ false → A
-opposite b A p q = absurd (cc)
-
--- the client failed: of it and of flights no more is said
-pub breaks_sound : (old : World) (end : client.End) (left later seen : List ℕ) → end.failed ≡ true → IsSound old → IsSound (record old { client = end; to_client = left; to_server = later; shown = seen })
-breaks_sound old end left later seen failed s =
-    record {
-      history = s.history;
-      server = s.server;
-      client = λ runs. opposite end.failed _ failed runs;
-      flights = λ a runs. opposite end.failed _ failed runs;
-    }
-
 -- the server failed, at a piece or before
 pub halts_sound : (old : World) (end : server.End) (piece left later : List ℕ) (fault : ServerFault) → (fault ≡ refused.Failed → end ≡ old.server) → (IsOfItem fault → server.Halts old.server piece old.to_client later end) → ((f : _) → fault ≡ refused.Char f → ⊥) → end.failed ≡ true → IsSound old → IsSound (record old { server = end; to_server = left; to_client = later })
 halts_sound old end piece left later fault again halts no_char failed s =
@@ -108,15 +89,3 @@ open_sound w settings width height stands reads begins began nothing said =
         to_client = behind w.client.decoder [] w.to_client [] opening_made.items opening_made.fit (said ∙ opening_made.spelled) (start w.client.decoder began);
       };
     }
-
--- why a special character was not set
-pub set_refused : (end : server.End) (func : Func) (value : Option ℕ) (fault : ServerFault) → (fault ≡ refused.Failed → end.failed ≡ true) → ((f : CharFault) → fault ≡ refused.Char f → (h : asked.History) → server.Stands h end → char_fault (chars h) func value ≡ Some f) → ((f : PtyFault) → fault ≡ refused.Pty f → ⊥) → IsServerFault end (SetChar func value) fault
-set_refused end func value refused.Failed failed char pty = failed refl
-set_refused end func value (refused.Char f) failed char pty = char f refl
-set_refused end func value (refused.Pty f) failed char pty = absurd (pty f refl)
-set_refused end func value refused.Memory failed char pty = tt
-
--- a call that changed nothing
-pub asked_none : (w now : World) (end : server.End) (later : List ℕ) → w ≡ now → end ≡ w.server → later ≡ w.to_client → record w { server = end; to_client = later } ≡ now
-asked_none w now end later is same none =
-    ap (λ x. record w { server = x; to_client = later }) same ∙ ap (λ x. record w { to_client = x }) none ∙ is

@@ -40,7 +40,7 @@ use Rattle.tn_world.specs.Machine as machine
 use Rattle.tn_world.specs.Machine.{Mode, Rules, Message, chatter, Client, Part, byte, newline, mode_ack, other, bytes, as_client, ordinary_key, erase_key, kill_key, edit_key, remote_item, count_next, keyed, is_same, mode_taken, mode_came, came}
 use Rattle.tn_world.specs.Headline.{IsAskable}
 use Rattle.tn_world.specs.Calm.{bits, IsCalmToClient, seen_payload, seen, heard_payload, heard}
-use Rattle.tn_world.specs.Ends.{heard_all, Writes, ClientKeys, came_all, ClientFeeds, ClientSays, IsCalm, AreBetweenLines}
+use Rattle.tn_world.specs.Ends.{heard_all, Writes, ClientKeys, came_all, ClientSays, IsCalm, AreBetweenLines}
 use Rattle.tn_world.specs.Pictures.{client_core, client_picture, ClientStays}
 use Rattle.tn_world.specs.Quiet.{ComeBetweenLines}
 use Rattle.tn_world.proofs.Changing.{remote_of}
@@ -233,11 +233,6 @@ edited-writes rules old t p role.Erase = erased-writes rules (client_core old t 
 edited-writes rules old t p role.Kill = killed-writes rules (has_ahead old.line)
 edited-writes rules old t p role.Ignored = writes-none rules
 
--- A KEY WITHOUT EDIT
--- with no TRAPSIG there is no signal, so a key is sent as it is
-raw-signal : (b : ℕ) (sig : Option Sig) (key : ℕ) → sent_raw (role_by_signal false sig b) key ≡ spelled_byte key
-raw-signal b sig key = refl
-
 raw-tests : (b key : ℕ) (sig : Option Sig) (t u v w x : Bool) → sent_raw (if t then role.Nl else (if u then role.Eol b else (if v then role.Eof else (if w then role.Erase else (if x then role.Kill else role_by_signal false sig b))))) key ≡ spelled_byte key
 raw-tests b key sig true u v w x = refl
 raw-tests b key sig false true v w x = refl
@@ -308,12 +303,6 @@ keys_done rules h old new key trapped plain before after s stays askable runs go
 pub keys_stay : (rules : Rules) (h : History) (old new : End) (key : ℕ) → Stands h old → ClientStays rules old → Goes old (typed key) new → ClientStays rules new
 keys_stay rules h old new key s stays goes =
     subst (λ (e : End). ClientStays rules e) (sym (typed_is h old new key s goes)) (record { linemode = stays.linemode; chars = stays.chars })
-
-pub keys_mode : (h : History) (old new : End) (key : ℕ) → Stands h old → Goes old (typed key) new → new.mode ≡ old.mode
-keys_mode h old new key s goes = ap (λ (e : End). e.mode) (typed_is h old new key s goes)
-
-pub keys_askable : (s : Settings) (h : History) (old new : End) (key : ℕ) → Stands h old → Goes old (typed key) new → IsAskable s (bits old.mode) → IsAskable s (bits new.mode)
-keys_askable s h old new key stands goes askable = subst (λ (m : ℕ). IsAskable s (bits m)) (sym (keys_mode h old new key stands goes)) askable
 
 -- AN ITEM
 line_left-same : (b : Bool) (l : HalfLine) → line_left b b l ≡ l
@@ -403,9 +392,6 @@ mode-came rules old t p n true r on fits s e =
 mode-came rules old t p n false r on fits s e =
     let m = mode-taken rules old t p n (edits old.mode) (edits n) r on fits s refl in
     record { trapped = m.trapped; plain = m.plain; core = m.core; writes = m.writes }
-
-same-asked : (m mask : ℕ) → m < 4 → is_same (bits m) (bits mask) ≡ (mode_of mask == m)
-same-asked m mask h = ap (λ (x : Mode). is_same (bits m) x) (sym (bits-mode mask)) ∙ same-bits m (mode_of mask) h (small mask)
 
 answer-asked : (m mask : ℕ) → is_acknowledged mask ≡ false → mode_answer m mask ≡ (if mode_of mask == m then None else Some (bit_or (mode_of mask) 4))
 answer-asked m mask e = ap (λ (b : Bool). if b || mode_of mask == m then None else Some (bit_or (mode_of mask) 4)) e
@@ -569,15 +555,6 @@ feeds_done rules h old new trapped plain piece before after seen now r s stays r
       ap (λ (e : End). client_core e all.trapped all.plain) (fed_is h old new piece before after seen now s f) ∙ all.core,
       subst (λ (xs : List ℕ). Writes rules (came_all rules (client_core old trapped plain) (heard_all rules f.items)).items xs)
           (append_cancel_left (sent h) (says_all old f.items) f.bytes (sym (sent_all h old f.items s) ∙ f.sends h s)) all.writes,
-    )
-
--- The same, as the world has it.
-pub feeds_fed : (rules : Rules) (h : History) (old new : End) (trapped plain : ℕ) (piece before after seen now : List ℕ) → rules.resumes ≡ false → Stands h old → ClientStays rules old → old.failed ≡ false → (f : Feeds old piece before after seen now new) → All (IsCalmToClient rules.settings) f.items → (t : ℕ) × (p : ℕ) × ClientFeeds rules (client_picture old trapped plain) piece f.bytes (client_picture new t p)
-feeds_fed rules h old new trapped plain piece before after seen now r s stays runs f calm =
-    let done = feeds_done rules h old new trapped plain piece before after seen now r s stays runs f calm in (
-      done.0,
-      done.1,
-      record { got = f.items; decodes = record { items = f.items; appended = refl; adds = f.reads }; core = done.2; writes = done.3 },
     )
 
 -- and leave LINEMODE and the characters as they are

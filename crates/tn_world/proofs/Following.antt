@@ -14,9 +14,8 @@ use Rattle.tn_world.specs.Calm.{IsCalmToServer, IsCalmToClient}
 use Rattle.tn_world.specs.Ends as ends
 use Rattle.tn_world.specs.Ends.{Replies, ServerFeeds, ServerSays, Took, Writes, ClientKeys, came_all, ClientFeeds, ClientSays, AreBetweenLines, seen_all, heard_all, Happens}
 use Rattle.tn_world.specs.Flight.{InFlight}
-use Rattle.tn_world.specs.Machine.{Rules}
 use Rattle.tn_world.specs.Pictures.{server_core, server_picture, client_picture, ServerStays, ClientStays}
-use Rattle.tn_world.specs.Quiet.{IsBetweenLines, Occurs, IsQuietEvent, Passes, NoneFailed}
+use Rattle.tn_world.specs.Quiet.{IsBetweenLines, Occurs, DeliversWhere, IsQuietEvent, Passes, NoneFailed}
 use Rattle.tn_world.specs.Settled.{IsSound}
 use Rattle.tn_world.specs.Worlds.{World, Unless, Types, Tells, Reaches, Returns, Asks, Pulls, Takes, Does, Refuses}
 use Rattle.tn_world.specs.declared.events.Event.{Event}
@@ -25,7 +24,7 @@ use Rattle.tn_world.specs.declared.faults.Cause.{Cause}
 use Rattle.tn_world.proofs.ClientSteps as client_steps
 use Rattle.tn_world.proofs.ServerSteps as server_steps
 use Rattle.tn_world.proofs.ServerSteps.{KeepsEntries, IsCall}
-use Rattle.tn_world.proofs.Soundness.{Refusal, unchanged, by_server, by_client, refusal_of, sound_does}
+use Rattle.tn_world.proofs.Soundness.{opposite, Refusal, unchanged, by_server, by_client, refusal_of, sound_does}
 use Rattle.tn_world.proofs.Tied.{all_parts, cut_at, happens-tied}
 use Rattle.tn_world.specs.Relation.{Holds, Tied, picture, rules_of}
 
@@ -57,12 +56,6 @@ flight_fits d flight items f = (all_parts Fits f.had items (reading_fits (f.stre
 -- the client's history, while it has not failed
 stands : (w : World) → IsSound w → w.client.failed ≡ false → (h : told.History) × client.Stands h w.client
 stands w s runs = s.client runs
-
-tied_as : (rules : Rules) (w new : ends.World) → new ≡ w → Tied rules w → Tied rules new
-tied_as rules w new is t = subst (λ x. Tied rules x) (sym is) t
-
-no_need : (rules : Rules) (w : ends.World) (n : ℕ) → rules.resumes ≡ false → ends.IsQuietEvent rules w (ends.to_client n) → (rules.resumes ≡ false → ends.IsQuietEvent rules w (ends.to_client n))
-no_need rules w n r q = λ x. q
 
 -- a key
 holds_types : (s : Settings) (old new : World) (key : ℕ) → NoneFailed old → IsSound new → Types old key new → Holds s old → Holds s new
@@ -178,7 +171,7 @@ holds_reaches s old new n none sound t h =
     }
 
 -- what a quiet delivery is to the relation
-quiet_there : (s : Settings) (old : World) (n : ℕ) → NoneFailed old → (h : Holds s old) → IsQuietEvent (IsBetweenLines s) old (ToClient n) → ends.IsQuietEvent (rules_of s h.linemode) (picture old h.trapped h.plain) (ends.to_client n)
+quiet_there : (s : Settings) (old : World) (n : ℕ) → NoneFailed old → (h : Holds s old) → DeliversWhere (IsBetweenLines s) old n → ends.IsQuietEvent (rules_of s h.linemode) (picture old h.trapped h.plain) (ends.to_client n)
 quiet_there s old n none h quiet = λ got next gains.
     let rules = rules_of s h.linemode in
     let c = h.sound.client none.1 in
@@ -188,7 +181,7 @@ quiet_there s old n none h quiet = λ got next gains.
     client_steps.feeds_quiet rules c.0 old.client old.typed h.trapped h.plain got refl c.1 h.client calm (quiet got next adds)
 
 -- a delivery to the client
-holds_returns : (s : Settings) (old new : World) (n : ℕ) → NoneFailed old → IsSound new → IsQuietEvent (IsBetweenLines s) old (ToClient n) → Returns old n new → Holds s old → Holds s new
+holds_returns : (s : Settings) (old new : World) (n : ℕ) → NoneFailed old → IsSound new → DeliversWhere (IsBetweenLines s) old n → Returns old n new → Holds s old → Holds s new
 holds_returns s old new n none sound quiet t h =
     let rules = rules_of s h.linemode in
     let c = h.sound.client none.1 in
@@ -218,6 +211,11 @@ unless : (s : Settings) (stopped : Bool) (old new : World) (happens : Type 0) �
 unless s true old new happens done is h = holds_as s old new is h
 unless s false old new happens done is h = done is h
 
+-- a delivery to a client that may have been stopped
+holds_delivered : (s : Settings) (old new : World) (n : ℕ) (stopped : Bool) → old.client_stopped ≡ stopped → NoneFailed old → IsSound new → IsQuietEvent (IsBetweenLines s) old (ToClient n) → Unless stopped old new (Returns old n new) → Holds s old → Holds s new
+holds_delivered s old new n true stopped none sound quiet is h = holds_as s old new is h
+holds_delivered s old new n false goes none sound quiet t h = holds_returns s old new n none sound (quiet goes) t h
+
 -- an end that stops changes nothing of it
 holds_stops : (s : Settings) (old new : World) (a b : Bool) → new ≡ record old { server_stopped = a; client_stopped = b } → IsSound new → Holds s old → Holds s new
 holds_stops s old new a b is sound h =
@@ -235,7 +233,7 @@ holds_stops s old new a b is sound h =
 holds_does : (s : Settings) (old new : World) (e : Event) → NoneFailed old → IsSound new → IsQuietEvent (IsBetweenLines s) old e → Does old e new → Holds s old → Holds s new
 holds_does s old new (Key key) none sound quiet d h = unless s old.client_stopped old new (Types old key new) (holds_types s old new key none sound) d h
 holds_does s old new (ToServer n) none sound quiet d h = unless s old.server_stopped old new (Reaches old n new) (holds_reaches s old new n none sound) d h
-holds_does s old new (ToClient n) none sound quiet d h = unless s old.client_stopped old new (Returns old n new) (holds_returns s old new n none sound quiet) d h
+holds_does s old new (ToClient n) none sound quiet d h = holds_delivered s old new n old.client_stopped refl none sound quiet d h
 holds_does s old new (Write bytes) none sound quiet d h = unless s old.server_stopped old new (Asks old (asked.wrote bytes) new) (holds_asks s old new (asked.wrote bytes) tt sound) d h
 holds_does s old new (Pull n) none sound quiet d h =
     unless s old.server_stopped old new (Pulls old n new) (λ p. holds_asks s old new (asked.pulled p.count) tt sound p.asks) d h
@@ -250,9 +248,6 @@ holds_does s old new ServerStops none sound quiet d h = holds_stops s old new tr
 holds_does s old new ClientStops none sound quiet d h = holds_stops s old new old.server_stopped true d sound h
 
 -- What fails an end fails it for good, so that no end had failed before where none has now.
-bad : (b : Bool) (A : Type 0) → b ≡ true → b ≡ false → A
-bad b A p q = absurd (cc)
-
 both_ran : (old new : World) → new.server.failed ≡ old.server.failed → new.client.failed ≡ old.client.failed → NoneFailed new → NoneFailed old
 both_ran old new a b none = (sym a ∙ none.0, sym b ∙ none.1)
 
@@ -287,25 +282,25 @@ does_ran old new ClientStops d none = both_ran old new (ap (λ (w : World). w.se
 -- a refusal at which no end failed changed nothing
 unrefused : (old new : World) → Refusal old new → NoneFailed new → new ≡ old
 unrefused old new (unchanged is) none = is
-unrefused old new (by_server n fault r) none = bad new.server.failed (new ≡ old) r.failed none.0
-unrefused old new (by_client n fault r) none = bad new.client.failed (new ≡ old) r.failed none.1
+unrefused old new (by_server n fault r) none = opposite new.server.failed (new ≡ old) r.failed none.0
+unrefused old new (by_client n fault r) none = opposite new.client.failed (new ≡ old) r.failed none.1
 
 refused_same : (old new : World) (e : Event) (c : Cause) → Refuses old e c new → NoneFailed new → new ≡ old
 refused_same old new e c r none = unrefused old new (refusal_of old new e c r) none
 
-occurs_ran : (old new : World) (e : Event) → Occurs old e new → NoneFailed new → NoneFailed old
-occurs_ran old new e (inl d) none = does_ran old new e d none
-occurs_ran old new e (inr r) none = as_before old new (refused_same old new e r.0 r.1 none) none
+occurs_ran : (may : List ℕ → Type 0) (old new : World) (e : Event) → Occurs may old e new → NoneFailed new → NoneFailed old
+occurs_ran may old new e (inl d) none = does_ran old new e d.1 none
+occurs_ran may old new e (inr r) none = as_before old new (refused_same old new e r.0 r.1 none) none
 
 pub passes_ran : (may : List ℕ → Type 0) (old new : World) (events : List Event) → Passes may old events new → NoneFailed new → NoneFailed old
 passes_ran may old new [] p none = as_before old new p none
-passes_ran may old new (e ∷ events) p none = occurs_ran old p.0 e p.2 (passes_ran may p.0 new events p.3 none)
+passes_ran may old new (e ∷ events) p none = occurs_ran may old p.0 e p.1 (passes_ran may p.0 new events p.2 none)
 
-holds_occurs : (s : Settings) (old new : World) (e : Event) → NoneFailed new → IsQuietEvent (IsBetweenLines s) old e → Occurs old e new → Holds s old → Holds s new
-holds_occurs s old new e none quiet (inl d) h = holds_does s old new e (does_ran old new e d none) (sound_does old new e d h.sound) quiet d h
-holds_occurs s old new e none quiet (inr r) h = holds_as s old new (refused_same old new e r.0 r.1 none) h
+holds_occurs : (s : Settings) (old new : World) (e : Event) → NoneFailed new → Occurs (IsBetweenLines s) old e new → Holds s old → Holds s new
+holds_occurs s old new e none (inl d) h = holds_does s old new e (does_ran old new e d.1 none) (sound_does old new e d.1 h.sound) d.0 d.1 h
+holds_occurs s old new e none (inr r) h = holds_as s old new (refused_same old new e r.0 r.1 none) h
 
 pub holds_passes : (s : Settings) (old new : World) (events : List Event) → NoneFailed new → Passes (IsBetweenLines s) old events new → Holds s old → Holds s new
 holds_passes s old new [] none p h = holds_as s old new p h
 holds_passes s old new (e ∷ events) none p h =
-    holds_passes s p.0 new events none p.3 (holds_occurs s old p.0 e (passes_ran (IsBetweenLines s) p.0 new events p.3 none) p.1 p.2 h)
+    holds_passes s p.0 new events none p.2 (holds_occurs s old p.0 e (passes_ran (IsBetweenLines s) p.0 new events p.2 none) p.1 h)

@@ -1,5 +1,5 @@
 -- What the relation says of entries: those that were made are the first of those that the keys give.
-use Rattle.std.proofs.Common.{◌≡◌, ℕ, Bool, true, false, List, [], ◌∷◌, ◌++◌, refl, sym, ap, ◌∙◌, if◌then◌else◌, subst, append-nil, append_assoc}
+use Rattle.std.proofs.Common.{◌≡◌, ℕ, Bool, true, false, List, [], ◌∷◌, ◌++◌, refl, sym, ap, ◌∙◌, if◌then◌else◌, append-nil, append_assoc}
 use Rattle.tn_discipline.specs.declared.reads.Entry.{Entry}
 use Rattle.tn_discipline.specs.Entries.{entries_of}
 use Rattle.tn_discipline.specs.Steps.{gain_next}
@@ -7,7 +7,6 @@ use Rattle.tn_discipline.specs.Keys.{roles_of}
 use Rattle.tn_discipline.specs.declared.termios.Settings.{Settings}
 use Rattle.tn_world.specs.Machine.{Rules, Item, Server, item_role, read, read_item, read_all, Client}
 use Rattle.tn_world.specs.Headline.{IsPrefixOf}
-use Rattle.tn_world.proofs.Reading.{read_all-append}
 use Rattle.tn_world.specs.Relation.{Agrees, at}
 
 -- prefixes
@@ -28,9 +27,6 @@ one_by_test s v i false = (gain_next v.half (item_role s v.edit i), refl)
 pub read-more : (s : Settings) (v : Server) (items : List Item) → IsPrefixOf v.waiting (read_all s v items).waiting
 read-more s v [] = prefix_same v.waiting v.waiting refl
 read-more s v (i ∷ items) = prefix_trans v.waiting (read s v i).waiting (read_all s (read s v i) items).waiting (one_by_test s v i v.failed) (read-more s (read s v i) items)
-
-pub append-more : (s : Settings) (v : Server) (xs ys : List Item) → IsPrefixOf (read_all s v xs).waiting (read_all s v (xs ++ ys)).waiting
-append-more s v xs ys = subst (λ (x : Server). IsPrefixOf (read_all s v xs).waiting x.waiting) (sym (read_all-append s v xs ys)) (read-more s (read_all s v xs) ys)
 
 -- an entry before those that wait stays before them
 abbrev fronted : Entry → Server → Server

@@ -7,7 +7,7 @@ use Rattle.tn_discipline.specs.declared.reads.Entry.{Entry}
 use Rattle.tn_discipline.specs.declared.termios.Settings.{Settings}
 use Rattle.tn_world.specs.Headline.{IsPrefixOf, local_entries}
 use Rattle.tn_world.specs.Opened.{anew}
-use Rattle.tn_world.specs.Quiet.{IsBetweenLines, Nowhere, Passes, IsQuietEvent, AreQuiet, IsQuiet, IsMark, Follows, NoneFailed, NothingFlies, ComeWhere}
+use Rattle.tn_world.specs.Quiet.{IsBetweenLines, Nowhere, Occurs, Passes, IsQuietEvent, AreQuiet, IsQuiet, IsMark, Follows, NoneFailed, NothingFlies, ComeWhere}
 use Rattle.tn_world.specs.Settled.{IsSettled, IsSound}
 use Rattle.tn_world.specs.Worlds.{World, Does, Refuses, Runs, Ends, made}
 use Rattle.tn_nvt.specs.declared.items.Item.{Item}
@@ -40,7 +40,7 @@ follows_complete s w f none nothing = passes_complete s f.start w f.events f.mar
 
 passes_on : (may : List ℕ → Type 0) (old mid new : World) (xs ys : List Event) → Passes may old xs mid → Passes may mid ys new → Passes may old (xs ++ ys) new
 passes_on may old mid new [] ys p q = subst (λ w. Passes may w ys new) p q
-passes_on may old mid new (e ∷ xs) ys p q = (p.0, p.1, p.2, passes_on may p.0 mid new xs ys p.3 q)
+passes_on may old mid new (e ∷ xs) ys p q = (p.0, p.1, passes_on may p.0 mid new xs ys p.2 q)
 
 pub follows_on : (s : Settings) (old new : World) (events : List Event) → Follows s old → Passes (IsBetweenLines s) old events new → Follows s new
 follows_on s old new events f p = record { start = f.start; mark = f.mark; events = f.events ++ events; passes = passes_on (IsBetweenLines s) f.start old new f.events events f.passes p }
@@ -48,12 +48,16 @@ follows_on s old new events f p = record { start = f.start; mark = f.mark; event
 -- a run of quiet events
 runs_pass : (may : List ℕ → Type 0) (old new : World) (events : List Event) → AreQuiet may old events → Runs old events new → Passes may old events new
 runs_pass may old new [] quiet r = r
-runs_pass may old new (e ∷ events) quiet r = (r.0, quiet.0, inl r.1, runs_pass may r.0 new events (quiet.1 r.0 (inl r.1)) r.2)
+runs_pass may old new (e ∷ events) quiet r =
+    let here = quiet r.0 r.1 in
+    (r.0, inl (here.0, r.1), runs_pass may r.0 new events here.1 r.2)
 
 -- a run up to the event that was refused
 ends_pass : (may : List ℕ → Type 0) (old mid new : World) (done left : List Event) (e : Event) (cause : Cause) → AreQuiet may old (done ++ e ∷ left) → Runs old done mid → Refuses mid e cause new → Passes may old (done ++ e ∷ []) new
-ends_pass may old mid new [] left e cause quiet r refused = subst (λ w. Passes may w (e ∷ []) new) r (new, (subst (λ w. AreQuiet may w (e ∷ left)) (sym r) quiet).0, inr (cause, refused), refl)
-ends_pass may old mid new (d ∷ done) left e cause quiet r refused = (r.0, quiet.0, inl r.1, ends_pass may r.0 mid new done left e cause (quiet.1 r.0 (inl r.1)) r.2 refused)
+ends_pass may old mid new [] left e cause quiet r refused = subst (λ w. Passes may w (e ∷ []) new) r (new, inr (cause, refused), refl)
+ends_pass may old mid new (d ∷ done) left e cause quiet r refused =
+    let here = quiet r.0 r.1 in
+    (r.0, inl (here.0, r.1), ends_pass may r.0 mid new done left e cause here.1 r.2 refused)
 
 pub follows_runs : (s : Settings) (old new : World) (events : List Event) → Follows s old → IsQuiet s old events → Runs old events new → Follows s new
 follows_runs s old new events f quiet r = follows_on s old new events f (runs_pass (IsBetweenLines s) old new events quiet r)
@@ -71,7 +75,7 @@ come_nowhere may o mode (item ∷ items) h = (λ differs. absurd (h.0 differs), 
 quiet_nowhere : (s : Settings) (w : World) (e : Event) → IsQuietEvent Nowhere w e → IsQuietEvent (IsBetweenLines s) w e
 quiet_nowhere s w (Key key) q = tt
 quiet_nowhere s w (ToServer n) q = tt
-quiet_nowhere s w (ToClient n) q = λ items next adds. come_nowhere (IsBetweenLines s w.typed) w.client.options w.client.mode items (q items next adds)
+quiet_nowhere s w (ToClient n) q = λ goes items next adds. come_nowhere (IsBetweenLines s w.typed) w.client.options w.client.mode items (q goes items next adds)
 quiet_nowhere s w (Write bytes) q = tt
 quiet_nowhere s w (Pull n) q = tt
 quiet_nowhere s w Take q = tt
@@ -83,9 +87,13 @@ quiet_nowhere s w (Echo on) q = tt
 quiet_nowhere s w ServerStops q = tt
 quiet_nowhere s w ClientStops q = tt
 
+occurs_nowhere : (s : Settings) (old new : World) (e : Event) → Occurs Nowhere old e new → Occurs (IsBetweenLines s) old e new
+occurs_nowhere s old new e (inl d) = inl (quiet_nowhere s old e d.0, d.1)
+occurs_nowhere s old new e (inr r) = inr r
+
 pub passes_nowhere : (s : Settings) (old new : World) (events : List Event) → Passes Nowhere old events new → Passes (IsBetweenLines s) old events new
 passes_nowhere s old new [] p = p
-passes_nowhere s old new (e ∷ events) p = (p.0, quiet_nowhere s old e p.1, p.2, passes_nowhere s p.0 new events p.3)
+passes_nowhere s old new (e ∷ events) p = (p.0, occurs_nowhere s old p.0 e p.1, passes_nowhere s p.0 new events p.2)
 
 -- the world whose lists begin anew
 pub anew_settled : (w : World) → IsSettled w → IsSettled (anew w)

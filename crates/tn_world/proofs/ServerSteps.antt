@@ -42,7 +42,7 @@ use Rattle.tn_server.specs.Terms.{Terms, terms, options, flags, chars, settings,
 use Rattle.tn_server.specs.Lines.{role_at, roles, entries, half, taken, waiting}
 use Rattle.tn_server.specs.Screen.{queue, sends_ga, none_waits, due}
 use Rattle.tn_server.specs.Replies.{word, asked_word, word_back, subnegotiated, table_told, mode_told, echo_told, says_by, list_answered, spelled, adds, sent}
-use Rattle.tn_server.specs.Standing.{End, Stands, Goes, Feeds, Halts}
+use Rattle.tn_server.specs.Standing.{End, Stands, Goes, Feeds}
 use Rattle.tn_server.specs.declared.wishes.Editing.{Editing}
 use Rattle.tn_server.specs.declared.wishes.Editing.TheVariants.{Remote, Local}
 use Rattle.tn_server.proofs.Settling.{differ_self, told_again, table_again}
@@ -50,7 +50,7 @@ use Rattle.tn_server.proofs.Standings.{line_is}
 use Rattle.tn_server.proofs.Turning.{echo_keeps_linemode}
 use Rattle.tn_server.proofs.Calling.{waits_are}
 use Rattle.tn_world.specs.Calm.{bits, SaysCalmly, IsCalmToServer, IsCalmToClient, seen_payload, seen}
-use Rattle.tn_world.specs.Ends.{spells, seen_all, Replies, ServerFeeds, ServerSays, Took}
+use Rattle.tn_world.specs.Ends.{spells, seen_all, Replies, Took}
 use Rattle.tn_world.specs.Headline.{IsAskable}
 use Rattle.tn_world.specs.Machine as machine
 use Rattle.tn_world.specs.Machine.{Rules, Server, item_role, edit_after, read, read_all, allows_local, local_mode}
@@ -431,26 +431,6 @@ feeds_replies rules h old new piece before after s stays works f fit calm =
     replies_of rules f.bytes
     (subst (Made (IsCalmToClient rules.settings)) (append_cancel_left (sent h) later.bytes f.bytes (sym later.sends ∙ f.sends h s)) later.made)
 
--- the whole picture of a piece
-pub server_feeds : (rules : Rules) (h : History) (old new : End) (piece before after : List ℕ) → Stands h old → ServerStays rules old → old.failed ≡ false → (f : Feeds old piece before after new) → All Fits f.items → All IsCalmToServer f.items → ServerFeeds rules (server_picture old) piece f.bytes (server_picture new)
-server_feeds rules h old new piece before after s stays works f fit calm = record {
-  got = f.items;
-  decodes = record { items = f.items; appended = refl; adds = f.reads };
-  core = feeds_core rules h old new piece before after s stays works f fit calm;
-  replies = feeds_replies rules h old new piece before after s stays works f fit calm;
-}
-
--- a piece that was refused: the items that were done
-pub halts_core : (rules : Rules) (h : History) (old new : End) (piece before after : List ℕ) → Stands h old → ServerStays rules old → old.failed ≡ false → (f : Halts old piece before after new) → All Fits f.done → All IsCalmToServer f.done → server_core new ≡ record (read_all rules.settings (server_core old) (seen_all rules f.done)) { failed = new.failed }
-halts_core rules h old new piece before after s stays works f fit calm =
-    let later = goes_on rules h f.done (kept_at rules h old s stays) fit calm in
-    core_at (gets h f.done) new (f.stands h s)
-    ∙ ap (λ (v : Server). record v { failed = new.failed }) (later.core ∙ ap (λ (v : Server). read_all rules.settings v (seen_all rules f.done)) (sym (core_at h old s ∙ ap (core_of h) works)))
-
-pub halts_stays : (rules : Rules) (h : History) (old new : End) (piece before after : List ℕ) → Stands h old → ServerStays rules old → old.failed ≡ false → (f : Halts old piece before after new) → All Fits f.done → All IsCalmToServer f.done → ServerStays rules new
-halts_stays rules h old new piece before after s stays works f fit calm =
-    stays_at rules (gets h f.done) new (f.stands h s) (goes_on rules h f.done (kept_at rules h old s stays) fit calm).kept
-
 -- THE OWNER'S CALLS that change no character
 abbrev pub IsCall : Event → Type 0
 IsCall (got item) = ⊥
@@ -585,27 +565,6 @@ says_core h old new e before after is s g =
     ∙ ap (core_of (next h e)) g.failed
     ∙ core_call h e old.failed is
     ∙ sym (core_at h old s)
-
-pub says_picture : (h : History) (old new : End) (e : Event) (before after : List ℕ) → KeepsEntries e → Stands h old → Goes old e before after new → server_picture new ≡ server_picture old
-says_picture h old new e before after is s g =
-    ap (λ d. record { decoder = d; core = server_core new }) g.decoder
-    ∙ ap (λ (v : Server). record { decoder = old.decoder; core = v }) (says_core h old new e before after is s g)
-
-abbrev calls_too : (e : Event) → KeepsEntries e → IsCall e
-calls_too (got item) is = absurd is
-calls_too (char_set func value) is = absurd is
-calls_too took is = absurd is
-calls_too (wrote bytes) is = tt
-calls_too (pulled n) is = tt
-calls_too (wished ed) is = tt
-calls_too (echo_set on) is = tt
-
--- the whole picture of such a call
-pub server_says : (rules : Rules) (h : History) (old new : End) (e : Event) (before after : List ℕ) → KeepsEntries e → Stands h old → ServerStays rules old → (g : Goes old e before after new) → ServerSays rules (server_picture old) g.bytes (server_picture new)
-server_says rules h old new e before after is s stays g = record {
-  same = says_picture h old new e before after is s g;
-  replies = says_replies rules h old new e before after (calls_too e is) s stays g;
-}
 
 -- an entry is taken, or none waits: whatever the test says, none is left after none
 still_none : (b : Bool) (n : ℕ) (es : List Entry) → drop n es ≡ [] → drop (if b then n + 1 else n) es ≡ []

@@ -1,11 +1,10 @@
 -- Whatever happens, each end stands where some history leads, and what is in flight are whole items while no end has failed.
-use Rattle.std.proofs.Common.{◌≡◌, ℕ, Bool, true, false, List, ◌++◌, take, drop, refl, sym, ◌∙◌, subst}
+use Rattle.std.proofs.Common.{◌≡◌, ℕ, Bool, true, false, List, ◌++◌, take, refl, sym, ◌∙◌, subst}
 use Rattle.tn_nvt.specs.declared.items.Item.{Item}
 use Rattle.tn_nvt.specs.Standing.{Standing}
 use Rattle.tn_server.specs.Events as asked
 use Rattle.tn_server.specs.Standing as server
 use Rattle.tn_server.specs.declared.faults.ServerFault.{ServerFault}
-use Rattle.tn_server.specs.declared.faults.ServerFault.TheVariants as refused
 use Rattle.tn_client.specs.Events as told
 use Rattle.tn_client.specs.Standing as client
 use Rattle.tn_client.specs.declared.faults.ClientFault.{ClientFault}
@@ -21,7 +20,8 @@ use Rattle.tn_world.proofs.ClientWrites as client_writes
 use Rattle.tn_world.proofs.ServerItems as server_items
 use Rattle.tn_world.proofs.Tied.{behind, cut_at}
 
-opposite : (b : Bool) (A : Type 0) → b ≡ true → b ≡ false → A
+-- what is true and false is nothing
+pub opposite : (b : Bool) (A : Type 0) → b ≡ true → b ≡ false → A
 opposite b A p q = absurd (cc)
 
 -- whole items join a flight
@@ -166,32 +166,6 @@ sound_does old new ServerStops d s =
 sound_does old new ClientStops d s =
     subst (λ w. IsSound w) (sym d) (record { history = s.history; server = s.server; client = s.client; flights = λ a b. let f = s.flights a b in record { items = f.items; to_server = f.to_server; messages = f.messages; to_client = f.to_client } })
 
--- an end that has failed: nothing is said of flights
-server_stands : (old new : World) (n : ℕ) (fault : ServerFault) → ServerRefuses old n fault new → IsSound old → (h : asked.History) × server.Stands h new.server
-server_stands old new n (refused.Pty fault) r s = let h = r.halts tt in (asked.gets s.history h.done, h.stands s.history s.server)
-server_stands old new n refused.Memory r s = let h = r.halts tt in (asked.gets s.history h.done, h.stands s.history s.server)
-server_stands old new n refused.Failed r s = (s.history, subst (λ (w : World). server.Stands s.history w.server) (sym (r.again refl).1) s.server)
-server_stands old new n (refused.Char fault) r s = absurd (r.is_fault)
-
-sound_server_refuses : (old new : World) (n : ℕ) (fault : ServerFault) → ServerRefuses old n fault new → IsSound old → IsSound new
-sound_server_refuses old new n fault r s =
-    let stands = server_stands old new n fault r s in
-    subst (λ w. IsSound w) (sym r.rest) (record {
-      history = stands.0;
-      server = stands.1;
-      client = s.client;
-      flights = λ a b. opposite new.server.failed (AreInFlight (record old { server = new.server; to_server = drop n old.to_server; to_client = new.to_client })) r.failed a;
-    })
-
-sound_client_refuses : (old new : World) (n : ℕ) (fault : ClientFault) → ClientRefuses old n fault new → IsSound old → IsSound new
-sound_client_refuses old new n fault r s =
-    subst (λ w. IsSound w) (sym r.rest) (record {
-      history = s.history;
-      server = s.server;
-      client = λ b. opposite new.client.failed ((h : told.History) × client.Stands h new.client) r.failed b;
-      flights = λ a b. opposite new.client.failed (AreInFlight (record old { client = new.client; to_client = drop n old.to_client; to_server = new.to_server; shown = new.shown })) r.failed b;
-    })
-
 same : (old new : World) → new ≡ old → IsSound old → IsSound new
 same old new is s = subst (λ w. IsSound w) (sym is) s
 
@@ -202,7 +176,7 @@ pub data Refusal (old : World) (new : World) : Type 0 where
   by_client : (n : ℕ) (fault : ClientFault) → ClientRefuses old n fault new → Refusal old new
 
 pub refusal_of : (old new : World) (e : Event) (c : Cause) → Refuses old e c new → Refusal old new
-refusal_of old new e cause.Memory r = unchanged r
+refusal_of old new e cause.Memory r = unchanged r.1
 refusal_of old new (ToServer n) (cause.Server fault) r = by_server n fault r
 refusal_of old new (ToClient n) (cause.Client fault) r = by_client n fault r
 refusal_of old new (Key key) (cause.Server fault) r = unchanged r.2
@@ -229,11 +203,3 @@ refusal_of old new (Propose func value) (cause.Client fault) r = unchanged r.2
 refusal_of old new (Echo on) (cause.Client fault) r = unchanged r.2
 refusal_of old new ServerStops (cause.Client fault) r = unchanged r.2
 refusal_of old new ClientStops (cause.Client fault) r = unchanged r.2
-
-refused_sound : (old new : World) → Refusal old new → IsSound old → IsSound new
-refused_sound old new (unchanged is) s = same old new is s
-refused_sound old new (by_server n fault r) s = sound_server_refuses old new n fault r s
-refused_sound old new (by_client n fault r) s = sound_client_refuses old new n fault r s
-
-pub sound_refuses : (old new : World) (e : Event) (c : Cause) → Refuses old e c new → IsSound old → IsSound new
-sound_refuses old new e c r s = refused_sound old new (refusal_of old new e c r) s

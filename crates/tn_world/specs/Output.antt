@@ -1,4 +1,4 @@
--- Output: the text shown, then what is in flight to the client, then what the pair's queue holds, as screen bytes.
+-- Output: all that the client's screen will have shown once the terminal's queue was sent and all in flight arrived.
 use Rattle.std.specs.Prelude.{◌≡◌, ℕ, List, [], ◌∷◌, ◌++◌}
 use Rattle.std.specs.List.{flat_map}
 use Rattle.tn_discipline.specs.declared.echo.Symbol.{Symbol}
@@ -40,7 +40,7 @@ IsNoneAt (Pull n) symbols = symbols ≡ []
 IsNoneAt (ToClient n) symbols = symbols ≡ []
 IsNoneAt e symbols = Unit {0}
 
--- The event appends to this Output exactly what the pair's queue took in it.
+-- What the terminal's queue took in the event is what it adds to this Output.
 pub record Grows (old : World) (e : Event) (new : World) (text : List ℕ) : Type 0 where
   pub symbols : List Symbol
   pub took : Queues old e symbols new

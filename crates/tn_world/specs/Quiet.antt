@@ -18,34 +18,38 @@ abbrev pub ComeWhere : Type 0 → Options → ℕ → List Item → Type 0
 ComeWhere may o mode [] = Unit {0}
 ComeWhere may o mode (item ∷ items) = (mode_at o mode item ≢ mode → may) × ComeWhere may (heard o item) (mode_at o mode item) items
 
--- no key is typed of the line that is to come
+-- the typed keys leave no half line
 abbrev pub IsBetweenLines : Settings → List ℕ → Type 0
 IsBetweenLines s typed = half_of (roles_of s typed) ≡ []
 
 abbrev pub ComeBetweenLines : Settings → List ℕ → Options → ℕ → List Item → Type 0
 ComeBetweenLines s typed o mode items = ComeWhere (IsBetweenLines s typed) o mode items
 
--- the event is done or refused
-abbrev pub Occurs : World → Event → World → Type 0
-Occurs old e new = Does old e new ⊎ ((cause : Cause) × Refuses old e cause new)
-
--- no special character is set or proposed, and a delivery changes the client's mask only where that may be
-abbrev pub IsQuietEvent : (List ℕ → Type 0) → World → Event → Type 0
-IsQuietEvent may w (ToClient n) =
+-- the first bytes in flight change the client's mask only where that may be
+abbrev pub DeliversWhere : (List ℕ → Type 0) → World → ℕ → Type 0
+DeliversWhere may w n =
     (items : List Item) (next : Standing) → Adds w.client.decoder (take n w.to_client) items next → ComeWhere (may w.typed) w.client.options w.client.mode items
+
+-- no special character is set or proposed, and a client that goes on gets another mask only where that may be
+abbrev pub IsQuietEvent : (List ℕ → Type 0) → World → Event → Type 0
+IsQuietEvent may w (ToClient n) = w.client_stopped ≡ false → DeliversWhere may w n
 IsQuietEvent may w (SetChar func value) = ⊥
 IsQuietEvent may w (Propose func value) = ⊥
 IsQuietEvent may w e = Unit {0}
 
--- these events, each quiet where it comes, lead from one world to the other
+-- the event is done, and quiet, or it is refused
+abbrev pub Occurs : (List ℕ → Type 0) → World → Event → World → Type 0
+Occurs may old e new = (IsQuietEvent may old e × Does old e new) ⊎ ((cause : Cause) × Refuses old e cause new)
+
+-- these events, each quiet where it is done, lead from one world to the other
 abbrev pub Passes : (List ℕ → Type 0) → World → List Event → World → Type 0
 Passes may old [] new = new ≡ old
-Passes may old (e ∷ events) new = (mid : World) × IsQuietEvent may old e × Occurs old e mid × Passes may mid events new
+Passes may old (e ∷ events) new = (mid : World) × Occurs may old e mid × Passes may mid events new
 
--- the list is quiet, whatever its events come to
+-- the list is quiet, as far as its events are done
 abbrev pub AreQuiet : (List ℕ → Type 0) → World → List Event → Type 0
 AreQuiet may w [] = Unit {0}
-AreQuiet may w (e ∷ events) = IsQuietEvent may w e × ((mid : World) → Occurs w e mid → AreQuiet may mid events)
+AreQuiet may w (e ∷ events) = (mid : World) → Does w e mid → IsQuietEvent may w e × AreQuiet may mid events
 
 -- the mode changes between lines alone
 abbrev pub IsQuiet : Settings → World → List Event → Type 0

@@ -1,9 +1,10 @@
 -- Both ends and the two streams between them, and what an event does to them.
-use Rattle.std.specs.Prelude.{◌≡◌, ℕ, Bool, true, false, min, Option, Some, List, [], ◌∷◌, ◌++◌, length, take, drop, MatchOption, option_to_list}
+use Rattle.std.specs.Prelude.{◌≡◌, ℕ, Bool, true, false, min, Option, None, List, [], ◌∷◌, ◌++◌, length, take, drop, MatchOption, option_to_list}
 use Rattle.tn_discipline.specs.Characters.{char_fault}
 use Rattle.tn_discipline.specs.declared.reads.Entry.{Entry}
 use Rattle.tn_server.specs.Events as asked
-use Rattle.tn_server.specs.Faults.{IsOfItem}
+use Rattle.tn_server.specs.Faults as faults
+use Rattle.tn_server.specs.Faults.{IsOfItem, char_refusal}
 use Rattle.tn_server.specs.Lines.{waiting}
 use Rattle.tn_server.specs.Screen.{queue}
 use Rattle.tn_server.specs.Standing as server
@@ -104,6 +105,8 @@ IsDeliveryFault fault = Unit {0}
 
 -- A delivery that the server refused: its bytes have left the flight. An end that failed before did nothing more.
 pub record ServerRefuses (old : World) (n : ℕ) (fault : ServerFault) (new : World) : Type 0 where
+  pub goes_on : old.server_stopped ≡ false
+  pub first : (old.server.failed ≡ true) → fault ≡ refused.Failed
   pub is_fault : IsDeliveryFault fault
   pub again : (fault ≡ refused.Failed) → (old.server.failed ≡ true) × (new ≡ record old { to_server = drop n old.to_server })
   pub halts : IsOfItem fault → server.Halts old.server (take n old.to_server) old.to_client new.to_client new.server
@@ -112,6 +115,7 @@ pub record ServerRefuses (old : World) (n : ℕ) (fault : ServerFault) (new : Wo
 
 -- The same at the client.
 pub record ClientRefuses (old : World) (n : ℕ) (fault : ClientFault) (new : World) : Type 0 where
+  pub goes_on : old.client_stopped ≡ false
   pub is_fault : IsFault (call_fault old.client) fault
   pub again : (fault ≡ broken.Failed) → new ≡ record old { to_client = drop n old.to_client }
   pub breaks : (fault ≡ broken.Memory) → client.Breaks old.client (take n old.to_client) old.to_server new.to_server old.shown new.shown
@@ -120,40 +124,45 @@ pub record ClientRefuses (old : World) (n : ℕ) (fault : ClientFault) (new : Wo
 
 -- why a call of the server other than a delivery may be refused
 abbrev pub IsServerFault : server.End → Event → ServerFault → Type 0
-IsServerFault end Take refused.Failed = ⊥
-IsServerFault end (Pull n) refused.Failed = ⊥
-IsServerFault end e refused.Failed = end.failed ≡ true
-IsServerFault end (SetChar func value) (refused.Char fault) = (h : asked.History) → server.Stands h end → char_fault (chars h) func value ≡ Some fault
-IsServerFault end e (refused.Char fault) = ⊥
-IsServerFault end e (refused.Pty fault) = ⊥
-IsServerFault end e refused.Memory = Unit {0}
+IsServerFault end (Wish editing) fault = faults.IsFault (char_refusal end.failed None) fault
+IsServerFault end (Echo on) fault = faults.IsFault (char_refusal end.failed None) fault
+IsServerFault end (SetChar func value) fault = (h : asked.History) → server.Stands h end → faults.IsFault (char_refusal end.failed (char_fault (chars h) func value)) fault
+IsServerFault end e fault = fault ≡ refused.Memory
 
 abbrev pub IsClientFault : client.End → Event → ClientFault → Type 0
 IsClientFault end (Propose func value) fault = IsFault (propose_fault end func value) fault
 IsClientFault end e fault = IsFault (call_fault end) fault
 
--- which events are the server's, and which the client's
-abbrev pub IsAtServer : Event → Bool
-IsAtServer (Pull n) = true
-IsAtServer Take = true
-IsAtServer (Wish editing) = true
-IsAtServer (SetChar func value) = true
-IsAtServer (Echo on) = true
-IsAtServer e = false
+-- the event calls an end, other than by a delivery: entries are taken from a server that was stopped, too
+abbrev pub CallsServer : World → Event → Type 0
+CallsServer w (Pull n) = w.server_stopped ≡ false
+CallsServer w Take = Unit {0}
+CallsServer w (Wish editing) = w.server_stopped ≡ false
+CallsServer w (SetChar func value) = w.server_stopped ≡ false
+CallsServer w (Echo on) = w.server_stopped ≡ false
+CallsServer w e = ⊥
 
-abbrev pub IsAtClient : Event → Bool
-IsAtClient (Key key) = true
-IsAtClient (Resize width height) = true
-IsAtClient (Propose func value) = true
-IsAtClient e = false
+abbrev pub CallsClient : World → Event → Type 0
+CallsClient w (Key key) = w.client_stopped ≡ false
+CallsClient w (Resize width height) = w.client_stopped ≡ false
+CallsClient w (Propose func value) = w.client_stopped ≡ false
+CallsClient w e = ⊥
+
+-- the world wants memory of its own: for a typed key, for the rest of a flight that is cut, for a taken entry
+abbrev pub WantsMemory : World → Event → Type 0
+WantsMemory w (Key key) = w.client_stopped ≡ false
+WantsMemory w (ToServer n) = w.server_stopped ≡ false
+WantsMemory w (ToClient n) = w.client_stopped ≡ false
+WantsMemory w Take = Unit {0}
+WantsMemory w e = ⊥
 
 -- the event is refused: where it is no delivery, nothing changes
 abbrev pub Refuses : World → Event → Cause → World → Type 0
-Refuses old e cause.Memory new = new ≡ old
+Refuses old e cause.Memory new = WantsMemory old e × (new ≡ old)
 Refuses old (ToServer n) (cause.Server fault) new = ServerRefuses old n fault new
 Refuses old (ToClient n) (cause.Client fault) new = ClientRefuses old n fault new
-Refuses old e (cause.Server fault) new = (IsAtServer e ≡ true) × IsServerFault old.server e fault × (new ≡ old)
-Refuses old e (cause.Client fault) new = (IsAtClient e ≡ true) × IsClientFault old.client e fault × (new ≡ old)
+Refuses old e (cause.Server fault) new = CallsServer old e × IsServerFault old.server e fault × (new ≡ old)
+Refuses old e (cause.Client fault) new = CallsClient old e × IsClientFault old.client e fault × (new ≡ old)
 
 -- each of these events is done
 abbrev pub Runs : World → List Event → World → Type 0

@@ -27,8 +27,8 @@ pub fn headline_mode_changes()
     ensures complete { (s : Settings) (start end : World) (events : List Event) → IsMark s start → Passes (IsBetweenLines s) start events end → NoneFailed end → NothingFlies end → made end ≡ local_entries s end.typed }
 {}
 
-/// Until a delivery to the client is refused, each event appends to Output exactly what the terminal's
-/// queue took in it; a pull and a delivery to the client append nothing.
+/// While the client has not failed, an event adds to Output the symbols that the terminal's queue took in
+/// it, and nothing else; when they are sent or shown nothing is added.
 pub fn output()
     ensures { (old new : World) (e : Event) (text : List ℕ) → IsSound old → old.client.failed ≡ false → Does old e new → IsOutput old text → Grows old e new text }
 {}

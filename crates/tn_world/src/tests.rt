@@ -116,6 +116,7 @@ fn rests_once_all_has_arrived(rt: HostRuntime) -> Result<(), Fail> {
     assert!(rt; !world.mark());
     walk(&mut world, &[Step::Settle])?;
     assert!(rt; world.mark());
+    assert_eq!(rt; world.server.size(), (80, 24));
     flies(&rt, &world, &[], &[]);
     walk(&mut world, &[Step::Wish(Editing::Local)])?;
     let asked = [255, 250, 34, 1, 3, 255, 240, 255, 252, 1];
