@@ -6,7 +6,8 @@ use Rattle.clap.specs.declared.error.kind.ErrorKind.TheVariants as kind
 use Rattle.clap.specs.declared.parser.matches.ArgMatches.{ArgMatches}
 use Rattle.clap.specs.declared.parser.matches.ArgMatches.TheViews.{out-ArgMatches}
 use Rattle.clap.proofs.OnLiterals.{clap_on_literals}
-use Rattle.tn_cli.specs.Words.{tn, asked_by, asked_of, AsksForHelp, AreWrong, Refuses, TellsKind}
+use Rattle.tn_cli.specs.Words.{tn, asked_by, asked_of, AskFor, AsksForHelp, AreWrong, Refuses, TellsKind}
+use Rattle.tn_cli.specs.declared.words.Asked.{Asked}
 use Rattle.tn_cli.specs.declared.words.Asked.TheVariants.{Local, Replay, World}
 use Rattle.tn_cli.specs.declared.words.WordsFault.{WordsFault}
 use Rattle.tn_cli.specs.declared.words.WordsFault.TheVariants as fault
@@ -48,26 +49,34 @@ composed : {A B C : Type 0} (f : A → B) (g : B → C) (o : Option A) → optio
 composed f g None = refl
 composed f g (Some x) = refl
 
--- a parse whose subcommand asks for no run
-pub none_asked : (words : List (List ℕ)) (m : ArgMatches) → HasMatchesOf tn words m → asked_by (subcommand_name_of m) ≡ None → asked_of words ≡ None
-none_asked words m h none = ap (λ o. asked_by (option_map (λ p. p.0) o)) (sym (h is_simple_tn).1) ∙ (ap asked_by (composed _ _ (out-ArgMatches m).subcommand) ∙ none)
+-- what the subcommand of a parse asks for, the words ask for
+pub parse_asks : (words : List (List ℕ)) (m : ArgMatches) (asked : Option Asked) → HasMatchesOf tn words m → asked_by (subcommand_name_of m) ≡ asked → asked_of words ≡ asked
+parse_asks words m asked h is = ap (λ o. asked_by (option_map (λ p. p.0) o)) (sym (h is_simple_tn).1) ∙ (ap asked_by (composed _ _ (out-ArgMatches m).subcommand) ∙ is)
 
 -- words that are written out
-pub asks_local : asked_of (codes "tn" ∷ codes "local" ∷ []) ≡ Some Local
+pub asks_local : AskFor (codes "tn" ∷ codes "local" ∷ []) Local
 unfolding clap_on_literals
-asks_local = refl
+asks_local = (refl, refl)
 
-pub asks_replay : asked_of (codes "tn" ∷ codes "replay" ∷ []) ≡ Some Replay
+pub asks_replay : AskFor (codes "tn" ∷ codes "replay" ∷ []) Replay
 unfolding clap_on_literals
-asks_replay = refl
+asks_replay = (refl, refl)
 
-pub asks_world : asked_of (codes "tn" ∷ codes "world" ∷ []) ≡ Some World
+pub asks_world : AskFor (codes "tn" ∷ codes "world" ∷ []) World
 unfolding clap_on_literals
-asks_world = refl
+asks_world = (refl, refl)
 
 pub local_is_taken : takes tn (codes "tn" ∷ codes "local" ∷ []) ≡ true
 unfolding clap_on_literals
 local_is_taken = refl
+
+pub replay_is_taken : takes tn (codes "tn" ∷ codes "replay" ∷ []) ≡ true
+unfolding clap_on_literals
+replay_is_taken = refl
+
+pub world_is_taken : takes tn (codes "tn" ∷ codes "world" ∷ []) ≡ true
+unfolding clap_on_literals
+world_is_taken = refl
 
 pub more_is_not_taken : takes tn (codes "tn" ∷ codes "local" ∷ codes "x" ∷ []) ≡ false
 unfolding clap_on_literals

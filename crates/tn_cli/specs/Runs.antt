@@ -1,11 +1,11 @@
 -- What a run of the program writes.
-use Rattle.std.specs.Prelude.{ℕ, ◌≡◌, ◌⊎◌, Option, Some, IfSome, List}
+use Rattle.std.specs.Prelude.{ℕ, ◌⊎◌, Option, IfSome, List}
 use Rattle.std.specs.Io.KnownBytes.{Appends}
 use Rattle.tn_cli.specs.Playing.{AppendsText, PrintsWhole}
 use Rattle.tn_cli.specs.Replay.{Replays}
 use Rattle.tn_cli.specs.Scripts.{lines_of}
 use Rattle.tn_cli.specs.Typing.{local_output}
-use Rattle.tn_cli.specs.Words.{asked_of, AsksForHelp}
+use Rattle.tn_cli.specs.Words.{AskFor, AsksForHelp}
 use Rattle.tn_cli.specs.declared.words.Asked.{Asked}
 use Rattle.tn_cli.specs.declared.words.Asked.TheVariants.{Local, Replay, World}
 
@@ -18,4 +18,4 @@ Runs World input old new = IfSome input (λ script. AppendsText (PrintsWhole (li
 -- the run that the words ask for, or some text where they ask for help
 abbrev pub DoesAsAsked : List (List ℕ) → Option (List ℕ) → Option (List ℕ) → Option (List ℕ) → Type 0
 DoesAsAsked words input old new =
-    ((asked : Asked) × (asked_of words ≡ Some asked) × Runs asked input old new) ⊎ (AsksForHelp words × ((help : List ℕ) × Appends old new help))
+    ((asked : Asked) × AskFor words asked × Runs asked input old new) ⊎ (AsksForHelp words × ((help : List ℕ) × Appends old new help))

@@ -32,9 +32,13 @@ abbrev pub asked_by : Option (List ℕ) → Option Asked
 asked_by None = None
 asked_by (Some name) = asked_named name
 
--- the run that words ask for, the program's name first, where they are taken
+-- the run that the subcommand among the words asks for, where the program's name comes first
 abbrev pub asked_of : List (List ℕ) → Option Asked
 asked_of words = asked_by (option_map (λ p. p.0) (subcommand_of tn words))
+
+-- nothing is wrong with the words, and they ask for this run
+abbrev pub AskFor : List (List ℕ) → Asked → Type 0
+AskFor words asked = (fault_of tn words ≡ []) × (asked_of words ≡ Some asked)
 
 -- the words ask for help, before anything else is wrong with them
 abbrev pub AsksForHelp : List (List ℕ) → Type 0

@@ -1,16 +1,18 @@
 //! Facts of definitions alone.
 
-ghost use Rattle.std.specs.Prelude.{◌≡◌, Some, true, false, [], ◌∷◌, codes};
+ghost use Rattle.std.specs.Prelude.{◌≡◌, true, false, [], ◌∷◌, codes};
 ghost use Rattle.clap.specs.Words.{takes};
-ghost use Rattle.tn_cli.specs.Words.{tn, asked_of, AsksForHelp};
+ghost use Rattle.tn_cli.specs.Words.{tn, AskFor, AsksForHelp};
 ghost use Rattle.tn_cli.specs.declared.words.Asked.TheVariants.{Local, Replay, World};
 
 /// Each subcommand's name alone is taken, and asks for its run.
 pub fn names_ask()
-    ensures local { asked_of (codes "tn" ∷ codes "local" ∷ []) ≡ Some Local }
-    ensures replay { asked_of (codes "tn" ∷ codes "replay" ∷ []) ≡ Some Replay }
-    ensures world { asked_of (codes "tn" ∷ codes "world" ∷ []) ≡ Some World }
-    ensures taken { takes tn (codes "tn" ∷ codes "local" ∷ []) ≡ true }
+    ensures local { AskFor (codes "tn" ∷ codes "local" ∷ []) Local }
+    ensures replay { AskFor (codes "tn" ∷ codes "replay" ∷ []) Replay }
+    ensures world { AskFor (codes "tn" ∷ codes "world" ∷ []) World }
+    ensures local_taken { takes tn (codes "tn" ∷ codes "local" ∷ []) ≡ true }
+    ensures replay_taken { takes tn (codes "tn" ∷ codes "replay" ∷ []) ≡ true }
+    ensures world_taken { takes tn (codes "tn" ∷ codes "world" ∷ []) ≡ true }
 {}
 
 /// A word more is not taken, nor is none; `--help` asks for help.

@@ -1,8 +1,8 @@
 //! The words of the command line.
 
-ghost use Rattle.std.specs.Prelude.{◌≡◌, Some, false, [], IfOk, OnOk, IfErr, map, codes};
-ghost use Rattle.tn_cli.specs.Words.{asked_by, asked_of, tn, plain, Refuses, TellsKind};
-ghost use Rattle.clap.specs.Words.{app_of, fault_of, kind_of, shape_of, subcommand_name_of};
+ghost use Rattle.std.specs.Prelude.{◌≡◌, false, IfOk, IfErr, map, codes};
+ghost use Rattle.tn_cli.specs.Words.{asked_by, tn, plain, AskFor, Refuses, TellsKind};
+ghost use Rattle.clap.specs.Words.{app_of, kind_of, shape_of, subcommand_name_of};
 ghost use Rattle.clap.specs.declared.builder.command.Command.TheViews.{out-Command};
 
 use clap::error::ErrorKind;
@@ -43,8 +43,7 @@ impl From<AllocError> for WordsFault {
 
 /// Reads the words of a command line, the program's name first.
 pub fn read_words(alloc: Global, words: &[&str]) -> Result<Asked, WordsFault>
-    ensures asked { IfOk result (λ asked. asked_of (map (λ word. word.now) words.now) ≡ Some asked) }
-    ensures faultless { OnOk result (fault_of tn (map (λ word. word.now) words.now) ≡ []) }
+    ensures asked { IfOk result (AskFor (map (λ word. word.now) words.now)) }
     ensures refuses { IfErr result (Refuses (map (λ word. word.now) words.now)) }
 {
     let command = tn_command(alloc)?;

@@ -150,18 +150,6 @@ fn gives(
     Ok(())
 }
 
-// What the end answers.
-fn answers(rt: &impl Abort, end: &mut ServerEnd, step: Step) {
-    match step {
-        Step::Writes(output, count) => assert_eq!(rt; end.write(output), count),
-        Step::Half(half) => assert_eq!(rt; end.half(), half),
-        Step::Mode(mode) => assert_eq!(rt; end.mode(), mode),
-        Step::Size(width, height) => assert_eq!(rt; end.size(), (width, height)),
-        Step::SignalWaits(signal) => assert_eq!(rt; end.signal_waiting(), signal),
-        _ => (),
-    }
-}
-
 fn walk(
     rt: &impl Abort,
     alloc: Global,
@@ -176,7 +164,11 @@ fn walk(
             Step::Signal(sig) => gives(rt, alloc, end, Entry::Signal(sig))?,
             Step::Eof => gives(rt, alloc, end, Entry::Eof)?,
             Step::Yields(said) => yields(rt, alloc, end, said)?,
-            step => answers(rt, end, step),
+            Step::Writes(output, count) => assert_eq!(rt; end.write(output), count),
+            Step::Half(half) => assert_eq!(rt; end.half(), half),
+            Step::Mode(mode) => assert_eq!(rt; end.mode(), mode),
+            Step::Size(width, height) => assert_eq!(rt; end.size(), (width, height)),
+            Step::SignalWaits(signal) => assert_eq!(rt; end.signal_waiting(), signal),
         }
     }
     Ok(())

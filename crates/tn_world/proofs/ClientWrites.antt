@@ -45,7 +45,7 @@ use Rattle.tn_world.specs.Calm.{bits, IsCalmToServer, AsksCalmly, seen, heard_pa
 use Rattle.tn_world.specs.Ends.{spells, seen_all, Writes}
 use Rattle.tn_world.proofs.Reading.{read_all-append}
 use Rattle.tn_world.proofs.ServerSteps.{Speaks, reply_speaks}
-use Rattle.tn_world.specs.Flight.{Whole}
+use Rattle.tn_world.proofs.Cut.{Whole}
 
 -- WHOLE ITEMS
 whole-none : Whole []

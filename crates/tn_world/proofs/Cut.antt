@@ -11,6 +11,12 @@ use Rattle.tn_nvt.specs.Standing.{Standing, HasRead, Gains}
 use Rattle.tn_nvt.proofs.Unique.{one_reading, reads_on, reads_written}
 use Rattle.tn_world.specs.Flight.{InFlight, Delivered}
 
+-- These bytes are whole items, each in its spelling.
+pub record Whole (out : List ℕ) : Type 0 where
+  pub items : List Item
+  pub spelled : out ≡ flat_map spelling items
+  pub fit : All Fits items
+
 -- nothing is read of nothing
 nothing_left : (rest : List ℕ) → Reading [] [] rest → rest ≡ []
 nothing_left rest r = (one_reading [] rest [] [] [] r (record { segments = []; splits = refl; partial = record { segment = spelled Newline; more = 13 ∷ 10 ∷ []; is_segment = tt; proper = lit< tt; begins = refl }; read = refl })).1

@@ -9,7 +9,6 @@ use Rattle.tn_nvt.specs.Stream.{Segment, spelled, lone_cr, escaped, unread, cut,
 use Rattle.tn_nvt.specs.declared.items.Item.{Item}
 use Rattle.tn_server.specs.Events as asked
 use Rattle.tn_client.specs.Events as told
-use Rattle.tn_client.specs.Standing as client
 use Rattle.tn_world.specs.Calm.{IsCalmToServer, IsCalmToClient}
 use Rattle.tn_world.specs.Ends as ends
 use Rattle.tn_world.specs.Ends.{Replies, ServerFeeds, ServerSays, Took, Writes, ClientKeys, came_all, ClientFeeds, ClientSays, AreBetweenLines, seen_all, heard_all, Happens}
@@ -52,10 +51,6 @@ reading_fits stream items rest r = subst (λ l. All Fits l) (sym r.read) (segmen
 
 flight_fits : (d : Standing) (flight : List ℕ) (items : List Item) → InFlight d flight items → All Fits items
 flight_fits d flight items f = (all_parts Fits f.had items (reading_fits (f.stream ++ flight) (f.had ++ items) [] f.reads)).1
-
--- the client's history, while it has not failed
-stands : (w : World) → IsSound w → w.client.failed ≡ false → (h : told.History) × client.Stands h w.client
-stands w s runs = s.client runs
 
 -- a key
 holds_types : (s : Settings) (old new : World) (key : ℕ) → NoneFailed old → IsSound new → Types old key new → Holds s old → Holds s new

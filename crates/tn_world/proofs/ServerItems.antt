@@ -30,7 +30,7 @@ use Rattle.tn_server.specs.Standing.{End, Stands, Goes, Feeds}
 use Rattle.tn_server.specs.declared.wishes.Editing.{Editing}
 use Rattle.tn_server.proofs.Listing.{list_fits, length-announcement, says_short, answers_fit}
 use Rattle.tn_client.specs.Screen.{item_shown}
-use Rattle.tn_world.specs.Flight.{Whole}
+use Rattle.tn_world.proofs.Cut.{Whole}
 use Rattle.tn_world.proofs.ServerSteps.{Made, nothing, one, both, reply_speaks, word_made, settled_made, mode_made, pulled_made, ga_made}
 
 -- the item shows nothing on a screen

@@ -15,7 +15,7 @@ use Rattle.tn_world.specs.declared.events.Event.{Event}
 use Rattle.tn_world.specs.declared.events.Event.TheVariants.{Key, ToServer, ToClient, Write, Pull, Take, Wish, Resize, SetChar, Propose, Echo, ServerStops, ClientStops}
 use Rattle.tn_world.specs.declared.faults.Cause.{Cause}
 use Rattle.tn_world.specs.declared.faults.Cause.TheVariants as cause
-use Rattle.tn_world.specs.Flight.{Whole}
+use Rattle.tn_world.proofs.Cut.{Whole}
 use Rattle.tn_world.proofs.ClientWrites as client_writes
 use Rattle.tn_world.proofs.ServerItems as server_items
 use Rattle.tn_world.proofs.Tied.{behind, cut_at}
@@ -165,9 +165,6 @@ sound_does old new ServerStops d s =
     subst (λ w. IsSound w) (sym d) (record { history = s.history; server = s.server; client = s.client; flights = λ a b. let f = s.flights a b in record { items = f.items; to_server = f.to_server; messages = f.messages; to_client = f.to_client } })
 sound_does old new ClientStops d s =
     subst (λ w. IsSound w) (sym d) (record { history = s.history; server = s.server; client = s.client; flights = λ a b. let f = s.flights a b in record { items = f.items; to_server = f.to_server; messages = f.messages; to_client = f.to_client } })
-
-same : (old new : World) → new ≡ old → IsSound old → IsSound new
-same old new is s = subst (λ w. IsSound w) (sym is) s
 
 -- A refusal changed nothing, or it was of a delivery.
 pub data Refusal (old : World) (new : World) : Type 0 where

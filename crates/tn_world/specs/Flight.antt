@@ -1,14 +1,7 @@
-use Rattle.std.specs.Prelude.{◌≡◌, ℕ, List, [], ◌++◌, All, flat_map}
+use Rattle.std.specs.Prelude.{◌≡◌, ℕ, List, [], ◌++◌}
 use Rattle.tn_nvt.specs.declared.items.Item.{Item}
-use Rattle.tn_nvt.specs.Spelling.{spelling, Fits}
 use Rattle.tn_nvt.specs.Stream.{Reading}
 use Rattle.tn_nvt.specs.Standing.{Standing, HasRead}
-
--- These bytes are whole items, each in its spelling.
-pub record Whole (out : List ℕ) : Type 0 where
-  pub items : List Item
-  pub spelled : out ≡ flat_map spelling items
-  pub fit : All Fits items
 
 -- These bytes are in flight to this decoder, and whole items: after some stream that it has read they are read as these.
 pub record InFlight (decoder : Standing) (flight : List ℕ) (items : List Item) : Type 0 where
