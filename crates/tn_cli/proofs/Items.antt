@@ -1,28 +1,41 @@
--- One item more of a stream whose keys are typed.
-use Rattle.std.proofs.Common.{◌≡◌, ℕ, Some, None, List, [], ◌∷◌, ◌++◌, refl, ap, ◌∙◌, append-nil}
-use Rattle.std.specs.List.{filter_map}
+-- Keys and items that are typed, some and then more.
+use Rattle.std.proofs.Common.{◌≡◌, ℕ, Some, None, List, [], ◌∷◌, ◌++◌, map, refl, ap, append-nil, append_assoc}
 use Rattle.std.proofs.lemmas.List.Elements.{filter_map-append}
+use Rattle.tn_nvt.proofs.lemmas.Folding.{taken_all}
 use Rattle.tn_nvt.specs.declared.items.Item.{Item}
-use Rattle.tn_nvt.specs.Standing.{Standing, HasRead, Gains}
-use Rattle.tn_cli.specs.Replay.{key_of, TypesItem, HasItems}
-use Rattle.tn_cli.specs.Typing.{HasTyped}
+use Rattle.tn_nvt.specs.declared.items.Item.TheVariants.{Byte}
+use Rattle.tn_nvt.specs.Sinks.{Hands, all_of, calls_of}
+use Rattle.tn_nvt.specs.Standing.{Standing, HasRead}
+use Rattle.tn_cli.specs.Replay.{key_of, keys_of, TypesItems, TypesSome, IsReplayOf}
+use Rattle.tn_cli.specs.Typing.{HasTyped, Types, local_output}
 use Rattle.tn_cli.specs.declared.typing.Typing.{Typing}
 
-pub types_key : (item : Item) (key : ℕ) (old new : Typing) → key_of item ≡ Some key → ((keys : List ℕ) → HasTyped keys old → HasTyped (keys ++ key ∷ []) new) → TypesItem item old new
-types_key item key old new is types items had =
-    let more : filter_map key_of (items ++ item ∷ []) ≡ filter_map key_of items ++ key ∷ [] =
-    filter_map-append key_of items (item ∷ []) ∙ ap (λ (xs : List ℕ). filter_map key_of items ++ xs) (rw is refl) in
-    rw more (types (filter_map key_of items) had)
+pub types_nothing : (typing : Typing) → Types [] typing typing
+types_nothing typing before had = rw append-nil had
 
-pub types_none : (item : Item) (typing : Typing) → key_of item ≡ None → TypesItem item typing typing
-types_none item typing is items had =
-    let same : filter_map key_of (items ++ item ∷ []) ≡ filter_map key_of items =
-    filter_map-append key_of items (item ∷ []) ∙ ap (λ (xs : List ℕ). filter_map key_of items ++ xs) (rw is refl) ∙ append-nil (filter_map key_of items) in
-    rw same had
+pub types_both : (old mid new : Typing) (xs ys : List ℕ) → Types xs old mid → Types ys mid new → Types (xs ++ ys) old new
+types_both old mid new xs ys first then before had = rw (← append_assoc before xs ys) (then (before ++ xs) (first before had))
 
--- a piece that a new decoder reads is a whole stream
-pub first_piece : (old new : Standing) (piece : List ℕ) (before after : List Item) → HasRead old [] [] → before ≡ [] → Gains old piece before after new → HasItems piece after
-first_piece old new piece before after fresh none gains =
-    let read = gains.adds [] [] fresh in
-    let all : after ≡ gains.items = gains.appended ∙ ap (λ (xs : List Item). xs ++ gains.items) none in
-    (read.rest, rw all read.reading)
+pub keys_of_bytes : (bytes : List ℕ) → keys_of (map Byte bytes) ≡ bytes
+keys_of_bytes [] = refl
+keys_of_bytes (b ∷ bs) = ap (λ (xs : List ℕ). b ∷ xs) (keys_of_bytes bs)
+
+pub keys_of_key : (item : Item) (key : ℕ) → key_of item ≡ Some key → keys_of (item ∷ []) ≡ key ∷ []
+keys_of_key item key is = rw is refl
+
+pub keys_of_none : (item : Item) → key_of item ≡ None → keys_of (item ∷ []) ≡ []
+keys_of_none item is = rw is refl
+
+types_items : (old mid new : Typing) (xs ys : List Item) → TypesItems old xs mid → TypesItems mid ys new → TypesItems old (xs ++ ys) new
+types_items old mid new xs ys first then = rw (filter_map-append key_of xs ys) (types_both old mid new (keys_of xs) (keys_of ys) first then)
+
+-- what a new decoder hands to a new line is a replay of the whole stream
+pub replays : (fresh after : Standing) (stream output : List ℕ) (old new : Typing) → HasRead fresh [] [] → HasTyped [] old
+    → Hands TypesItems fresh stream old new after → ((keys : List ℕ) → HasTyped keys new → output ≡ local_output keys) → IsReplayOf stream output
+replays fresh after stream output old new begins empty hands printed =
+    let items = all_of (calls_of hands.parts) in
+    let read = hands.adds [] [] begins in
+    let typed : TypesItems old items new =
+    taken_all TypesItems TypesSome TypesItems (λ a. types_nothing a) types_items old new (calls_of hands.parts) hands.taken
+    in
+    record { items = items; rest = read.rest; reading = read.reading; printed = printed (keys_of items) (typed [] empty) }

@@ -1,4 +1,5 @@
 pub mod Asking
+pub mod Inputs
 pub mod Items
 pub mod Keys
 pub mod Numbers

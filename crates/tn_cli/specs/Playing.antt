@@ -25,7 +25,8 @@ printed_bytes [] = codes "-\n"
 printed_bytes (b ∷ bs) = encode_lower (b ∷ bs) ++ codes "\n"
 
 abbrev pub printed_flight : World → List ℕ
-printed_flight w = codes "to-server " ++ printed_bytes w.to_server ++ codes "to-client " ++ printed_bytes w.to_client
+printed_flight w =
+    codes "to-server " ++ printed_bytes w.to_server ++ codes "to-client " ++ printed_bytes w.to_client
 
 abbrev pub printed_read : Option Entry → List ℕ
 printed_read (Some entry) = printed_entry entry
@@ -44,8 +45,9 @@ pub record Delivers (old new : World) : Type 0 where
 -- such a round is refused
 abbrev pub RefusesRound : World → Type 0
 RefusesRound w =
-    RefusesEvents w (event.ToClient (length w.to_client) ∷ [])
-    ⊎ ((mid : World) × Runs w (event.ToClient (length w.to_client) ∷ []) mid × RefusesEvents mid (event.ToServer (length mid.to_server) ∷ []))
+    let returning = event.ToClient (length w.to_client) ∷ [] in
+    RefusesEvents w returning
+    ⊎ ((mid : World) × Runs w returning mid × RefusesEvents mid (event.ToServer (length mid.to_server) ∷ []))
 
 -- so many rounds, something being in flight before each
 abbrev pub Rounds : ℕ → World → World → Type 0
@@ -108,7 +110,8 @@ RefusesCommand w Shown = ⊥
 -- a line is done: an empty one is passed over
 abbrev pub Plays : World → List ℕ → List ℕ → World → Type 0
 Plays old [] text new = (text ≡ []) × (new ≡ old)
-Plays old (b ∷ bs) text new = (command : Command) × (command_of (b ∷ bs) ≡ Some command) × Performs old command text new
+Plays old (b ∷ bs) text new =
+    (command : Command) × (command_of (b ∷ bs) ≡ Some command) × Performs old command text new
 
 -- a line that is not empty, and no command
 abbrev pub IsBad : List ℕ → Type 0
@@ -116,15 +119,18 @@ IsBad line = (line ≢ []) × (command_of line ≡ None)
 
 -- an event of the line's command is refused
 abbrev pub RefusesLine : World → List ℕ → Type 0
-RefusesLine w line = (line ≢ []) × (command : Command) × (command_of line ≡ Some command) × RefusesCommand w command
+RefusesLine w line =
+    (line ≢ []) × (command : Command) × (command_of line ≡ Some command) × RefusesCommand w command
 
 -- lines are done, one after another
 abbrev pub PlaysAll : World → List (List ℕ) → List ℕ → World → Type 0
 PlaysAll old [] text new = (text ≡ []) × (new ≡ old)
 PlaysAll old (line ∷ lines) text new =
-    (mid : World) × (head : List ℕ) × (rest : List ℕ) × Plays old line head mid × PlaysAll mid lines rest new × (text ≡ head ++ rest)
+    (mid : World) × (head : List ℕ) × (rest : List ℕ)
+    × Plays old line head mid × PlaysAll mid lines rest new × (text ≡ head ++ rest)
 
--- These lines were done in a world that was opened with standard settings and a window of 80 by 24, and printed this text.
+-- These lines were done in a world that was opened with standard settings, lines of the standard limit and a
+-- window of 80 by 24, and printed this text.
 pub record HasPlayed (lines : List (List ℕ)) (text : List ℕ) (new : World) : Type 0 where
   pub start : World
   pub opened : IsOpened standard 80 24 start

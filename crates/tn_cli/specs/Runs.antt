@@ -18,4 +18,5 @@ Runs World input old new = IfSome input (λ script. AppendsText (PrintsWhole (li
 -- the run that the words ask for, or some text where they ask for help
 abbrev pub DoesAsAsked : List (List ℕ) → Option (List ℕ) → Option (List ℕ) → Option (List ℕ) → Type 0
 DoesAsAsked words input old new =
-    ((asked : Asked) × AskFor words asked × Runs asked input old new) ⊎ (AsksForHelp words × ((help : List ℕ) × Appends old new help))
+    ((asked : Asked) × AskFor words asked × Runs asked input old new)
+    ⊎ (AsksForHelp words × ((help : List ℕ) × Appends old new help))

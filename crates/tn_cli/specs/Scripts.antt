@@ -13,7 +13,8 @@ use Rattle.tn_world.specs.declared.events.Event.TheVariants as event
 use Rattle.tn_cli.specs.declared.scripts.Command.{Command}
 use Rattle.tn_cli.specs.declared.scripts.Command.TheVariants.{Keys, Happen, Settle, Take, Mark, Flight, Shown}
 
--- the lines of a script, which line feeds part; an empty one after the last line feed is passed over like any other
+-- the lines of a script, which line feeds part; an empty one after the last line feed is passed over like any
+-- other
 abbrev pub lines_of : List ℕ → List (List ℕ)
 lines_of script = slice_split (λ byte. byte == 10) script
 
@@ -25,7 +26,9 @@ words_of line = slice_split (λ byte. byte == 32) line
 abbrev pub number_within : ℕ → List ℕ → Option ℕ
 number_within most [] = None
 number_within most (c ∷ cs) =
-    if all_ascii_digits (c ∷ cs) && nat_le (digits_value 10 (c ∷ cs)) most then Some (digits_value 10 (c ∷ cs)) else None
+    if all_ascii_digits (c ∷ cs) && nat_le (digits_value 10 (c ∷ cs)) most
+    then Some (digits_value 10 (c ∷ cs))
+    else None
 
 -- a hexadecimal digit, its letters in lower case
 abbrev pub is_lower_digit : ℕ → Bool
@@ -50,6 +53,7 @@ func_named name =
     else if bytes_eq name (codes "ec") then Some func.Ec
     else if bytes_eq name (codes "el") then Some func.El
     else if bytes_eq name (codes "forw1") then Some func.Forw1
+    else if bytes_eq name (codes "forw2") then Some func.Forw2
     else None
 
 -- a line of one word
@@ -99,7 +103,8 @@ with_bytes verb bytes =
     else None
 
 abbrev pub with_size : List ℕ → ℕ → ℕ → Option Command
-with_size verb width height = if bytes_eq verb (codes "resize") then Some (Happen (event.Resize width height)) else None
+with_size verb width height =
+    if bytes_eq verb (codes "resize") then Some (Happen (event.Resize width height)) else None
 
 abbrev pub with_character : List ℕ → Func → Option ℕ → Option Command
 with_character verb func value =
@@ -110,15 +115,27 @@ with_character verb func value =
 -- a line of two words
 abbrev pub with_word : List ℕ → List ℕ → Option Command
 with_word verb word =
-    option_or (with_name verb word)
-    (option_or (option_and_then (with_number verb) (number_within 1000000 word)) (option_and_then (with_bytes verb) (hex_bytes word)))
+    let counted = option_and_then (with_number verb) (number_within 1000000 word) in
+    let spelled = option_and_then (with_bytes verb) (hex_bytes word) in
+    option_or (with_name verb word) (option_or counted spelled)
+
+-- a line of three words, the last two of them numbers
+abbrev pub resized : List ℕ → List ℕ → List ℕ → Option Command
+resized verb first second =
+    option_and_then
+    (λ width. option_and_then (with_size verb width) (number_within 65535 second))
+    (number_within 65535 first)
+
+-- a line of three words, the last of them a byte
+abbrev pub characterized : List ℕ → List ℕ → List ℕ → Option Command
+characterized verb first second =
+    option_and_then
+    (λ func. option_and_then (with_character verb func) (option_and_then character (hex_bytes second)))
+    (func_named first)
 
 -- a line of three words
 abbrev pub with_words : List ℕ → List ℕ → List ℕ → Option Command
-with_words verb first second =
-    option_or
-    (option_and_then (λ width. option_and_then (with_size verb width) (number_within 65535 second)) (number_within 65535 first))
-    (option_and_then (λ func. option_and_then (with_character verb func) (option_and_then character (hex_bytes second))) (func_named first))
+with_words verb first second = option_or (resized verb first second) (characterized verb first second)
 
 abbrev pub command_of_words : List (List ℕ) → Option Command
 command_of_words (verb ∷ []) = alone verb

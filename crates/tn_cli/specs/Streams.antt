@@ -1,7 +1,24 @@
--- What a writer holds after a part of an output was written.
-use Rattle.std.specs.Prelude.{ℕ, List, Option, take}
+-- Inputs that are read whole, and outputs that are written in parts.
+use Rattle.std.specs.Prelude.{◌≡◌, ℕ, ◌+◌, ◌<◌, List, ◌++◌, ◌⊎◌, Option, length, take}
 use Rattle.std.specs.Io.KnownBytes.{Appends}
+use Rattle.tn_cli.specs.declared.fault.CliFault.{CliFault}
+use Rattle.tn_cli.specs.declared.fault.CliFault.TheVariants.{Read, TooLong, Script, World, Write, Memory}
 
--- a front of the output was appended, where the writer tells what it holds
+-- what reading an input can fail by
+abbrev pub IsReadFault : CliFault → Type 0
+IsReadFault Read = Unit {0}
+IsReadFault TooLong = Unit {0}
+IsReadFault Memory = Unit {0}
+IsReadFault (Script line) = ⊥
+IsReadFault (World line) = ⊥
+IsReadFault Write = ⊥
+
+-- Of an input of which so many bytes were read before, a piece more is kept after all of those; or fewer
+-- bytes are kept than were read.
+abbrev pub KeepsPiece : ℕ → List ℕ → List ℕ → List ℕ → Type 0
+KeepsPiece count piece old new =
+    ((length old ≡ count) × (new ≡ old ++ piece)) ⊎ (length new < count + length piece)
+
+-- a front of the output was appended
 abbrev pub AppendsFront : Option (List ℕ) → Option (List ℕ) → List ℕ → Type 0
 AppendsFront old new output = (count : ℕ) × Appends old new (take count output)

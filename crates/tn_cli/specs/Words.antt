@@ -11,14 +11,20 @@ use Rattle.tn_cli.specs.declared.words.WordsFault.TheVariants as fault
 
 -- the command alone: it wants a subcommand, and has no subcommand `help`
 abbrev pub alone : App
-alone = record { top = record (new_app (codes "tn")).top { subcommand_required = true; disable_help_subcommand = true }; subs = [] }
+alone = record {
+  top = record (new_app (codes "tn")).top { subcommand_required = true; disable_help_subcommand = true };
+  subs = [];
+}
 
 -- a subcommand without arguments
 abbrev pub plain : List ℕ → Shape
 plain name = (new_app name).top
 
 abbrev pub tn : App
-tn = with_subcommand (with_subcommand (with_subcommand alone (plain (codes "local"))) (plain (codes "replay"))) (plain (codes "world"))
+tn =
+    let with_local = with_subcommand alone (plain (codes "local")) in
+    let with_replay = with_subcommand with_local (plain (codes "replay")) in
+    with_subcommand with_replay (plain (codes "world"))
 
 -- the run that a subcommand's name asks for
 abbrev pub asked_named : List ℕ → Option Asked

@@ -1,6 +1,6 @@
 //! `tn local`: keys in, entries out.
 
-ghost use Rattle.std.specs.Prelude.{◌≡◌, ◌≢◌, ◌<◌, ◌≤◌, length, IfSome, OnOk, OnErr, IfOk, IsErrOf, Err};
+ghost use Rattle.std.specs.Prelude.{◌≡◌, ◌≢◌, ℕ, ◌<◌, ◌≤◌, length, IfSome, OnOk, OnErr, IfOk, IsErrOf, Err};
 ghost use Rattle.std.specs.Io.KnownBytes.{Appends};
 ghost use Rattle.tn_cli.specs.Typing.{local_output};
 ghost use Rattle.tn_cli.specs.Streams.{AppendsFront};
@@ -18,12 +18,21 @@ pub fn run_local<R: Read, W: Write>(
     reader: &mut R,
     writer: &mut W,
 ) -> Result<(), CliFault>
-    ensures ok { OnOk result (IfSome (R.remaining reader.old) (λ keys. Appends (W.contents writer.old) (W.contents writer.new) (local_output keys))) }
-    ensures short { OnOk result (IfSome (R.remaining reader.old) (λ keys. length keys ≤ 1048576)) }
+    ensures ok { OnOk result (IfSome (R.remaining reader.old) (λ keys.
+        Appends (W.contents writer.old) (W.contents writer.new) (local_output keys))) }
 
-    ensures too_long { IsErrOf result CliFault.TooLong → IfSome (R.remaining reader.old) (λ keys. 1048576 < length keys) }
-    ensures write { IsErrOf result CliFault.Write → IfSome (R.remaining reader.old) (λ keys. AppendsFront (W.contents writer.old) (W.contents writer.new) (local_output keys)) }
-    ensures unwritten { OnErr result (result ≢ Err CliFault.Write → W.contents writer.new ≡ W.contents writer.old) }
+    // Too long an input is answered `TooLong`, unless a read fails; whether it is, is looked at before
+    // anything else can be answered.
+    ensures short { result ≢ Err CliFault.TooLong → result ≢ Err CliFault.Read →
+        IfSome (R.remaining reader.old) (λ keys. length keys ≤ 1048576) }
+    ensures too_long { IsErrOf result CliFault.TooLong →
+        IfSome (R.remaining reader.old) (λ keys. 1048576 < length keys) }
+    ensures write { IsErrOf result CliFault.Write → IfSome (R.remaining reader.old) (λ keys.
+        AppendsFront (W.contents writer.old) (W.contents writer.new) (local_output keys)) }
+    ensures unwritten { OnErr result (result ≢ Err CliFault.Write →
+        W.contents writer.new ≡ W.contents writer.old) }
+    ensures no_script { (line : ℕ) → result ≢ Err (CliFault.Script line) }
+    ensures no_world { (line : ℕ) → result ≢ Err (CliFault.World line) }
 {
     let keys = read_whole(alloc, reader)?;
     let Ok(output) = entries_of_keys(alloc, &keys) else {
@@ -37,8 +46,6 @@ fn entries_of_keys(alloc: Global, keys: &[u8]) -> Result<Vec<u8>, AllocError>
     ensures { IfOk result (λ output. output.items ≡ local_output keys.now) }
 {
     let mut typing = Typing::new(alloc)?;
-    for key in keys {
-        typing.key(*key)?;
-    }
+    typing.keys(keys)?;
     Ok(typing.into_printed())
 }

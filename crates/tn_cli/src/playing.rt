@@ -48,9 +48,11 @@ pub(crate) fn play_line(
     line: &[u8],
     out: &mut Vec<u8>,
 ) -> Result<(), Stop>
-    ensures ok { OnOk result (play.Prints (play.Plays world.old line.now) out.old.items out.new.items world.new) }
+    ensures ok { OnOk result
+        (play.Prints (play.Plays world.old line.now) out.old.items out.new.items world.new) }
     ensures bad { IsErrOf result Bad → play.IsBad line.now × (out.new.items ≡ out.old.items) }
-    ensures refused { IsErrOf result Refused → play.RefusesLine world.old line.now × (out.new.items ≡ out.old.items) }
+    ensures refused { IsErrOf result Refused →
+        play.RefusesLine world.old line.now × (out.new.items ≡ out.old.items) }
 {
     if line.is_empty() {
         return Ok(());
@@ -71,8 +73,10 @@ fn perform(
     command: Command,
     out: &mut Vec<u8>,
 ) -> Result<(), Stop>
-    ensures ok { OnOk result (play.Prints (play.Performs world.old command) out.old.items out.new.items world.new) }
-    ensures refused { IsErrOf result Refused → play.RefusesCommand world.old command × (out.new.items ≡ out.old.items) }
+    ensures ok { OnOk result
+        (play.Prints (play.Performs world.old command) out.old.items out.new.items world.new) }
+    ensures refused { IsErrOf result Refused →
+        play.RefusesCommand world.old command × (out.new.items ≡ out.old.items) }
     ensures not_bad { result ≢ Err Bad }
 {
     match command {
@@ -151,7 +155,8 @@ fn deliver(world: &mut World) -> Result<(), WorldFault>
 
 fn take(alloc: Global, world: &mut World, out: &mut Vec<u8>) -> Result<(), Stop>
     ensures ok { OnOk result (play.Prints (play.TakesOne world.old) out.old.items out.new.items world.new) }
-    ensures refused { IsErrOf result Refused → play.RefusesEvents world.old (event.Take ∷ []) × (out.new.items ≡ out.old.items) }
+    ensures refused { IsErrOf result Refused →
+        play.RefusesEvents world.old (event.Take ∷ []) × (out.new.items ≡ out.old.items) }
     ensures not_bad { result ≢ Err Bad }
 {
     let before = world.taken().len();

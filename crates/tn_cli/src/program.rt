@@ -26,7 +26,8 @@ pub fn run_words<R: Read, W: Write, E: Write>(
     writer: &mut W,
     errors: &mut E,
 ) -> u8
-    ensures { result ≡ 0 → DoesAsAsked (map string_bytes words.now) (R.remaining reader.old) (W.contents writer.old) (W.contents writer.new) }
+    ensures { result ≡ 0 → DoesAsAsked (map string_bytes words.now)
+        (R.remaining reader.old) (W.contents writer.old) (W.contents writer.new) }
 {
     match texts_of(alloc, words) {
         Ok(texts) => run_texts(alloc, &texts, reader, writer, errors),
@@ -51,7 +52,8 @@ fn run_texts<R: Read, W: Write, E: Write>(
     writer: &mut W,
     errors: &mut E,
 ) -> u8
-    ensures { result ≡ 0 → DoesAsAsked (map (λ word. word.now) words.now) (R.remaining reader.old) (W.contents writer.old) (W.contents writer.new) }
+    ensures { result ≡ 0 → DoesAsAsked (map (λ word. word.now) words.now)
+        (R.remaining reader.old) (W.contents writer.old) (W.contents writer.new) }
 {
     match read_words(alloc, words) {
         Ok(asked) => {
@@ -104,7 +106,8 @@ fn run_asked<R: Read, W: Write>(
     reader: &mut R,
     writer: &mut W,
 ) -> Result<(), CliFault>
-    ensures { OnOk result (Runs asked (R.remaining reader.old) (W.contents writer.old) (W.contents writer.new)) }
+    ensures { OnOk result
+        (Runs asked (R.remaining reader.old) (W.contents writer.old) (W.contents writer.new)) }
 {
     match asked {
         Asked::Local => run_local(alloc, reader, writer),

@@ -42,7 +42,8 @@ pub(crate) fn parts<'a>(
     bytes: &'a [u8],
     mark: u8,
 ) -> Result<Vec<&'a [u8]>, AllocError>
-    ensures { IfOk result (λ parts. map (λ part. part.now) parts.items ≡ slice_split (λ byte. byte == mark) bytes.entry.now) }
+    ensures { IfOk result (λ parts.
+        map (λ part. part.now) parts.items ≡ slice_split (λ byte. byte == mark) bytes.entry.now) }
 {
     bytes.split(|byte| *byte == mark).collect(alloc)
 }
@@ -184,7 +185,7 @@ fn with_words(
 }
 
 fn resized(verb: &[u8], first: &[u8], second: &[u8]) -> Option<Command>
-    ensures { result ≡ option_and_then (λ width. option_and_then (script.with_size verb.now width) (script.number_within 65535 second.now)) (script.number_within 65535 first.now) }
+    ensures { result ≡ script.resized verb.now first.now second.now }
 {
     let width = number_within(MOST_SIZE, first)?;
     let height = number_within(MOST_SIZE, second)?;
@@ -226,6 +227,7 @@ fn func_named(name: &[u8]) -> Option<Func>
         b"ec" => Func::Ec,
         b"el" => Func::El,
         b"forw1" => Func::Forw1,
+        b"forw2" => Func::Forw2,
     }
 }
 

@@ -2,7 +2,7 @@
 
 ghost use Rattle.std.specs.Prelude.{◌≡◌, ◌+◌, ◌-◌, ◌<◌, ◌≤◌, ◌≢◌, ℕ, List, length, vec_len, IfOk, IfErr, IfSome, OnOk, OnErr, IsErrOf, Ok, Err, take, drop};
 ghost use Rattle.std.specs.Io.KnownBytes.{Consumes, IsAtEnd, Appends, Keeps};
-ghost use Rattle.tn_cli.specs.Streams.{AppendsFront};
+ghost use Rattle.tn_cli.specs.Streams.{AppendsFront, IsReadFault, KeepsPiece};
 
 use crate::fault::CliFault;
 use std::alloc::Global;
@@ -17,17 +17,21 @@ const MOST_READS: u32 = 2_097_152;
 /// How many bytes one read asks for.
 const PIECE_BYTES: usize = 4_096;
 
-/// Reads to the end of the input.
+/// Reads to the end of the input. Whether it is too long is told also where memory is wanting.
 pub(crate) fn read_whole<R: Read>(alloc: Global, reader: &mut R) -> Result<Vec<u8>, CliFault>
-    ensures whole { IfOk result (λ input. Consumes (R.remaining reader.old) (R.remaining reader.new) input.items) }
+    ensures whole { IfOk result (λ input.
+        Consumes (R.remaining reader.old) (R.remaining reader.new) input.items) }
     ensures end { OnOk result (IsAtEnd (R.remaining reader.new)) }
-    ensures short { IfOk result (λ input. length input.items ≤ 1048576) }
-    ensures too_long { IsErrOf result CliFault.TooLong → IfSome (R.remaining reader.old) (λ input. 1048576 < length input) }
-    ensures no_write { result ≢ Err CliFault.Write }
-    ensures no_script { (line : ℕ) → result ≢ Err (CliFault.Script line) }
-    ensures no_world { (line : ℕ) → result ≢ Err (CliFault.World line) }
+    ensures fits { IfOk result (λ input. length input.items ≤ 1048576) }
+
+    ensures too_long { IsErrOf result CliFault.TooLong →
+        IfSome (R.remaining reader.old) (λ input. 1048576 < length input) }
+    ensures memory { IsErrOf result CliFault.Memory →
+        IfSome (R.remaining reader.old) (λ input. length input ≤ 1048576) }
+    ensures fault { IfErr result IsReadFault }
 {
     let mut input = Vec::new(alloc);
+    let mut total = 0;
     let mut piece = [0; PIECE_BYTES];
     for _read in 0..MOST_READS {
         let count = match reader.read(&mut piece) {
@@ -36,16 +40,42 @@ pub(crate) fn read_whole<R: Read>(alloc: Global, reader: &mut R) -> Result<Vec<u
             Err(_) => return Err(CliFault::Read),
         };
         if count == 0 {
-            return Ok(input);
+            return if_whole(input, total);
         }
-        if count > MOST_BYTES - input.len() {
+        if count > MOST_BYTES - total {
             return Err(CliFault::TooLong);
         }
-        if input.extend_from_slice(&piece[..count]).is_err() {
-            return Err(CliFault::Memory);
-        }
+        keep(&mut input, total, &piece[..count]);
+        total += count;
     }
     Err(CliFault::Read)
+}
+
+// Keeps a piece of an input of which so many bytes were read before. Once memory was wanting, fewer
+// are kept than were read, and no piece after that is.
+fn keep(input: &mut Vec<u8>, count: usize, piece: &[u8])
+    requires within { vec_len input.now ≤ count }
+    requires some { 0 < length piece.now }
+    ensures { KeepsPiece count piece.now input.old.items input.new.items }
+{
+    if input.len() == count {
+        if input.extend_from_slice(piece).is_err() {
+            input.clear();
+        }
+    }
+}
+
+// An input of which so many bytes were read, if all of them were kept.
+fn if_whole(input: Vec<u8>, count: usize) -> Result<Vec<u8>, CliFault>
+    ensures whole { IfOk result (λ whole. whole ≡ input) }
+    ensures ok { OnOk result (vec_len input ≡ count) }
+    ensures fault { IfErr result (λ fault. fault ≡ CliFault.Memory) }
+{
+    if input.len() == count {
+        Ok(input)
+    } else {
+        Err(CliFault::Memory)
+    }
 }
 
 /// Writes all of the output. After a fault a front of it was written.

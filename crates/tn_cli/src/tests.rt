@@ -184,7 +184,12 @@ fn too_much_input_prints_nothing(rt: HostRuntime) {
     for step in [1, 4_000] {
         let mut output = Vec::new(alloc);
         match run_local(alloc, &mut Endless(step), &mut output) {
-            Err(fault) => assert!(rt; fault == CliFault::TooLong || fault == CliFault::Memory),
+            Err(fault) => assert_eq!(rt; fault, CliFault::TooLong),
+            Ok(()) => assert!(rt; false),
+        }
+        assert!(rt; output.is_empty());
+        match run_replay(alloc, &mut Endless(step), &mut output) {
+            Err(fault) => assert_eq!(rt; fault, CliFault::TooLong),
             Ok(()) => assert!(rt; false),
         }
         assert!(rt; output.is_empty());

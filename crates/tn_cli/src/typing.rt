@@ -1,11 +1,11 @@
 //! Keys typed at one line, and the printed entries that they give.
 
-ghost use Rattle.std.specs.Prelude.{◌≡◌, ℕ, List, [], ◌∷◌, ◌++◌, IfOk, OnOk};
-ghost use Rattle.tn_cli.specs.Typing.{HasTyped, local_output};
+ghost use Rattle.std.specs.Prelude.{◌≡◌, ℕ, List, [], ◌∷◌, IfOk, OnOk};
+ghost use Rattle.tn_cli.specs.Typing.{HasTyped, Types, local_output};
 
 use crate::printed::print_entry;
 use std::alloc::{AllocError, Global};
-use tn_discipline::{Effect, Line, Settings};
+use tn_discipline::{Effect, Limit, Line, Settings};
 
 /// A line with standard settings, and the lines of the entries that it has given.
 #[derive(Drop)]
@@ -23,17 +23,27 @@ impl Typing {
         Ok(Typing {
             alloc,
             settings: Settings::standard(),
-            line: Line::new(alloc)?,
+            line: Line::new(alloc, Limit::standard())?,
             printed: Vec::new(alloc),
         })
     }
 
     pub(crate) fn key(&mut self, key: u8) -> Result<(), AllocError>
-        ensures { OnOk result ((keys : List ℕ) → HasTyped keys self.old → HasTyped (keys ++ key ∷ []) self.new) }
+        ensures { OnOk result (Types (key ∷ []) self.old self.new) }
     {
         if let Effect::Gives(entry) = self.line.key(&self.settings, key)? {
             print_entry(self.alloc, &entry, &mut self.printed)?;
             return Ok(());
+        }
+        Ok(())
+    }
+
+    /// Types keys, one after another. After a fault some of them were typed.
+    pub(crate) fn keys(&mut self, keys: &[u8]) -> Result<(), AllocError>
+        ensures { OnOk result (Types keys.now self.old self.new) }
+    {
+        for key in keys {
+            self.key(*key)?;
         }
         Ok(())
     }

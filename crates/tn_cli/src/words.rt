@@ -133,7 +133,7 @@ fn world_command<'a>(alloc: Global) -> Command<'a>
             "Reads a script from standard input, one command a line, and does it in a world of one server, \
              one client and the bytes on their way between them. Empty lines are passed over. HEX is pairs \
              of digits in lower case; N is a number up to 1,000,000, and up to 65,535 in `resize`, where \
-             zeros may lead; F is one of `ip`, `abort`, `eof`, `susp`, `ec`, `el` and `forw1`.\n\n\
+             zeros may lead; F is one of `ip`, `abort`, `eof`, `susp`, `ec`, `el`, `forw1` and `forw2`.\n\n\
              key HEX: the user types these keys\n\
              to-server N, to-client N: the first N bytes in flight arrive\n\
              settle: all that is in flight arrives, until nothing is in flight, in at most 64 rounds\n\

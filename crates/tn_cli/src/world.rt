@@ -10,7 +10,7 @@ use crate::scripts::parts;
 use crate::streams::{read_whole, write_whole};
 use std::alloc::{AllocError, Global};
 use std::io::{Read, Write};
-use tn_discipline::Settings;
+use tn_discipline::{Limit, Settings};
 use tn_world::World;
 
 /// How wide the client's window is, in characters.
@@ -27,14 +27,28 @@ pub fn run_world<R: Read, W: Write>(
     reader: &mut R,
     writer: &mut W,
 ) -> Result<(), CliFault>
-    ensures ok { OnOk result (IfSome (R.remaining reader.old) (λ text. play.AppendsText (play.PrintsWhole (lines_of text)) (W.contents writer.old) (W.contents writer.new))) }
-    ensures short { OnOk result (IfSome (R.remaining reader.old) (λ text. length text ≤ 1048576)) }
+    ensures ok { OnOk result (IfSome (R.remaining reader.old) (λ text.
+        play.AppendsText (play.PrintsWhole (lines_of text))
+        (W.contents writer.old) (W.contents writer.new))) }
 
-    ensures script { (line : ℕ) → IsErrOf result (CliFault.Script line) → IfSome (R.remaining reader.old) (λ text. play.AppendsText (play.StopsAtBad (lines_of text) line) (W.contents writer.old) (W.contents writer.new)) }
-    ensures world { (line : ℕ) → IsErrOf result (CliFault.World line) → IfSome (R.remaining reader.old) (λ text. play.AppendsText (play.StopsAtRefused (lines_of text) line) (W.contents writer.old) (W.contents writer.new)) }
-    ensures too_long { IsErrOf result CliFault.TooLong → IfSome (R.remaining reader.old) (λ text. 1048576 < length text) }
-    ensures write { IsErrOf result CliFault.Write → IfSome (R.remaining reader.old) (λ text. play.AppendsFrontOfText (play.PrintsSome (lines_of text)) (W.contents writer.old) (W.contents writer.new)) }
-    ensures unwritten { OnErr result (result ≢ Err CliFault.Write → ((line : ℕ) → result ≢ Err (CliFault.Script line)) → ((line : ℕ) → result ≢ Err (CliFault.World line)) → W.contents writer.new ≡ W.contents writer.old) }
+    // Too long an input is answered `TooLong`, unless a read fails; whether it is, is looked at before
+    // anything else can be answered.
+    ensures short { result ≢ Err CliFault.TooLong → result ≢ Err CliFault.Read →
+        IfSome (R.remaining reader.old) (λ text. length text ≤ 1048576) }
+    ensures too_long { IsErrOf result CliFault.TooLong →
+        IfSome (R.remaining reader.old) (λ text. 1048576 < length text) }
+    ensures script { (line : ℕ) → IsErrOf result (CliFault.Script line) →
+        IfSome (R.remaining reader.old) (λ text. play.AppendsText (play.StopsAtBad (lines_of text) line)
+        (W.contents writer.old) (W.contents writer.new)) }
+    ensures world { (line : ℕ) → IsErrOf result (CliFault.World line) →
+        IfSome (R.remaining reader.old) (λ text. play.AppendsText (play.StopsAtRefused (lines_of text) line)
+        (W.contents writer.old) (W.contents writer.new)) }
+    ensures write { IsErrOf result CliFault.Write → IfSome (R.remaining reader.old) (λ text.
+        play.AppendsFrontOfText (play.PrintsSome (lines_of text))
+        (W.contents writer.old) (W.contents writer.new)) }
+    ensures unwritten { OnErr result (result ≢ Err CliFault.Write →
+        ((line : ℕ) → result ≢ Err (CliFault.Script line)) →
+        ((line : ℕ) → result ≢ Err (CliFault.World line)) → W.contents writer.new ≡ W.contents writer.old) }
 {
     let script = read_whole(alloc, reader)?;
     let mut printed = Vec::new(alloc);
@@ -54,7 +68,8 @@ fn play_script(
     script: &[u8],
     printed: &mut Vec<u8>,
 ) -> Result<Option<CliFault>, AllocError>
-    ensures { IfOk result (λ end. play.Adds (play.EndsWith (lines_of script.now) end) printed.old.items printed.new.items) }
+    ensures { IfOk result (λ end.
+        play.Adds (play.EndsWith (lines_of script.now) end) printed.old.items printed.new.items) }
 {
     let lines = parts(alloc, script, b'\n')?;
     let end = play_lines(alloc, &lines, printed)?;
@@ -66,9 +81,16 @@ fn play_lines(
     lines: &[&[u8]],
     printed: &mut Vec<u8>,
 ) -> Result<Option<CliFault>, AllocError>
-    ensures { IfOk result (λ end. play.Adds (play.EndsWith (map (λ line. line.now) lines.now) end) printed.old.items printed.new.items) }
+    ensures { IfOk result (λ end. play.Adds
+        (play.EndsWith (map (λ line. line.now) lines.now) end) printed.old.items printed.new.items) }
 {
-    let Ok(mut world) = World::open(alloc, Settings::standard(), WIDTH, HEIGHT) else {
+    let Ok(mut world) = World::open(
+        alloc,
+        Settings::standard(),
+        WIDTH,
+        HEIGHT,
+        Limit::standard(),
+    ) else {
         return Err(AllocError);
     };
     for (index, line) in lines.iter().enumerate() {

@@ -1,44 +1,28 @@
 -- Where an event leads, from a history to the end.
-use Rattle.std.proofs.Common.{◌≡◌, ℕ, Bool, true, false, ◌&&◌, List, [], ◌∷◌, ◌++◌, length, refl, sym, ap, ◌∙◌, if◌then◌else◌, arith, subst}
+use Rattle.std.proofs.Common.{◌≡◌, ◌≢◌, ◌⊎◌, inl, inr, ℕ, Bool, true, false, ◌&&◌, List, [], ◌++◌, refl, sym, ap, ◌∙◌, if◌then◌else◌, arith, subst}
 use Rattle.tn_discipline.specs.Characters.{Characters}
 use Rattle.tn_discipline.specs.Keys.{roles_from}
-use Rattle.tn_discipline.specs.Entries.{half_of}
 use Rattle.tn_discipline.specs.HalfLine.{HalfLine, empty_line}
 use Rattle.tn_discipline.specs.Leaves.{Leaves}
 use Rattle.tn_discipline.specs.declared.keys.Role.{Role}
-use Rattle.tn_discipline.proofs.Theorems.{advances}
+use Rattle.tn_discipline.proofs.lemmas.Lines.{advances}
 use Rattle.tn_linemode.specs.Modes.{edits}
+use Rattle.tn_nvt.specs.Spelling.{spells}
 use Rattle.tn_nvt.specs.declared.items.Item.{Item}
 use Rattle.tn_option.specs.Options.{Options}
 use Rattle.tn_client.specs.Events.{History, next, typed, got}
 use Rattle.tn_client.specs.Terms.{mode, chars, size, heard, mode_at, chars_by, payload_at, is_echoed}
-use Rattle.tn_client.specs.Lines.{settings, role_of_typed, role_at, edited, half_line, held, line}
-use Rattle.tn_client.specs.Replies.{adds, key_sent, item_sent}
+use Rattle.tn_client.specs.Lines.{settings, role_of_typed, role_at, edited, line}
+use Rattle.tn_client.specs.Replies.{replies, key_sent, item_sent}
 use Rattle.tn_client.specs.Screen.{shows, key_shown}
-use Rattle.tn_client.specs.Standing.{End, Stands, Goes, Sends, Shows}
-use Rattle.tn_client.specs.Steps.{role_now, line_typed, after_key, says_key, shows_key, line_left, after_got, says_got}
-use Rattle.tn_client.proofs.Histories.{ahead-none, held-all, unedited}
-
--- nothing is ahead of the line
-none_ahead : (h : History) (end : End) → Stands h end → end.line.ahead ≡ 0
-none_ahead h end s = s.ahead ∙ ahead-none h
-
--- where nothing is ahead, the half line is what is held
-pub held_is : (h : History) (end : End) → Stands h end → end.line.held ≡ held h
-held_is h end s = go s.leaves.sent (s.leaves.count ∙ none_ahead h end s) s.leaves.bytes ∙ sym (held-all h)
-  where
-    go : (sent : List ℕ) → length sent ≡ 0 → half_of (edited h) ≡ sent ++ end.line.held → end.line.held ≡ half_line h
-    go [] e f = sym f
-    go (b ∷ bs) e f = absurd (omega (arith, e))
-
-pub line_is : (h : History) (end : End) → Stands h end → end.line ≡ line h
-line_is h end s =
-    ap (λ (bytes : List ℕ). record { held = bytes; ahead = end.line.ahead }) (held_is h end s)
-    ∙ ap (λ (n : ℕ). record { held = held h; ahead = n }) s.ahead
+use Rattle.tn_client.specs.Standing.{End, Stands, Keeps, Goes, Sends, Shows, Grows, ReadsList, MayGrow, Refuses}
+use Rattle.tn_client.specs.Steps.{role_now, line_typed, after_key, says_key, shows_key, line_left, after_got, says_got, Cuts, MayGrowNow}
+use Rattle.tn_client.proofs.lemmas.Histories.{ahead-none, unedited}
+use Rattle.tn_client.proofs.lemmas.Ends.{none_ahead, line_is}
 
 -- no role leaves an empty line
-leaves_none : Leaves [] empty_line
-leaves_none = record { sent = []; count = refl; bytes = refl }
+leaves_none : (limit : ℕ) → Leaves [] (empty_line limit)
+leaves_none limit = record { sent = []; count = refl; bytes = refl }
 
 -- A KEY
 same_role : (m n : ℕ) (c d : Characters) (key : ℕ) → m ≡ n → c ≡ d → role_of_typed m c key ≡ role_of_typed n d key
@@ -55,6 +39,10 @@ typed_ahead : (b : Bool) (l : HalfLine) (r : Role) → l.ahead ≡ 0 → (line_t
 typed_ahead true l r none = let low = (advances l r).ahead in omega (arith, low, none)
 typed_ahead false l r none = none
 
+typed_limit : (b : Bool) (l : HalfLine) (r : Role) → (line_typed b l r).limit ≡ l.limit
+typed_limit true l r = (advances l r).limit
+typed_limit false l r = refl
+
 pub stands_typed : (h : History) (old : End) (key : ℕ) → Stands h old → Stands (next h (typed key)) (after_key old key)
 stands_typed h old key s =
     let edit = ap edits s.mode in
@@ -68,11 +56,12 @@ stands_typed h old key s =
           let Q : Bool → Type 0 = λ b. Leaves (if b then edited h ++ roles_from (role_now old key) else []) (line_typed (edits old.mode) old.line (role_now old key)) in
           subst P role (subst Q edit (typed_leaves (edits old.mode) (edited h) old.line (role_now old key) s.leaves (λ e. unedited h (sym edit ∙ e))));
       ahead = typed_ahead (edits old.mode) old.line (role_now old key) (none_ahead h old s) ∙ sym (ahead-none (next h (typed key)));
+      limit = typed_limit (edits old.mode) old.line (role_now old key) ∙ s.limit;
       size = s.size;
     }
 
-pub adds_typed : (h : History) (old : End) (key : ℕ) → Stands h old → adds h (typed key) ≡ says_key old key
-adds_typed h old key s =
+pub replies_typed : (h : History) (old : End) (key : ℕ) → Stands h old → replies h (typed key) ≡ says_key old key
+replies_typed h old key s =
     ap (λ (b : Bool). key_sent b (role_at h key) (line h) key) (sym (ap edits s.mode))
     ∙ ap (λ (r : Role). key_sent (edits old.mode) r (line h) key) (sym (role_is h old key s))
     ∙ ap (λ (l : HalfLine). key_sent (edits old.mode) (role_now old key) l key) (sym (line_is h old s))
@@ -85,28 +74,37 @@ shows_typed h old key s =
     ∙ ap (λ (l : HalfLine). key_shown (is_echoed old.options) (edits old.mode) (settings old.mode old.table) (role_now old key) l key) (sym (line_is h old s))
 
 pub goes_typed : (old new : End) (key : ℕ) → new ≡ after_key old key → Goes old (typed key) new
-goes_typed old new key is = record {
-  stands = λ h s. subst (Stands (next h (typed key))) (sym is) (stands_typed h old key s);
-  decoder = ap (λ (e : End). e.decoder) is;
-  failed = ap (λ (e : End). e.failed) is;
-}
+goes_typed old new key is = record { stands = λ h s. subst (Stands (next h (typed key))) (sym is) (stands_typed h old key s) }
 
-pub sends_typed : (old : End) (key : ℕ) (before after : List ℕ) → after ≡ before ++ says_key old key → Sends old (typed key) before after
-sends_typed old key before after is = record { bytes = says_key old key; appended = is; adds = λ h s. adds_typed h old key s }
+pub keeps_typed : (old new : End) (key : ℕ) → new ≡ after_key old key → Keeps old new
+keeps_typed old new key is = record { decoder = ap (λ (e : End). e.decoder) is; failed = ap (λ (e : End). e.failed) is }
+
+pub sends_typed : (old : End) (key : ℕ) (before after : List ℕ) → after ≡ before ++ spells (says_key old key) → Sends old (typed key) before after
+sends_typed old key before after is = record { said = says_key old key; appended = is; replies = λ h s. replies_typed h old key s }
 
 pub shows_key_typed : (old : End) (key : ℕ) (before after : List ℕ) → after ≡ before ++ shows_key old key → Shows old (typed key) before after
 shows_key_typed old key before after is = record { text = shows_key old key; appended = is; shows = λ h s. shows_typed h old key s }
 
+-- a key that says nothing shows something, where it wants memory
+pub grows_typed : (old : End) (key : ℕ) → (says_key old key ≢ []) ⊎ (shows_key old key ≢ []) → (h : History) → Stands h old → Grows h (typed key)
+grows_typed old key (inl some) h s = inl (λ e. some (sym (replies_typed h old key s) ∙ e))
+grows_typed old key (inr some) h s = inr (λ e. some (sym (shows_typed h old key s) ∙ e))
+
 -- AN ITEM
 left_leaves : (before after : Bool) (roles : List Role) (l : HalfLine) → Leaves roles l → (before ≡ false → roles ≡ []) → Leaves (if before && after then roles else []) (line_left before after l)
 left_leaves true true roles l leaves none = leaves
-left_leaves true false roles l leaves none = leaves_none
+left_leaves true false roles l leaves none = leaves_none l.limit
 left_leaves false after roles l leaves none = subst (λ (rs : List Role). Leaves rs l) (none refl) leaves
 
 left_ahead : (before after : Bool) (l : HalfLine) → l.ahead ≡ 0 → (line_left before after l).ahead ≡ 0
 left_ahead true true l none = none
 left_ahead true false l none = refl
 left_ahead false after l none = none
+
+left_limit : (before after : Bool) (l : HalfLine) → (line_left before after l).limit ≡ l.limit
+left_limit true true l = refl
+left_limit true false l = refl
+left_limit false after l = refl
 
 same_mode : (o p : Options) (m n : ℕ) (item : Item) → o ≡ p → m ≡ n → mode_at o m item ≡ mode_at p n item
 same_mode o p m n item a b = ap (λ (x : Options). mode_at x m item) a ∙ ap (λ (x : ℕ). mode_at p x item) b
@@ -130,13 +128,31 @@ stands_got h old item s =
           let Q : Bool → Type 0 = λ b. Leaves (if edits (mode h) && b then edited h else []) (line_left (edits old.mode) there old.line) in
           subst Q later (subst P edit (left_leaves (edits old.mode) there (edited h) old.line s.leaves (λ e. unedited h (sym edit ∙ e))));
       ahead = left_ahead (edits old.mode) (edits (mode_at old.options old.mode item)) old.line (none_ahead h old s) ∙ sym (ahead-none (next h (got item)));
+      limit = left_limit (edits old.mode) (edits (mode_at old.options old.mode item)) old.line ∙ s.limit;
       size = s.size;
     }
 
-pub adds_got : (h : History) (old : End) (item : Item) → Stands h old → adds h (got item) ≡ says_got old item
-adds_got h old item s =
+pub replies_got : (h : History) (old : End) (item : Item) → Stands h old → replies h (got item) ≡ says_got old item
+replies_got h old item s =
     ap (λ (o : Options). item_sent o (mode h) (chars h) (size h) (line h) item) (sym s.options)
     ∙ ap (λ (m : ℕ). item_sent old.options m (chars h) (size h) (line h) item) (sym s.mode)
     ∙ ap (λ (c : Characters). item_sent old.options old.mode c (size h) (line h) item) (sym s.table)
     ∙ ap (λ (z : ℕ × ℕ). item_sent old.options old.mode old.table z (line h) item) (sym s.size)
     ∙ ap (λ (l : HalfLine). item_sent old.options old.mode old.table (old.width, old.height) l item) (sym (line_is h old s))
+
+pub goes_got : (old new : End) (item : Item) → new ≡ after_got old item → Goes old (got item) new
+goes_got old new item is = record { stands = λ h s. subst (Stands (next h (got item))) (sym is) (stands_got h old item s) }
+
+-- an item wants memory in every history
+grows_got : (h : History) (old : End) (item : Item) → Stands h old → MayGrowNow old item → MayGrow h item
+grows_got h old item s (inl says) = inl (λ e. says (sym (replies_got h old item s) ∙ e))
+grows_got h old item s (inr (inl shows')) = inr (inl shows')
+grows_got h old item s (inr (inr reads)) = inr (inr (subst (λ (o : Options). ReadsList o item) s.options reads))
+
+pub refuses_got : (old : End) (item : Item) (before after seen now : List ℕ) → Cuts (says_got old item) before after → now ≡ seen → MayGrowNow old item → Refuses old item before after seen now
+refuses_got old item before after seen now cut same grows = record {
+  part = cut.part;
+  appended = cut.appended;
+  displayed = same;
+  refused = λ h s. record { rest = cut.rest; whole = replies_got h old item s ∙ cut.whole_is; grows = grows_got h old item s grows };
+}

@@ -9,20 +9,21 @@ pub data Event : Type 0 where
   resized : ℕ → ℕ → Event
   proposed : Func → Option ℕ → Event
 
--- what has happened since the end was started with a window of this size, the latest at the right
+-- What has happened since the end was started with a window of this width and height, and with lines of at most
+-- so many bytes with the closing one; the latest at the right.
 pub data History : Type 0 where
-  begun : ℕ → ℕ → History
+  begun : ℕ → ℕ → ℕ → History
   next : History → Event → History
 
 -- the items alone
 abbrev pub items : History → List Item
-items (begun width height) = []
+items (begun width height limit) = []
 items (next h (got item)) = items h ++ item ∷ []
 items (next h _) = items h
 
 -- the keys alone
 abbrev pub keys : History → List ℕ
-keys (begun width height) = []
+keys (begun width height limit) = []
 keys (next h (typed key)) = keys h ++ key ∷ []
 keys (next h _) = keys h
 

@@ -4,4 +4,6 @@ pub mod Lines
 pub mod Replies
 pub mod Screen
 pub mod Standing
+pub mod Course
 pub mod Steps
+pub mod Lending

@@ -14,8 +14,8 @@ use Rattle.tn_client.specs.Terms.{mode, chars}
 abbrev pub traps : ℕ → Bool
 traps mask = not (bit_and mask 2 == 0)
 
--- the settings that a client has its keys by: a carriage return ends the line as a line feed does, the characters are
--- those of its table, and ISIG is TRAPSIG
+-- the settings that a client has its keys by: a carriage return ends the line as a line feed does, the
+-- characters are those of its table, and ISIG is TRAPSIG
 abbrev pub settings : ℕ → Characters → Settings
 settings mask c = record { flags = record standard_flags { isig = traps mask }; chars = c }
 
@@ -28,19 +28,24 @@ role_at h key = role_of_typed (mode h) (chars h) key
 
 -- the roles of the keys that were typed since EDIT began, each by the mode and the characters that it met
 abbrev pub edited : History → List Role
-edited (begun width height) = []
+edited (begun width height limit) = []
 edited (next h (typed key)) = if edits (mode h) then edited h ++ roles_from (role_at h key) else []
 edited (next h (got item)) = if edits (mode h) && edits (mode (next h (got item))) then edited h else []
 edited (next h _) = edited h
 
+-- how many bytes a line has at most, with its closing byte
+abbrev pub line_limit : History → ℕ
+line_limit (begun width height limit) = limit
+line_limit (next h e) = line_limit h
+
 -- the half line, whichever end has its bytes
 abbrev pub half_line : History → List ℕ
-half_line h = half_of (edited h)
+half_line h = half_of (line_limit h) (edited h)
 
--- How much of it was sent before it was closed: the least length that it has had since a byte of the forward mask sent
--- all of it. No forward mask is taken, so nothing is sent before.
+-- How much of it was sent before it was closed: the least length that it has had since a byte of the forward
+-- mask sent all of it. No forward mask is taken, so nothing is sent before.
 abbrev pub ahead : History → ℕ
-ahead (begun width height) = 0
+ahead (begun width height limit) = 0
 ahead (next h (typed key)) = min (ahead h) (length (half_line (next h (typed key))))
 ahead (next h (got item)) = if edits (mode h) && edits (mode (next h (got item))) then ahead h else 0
 ahead (next h _) = ahead h
@@ -50,4 +55,4 @@ abbrev pub held : History → List ℕ
 held h = drop (ahead h) (half_line h)
 
 abbrev pub line : History → HalfLine
-line h = record { held = held h; ahead = ahead h }
+line h = record { held = held h; ahead = ahead h; limit = line_limit h }

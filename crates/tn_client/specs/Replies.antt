@@ -1,6 +1,5 @@
--- The bytes that a client end sends.
-use Rattle.std.specs.Prelude.{ℕ, Bool, true, false, not, ◌&&◌, ◌==◌, Option, Some, None, List, [], ◌∷◌, ◌++◌, if◌then◌else◌}
-use Rattle.std.specs.List.{flat_map}
+-- What a client end says: items, one after another.
+use Rattle.std.specs.Prelude.{ℕ, Bool, true, false, not, ◌&&◌, ◌==◌, Option, Some, None, List, [], ◌∷◌, ◌++◌, map, if◌then◌else◌}
 use Rattle.tn_codes.specs.Payloads.{written}
 use Rattle.tn_codes.specs.declared.codes.Command.{Command}
 use Rattle.tn_codes.specs.declared.codes.Command.TheVariants as command
@@ -18,7 +17,6 @@ use Rattle.tn_discipline.specs.declared.reads.Sig.TheVariants.{Int, Quit, Tstp}
 use Rattle.tn_linemode.specs.Modes.{edits, mode_answer}
 use Rattle.tn_linemode.specs.Exchange.{client_answers}
 use Rattle.tn_linemode.specs.Triples.{triple_of}
-use Rattle.tn_nvt.specs.Spelling.{spelling}
 use Rattle.tn_nvt.specs.declared.items.Item.{Item}
 use Rattle.tn_nvt.specs.declared.items.Item.TheVariants.{Byte, Newline, Cmd, Neg, Sub}
 use Rattle.tn_option.specs.Options.{Options, reply_to}
@@ -26,12 +24,9 @@ use Rattle.tn_client.specs.Events.{Event, typed, got, resized, proposed, History
 use Rattle.tn_client.specs.Terms.{options, mode, chars, size, payload_at, heard, mode_at, tells_size}
 use Rattle.tn_client.specs.Lines.{role_at, line}
 
--- bytes of data, each in its spelling
-abbrev pub spelled_byte : ℕ → List ℕ
-spelled_byte byte = spelling (Byte byte)
-
-abbrev pub spelled : List ℕ → List ℕ
-spelled bytes = flat_map spelled_byte bytes
+-- bytes of data
+abbrev pub spelled : List ℕ → List Item
+spelled bytes = map Byte bytes
 
 -- RFC 1184, section 2.4: the function of the local character that has this role
 abbrev pub func_of : Role → Option Func
@@ -56,20 +51,22 @@ command_for _ = None
 abbrev pub command_of : Role → Option Command
 command_of r = command_for (func_of r)
 
-abbrev pub commanded : Option Command → List ℕ
+abbrev pub commanded : Option Command → List Item
 commanded None = []
-commanded (Some command) = spelling (Cmd command)
+commanded (Some command) = Cmd command ∷ []
 
--- a key without EDIT is sent at once: a signal, which it is with TRAPSIG alone, as its command, and any other as it is
-abbrev pub sent_raw : Role → ℕ → List ℕ
+-- a key without EDIT is sent at once: a signal, which it is with TRAPSIG alone, as its command, and any other as
+-- it is
+abbrev pub sent_raw : Role → ℕ → List Item
 sent_raw (role.Signal sig) key = commanded (command_of (role.Signal sig))
-sent_raw _ key = spelled_byte key
+sent_raw _ key = Byte key ∷ []
 
--- With EDIT a line is sent once it is closed, and a signal at once. An erasure is sent where it reaches what was sent
--- before.
-abbrev pub sent_edited : Role → HalfLine → List ℕ
-sent_edited role.Nl l = spelled l.held ++ spelling Newline
-sent_edited (role.Eol byte) l = spelled l.held ++ spelled_byte byte
+-- With EDIT a line is sent once it is closed, and a signal at once. An erasure is sent where it reaches what
+-- was sent before.
+abbrev pub sent_edited : Role → HalfLine → List Item
+sent_edited role.Nl l = spelled l.held ++ Newline ∷ []
+sent_edited (role.Eol byte) l = spelled l.held ++ Byte byte ∷ []
+sent_edited (role.Eol2 byte) l = spelled l.held ++ Byte byte ∷ []
 sent_edited role.Eof l = spelled l.held ++ commanded (command_of role.Eof)
 sent_edited (role.Signal sig) l = commanded (command_of (role.Signal sig))
 sent_edited role.Erase l = if not (has_held l) && has_ahead l then commanded (command_of role.Erase) else []
@@ -77,37 +74,37 @@ sent_edited role.Kill l = if has_ahead l then commanded (command_of role.Kill) e
 sent_edited role.Ignored l = []
 sent_edited (role.Ordinary byte) l = []
 
-abbrev pub key_sent : Bool → Role → HalfLine → ℕ → List ℕ
+abbrev pub key_sent : Bool → Role → HalfLine → ℕ → List Item
 key_sent true r l key = sent_edited r l
 key_sent false r l key = sent_raw r key
 
--- the bytes of an option word (RFC 855)
-abbrev pub word : Option (Verb × ℕ) → List ℕ
+-- an option word (RFC 855)
+abbrev pub word : Option (Verb × ℕ) → List Item
 word None = []
-word (Some said) = spelling (Neg said.0 said.1)
+word (Some said) = Neg said.0 said.1 ∷ []
 
-abbrev pub subnegotiated : Payload → List ℕ
-subnegotiated payload = spelling (Sub 34 (written payload))
+abbrev pub subnegotiated : Payload → List Item
+subnegotiated payload = Sub 34 (written payload) ∷ []
 
 -- RFC 1073: the window's size
-abbrev pub size_told : ℕ × ℕ → List ℕ
-size_told (width, height) = spelling (Sub 31 (written (Naws width height)))
+abbrev pub size_told : ℕ × ℕ → List Item
+size_told (width, height) = Sub 31 (written (Naws width height)) ∷ []
 
-abbrev pub mode_told : Option ℕ → List ℕ
+abbrev pub mode_told : Option ℕ → List Item
 mode_told None = []
 mode_told (Some mask) = subnegotiated (Mode mask)
 
 -- an empty list is not sent
-abbrev pub listed : List Triple → List ℕ
+abbrev pub listed : List Triple → List Item
 listed [] = []
 listed (triple ∷ triples) = subnegotiated (Slc (triple ∷ triples))
 
 -- the size, where NAWS came on
-abbrev pub size_told_on : Bool → Bool → ℕ × ℕ → List ℕ
+abbrev pub size_told_on : Bool → Bool → ℕ × ℕ → List Item
 size_told_on was on z = if on && not was then size_told z else []
 
 -- the answer to a payload; a forward mask is refused, and none is there to drop
-abbrev pub payload_answered : ℕ → Characters → Option Payload → List ℕ
+abbrev pub payload_answered : ℕ → Characters → Option Payload → List Item
 payload_answered m c (Some (Mode mask)) = mode_told (mode_answer m mask)
 payload_answered m c (Some (ForwardOn mask)) = subnegotiated ForwardNo
 payload_answered m c (Some ForwardOff) = subnegotiated ForwardNo
@@ -115,37 +112,37 @@ payload_answered m c (Some (Slc triples)) = listed (client_answers c triples)
 payload_answered m c _ = []
 
 -- the answer to an item
-abbrev pub answered : Options → ℕ → Characters → ℕ × ℕ → Item → List ℕ
+abbrev pub answered : Options → ℕ → Characters → ℕ × ℕ → Item → List Item
 answered o m c z (Neg verb option) =
     word (reply_to o verb option) ++ size_told_on (tells_size o) (tells_size (heard o (Neg verb option))) z
 answered o m c z (Sub option params) = payload_answered m c (payload_at o (Sub option params))
 answered o m c z _ = []
 
 -- what is held is sent where EDIT ends
-abbrev pub ending : Bool → Bool → List ℕ → List ℕ
+abbrev pub ending : Bool → Bool → List ℕ → List Item
 ending true false bytes = spelled bytes
 ending true true bytes = []
 ending false after bytes = []
 
--- what an item makes the client send
-abbrev pub item_sent : Options → ℕ → Characters → ℕ × ℕ → HalfLine → Item → List ℕ
+-- what an item makes the client say
+abbrev pub item_sent : Options → ℕ → Characters → ℕ × ℕ → HalfLine → Item → List Item
 item_sent o m c z l item = ending (edits m) (edits (mode_at o m item)) l.held ++ answered o m c z item
 
 abbrev pub is_same_size : ℕ × ℕ → ℕ × ℕ → Bool
 is_same_size (a, b) (c, d) = a == c && b == d
 
 -- a size that changed, while NAWS is on
-abbrev pub size_sent : Bool → ℕ × ℕ → ℕ × ℕ → List ℕ
+abbrev pub size_sent : Bool → ℕ × ℕ → ℕ × ℕ → List Item
 size_sent on old new = if on && not (is_same_size old new) then size_told new else []
 
--- the bytes that an event adds
-abbrev pub adds : History → Event → List ℕ
-adds h (typed key) = key_sent (edits (mode h)) (role_at h key) (line h) key
-adds h (got item) = item_sent (options h) (mode h) (chars h) (size h) (line h) item
-adds h (resized width height) = size_sent (tells_size (options h)) (size h) (width, height)
-adds h (proposed func value) = listed (triple_of func value ∷ [])
+-- what the client says at an event
+abbrev pub replies : History → Event → List Item
+replies h (typed key) = key_sent (edits (mode h)) (role_at h key) (line h) key
+replies h (got item) = item_sent (options h) (mode h) (chars h) (size h) (line h) item
+replies h (resized width height) = size_sent (tells_size (options h)) (size h) (width, height)
+replies h (proposed func value) = listed (triple_of func value ∷ [])
 
--- the bytes that were sent
-abbrev pub sent : History → List ℕ
-sent (begun width height) = []
-sent (next h e) = sent h ++ adds h e
+-- what was said
+abbrev pub sent : History → List Item
+sent (begun width height limit) = []
+sent (next h e) = sent h ++ replies h e

@@ -52,12 +52,13 @@ item_shown _ = []
 -- what an event shows
 abbrev pub shows : History → Event → List ℕ
 shows h (typed key) =
-    key_shown (is_echoed (options h)) (edits (mode h)) (settings (mode h) (chars h)) (role_at h key) (line h) key
+    let terminal = settings (mode h) (chars h) in
+    key_shown (is_echoed (options h)) (edits (mode h)) terminal (role_at h key) (line h) key
 shows h (got item) = item_shown item
 shows h (resized width height) = []
 shows h (proposed func value) = []
 
 -- what was shown
 abbrev pub shown : History → List ℕ
-shown (begun width height) = []
+shown (begun width height limit) = []
 shown (next h e) = shown h ++ shows h e

@@ -1,16 +1,19 @@
 -- Where a history leads a client end, and what a call adds to it, whatever the history was.
-use Rattle.std.specs.Prelude.{◌≡◌, ℕ, Bool, Option, Some, None, option_map, if◌then◌else◌, List, ◌++◌}
+use Rattle.std.specs.Prelude.{◌≡◌, ◌≢◌, ◌⊎◌, ℕ, Bool, Option, Some, None, option_map, if◌then◌else◌, List, [], ◌∷◌, ◌++◌}
 use Rattle.tn_codes.specs.declared.codes.Func.{Func}
+use Rattle.tn_codes.specs.declared.payloads.Payload.TheVariants.{Slc}
+use Rattle.tn_codes.specs.declared.triples.Triple.{Triple}
 use Rattle.tn_discipline.specs.Characters.{Characters, char_fault}
 use Rattle.tn_discipline.specs.HalfLine.{HalfLine}
 use Rattle.tn_discipline.specs.Leaves.{Leaves}
-use Rattle.tn_nvt.specs.Standing.{Standing, HasRead, Adds}
+use Rattle.tn_nvt.specs.Spelling.{spells}
+use Rattle.tn_nvt.specs.Standing.{Standing, HasRead, Adds, KeepsParameter}
 use Rattle.tn_nvt.specs.declared.items.Item.{Item}
 use Rattle.tn_option.specs.Options.{Options}
-use Rattle.tn_client.specs.Events.{History, Event, next, gets}
-use Rattle.tn_client.specs.Terms.{options, mode, chars, size, linemode}
-use Rattle.tn_client.specs.Lines.{edited, ahead}
-use Rattle.tn_client.specs.Replies.{adds, sent}
+use Rattle.tn_client.specs.Events.{History, Event, got, next, gets}
+use Rattle.tn_client.specs.Terms.{options, mode, chars, size, linemode, payload_at}
+use Rattle.tn_client.specs.Lines.{line_limit, edited, ahead}
+use Rattle.tn_client.specs.Replies.{replies, sent}
 use Rattle.tn_client.specs.Screen.{shows, shown}
 use Rattle.tn_client.specs.declared.faults.ClientFault.{ClientFault}
 use Rattle.tn_client.specs.declared.faults.ClientFault.TheVariants as fault
@@ -33,69 +36,108 @@ pub record Stands (h : History) (end : End) : Type 0 where
   pub table : end.table ≡ chars h
   pub leaves : Leaves (edited h) end.line
   pub ahead : end.line.ahead ≡ ahead h
+  pub limit : end.line.limit ≡ line_limit h
   pub size : (end.width, end.height) ≡ size h
+
+-- what every call but a piece of the stream leaves as it is
+pub record Keeps (old new : End) : Type 0 where
+  pub decoder : new.decoder ≡ old.decoder
+  pub failed : new.failed ≡ old.failed
 
 -- From wherever the end may stand, the event leads to where it stands now.
 pub record Goes (old : End) (e : Event) (new : End) : Type 0 where
   pub stands : (h : History) → Stands h old → Stands (next h e) new
-  pub decoder : new.decoder ≡ old.decoder
-  pub failed : new.failed ≡ old.failed
 
--- What was appended is what the bytes of the history gain by the event.
+-- What was appended is what is said at the event.
 pub record Sends (old : End) (e : Event) (before after : List ℕ) : Type 0 where
-  pub bytes : List ℕ
-  pub appended : after ≡ before ++ bytes
-  pub adds : (h : History) → Stands h old → adds h e ≡ bytes
+  pub said : List Item
+  pub appended : after ≡ before ++ spells said
+  pub replies : (h : History) → Stands h old → replies h e ≡ said
 
--- What was appended is what the screen of the history gains by the event.
+-- What was appended is what is shown at the event.
 pub record Shows (old : End) (e : Event) (before after : List ℕ) : Type 0 where
   pub text : List ℕ
   pub appended : after ≡ before ++ text
   pub shows : (h : History) → Stands h old → shows h e ≡ text
 
--- The same for some items, one after another: where the end stands, its bytes and its screen.
+-- the event says or shows something
+abbrev pub Grows : History → Event → Type 0
+Grows h e = (replies h e ≢ []) ⊎ (shows h e ≢ [])
+
+-- a list of local characters that is not empty is read
+abbrev pub ReadsList : Options → Item → Type 0
+ReadsList o item =
+    (triple : Triple) × (triples : List Triple) × (payload_at o item ≡ Some (Slc (triple ∷ triples)))
+
+-- an item wants memory: to say or to show something, or to read a list
+abbrev pub MayGrow : History → Item → Type 0
+MayGrow h item = (replies h (got item) ≢ []) ⊎ ((shows h (got item) ≢ []) ⊎ ReadsList (options h) item)
+
+-- The item is one that wants memory, and this is a front of what it makes the end say.
+pub record IsRefused (h : History) (item : Item) (part : List Item) : Type 0 where
+  pub rest : List Item
+  pub whole : replies h (got item) ≡ part ++ rest
+  pub grows : MayGrow h item
+
+-- The item was refused for want of memory, when a front of what it makes the end say was said, and nothing
+-- was shown.
+pub record Refuses (old : End) (item : Item) (before after seen now : List ℕ) : Type 0 where
+  pub part : List Item
+  pub appended : after ≡ before ++ spells part
+  pub displayed : now ≡ seen
+  pub refused : (h : History) → Stands h old → IsRefused h item part
+
+-- Some items, one after another: where the end stands, what it said and what it showed.
 pub record Gets (old : End) (items : List Item) (before after seen now : List ℕ) (new : End) : Type 0 where
-  pub bytes : List ℕ
+  pub said : List Item
   pub text : List ℕ
-  pub appended : after ≡ before ++ bytes
+  pub appended : after ≡ before ++ spells said
   pub displayed : now ≡ seen ++ text
-  pub sends : (h : History) → Stands h old → sent (gets h items) ≡ sent h ++ bytes
+  pub sends : (h : History) → Stands h old → sent (gets h items) ≡ sent h ++ said
   pub shows : (h : History) → Stands h old → shown (gets h items) ≡ shown h ++ text
   pub stands : (h : History) → Stands h old → Stands (gets h items) new
-  pub decoder : new.decoder ≡ old.decoder
-  pub failed : new.failed ≡ old.failed
 
--- The same for a piece of the stream, however that was cut before.
+-- A piece of the stream, however that was cut before.
 pub record Feeds (old : End) (piece before after seen now : List ℕ) (new : End) : Type 0 where
   pub items : List Item
-  pub bytes : List ℕ
+  pub said : List Item
   pub text : List ℕ
-  pub appended : after ≡ before ++ bytes
+  pub appended : after ≡ before ++ spells said
   pub displayed : now ≡ seen ++ text
-  pub sends : (h : History) → Stands h old → sent (gets h items) ≡ sent h ++ bytes
+  pub sends : (h : History) → Stands h old → sent (gets h items) ≡ sent h ++ said
   pub shows : (h : History) → Stands h old → shown (gets h items) ≡ shown h ++ text
   pub stands : (h : History) → Stands h old → Stands (gets h items) new
-  pub reads : (stream : List ℕ) (had : List Item) → HasRead old.decoder stream had → HasRead new.decoder (stream ++ piece) (had ++ items)
+  pub reads : Adds old.decoder piece items new.decoder
   pub failed : new.failed ≡ old.failed
 
--- Some items were taken, of which the last perhaps in part: a front of what they make the end send and show was appended.
-pub record Stops (old : End) (items : List Item) (before after seen now : List ℕ) : Type 0 where
-  pub bytes : List ℕ
-  pub text : List ℕ
-  pub appended : after ≡ before ++ bytes
-  pub displayed : now ≡ seen ++ text
-  pub sends : (h : History) → Stands h old → (rest : List ℕ) × (sent (gets h items) ≡ sent h ++ (bytes ++ rest))
-  pub shows : (h : History) → Stands h old → (rest : List ℕ) × (shown (gets h items) ≡ shown h ++ (text ++ rest))
+-- the decoder wants memory for the next byte of the stream, a parameter
+abbrev pub WantsMemory : Standing → List ℕ → Type 0
+WantsMemory here [] = ⊥
+WantsMemory here (byte ∷ bytes) = KeepsParameter here byte
 
--- The same for a piece, of which a front was read.
+-- The first of the items that are left was refused; where none is left, the decoder wanted memory.
+abbrev pub GivesUp : History → List Item → List Item → Standing → List ℕ → Type 0
+GivesUp h (item ∷ later) part here back = IsRefused h item part
+GivesUp h [] part here back = (part ≡ []) × WantsMemory here back
+
+-- A front of a piece was read, and of its items some were done.
 pub record Breaks (old : End) (piece before after seen now : List ℕ) : Type 0 where
   pub front : List ℕ
   pub back : List ℕ
   pub whole : piece ≡ front ++ back
-  pub items : List Item
+  pub done : List Item
+  pub left : List Item
   pub here : Standing
-  pub reads : Adds old.decoder front items here
-  pub stops : Stops old items before after seen now
+  pub reads : Adds old.decoder front (done ++ left) here
+  pub said : List Item
+  pub part : List Item
+  pub text : List ℕ
+  pub appended : after ≡ before ++ spells (said ++ part)
+  pub displayed : now ≡ seen ++ text
+  pub sends : (h : History) → Stands h old → sent (gets h done) ≡ sent h ++ said
+  pub shows : (h : History) → Stands h old → shown (gets h done) ≡ shown h ++ text
+  pub why : (h : History) (stream : List ℕ) (had : List Item) → Stands h old → HasRead old.decoder stream had
+      → GivesUp (gets h done) left part here back
 
 -- why a call is refused whatever memory there is: the end has failed before
 abbrev pub call_fault : End → Option ClientFault
@@ -105,7 +147,8 @@ call_fault end = if end.failed then Some fault.Failed else None
 abbrev pub propose_fault : End → Func → Option ℕ → Option ClientFault
 propose_fault end func value =
     if end.failed then Some fault.Failed else (
-    if linemode end.options then option_map fault.Char (char_fault end.table func value) else Some fault.NotOn)
+    if linemode end.options then option_map fault.Char (char_fault end.table func value)
+    else Some fault.NotOn)
 
 -- a call that is not refused for such a cause is refused for want of memory alone
 abbrev pub IsFault : Option ClientFault → ClientFault → Type 0

@@ -1,15 +1,16 @@
 -- One event at a client end, as a step from what the end knows now. `Standing` ties these steps to histories.
-use Rattle.std.specs.Prelude.{◌≡◌, ℕ, Bool, true, false, Option, List, ◌++◌, length, take}
+use Rattle.std.specs.Prelude.{◌≡◌, ◌≢◌, ◌⊎◌, ℕ, Bool, true, false, Option, List, [], ◌++◌, length, take}
 use Rattle.tn_codes.specs.declared.payloads.Payload.{Payload}
 use Rattle.tn_discipline.specs.HalfLine.{HalfLine, empty_line, line_after}
 use Rattle.tn_discipline.specs.declared.keys.Role.{Role}
 use Rattle.tn_linemode.specs.Modes.{edits}
+use Rattle.tn_nvt.specs.Spelling.{spells}
 use Rattle.tn_nvt.specs.declared.items.Item.{Item}
 use Rattle.tn_client.specs.Terms.{heard, mode_at, mode_by, chars_by, payload_at, is_echoed, tells_size}
 use Rattle.tn_client.specs.Lines.{settings, role_of_typed}
 use Rattle.tn_client.specs.Replies.{key_sent, item_sent, ending, payload_answered, size_sent}
-use Rattle.tn_client.specs.Screen.{key_shown}
-use Rattle.tn_client.specs.Standing.{End}
+use Rattle.tn_client.specs.Screen.{key_shown, item_shown}
+use Rattle.tn_client.specs.Standing.{End, ReadsList}
 
 -- the role of a key
 abbrev pub role_now : End → ℕ → Role
@@ -23,15 +24,17 @@ line_typed false l r = l
 abbrev pub after_key : End → ℕ → End
 after_key old key = record old { line = line_typed (edits old.mode) old.line (role_now old key) }
 
-abbrev pub says_key : End → ℕ → List ℕ
+abbrev pub says_key : End → ℕ → List Item
 says_key old key = key_sent (edits old.mode) (role_now old key) old.line key
 
 abbrev pub shows_key : End → ℕ → List ℕ
-shows_key old key = key_shown (is_echoed old.options) (edits old.mode) (settings old.mode old.table) (role_now old key) old.line key
+shows_key old key =
+    let terminal = settings old.mode old.table in
+    key_shown (is_echoed old.options) (edits old.mode) terminal (role_now old key) old.line key
 
 -- the line where the mask changes: EDIT ends with nothing held
 abbrev pub line_left : Bool → Bool → HalfLine → HalfLine
-line_left true false l = empty_line
+line_left true false l = empty_line l.limit
 line_left true true l = l
 line_left false after l = l
 
@@ -39,7 +42,7 @@ abbrev pub with_mode : End → ℕ → End
 with_mode old mask = record old { mode = mask; line = line_left (edits old.mode) (edits mask) old.line }
 
 -- what is held is told where EDIT ends
-abbrev pub says_mode : End → ℕ → List ℕ
+abbrev pub says_mode : End → ℕ → List Item
 says_mode old mask = ending (edits old.mode) (edits mask) old.line.held
 
 -- the end after an item
@@ -50,29 +53,34 @@ after_got old item =
       table = chars_by old.table (payload_at old.options item);
     }
 
-abbrev pub says_got : End → Item → List ℕ
+abbrev pub says_got : End → Item → List Item
 says_got old item = item_sent old.options old.mode old.table (old.width, old.height) old.line item
 
 -- the end after a payload
 abbrev pub after_sub : End → Option Payload → End
-after_sub old payload = record (with_mode old (mode_by old.mode payload)) { table = chars_by old.table payload }
+after_sub old payload =
+    record (with_mode old (mode_by old.mode payload)) { table = chars_by old.table payload }
 
-abbrev pub says_sub : End → Option Payload → List ℕ
+abbrev pub says_sub : End → Option Payload → List Item
 says_sub old payload = says_mode old (mode_by old.mode payload) ++ payload_answered old.mode old.table payload
 
 -- the end after a new size
 abbrev pub after_resize : End → ℕ → ℕ → End
 after_resize old width height = record old { width = width; height = height }
 
-abbrev pub says_resize : End → ℕ → ℕ → List ℕ
+abbrev pub says_resize : End → ℕ → ℕ → List Item
 says_resize old width height = size_sent (tells_size old.options) (old.width, old.height) (width, height)
 
--- a front of these bytes was appended
-pub record Cuts (whole before after : List ℕ) : Type 0 where
-  pub part : List ℕ
-  pub rest : List ℕ
+-- a front of this was said
+pub record Cuts (whole : List Item) (before after : List ℕ) : Type 0 where
+  pub part : List Item
+  pub rest : List Item
   pub whole_is : whole ≡ part ++ rest
-  pub appended : after ≡ before ++ part
+  pub appended : after ≡ before ++ spells part
+
+-- an item wants memory, by what the end knows now
+abbrev pub MayGrowNow : End → Item → Type 0
+MayGrowNow old item = (says_got old item ≢ []) ⊎ ((item_shown item ≢ []) ⊎ ReadsList old.options item)
 
 -- it begins as before
 abbrev pub Begins : List ℕ → List ℕ → Type 0

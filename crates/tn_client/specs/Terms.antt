@@ -13,7 +13,8 @@ use Rattle.tn_option.specs.declared.negotiation.Agree.{Agree}
 use Rattle.tn_option.specs.declared.q_method.Side.TheVariants.{Us, Them}
 use Rattle.tn_client.specs.Events.{got, resized, History, begun, next}
 
--- the client's own SUPPRESS-GO-AHEAD, NAWS and LINEMODE are agreed to, and the server's ECHO and SUPPRESS-GO-AHEAD
+-- the client's own SUPPRESS-GO-AHEAD, NAWS and LINEMODE are agreed to, and the server's ECHO and
+-- SUPPRESS-GO-AHEAD
 abbrev pub agree : Agree
 agree =
     record { us = false ∷ true ∷ true ∷ true ∷ []; them = true ∷ true ∷ false ∷ false ∷ [] }
@@ -29,8 +30,8 @@ tells_size o = is_yes (state_of o Us 31)
 abbrev pub is_echoed : Options → Bool
 is_echoed o = is_yes (state_of o Them 1)
 
--- RFC 855: the payload of LINEMODE that an item brings, where LINEMODE is on. No subnegotiation of a stream has more
--- than 512 parameters
+-- RFC 855: the payload of LINEMODE that an item brings, where LINEMODE is on. No subnegotiation of a stream
+-- has more than 512 parameters
 abbrev pub payload_at : Options → Item → Option Payload
 payload_at o (Sub option params) =
     if (option == 34) && (linemode o && nat_le (length params) 512) then payload_of option params else None
@@ -43,7 +44,7 @@ heard o _ = o
 
 -- the client starts no word
 abbrev pub options : History → Options
-options (begun width height) = fresh agree
+options (begun width height limit) = fresh agree
 options (next h (got item)) = heard (options h) item
 options (next h _) = options h
 
@@ -67,7 +68,7 @@ mode_at o mode (Sub option params) = mode_by mode (payload_at o (Sub option para
 mode_at o mode _ = mode
 
 abbrev pub mode : History → ℕ
-mode (begun width height) = 0
+mode (begun width height limit) = 0
 mode (next h (got item)) = mode_at (options h) (mode h) item
 mode (next h _) = mode h
 
@@ -77,12 +78,12 @@ chars_by c _ = c
 
 -- the characters in force: the standard ones, changed by each list of the server
 abbrev pub chars : History → Characters
-chars (begun width height) = standard_characters
+chars (begun width height limit) = standard_characters
 chars (next h (got item)) = chars_by (chars h) (payload_at (options h) item)
 chars (next h _) = chars h
 
 -- the window's size: its width and its height
 abbrev pub size : History → ℕ × ℕ
-size (begun width height) = (width, height)
+size (begun width height limit) = (width, height)
 size (next h (resized width height)) = (width, height)
 size (next h _) = size h

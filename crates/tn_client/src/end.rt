@@ -1,22 +1,25 @@
 //! The client end: the calls that its owner makes.
 
-ghost use Rattle.std.specs.Prelude.{◌≡◌, ◌++◌, ◌∷◌, ℕ, List, true, false, None, [], length, take, IfOk, IfErr, OnOk, OnErr, IsErrOf};
+ghost use Rattle.std.specs.Prelude.{◌≡◌, ◌≢◌, ◌++◌, ◌∷◌, ℕ, List, true, false, None, [], length, take, IfOk, IfErr, OnOk, OnErr, IsErrOf};
 ghost use Rattle.tn_linemode.specs.Triples.{triple_of};
+ghost use Rattle.tn_nvt.specs.Spelling.{spells};
 ghost use Rattle.tn_nvt.specs.Standing.{HasRead};
 ghost use Rattle.tn_option.specs.Options.{state_of};
 ghost use Rattle.tn_client.specs.Events.{History, begun, next, typed, resized, proposed};
 ghost use Rattle.tn_client.specs.Terms.{options, mode, chars};
 ghost use Rattle.tn_client.specs.Lines.{held, ahead};
-ghost use Rattle.tn_client.specs.Replies.{listed};
-ghost use Rattle.tn_client.specs.Standing.{Stands, Goes, Sends, Shows, Feeds, Breaks, call_fault, propose_fault, IsFault};
+ghost use Rattle.tn_client.specs.Replies.{listed, replies};
+ghost use Rattle.tn_client.specs.Standing.{Stands, Goes, Sends, Shows, Keeps, Grows, Feeds, Breaks, call_fault, propose_fault, IsFault};
 ghost use Rattle.tn_client.specs.Steps.{after_resize, says_resize};
 
 use crate::faults::ClientFault;
 use crate::sending::{put_list, put_size};
+use crate::taking::Lent;
 use std::alloc::{AllocError, Global};
 use std::marker::Model;
+use std::mem;
 use tn_codes::{Func, Triple};
-use tn_discipline::{Chars, Line};
+use tn_discipline::{Chars, Limit, Line};
 use tn_linemode::{ClientMode, ClientTable};
 use tn_nvt::Decoder;
 use tn_option::{Agree, Engine, LINEMODE, NAWS, QState, Side};
@@ -41,19 +44,33 @@ impl Model for ClientEnd {
 
     ghost Value = { End };
 
-    ghost view = { λ e. record { decoder = e.decoder; options = e.options; mode = e.mode; table = e.table; line = e.line; width = e.width; height = e.height; failed = e.failed } };
+    ghost view = { λ e. record {
+      decoder = e.decoder;
+      options = e.options;
+      mode = e.mode;
+      table = e.table;
+      line = e.line;
+      width = e.width;
+      height = e.height;
+      failed = e.failed;
+    } };
 }
 
 impl ClientEnd {
     /// Starts an end whose window has this size, in characters; 0 where a side is not known. It
     /// writes nothing by itself: the server speaks first.
-    pub fn start(alloc: Global, width: u16, height: u16) -> Result<ClientEnd, ClientFault>
-        ensures stands { IfOk result (λ end. Stands (begun width height) end) }
+    pub fn start(
+        alloc: Global,
+        width: u16,
+        height: u16,
+        limit: Limit,
+    ) -> Result<ClientEnd, ClientFault>
+        ensures stands { IfOk result (λ end. Stands (begun width height limit) end) }
         ensures reads { IfOk result (λ end. HasRead end.decoder [] []) }
         ensures runs { IfOk result (λ end. end.failed ≡ false) }
         ensures fault { IfErr result (λ fault. fault ≡ ClientFault.Memory) }
     {
-        let line = match Line::new(alloc) {
+        let line = match Line::new(alloc, limit) {
             Ok(line) => line,
             Err(_) => return Err(ClientFault::Memory),
         };
@@ -83,12 +100,15 @@ impl ClientEnd {
         ensures goes { OnOk result (Goes self.old (typed key) self.new) }
         ensures sends { OnOk result (Sends self.old (typed key) out.old.items out.new.items) }
         ensures shows { OnOk result (Shows self.old (typed key) screen.old.items screen.new.items) }
+        ensures keeps { OnOk result (Keeps self.old self.new) }
 
         ensures accepted { OnOk result (call_fault self.old ≡ None) }
         ensures fault { IfErr result (IsFault (call_fault self.old)) }
         ensures err { OnErr result (self.new ≡ self.old) }
         ensures err_out { OnErr result (out.new.items ≡ out.old.items) }
         ensures err_screen { OnErr result (screen.new.items ≡ screen.old.items) }
+        ensures grows { IsErrOf result ClientFault.Memory →
+            (h : History) → Stands h self.old → Grows h (typed key) }
     {
         if self.failed {
             return Err(ClientFault::Failed);
@@ -110,13 +130,15 @@ impl ClientEnd {
         out: &mut Vec<u8>,
         screen: &mut Vec<u8>,
     ) -> Result<(), ClientFault>
-        ensures feeds { OnOk result (Feeds self.old piece.now out.old.items out.new.items screen.old.items screen.new.items self.new) }
+        ensures feeds { OnOk result (Feeds self.old piece.now
+            out.old.items out.new.items screen.old.items screen.new.items self.new) }
 
         ensures accepted { OnOk result (call_fault self.old ≡ None) }
         ensures fault { IfErr result (IsFault (call_fault self.old)) }
 
-        // A front of what the items say and show is there.
-        ensures memory { IsErrOf result ClientFault.Memory → Breaks self.old piece.now out.old.items out.new.items screen.old.items screen.new.items }
+        // Some items were done, and it is said why no more were.
+        ensures memory { IsErrOf result ClientFault.Memory → Breaks self.old piece.now
+            out.old.items out.new.items screen.old.items screen.new.items }
         ensures err { OnErr result (self.new.failed ≡ true) }
 
         ensures failed { IsErrOf result ClientFault.Failed → self.new ≡ self.old }
@@ -126,16 +148,16 @@ impl ClientEnd {
         if self.failed {
             return Err(ClientFault::Failed);
         }
-        let mut items = Vec::new(self.alloc);
-        let decoded = self.decoder.feed(piece, &mut items);
-        match self.items(items, out, screen) {
-            Ok(()) => match decoded {
-                Ok(()) => Ok(()),
-                Err(_) => {
-                    self.failed = true;
-                    Err(ClientFault::Memory)
-                },
-            },
+        let mut decoder = mem::replace(&mut self.decoder, Decoder::new(self.alloc));
+        let mut lent = Lent {
+            end: self,
+            out,
+            screen,
+        };
+        let fed = decoder.feed_to(piece, &mut lent);
+        self.decoder = decoder;
+        match fed {
+            Ok(()) => Ok(()),
             Err(_) => {
                 self.failed = true;
                 Err(ClientFault::Memory)
@@ -147,11 +169,14 @@ impl ClientEnd {
     pub fn resize(&mut self, width: u16, height: u16, out: &mut Vec<u8>) -> Result<(), ClientFault>
         ensures goes { OnOk result (Goes self.old (resized width height) self.new) }
         ensures sends { OnOk result (Sends self.old (resized width height) out.old.items out.new.items) }
+        ensures keeps { OnOk result (Keeps self.old self.new) }
 
         ensures accepted { OnOk result (call_fault self.old ≡ None) }
         ensures fault { IfErr result (IsFault (call_fault self.old)) }
         ensures err { OnErr result (self.new ≡ self.old) }
         ensures err_out { OnErr result (out.new.items ≡ out.old.items) }
+        ensures grows { IsErrOf result ClientFault.Memory →
+            (h : History) → Stands h self.old → replies h (resized width height) ≢ [] }
     {
         if self.failed {
             return Err(ClientFault::Failed);
@@ -164,9 +189,11 @@ impl ClientEnd {
 
     fn set_size(&mut self, width: u16, height: u16, out: &mut Vec<u8>) -> Result<(), AllocError>
         ensures ok { OnOk result (self.new ≡ after_resize self.old width height) }
-        ensures out { OnOk result (out.new.items ≡ out.old.items ++ says_resize self.old width height) }
+        ensures out { OnOk result
+            (out.new.items ≡ out.old.items ++ spells (says_resize self.old width height)) }
         ensures err { OnErr result (self.new ≡ self.old) }
         ensures err_out { OnErr result (out.new.items ≡ out.old.items) }
+        ensures grows { OnErr result (says_resize self.old width height ≢ []) }
     {
         let is_new = width != self.width || height != self.height;
         if self.options.is_on(Side::Us, NAWS) && is_new {
@@ -190,6 +217,7 @@ impl ClientEnd {
     ) -> Result<(), ClientFault>
         ensures goes { OnOk result (Goes self.old (proposed func value) self.new) }
         ensures sends { OnOk result (Sends self.old (proposed func value) out.old.items out.new.items) }
+        ensures keeps { OnOk result (Keeps self.old self.new) }
 
         ensures accepted { OnOk result (propose_fault self.old func value ≡ None) }
         ensures fault { IfErr result (IsFault (propose_fault self.old func value)) }
@@ -212,7 +240,7 @@ impl ClientEnd {
     }
 
     fn put_triple(&self, triple: Triple, out: &mut Vec<u8>) -> Result<(), AllocError>
-        ensures ok { OnOk result (out.new.items ≡ out.old.items ++ listed (triple ∷ [])) }
+        ensures ok { OnOk result (out.new.items ≡ out.old.items ++ spells (listed (triple ∷ []))) }
         ensures err { OnErr result (out.new.items ≡ out.old.items) }
     {
         let mut triples = Vec::new(self.alloc);

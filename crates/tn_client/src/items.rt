@@ -1,15 +1,15 @@
 //! What a client end does with an item that came.
 
-ghost use Rattle.std.specs.Prelude.{◌≡◌, ◌≤◌, ◌++◌, ◌∷◌, true, false, Some, None, [], length, if◌then◌else◌, IfOk, IfSome, OnOk, OnErr};
+ghost use Rattle.std.specs.Prelude.{◌≡◌, ◌≢◌, ◌⊎◌, ◌≤◌, ◌++◌, ◌∷◌, ℕ, true, false, Some, None, [], length, if◌then◌else◌, IfOk, IfSome, OnOk, OnErr};
 ghost use Rattle.tn_codes.specs.Payloads.{IsShort};
 ghost use Rattle.tn_codes.specs.declared.payloads.Payload.TheVariants as payload;
+ghost use Rattle.tn_nvt.specs.Spelling.{spells};
 ghost use Rattle.tn_nvt.specs.declared.items.Item.TheVariants as item;
-ghost use Rattle.tn_client.specs.Events.{got};
 ghost use Rattle.tn_client.specs.Terms.{changes, tells_size, payload_at};
 ghost use Rattle.tn_client.specs.Replies.{size_told_on, payload_answered};
 ghost use Rattle.tn_client.specs.Screen.{item_shown};
-ghost use Rattle.tn_client.specs.Standing.{Gets, Stops};
-ghost use Rattle.tn_client.specs.Steps.{Cuts, with_mode, says_mode, after_got, says_got, after_sub, says_sub};
+ghost use Rattle.tn_client.specs.Standing.{ReadsList};
+ghost use Rattle.tn_client.specs.Steps.{Cuts, MayGrowNow, with_mode, says_mode, after_got, says_got, after_sub, says_sub};
 
 use crate::end::ClientEnd;
 use crate::screen::{show_byte, show_new_line};
@@ -24,33 +24,19 @@ use tn_option::{Engine, LINEMODE, NAWS, Side};
 const MOST_PARAMS: usize = 512;
 
 impl ClientEnd {
-    pub(crate) fn items(
-        &mut self,
-        items: Vec<Item>,
-        out: &mut Vec<u8>,
-        screen: &mut Vec<u8>,
-    ) -> Result<(), AllocError>
-        ensures ok { OnOk result (Gets self.old items.items out.old.items out.new.items screen.old.items screen.new.items self.new) }
-        ensures front { Stops self.old items.items out.old.items out.new.items screen.old.items screen.new.items }
-    {
-        for item in items {
-            self.item(item, out, screen)?;
-        }
-        Ok(())
-    }
-
-    // After a refusal the end is not used again.
-    fn item(
+    /// What an item does, from what the end knows now. After a refusal the end is not used again.
+    pub(crate) fn item(
         &mut self,
         item: Item,
         out: &mut Vec<u8>,
         screen: &mut Vec<u8>,
     ) -> Result<(), AllocError>
         ensures ok { OnOk result (self.new ≡ after_got self.old item) }
-        ensures out { OnOk result (out.new.items ≡ out.old.items ++ says_got self.old item) }
+        ensures out { OnOk result (out.new.items ≡ out.old.items ++ spells (says_got self.old item)) }
         ensures screen { OnOk result (screen.new.items ≡ screen.old.items ++ item_shown item) }
         ensures cut { OnErr result (Cuts (says_got self.old item) out.old.items out.new.items) }
         ensures err { OnErr result (screen.new.items ≡ screen.old.items) }
+        ensures grows { OnErr result (MayGrowNow self.old item) }
     {
         match item {
             Item::Byte(byte) => show_byte(byte, screen),
@@ -63,8 +49,9 @@ impl ClientEnd {
 
     // Sends what is held, where EDIT ends with this mode.
     fn put_held(&self, mode: ClientMode, out: &mut Vec<u8>) -> Result<(), AllocError>
-        ensures ok { OnOk result (out.new.items ≡ out.old.items ++ says_mode self.now mode) }
+        ensures ok { OnOk result (out.new.items ≡ out.old.items ++ spells (says_mode self.now mode)) }
         ensures err { OnErr result (out.new.items ≡ out.old.items) }
+        ensures grows { OnErr result (says_mode self.now mode ≢ []) }
     {
         if self.mode.current() & EDIT != 0 && mode.current() & EDIT == 0 {
             return put_bytes(self.line.held(), out);
@@ -85,8 +72,11 @@ impl ClientEnd {
     // An option word: it is answered, and what follows from it is said.
     fn word(&mut self, verb: Verb, option: u8, out: &mut Vec<u8>) -> Result<(), AllocError>
         ensures ok { OnOk result (self.new ≡ after_got self.old (item.Neg verb option)) }
-        ensures out { OnOk result (out.new.items ≡ out.old.items ++ says_got self.old (item.Neg verb option)) }
-        ensures cut { OnErr result (Cuts (says_got self.old (item.Neg verb option)) out.old.items out.new.items) }
+        ensures out { OnOk result
+            (out.new.items ≡ out.old.items ++ spells (says_got self.old (item.Neg verb option))) }
+        ensures cut { OnErr result
+            (Cuts (says_got self.old (item.Neg verb option)) out.old.items out.new.items) }
+        ensures grows { OnErr result (says_got self.old (item.Neg verb option) ≢ []) }
     {
         let mut options = self.options;
         let said = options.got(verb, option);
@@ -112,8 +102,12 @@ impl ClientEnd {
 
     // Tells the size where NAWS came on.
     fn put_size_on(&self, is_on: bool, out: &mut Vec<u8>) -> Result<(), AllocError>
-        ensures ok { OnOk result (out.new.items ≡ out.old.items ++ size_told_on (tells_size self.now.options) is_on (self.now.width, self.now.height)) }
+        ensures ok { let size : ℕ × ℕ = (self.now.width, self.now.height) in
+            let says = size_told_on (tells_size self.now.options) is_on size in
+            OnOk result (out.new.items ≡ out.old.items ++ spells says) }
         ensures err { OnErr result (out.new.items ≡ out.old.items) }
+        ensures grows { let size : ℕ × ℕ = (self.now.width, self.now.height) in
+            OnErr result (size_told_on (tells_size self.now.options) is_on size ≢ []) }
     {
         if is_on && !self.options.is_on(Side::Us, NAWS) {
             return put_size(self.width, self.height, out);
@@ -121,15 +115,21 @@ impl ClientEnd {
         Ok(())
     }
 
-    fn subnegotiation(
+    /// What a subnegotiation does. After a refusal the end is not used again.
+    pub(crate) fn subnegotiation(
         &mut self,
         option: u8,
         params: &Params,
         out: &mut Vec<u8>,
     ) -> Result<(), AllocError>
-        ensures ok { OnOk result (self.new ≡ after_sub self.old (payload_at self.old.options (item.Sub option params.now))) }
-        ensures out { OnOk result (out.new.items ≡ out.old.items ++ says_sub self.old (payload_at self.old.options (item.Sub option params.now))) }
-        ensures cut { OnErr result (Cuts (says_sub self.old (payload_at self.old.options (item.Sub option params.now))) out.old.items out.new.items) }
+        ensures ok { let payload = payload_at self.old.options (item.Sub option params.now) in
+            OnOk result (self.new ≡ after_sub self.old payload) }
+        ensures out { let payload = payload_at self.old.options (item.Sub option params.now) in
+            OnOk result (out.new.items ≡ out.old.items ++ spells (says_sub self.old payload)) }
+        ensures cut { let payload = payload_at self.old.options (item.Sub option params.now) in
+            OnErr result (Cuts (says_sub self.old payload) out.old.items out.new.items) }
+        ensures grows { let sub = item.Sub option params.now in OnErr result
+            ((says_sub self.old (payload_at self.old.options sub) ≢ []) ⊎ ReadsList self.old.options sub) }
     {
         match self.payload(option, params)? {
             Some(Payload::Mode(mask)) => self.mode_got(mask, out),
@@ -149,8 +149,10 @@ impl ClientEnd {
 
     // What a subnegotiation says to this end, where LINEMODE is on.
     fn payload(&self, option: u8, params: &Params) -> Result<Option<Payload>, AllocError>
-        ensures value { IfOk result (λ payload. payload ≡ payload_at self.now.options (item.Sub option params.now)) }
+        ensures value { IfOk result
+            (λ payload. payload ≡ payload_at self.now.options (item.Sub option params.now)) }
         ensures short { IfOk result (λ payload. IfSome payload IsShort) }
+        ensures list { OnErr result (ReadsList self.now.options (item.Sub option params.now)) }
     {
         if option != LINEMODE
             || !self.options.is_on(Side::Us, LINEMODE)
@@ -168,8 +170,11 @@ impl ClientEnd {
     // A MODE of the server.
     fn mode_got(&mut self, mask: u8, out: &mut Vec<u8>) -> Result<(), AllocError>
         ensures ok { OnOk result (self.new ≡ after_sub self.old (Some (payload.Mode mask))) }
-        ensures out { OnOk result (out.new.items ≡ out.old.items ++ says_sub self.old (Some (payload.Mode mask))) }
-        ensures cut { OnErr result (Cuts (says_sub self.old (Some (payload.Mode mask))) out.old.items out.new.items) }
+        ensures out { OnOk result
+            (out.new.items ≡ out.old.items ++ spells (says_sub self.old (Some (payload.Mode mask)))) }
+        ensures cut { OnErr result
+            (Cuts (says_sub self.old (Some (payload.Mode mask))) out.old.items out.new.items) }
+        ensures grows { OnErr result (says_sub self.old (Some (payload.Mode mask)) ≢ []) }
     {
         let mut mode = self.mode;
         let answer = mode.got(mask);
@@ -183,8 +188,11 @@ impl ClientEnd {
     fn list(&mut self, triples: &Triples, out: &mut Vec<u8>) -> Result<(), AllocError>
         requires { length triples.now ≤ 170 }
         ensures ok { OnOk result (self.new ≡ after_sub self.old (Some (payload.Slc triples.now))) }
-        ensures out { OnOk result (out.new.items ≡ out.old.items ++ says_sub self.old (Some (payload.Slc triples.now))) }
-        ensures cut { OnErr result (Cuts (says_sub self.old (Some (payload.Slc triples.now))) out.old.items out.new.items) }
+        ensures out { OnOk result
+            (out.new.items ≡ out.old.items ++ spells (says_sub self.old (Some (payload.Slc triples.now)))) }
+        ensures cut { OnErr result
+            (Cuts (says_sub self.old (Some (payload.Slc triples.now))) out.old.items out.new.items) }
+        ensures grows { OnErr result (triples.now ≢ []) }
     {
         let mut table = self.table;
         let mut answers = Vec::new(self.alloc);

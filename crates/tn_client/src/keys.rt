@@ -1,10 +1,12 @@
 //! What a client end does with a key.
 
-ghost use Rattle.std.specs.Prelude.{◌≡◌, ◌++◌, OnOk, OnErr};
+ghost use Rattle.std.specs.Prelude.{◌≡◌, ◌≢◌, ◌⊎◌, ◌++◌, ℕ, [], true, false, OnOk, OnErr};
+ghost use Rattle.tn_nvt.specs.Spelling.{spells};
 ghost use Rattle.tn_client.specs.Lines.{settings};
 ghost use Rattle.tn_client.specs.Terms.{is_echoed};
 ghost use Rattle.tn_client.specs.Replies.{sent_raw, sent_edited};
-ghost use Rattle.tn_client.specs.Screen.{passed_shown, edited_shown};
+ghost use Rattle.tn_client.specs.Screen.{passed_shown, edited_shown, echoed_edited};
+ghost use Rattle.tn_discipline.specs.Characters.{Characters};
 ghost use Rattle.tn_discipline.specs.HalfLine.{line_after};
 ghost use Rattle.tn_client.specs.Steps.{role_now, after_key, says_key, shows_key, Begins};
 
@@ -12,9 +14,23 @@ use crate::end::ClientEnd;
 use crate::screen::{echo_raw, make_room, show_all};
 use crate::sending::{put_edited, put_raw};
 use std::alloc::AllocError;
-use tn_discipline::{Settings, echo_of, role_of};
+use tn_discipline::{Line, Role, Settings, echo_of, role_of};
 use tn_linemode::{EDIT, TRAPSIG};
 use tn_option::{ECHO, Side};
+
+// Whether a key of this role shows something of the line, where it is echoed.
+fn is_shown(role: Role, line: &Line) -> bool
+    ensures shown { result ≡ true →
+        (m : ℕ) (c : Characters) → echoed_edited (settings m c) role line.now ≢ [] }
+    ensures unshown { result ≡ false →
+        (m : ℕ) (c : Characters) → echoed_edited (settings m c) role line.now ≡ [] }
+{
+    match role {
+        Role::Ordinary(_) | Role::Nl | Role::Eol(_) | Role::Eol2(_) | Role::Kill => true,
+        Role::Erase => !line.held().is_empty() || line.ahead() > 0,
+        Role::Eof | Role::Signal(_) | Role::Ignored => false,
+    }
+}
 
 impl ClientEnd {
     // The settings that give a key its role.
@@ -34,6 +50,20 @@ impl ClientEnd {
         self.options.is_on(Side::Them, ECHO)
     }
 
+    // Whether a key of this role shows something here.
+    fn echoes(&self, role: Role) -> bool
+        ensures shown { let terminal = settings self.now.mode self.now.table in
+            result ≡ true → edited_shown (is_echoed self.now.options) terminal role self.now.line ≢ [] }
+        ensures unshown { let terminal = settings self.now.mode self.now.table in
+            result ≡ false → edited_shown (is_echoed self.now.options) terminal role self.now.line ≡ [] }
+        ensures here { result ≡ true → is_echoed self.now.options ≡ false }
+    {
+        if self.is_echoed() {
+            return false;
+        }
+        is_shown(role, &self.line)
+    }
+
     /// Types a key. After a refusal what was sent and shown begins as it did.
     pub(crate) fn type_key(
         &mut self,
@@ -42,11 +72,12 @@ impl ClientEnd {
         screen: &mut Vec<u8>,
     ) -> Result<(), AllocError>
         ensures ok { OnOk result (self.new ≡ after_key self.old key) }
-        ensures out { OnOk result (out.new.items ≡ out.old.items ++ says_key self.old key) }
+        ensures out { OnOk result (out.new.items ≡ out.old.items ++ spells (says_key self.old key)) }
         ensures screen { OnOk result (screen.new.items ≡ screen.old.items ++ shows_key self.old key) }
         ensures err { OnErr result (self.new ≡ self.old) }
         ensures err_out { OnErr result (Begins out.old.items out.new.items) }
         ensures err_screen { OnErr result (screen.new.items ≡ screen.old.items) }
+        ensures grows { OnErr result ((says_key self.old key ≢ []) ⊎ (shows_key self.old key ≢ [])) }
     {
         if self.mode.current() & EDIT != 0 {
             self.edit(key, out, screen)
@@ -57,10 +88,13 @@ impl ClientEnd {
 
     // A key that is sent at once.
     fn pass(&self, key: u8, out: &mut Vec<u8>, screen: &mut Vec<u8>) -> Result<(), AllocError>
-        ensures out { OnOk result (out.new.items ≡ out.old.items ++ sent_raw (role_now self.now key) key) }
-        ensures screen { OnOk result (screen.new.items ≡ screen.old.items ++ passed_shown (is_echoed self.now.options) key) }
+        ensures out { OnOk result
+            (out.new.items ≡ out.old.items ++ spells (sent_raw (role_now self.now key) key)) }
+        ensures screen { OnOk result
+            (screen.new.items ≡ screen.old.items ++ passed_shown (is_echoed self.now.options) key) }
         ensures err_out { OnErr result (Begins out.old.items out.new.items) }
         ensures err_screen { OnErr result (screen.new.items ≡ screen.old.items) }
+        ensures grows { sent_raw (role_now self.now key) key ≢ [] }
     {
         put_raw(role_of(&self.settings(), key), key, out)?;
         if self.is_echoed() {
@@ -71,17 +105,27 @@ impl ClientEnd {
 
     // A key of the line that is edited here.
     fn edit(&mut self, key: u8, out: &mut Vec<u8>, screen: &mut Vec<u8>) -> Result<(), AllocError>
-        ensures ok { OnOk result (self.new ≡ record self.old { line = line_after self.old.line (role_now self.old key) }) }
-        ensures out { OnOk result (out.new.items ≡ out.old.items ++ sent_edited (role_now self.old key) self.old.line) }
-        ensures screen { OnOk result (screen.new.items ≡ screen.old.items ++ edited_shown (is_echoed self.old.options) (settings self.old.mode self.old.table) (role_now self.old key) self.old.line) }
+        ensures ok { let line = line_after self.old.line (role_now self.old key) in
+            OnOk result (self.new ≡ record self.old { line = line }) }
+        ensures out { let says = sent_edited (role_now self.old key) self.old.line in
+            OnOk result (out.new.items ≡ out.old.items ++ spells says) }
+        ensures screen { let terminal = settings self.old.mode self.old.table in
+            let role = role_now self.old key in
+            let text = edited_shown (is_echoed self.old.options) terminal role self.old.line in
+            OnOk result (screen.new.items ≡ screen.old.items ++ text) }
         ensures err { OnErr result (self.new ≡ self.old) }
         ensures err_out { OnErr result (Begins out.old.items out.new.items) }
         ensures err_screen { OnErr result (screen.new.items ≡ screen.old.items) }
+        ensures grows { let terminal = settings self.old.mode self.old.table in
+            let role = role_now self.old key in
+            let text = edited_shown (is_echoed self.old.options) terminal role self.old.line in
+            OnErr result ((sent_edited role self.old.line ≢ []) ⊎ (text ≢ [])) }
     {
         let settings = self.settings();
-        let echo = !self.is_echoed();
+        let role = role_of(&settings, key);
+        let echo = self.echoes(role);
         make_room(echo, screen)?;
-        put_edited(role_of(&settings, key), &self.line, out)?;
+        put_edited(role, &self.line, out)?;
         let effect = self.line.key(&settings, key)?;
         if echo {
             show_all(&echo_of(&effect, key, &settings), screen);

@@ -1,11 +1,18 @@
 //! Laws of the definitions alone.
 
-ghost use Rattle.std.specs.Prelude.{◌≡◌, ◌++◌, List, false, []};
+ghost use Rattle.std.specs.Prelude.{◌≡◌, ◌↔◌, ◌<◌, ◌++◌, ℕ, List, All, false, []};
 ghost use Rattle.tn_linemode.specs.Modes.{edits};
+ghost use Rattle.tn_nvt.specs.Standing.{HasRead};
 ghost use Rattle.tn_nvt.specs.declared.items.Item.{Item};
-ghost use Rattle.tn_client.specs.Events.{History, items, keys, gets};
+ghost use Rattle.tn_client.specs.Events.{Event, History, begun, items, keys, gets};
 ghost use Rattle.tn_client.specs.Terms.{options, mode, linemode};
 ghost use Rattle.tn_client.specs.Lines.{ahead, held, half_line};
+ghost use Rattle.tn_client.specs.Replies.{sent};
+ghost use Rattle.tn_client.specs.Screen.{shown};
+ghost use Rattle.tn_client.specs.Standing.{End, Stands, Goes, Keeps, Feeds, Breaks};
+ghost use Rattle.tn_client.specs.Course.{Course, started, fed, called, stream, IsCall, Leads, IsAt};
+
+use tn_nvt::laws::one_reading;
 
 /// Items that come are the history's last items, and no key is typed by them.
 pub fn items_come()
@@ -23,4 +30,47 @@ pub fn nothing_is_ahead()
 pub fn nothing_without_edit()
     ensures line { (h : History) → edits (mode h) ≡ false → half_line h ≡ [] }
     ensures mode { (h : History) → linemode (options h) ≡ false → mode h ≡ 0 }
+{}
+
+/// A course has one history.
+pub fn one_history()
+    ensures { (c : Course) (h k : History) → Leads c h → Leads c k → h ≡ k }
+{}
+
+/// A new end is where its course begins.
+pub fn course_begins()
+    ensures { (width height limit : ℕ) (end : End) → Stands (begun width height limit) end →
+        HasRead end.decoder [] [] → IsAt (started width height limit) end }
+{}
+
+/// One piece more: what was appended is what the longer course says and shows more.
+pub fn course_fed()
+    ensures at { (c : Course) (old new : End) (piece before after seen now : List ℕ) → IsAt c old →
+        Feeds old piece before after seen now new → IsAt (fed c piece) new }
+    ensures said { (c : Course) (old new : End) (piece before after seen now : List ℕ) (h k : History) →
+        IsAt c old → (f : Feeds old piece before after seen now new) → Leads c h → Leads (fed c piece) k →
+        sent k ≡ sent h ++ f.said }
+    ensures displayed { (c : Course) (old new : End) (piece before after seen now : List ℕ) (h k : History) →
+        IsAt c old → (f : Feeds old piece before after seen now new) → Leads c h → Leads (fed c piece) k →
+        shown k ≡ shown h ++ f.text }
+{}
+
+/// One call more.
+pub fn course_called()
+    ensures { (c : Course) (old new : End) (e : Event) → IsAt c old → IsCall e →
+        Goes old e new → Keeps old new → IsAt (called c e) new }
+{}
+
+/// However a stretch of the stream is cut, it leads to the same.
+pub fn pieces_join()
+    ensures { (c : Course) (p q : List ℕ) (h : History) → All (λ b. b < 256) (stream c ++ p) →
+        Leads (fed (fed c p) q) h ↔ Leads (fed c (p ++ q)) h }
+{
+    one_reading();
+}
+
+/// A piece of no bytes is never refused.
+pub fn nothing_is_accepted()
+    ensures { (c : Course) (old : End) (before after seen now : List ℕ) → IsAt c old →
+        ¬ Breaks old [] before after seen now }
 {}

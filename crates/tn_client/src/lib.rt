@@ -13,5 +13,6 @@ pub mod laws;
 mod plain;
 mod screen;
 mod sending;
+mod taking;
 #[cfg(test)]
 mod tests;

@@ -71,8 +71,8 @@ impl Plain {
     }
 }
 
-/// The codes of the seven functions with a character, and the standard characters.
-const STANDARD: [(u8, Option<u8>); 7] = [
+/// The codes of the eight functions with a character, and the standard characters.
+const STANDARD: [(u8, Option<u8>); 8] = [
     (3, Some(3)),
     (7, Some(28)),
     (8, Some(4)),
@@ -80,6 +80,7 @@ const STANDARD: [(u8, Option<u8>); 7] = [
     (10, Some(127)),
     (11, Some(21)),
     (17, None),
+    (18, None),
 ];
 
 /// The sides of options that this end agrees to: whether it is its own, the option, and whether it
@@ -105,7 +106,7 @@ fn told(func: u8, value: Option<u8>) -> [u8; 3] {
 pub(crate) struct Account {
     alloc: Global,
     places: [(bool, u8, bool); 5],
-    chars: [(u8, Option<u8>); 7],
+    chars: [(u8, Option<u8>); 8],
     mode: u8,
     size: (u16, u16),
     roles: Vec<Role>,
@@ -335,6 +336,7 @@ impl Account {
         match self.holder_of(byte) {
             _ if byte == 10 => Role::Nl,
             Some(17) => Role::Eol(byte),
+            Some(18) => Role::Eol2(byte),
             Some(8) => Role::Eof,
             Some(10) => Role::Erase,
             Some(11) => Role::Kill,
@@ -397,7 +399,7 @@ impl Account {
         match role {
             Role::Signal(sig) => self.send_signal(sig),
             Role::Nl => self.send_line(&[13, 10]),
-            Role::Eol(byte) => self.send_line(&[byte]),
+            Role::Eol(byte) | Role::Eol2(byte) => self.send_line(&[byte]),
             Role::Eof => self.send_line(&[255, 236]),
             _ => Ok(()),
         }
@@ -413,7 +415,7 @@ impl Account {
         let counted = self.half()?.len();
         match role {
             Role::Ordinary(_) if counted >= 254 => Ok(self.shown.push(7)?),
-            Role::Ordinary(byte) | Role::Eol(byte) => Ok(self.shown.push(byte)?),
+            Role::Ordinary(byte) | Role::Eol(byte) | Role::Eol2(byte) => Ok(self.shown.push(byte)?),
             Role::Nl | Role::Kill => self.shown.extend_from_slice(b"\r\n"),
             Role::Erase if counted > 0 => self.shown.extend_from_slice(&[8, 32, 8]),
             _ => Ok(()),
@@ -428,7 +430,7 @@ impl Account {
 }
 
 fn closes(role: Role) -> bool {
-    matches!(role, Role::Nl | Role::Eol(_) | Role::Eof)
+    matches!(role, Role::Nl | Role::Eol(_) | Role::Eol2(_) | Role::Eof)
 }
 
 // The keys that find room: a plain count of the bytes of the half line stays at 254 at most.
@@ -440,7 +442,7 @@ fn admitted(alloc: Global, roles: &[Role]) -> Result<Vec<Role>, AllocError> {
             Role::Ordinary(_) if count >= 254 => continue,
             Role::Ordinary(_) => count = count.saturating_add(1),
             Role::Erase => count = count.saturating_sub(1),
-            Role::Kill | Role::Nl | Role::Eol(_) | Role::Eof => count = 0,
+            Role::Kill | Role::Nl | Role::Eol(_) | Role::Eol2(_) | Role::Eof => count = 0,
             Role::Signal(_) | Role::Ignored => {},
         }
         keys.push(*role)?;

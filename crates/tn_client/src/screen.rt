@@ -43,6 +43,7 @@ pub(crate) fn echo_raw(key: u8, screen: &mut Vec<u8>) -> Result<(), AllocError>
 pub(crate) fn make_room(echo: bool, screen: &mut Vec<u8>) -> Result<(), AllocError>
     ensures items { screen.new.items ≡ screen.old.items }
     ensures ok { OnOk result (echo ≡ true → vec_len screen.new + 6 ≤ vec_capacity screen.new) }
+    ensures grows { OnErr result (echo ≡ true) }
 {
     if !echo {
         return Ok(());

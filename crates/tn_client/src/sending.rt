@@ -1,6 +1,8 @@
 //! What a client end sends.
 
-ghost use Rattle.std.specs.Prelude.{◌≡◌, ◌≤◌, ◌++◌, Some, length, OnOk, OnErr};
+ghost use Rattle.std.specs.Prelude.{◌≡◌, ◌≢◌, ◌<◌, ◌≤◌, ◌++◌, [], Some, length, flat_map, OnOk, OnErr};
+ghost use Rattle.tn_nvt.specs.Spelling.{spells, spelling};
+ghost use Rattle.tn_nvt.specs.declared.items.Item.TheVariants as item;
 ghost use Rattle.tn_client.specs.Replies.{spelled, func_of, command_for, command_of, commanded, sent_raw, sent_edited, word, listed, mode_told, size_told, size_told_on, subnegotiated};
 ghost use Rattle.tn_client.specs.Steps.{Begins};
 ghost use Rattle.tn_codes.specs.declared.payloads.Payload.TheVariants.{ForwardNo};
@@ -34,7 +36,7 @@ fn func_of(role: Role) -> Option<Func>
         Role::Eof => Some(Func::Eof),
         Role::Erase => Some(Func::Ec),
         Role::Kill => Some(Func::El),
-        Role::Ignored | Role::Nl | Role::Eol(_) | Role::Ordinary(_) => None,
+        Role::Ignored | Role::Nl | Role::Eol(_) | Role::Eol2(_) | Role::Ordinary(_) => None,
     }
 }
 
@@ -55,8 +57,9 @@ fn command_for(func: Func) -> Option<Command>
 }
 
 fn put_command(role: Role, out: &mut Vec<u8>) -> Result<(), AllocError>
-    ensures ok { OnOk result (out.new.items ≡ out.old.items ++ commanded (command_of role)) }
+    ensures ok { OnOk result (out.new.items ≡ out.old.items ++ spells (commanded (command_of role))) }
     ensures err { OnErr result (out.new.items ≡ out.old.items) }
+    ensures grows { OnErr result (commanded (command_of role) ≢ []) }
 {
     match command_of(role) {
         Some(command) => put_cmd(command, out),
@@ -66,8 +69,9 @@ fn put_command(role: Role, out: &mut Vec<u8>) -> Result<(), AllocError>
 
 /// Appends a key that is sent at once.
 pub(crate) fn put_raw(role: Role, key: u8, out: &mut Vec<u8>) -> Result<(), AllocError>
-    ensures ok { OnOk result (out.new.items ≡ out.old.items ++ sent_raw role key) }
+    ensures ok { OnOk result (out.new.items ≡ out.old.items ++ spells (sent_raw role key)) }
     ensures err { OnErr result (out.new.items ≡ out.old.items) }
+    ensures grows { OnErr result (sent_raw role key ≢ []) }
 {
     if matches!(role, Role::Signal(_)) {
         return put_command(role, out);
@@ -77,8 +81,10 @@ pub(crate) fn put_raw(role: Role, key: u8, out: &mut Vec<u8>) -> Result<(), Allo
 
 // Appends bytes of data. After a refusal the bytes begin as they did.
 fn put_each(bytes: &[u8], out: &mut Vec<u8>) -> Result<(), AllocError>
-    ensures ok { OnOk result (out.new.items ≡ out.old.items ++ spelled bytes.now) }
+    ensures ok { OnOk result
+        (out.new.items ≡ out.old.items ++ flat_map (λ byte. spelling (item.Byte byte)) bytes.now) }
     ensures err { OnErr result (Begins out.old.items out.new.items) }
+    ensures grows { OnErr result (0 < length bytes.now) }
 {
     for byte in bytes {
         put_byte(*byte, out)?;
@@ -88,8 +94,9 @@ fn put_each(bytes: &[u8], out: &mut Vec<u8>) -> Result<(), AllocError>
 
 /// Appends bytes of data.
 pub(crate) fn put_bytes(bytes: &[u8], out: &mut Vec<u8>) -> Result<(), AllocError>
-    ensures ok { OnOk result (out.new.items ≡ out.old.items ++ spelled bytes.now) }
+    ensures ok { OnOk result (out.new.items ≡ out.old.items ++ spells (spelled bytes.now)) }
     ensures err { OnErr result (out.new.items ≡ out.old.items) }
+    ensures grows { OnErr result (spelled bytes.now ≢ []) }
 {
     let sent = out.len();
     match put_each(bytes, out) {
@@ -104,15 +111,16 @@ pub(crate) fn put_bytes(bytes: &[u8], out: &mut Vec<u8>) -> Result<(), AllocErro
 /// Appends what a key of this role sends of the line, before it changes the line. After a refusal the
 /// bytes begin as they did.
 pub(crate) fn put_edited(role: Role, line: &Line, out: &mut Vec<u8>) -> Result<(), AllocError>
-    ensures ok { OnOk result (out.new.items ≡ out.old.items ++ sent_edited role line.now) }
+    ensures ok { OnOk result (out.new.items ≡ out.old.items ++ spells (sent_edited role line.now)) }
     ensures err { OnErr result (Begins out.old.items out.new.items) }
+    ensures grows { OnErr result (sent_edited role line.now ≢ []) }
 {
     match role {
         Role::Nl => {
             put_bytes(line.held(), out)?;
             put_newline(out)
         },
-        Role::Eol(byte) => {
+        Role::Eol(byte) | Role::Eol2(byte) => {
             put_bytes(line.held(), out)?;
             put_byte(byte, out)
         },
@@ -129,8 +137,9 @@ pub(crate) fn put_edited(role: Role, line: &Line, out: &mut Vec<u8>) -> Result<(
 
 /// Appends an option word, where there is one to say.
 pub(crate) fn put_word(said: Option<(Verb, u8)>, out: &mut Vec<u8>) -> Result<(), AllocError>
-    ensures ok { OnOk result (out.new.items ≡ out.old.items ++ word said) }
+    ensures ok { OnOk result (out.new.items ≡ out.old.items ++ spells (word said)) }
     ensures err { OnErr result (out.new.items ≡ out.old.items) }
+    ensures grows { OnErr result (word said ≢ []) }
 {
     match said {
         Some((verb, option)) => put_neg(verb, option, out),
@@ -140,8 +149,9 @@ pub(crate) fn put_word(said: Option<(Verb, u8)>, out: &mut Vec<u8>) -> Result<()
 
 /// Appends a MODE with this mask, where one is to be sent.
 pub(crate) fn put_mode(mask: Option<u8>, out: &mut Vec<u8>) -> Result<(), AllocError>
-    ensures ok { OnOk result (out.new.items ≡ out.old.items ++ mode_told mask) }
+    ensures ok { OnOk result (out.new.items ≡ out.old.items ++ spells (mode_told mask)) }
     ensures err { OnErr result (out.new.items ≡ out.old.items) }
+    ensures grows { OnErr result (mode_told mask ≢ []) }
 {
     match mask {
         Some(mask) => put_sub(LINEMODE, &[MODE, mask], out),
@@ -151,7 +161,7 @@ pub(crate) fn put_mode(mask: Option<u8>, out: &mut Vec<u8>) -> Result<(), AllocE
 
 /// Appends the refusal of a forward mask.
 pub(crate) fn put_no_mask(out: &mut Vec<u8>) -> Result<(), AllocError>
-    ensures ok { OnOk result (out.new.items ≡ out.old.items ++ subnegotiated ForwardNo) }
+    ensures ok { OnOk result (out.new.items ≡ out.old.items ++ spells (subnegotiated ForwardNo)) }
     ensures err { OnErr result (out.new.items ≡ out.old.items) }
 {
     put_sub(LINEMODE, &[Verb::Wont.code(), 2], out)
@@ -159,7 +169,7 @@ pub(crate) fn put_no_mask(out: &mut Vec<u8>) -> Result<(), AllocError>
 
 /// Appends the window's size (RFC 1073).
 pub(crate) fn put_size(width: u16, height: u16, out: &mut Vec<u8>) -> Result<(), AllocError>
-    ensures ok { OnOk result (out.new.items ≡ out.old.items ++ size_told (width, height)) }
+    ensures ok { OnOk result (out.new.items ≡ out.old.items ++ spells (size_told (width, height))) }
     ensures err { OnErr result (out.new.items ≡ out.old.items) }
 {
     let [a, b] = width.to_be_bytes();
@@ -174,8 +184,9 @@ pub(crate) fn put_list(
     out: &mut Vec<u8>,
 ) -> Result<(), AllocError>
     requires { length triples.items ≤ 170 }
-    ensures ok { OnOk result (out.new.items ≡ out.old.items ++ listed triples.items) }
+    ensures ok { OnOk result (out.new.items ≡ out.old.items ++ spells (listed triples.items)) }
     ensures err { OnErr result (out.new.items ≡ out.old.items) }
+    ensures grows { OnErr result (listed triples.items ≢ []) }
 {
     if triples.is_empty() {
         return Ok(());

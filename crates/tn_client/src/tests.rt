@@ -6,7 +6,7 @@ use std::alloc::{AllocError, Global};
 use std::process::Abort;
 use std::test::Fail;
 use tn_codes::Func;
-use tn_discipline::CharFault;
+use tn_discipline::{CharFault, Limit};
 use tn_option::{QState, Side};
 
 // What a server says at the opening.
@@ -25,7 +25,7 @@ const EDITING: [u8; 10] = [255, 250, 34, 1, 3, 255, 240, 255, 252, 1];
 
 // An end whose server has said all that it says at the opening.
 fn joined(alloc: Global) -> Result<ClientEnd, ClientFault> {
-    let mut end = ClientEnd::start(alloc, 80, 24)?;
+    let mut end = ClientEnd::start(alloc, 80, 24, Limit::standard())?;
     end.feed(&OPENING, &mut Vec::new(alloc), &mut Vec::new(alloc))?;
     Ok(end)
 }
@@ -98,7 +98,7 @@ fn resizes(
 #[test]
 fn joins_and_tells_its_size(rt: HostRuntime) -> Result<(), Fail> {
     let alloc = rt.alloc();
-    let mut end = ClientEnd::start(alloc, 80, 24)?;
+    let mut end = ClientEnd::start(alloc, 80, 24, Limit::standard())?;
     resizes(&rt, alloc, &mut end, &[])?;
     says(&rt, alloc, &mut end, &OPENING, &JOINING)?;
     let sizes = [
@@ -179,7 +179,7 @@ fn passes_keys(rt: HostRuntime) -> Result<(), Fail> {
     let mut end = joined(rt.alloc())?;
     types(&rt, rt.alloc(), &mut end, b"a\x7f\r", b"a\x7f\r\0", &[])?;
     // The echo is the client's own before the server takes it over.
-    let mut other = ClientEnd::start(rt.alloc(), 80, 24)?;
+    let mut other = ClientEnd::start(rt.alloc(), 80, 24, Limit::standard())?;
     types(
         &rt,
         rt.alloc(),
@@ -256,6 +256,9 @@ fn shows_what_the_server_writes(rt: HostRuntime) -> Result<(), Fail> {
         &mut screen,
     )?;
     assert_eq!(rt; screen.as_slice(), b"hi\r\n\r".as_slice());
+    screen.clear();
+    end.feed(b"a\nb\xff\xffc\rd", &mut Vec::new(rt.alloc()), &mut screen)?;
+    assert_eq!(rt; screen.as_slice(), b"a\nb\xffc\rd".as_slice());
     types(&rt, rt.alloc(), &mut end, b"q\r", b"q\r\n", &[])?;
     Ok(())
 }
@@ -287,7 +290,7 @@ fn exchanges_characters(rt: HostRuntime) -> Result<(), Fail> {
 #[test]
 fn proposes_characters(rt: HostRuntime) -> Result<(), Fail> {
     let mut out = Vec::new(rt.alloc());
-    let mut started = ClientEnd::start(rt.alloc(), 80, 24)?;
+    let mut started = ClientEnd::start(rt.alloc(), 80, 24, Limit::standard())?;
     let refused = started.propose(Func::Ao, None, &mut out);
     assert_eq!(rt; refused, Err(ClientFault::NotOn));
     let mut end = joined(rt.alloc())?;
@@ -335,7 +338,7 @@ impl Dice {
             },
             1 | 2 => stream.extend_from_slice(&mode(self.pick(&[0, 1, 2, 3, 3, 7]))),
             3 => {
-                let func = self.pick(&[0, 3, 5, 8, 10, 11, 17]);
+                let func = self.pick(&[0, 3, 5, 8, 10, 11, 17, 18]);
                 let modifier = self.pick(&[0, 1, 2, 2, 3, 130]);
                 let value = self.pick(&[0, 3, 8, 10, b';', 127]);
                 stream.extend_from_slice(&list(func, modifier, value))
@@ -361,7 +364,7 @@ struct Trial {
 impl Trial {
     fn start(alloc: Global) -> Result<Trial, ClientFault> {
         Ok(Trial {
-            end: ClientEnd::start(alloc, 80, 24)?,
+            end: ClientEnd::start(alloc, 80, 24, Limit::standard())?,
             plain: Plain::new(alloc, (80, 24)),
             stream: Vec::new(alloc),
             read: 0,

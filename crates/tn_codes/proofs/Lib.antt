@@ -1,3 +1,4 @@
 pub mod Grammar
 pub mod Telling
 pub mod Trimming
+pub mod lemmas

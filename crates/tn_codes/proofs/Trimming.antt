@@ -55,7 +55,7 @@ zeros_after (x ∷ xs) =
     let more = before_zeros x (trimmed xs) rest.0 in
     (more.0, ap (λ ys. x ∷ ys) rest.1 ∙ more.1)
 
-filled_trimmed : (octets : List ℕ) → length octets ≡ 32 → octets ≡ filled (trimmed octets)
+pub filled_trimmed : (octets : List ℕ) → length octets ≡ 32 → octets ≡ filled (trimmed octets)
 filled_trimmed octets h =
     let zeros = zeros_after octets in
     let count : zeros.0 ≡ 32 - length (trimmed octets) = omega (arith, ap length zeros.1, length-append (trimmed octets) (replicate zeros.0 0), length-replicate {A = ℕ} zeros.0 0) in

@@ -19,7 +19,8 @@ mode_of params = None
 
 abbrev pub triples_of : List ℕ → Option (List Triple)
 triples_of [] = Some []
-triples_of (func ∷ flags ∷ value ∷ rest) = option_map (λ triples. record { func = func; flags = flags; value = value } ∷ triples) (triples_of rest)
+triples_of (func ∷ flags ∷ value ∷ rest) =
+    option_map (λ triples. record { func = func; flags = flags; value = value } ∷ triples) (triples_of rest)
 triples_of octets = None
 
 -- a command with nothing after it
@@ -31,7 +32,8 @@ abbrev pub forward_of : ℕ → List ℕ → Option Payload
 forward_of first octets =
     if first == verb_code Will then alone ForwardYes octets
     else (if first == verb_code Wont then alone ForwardNo octets
-    else (if first == verb_code DoIt then (if nat_le (length octets) 32 then Some (ForwardOn (record { 0 = filled octets })) else None)
+    else (if first == verb_code DoIt
+    then (if nat_le (length octets) 32 then Some (ForwardOn (record { 0 = filled octets })) else None)
     else (if first == verb_code DontIt then alone ForwardOff octets else None)))
 
 abbrev pub forwardmask_of : ℕ → List ℕ → Option Payload
@@ -41,7 +43,8 @@ forwardmask_of first (second ∷ octets) = if second == forwardmask then forward
 abbrev pub linemode_of : List ℕ → Option Payload
 linemode_of [] = None
 linemode_of (first ∷ rest) =
-    if first == mode then mode_of rest else (if first == slc then option_map Slc (triples_of rest) else forwardmask_of first rest)
+    if first == mode then mode_of rest
+    else (if first == slc then option_map Slc (triples_of rest) else forwardmask_of first rest)
 
 -- what the parameters of this option say, if they say something
 abbrev pub payload_of : ℕ → List ℕ → Option Payload

@@ -1,4 +1,4 @@
--- What the parameters of NAWS (RFC 1073) and of LINEMODE (RFC 1184, section 2) say, and when they say nothing.
+-- What the parameters of NAWS (RFC 1073) and of LINEMODE (RFC 1184, section 2) say, and when they say none.
 use Rattle.std.specs.Prelude.{◌≡◌, ◌≢◌, ℕ, ◌<◌, ◌≤◌, ◌%◌, ◌^◌, List, [], ◌∷◌, ◌++◌, ◌⊎◌, length, take, drop, flat_map, Result, Ok, Err}
 use Rattle.std.specs.Int.{w16, to_be_bytes, from_be_bytes}
 use Rattle.tn_codes.specs.declared.codes.Verb.{Verb}
@@ -35,10 +35,13 @@ octets_of triple = triple.func ∷ triple.flags ∷ triple.value ∷ []
 -- the parameters of this option say this; octets that a mask lacks are zero
 abbrev pub Says : ℕ → List ℕ → Payload → Type 0
 Says option params (Naws width height) =
-    (option ≡ naws) × (length params ≡ 4) × (width ≡ from_be_bytes w16 (take 2 params)) × (height ≡ from_be_bytes w16 (drop 2 params))
+    (option ≡ naws) × (length params ≡ 4) × (width ≡ from_be_bytes w16 (take 2 params))
+    × (height ≡ from_be_bytes w16 (drop 2 params))
 Says option params (Mode mask) = (option ≡ linemode) × (params ≡ mode ∷ mask ∷ [])
 Says option params (ForwardOn mask) =
-    (option ≡ linemode) × ((octets : List ℕ) × (params ≡ verb_code DoIt ∷ forwardmask ∷ octets) × (length octets ≤ 32) × (mask.0 ≡ filled octets))
+    (option ≡ linemode)
+    × ((octets : List ℕ) × (params ≡ verb_code DoIt ∷ forwardmask ∷ octets)
+    × (length octets ≤ 32) × (mask.0 ≡ filled octets))
 Says option params ForwardOff = (option ≡ linemode) × (params ≡ verb_code DontIt ∷ forwardmask ∷ [])
 Says option params ForwardYes = (option ≡ linemode) × (params ≡ verb_code Will ∷ forwardmask ∷ [])
 Says option params ForwardNo = (option ≡ linemode) × (params ≡ verb_code Wont ∷ forwardmask ∷ [])
@@ -73,7 +76,8 @@ HasBadForwardLength first (second ∷ octets) =
 abbrev pub HasBadLinemodeLength : List ℕ → Type 0
 HasBadLinemodeLength [] = Unit {0}
 HasBadLinemodeLength (first ∷ rest) =
-    ((first ≡ mode) × (length rest ≢ 1)) ⊎ (((first ≡ slc) × (length rest % 3 ≢ 0)) ⊎ HasBadForwardLength first rest)
+    ((first ≡ mode) × (length rest ≢ 1))
+    ⊎ (((first ≡ slc) × (length rest % 3 ≢ 0)) ⊎ HasBadForwardLength first rest)
 
 abbrev pub HasBadLength : ℕ → List ℕ → Type 0
 HasBadLength option params =

@@ -8,7 +8,8 @@ ghost use Rattle.tn_codes.specs.Masks.{HasCharacter, has_character};
 pub struct Mask(pub [u8; 32]);
 
 impl Mask {
-    /// Whether the mask has the character.
+    /// Whether the mask has the character, of 0 to 255: bit 0x80 is the first of each octet's eight
+    /// (RFC 1184, section 2.3).
     pub fn has(self, character: u8) -> bool
         ensures has { IsTrue result ↔ HasCharacter self character }
         ensures test { result ≡ has_character self character }

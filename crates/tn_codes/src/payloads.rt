@@ -21,7 +21,8 @@ pub(crate) const SLC: u8 = 3;
 pub enum Payload {
     /// The size of the client's screen in characters; 0 leaves that side open (RFC 1073).
     Naws { width: u16, height: u16 },
-    /// MODE with its mask (RFC 1184, section 2.2).
+    /// MODE with its mask: EDIT 1, TRAPSIG 2, MODE_ACK 4, SOFT_TAB 8 and LIT_ECHO 16; any octet is
+    /// read (RFC 1184, section 2.2).
     Mode(u8),
     /// DO FORWARDMASK with the mask.
     ForwardOn(Mask),

@@ -15,7 +15,10 @@ use crate::payloads::{FORWARDMASK, LINEMODE, MODE, NAWS, Payload, PayloadFault, 
 use crate::triples::{Triple, Triples};
 use std::alloc::Global;
 
-/// Reads what the parameters of an option's subnegotiation say, no byte among them doubled.
+/// Reads what the parameters of an option's subnegotiation say, no byte among them doubled: of NAWS
+/// (31, RFC 1073) and of LINEMODE (34, RFC 1184, section 2). `UnknownOption` for each other option,
+/// `UnknownSub` for another kind of LINEMODE subnegotiation, `BadLength` for one of another length
+/// than its kind has; `Memory` for a list of local characters alone.
 pub fn read_payload(alloc: Global, option: u8, bytes: &[u8]) -> Result<Payload, PayloadFault>
     ensures ok { IfOk result (λ payload. Says option bytes.now payload) }
     ensures said { (payload : Payload) → Says option bytes.now payload →

@@ -9,12 +9,15 @@ ghost use Rattle.std.proofs.Common.{rules};
 use std::alloc::{AllocError, Global};
 use std::marker::Model;
 
-/// A function of the set of local characters, its modifier and its character, as they travel.
+/// A function of the set of local characters, its modifier and its character, as they travel: any
+/// three octets (RFC 1184, section 2.4).
 #[derive(Clone, Copy, Debug, PartialEq, Eq)]
 pub struct Triple {
+    /// 1 to 18 for the functions that have names.
     pub func: u8,
     /// The level in the two low bits; then SLC_FLUSHOUT 32, SLC_FLUSHIN 64 and SLC_ACK 128.
     pub flags: u8,
+    /// The character; 255 for none.
     pub value: u8,
 }
 

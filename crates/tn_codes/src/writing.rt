@@ -5,7 +5,8 @@ ghost use Rattle.std.specs.Prelude.{vec_len, vec_capacity, OnOk, OnErr};
 ghost use Rattle.tn_codes.specs.declared.codes.Verb.TheVariants.{DoIt};
 ghost use Rattle.tn_codes.specs.Codes.{verb_code};
 ghost use Rattle.tn_codes.specs.Masks as mask;
-ghost use Rattle.tn_codes.specs.Payloads.{written, IsShort, forwardmask, slc, octets_of};
+ghost use Rattle.tn_codes.specs.Payloads.{Says, option_of, written, IsShort};
+ghost use Rattle.tn_codes.specs.Payloads.{forwardmask, slc, octets_of};
 
 use crate::codes::Verb;
 use crate::payloads::{FORWARDMASK, MODE, Payload, SLC};
@@ -13,10 +14,11 @@ use crate::triples::Triple;
 use std::alloc::AllocError;
 
 /// Appends the parameters that say a payload, no byte among them doubled. They fit one
-/// subnegotiation.
+/// subnegotiation, and are read as that payload again (RFC 1073, RFC 1184).
 pub fn write_payload(payload: &Payload, out: &mut Vec<u8>) -> Result<(), AllocError>
     requires { IsShort payload.now }
     ensures ok { OnOk result (out.new.items ≡ out.old.items ++ written payload.now) }
+    ensures said { OnOk result (Says (option_of payload.now) (written payload.now) payload.now) }
     ensures short { OnOk result (length (written payload.now) ≤ 511) }
     ensures err { OnErr result (out.new.items ≡ out.old.items) }
     ensures full { OnErr result
@@ -40,6 +42,7 @@ pub fn write_payload(payload: &Payload, out: &mut Vec<u8>) -> Result<(), AllocEr
 // The octets without the zeros at their end.
 fn trimmed(octets: &[u8; 32]) -> &[u8]
     ensures octets { result.now ≡ mask.trimmed octets.now }
+    ensures filled { octets.now ≡ mask.filled result.now }
     ensures len { length result.now ≤ 32 }
 {
     let mut len = 0;

@@ -17,6 +17,7 @@ pub record Characters : Type 0 where
   pub erase : Option ℕ
   pub kill : Option ℕ
   pub eol : Option ℕ
+  pub eol2 : Option ℕ
 
 -- the character of a function; none where the function has no special character
 abbrev pub slot : Characters → Func → Option ℕ
@@ -27,6 +28,7 @@ slot c func.Susp = c.susp
 slot c func.Ec = c.erase
 slot c func.El = c.kill
 slot c func.Forw1 = c.eol
+slot c func.Forw2 = c.eol2
 slot c _ = None
 
 -- the characters with that of one function changed
@@ -38,12 +40,27 @@ with_slot c func.Susp value = record c { susp = value }
 with_slot c func.Ec value = record c { erase = value }
 with_slot c func.El value = record c { kill = value }
 with_slot c func.Forw1 value = record c { eol = value }
+with_slot c func.Forw2 value = record c { eol2 = value }
 with_slot c _ value = c
+
+-- the characters with each changed in the same way
+abbrev pub with_each : (Option ℕ → Option ℕ) → Characters → Characters
+with_each change c =
+    record {
+      intr = change c.intr;
+      quit = change c.quit;
+      eof = change c.eof;
+      susp = change c.susp;
+      erase = change c.erase;
+      kill = change c.kill;
+      eol = change c.eol;
+      eol2 = change c.eol2;
+    }
 
 -- the functions that have a special character, in rising number
 abbrev pub special_functions : List Func
 special_functions =
-    func.Ip ∷ func.Abort ∷ func.Eof ∷ func.Susp ∷ func.Ec ∷ func.El ∷ func.Forw1 ∷ []
+    func.Ip ∷ func.Abort ∷ func.Eof ∷ func.Susp ∷ func.Ec ∷ func.El ∷ func.Forw1 ∷ func.Forw2 ∷ []
 
 -- the same function
 abbrev pub is_same : Func → Func → Bool
@@ -69,7 +86,8 @@ is_taken c f byte = list_any (λ g. not (is_same g f) && is_set_to (slot c g) by
 -- why a settable character can't have this value; it can always be disabled
 abbrev pub value_fault : Characters → Func → Option ℕ → Option CharFault
 value_fault c f None = None
-value_fault c f (Some byte) = if is_reserved byte then Some Reserved else (if is_taken c f byte then Some Taken else None)
+value_fault c f (Some byte) =
+    if is_reserved byte then Some Reserved else (if is_taken c f byte then Some Taken else None)
 
 -- why the character of a function can't be changed to this value
 abbrev pub char_fault : Characters → Func → Option ℕ → Option CharFault
@@ -80,7 +98,16 @@ pub record AreAllowed (c : Characters) : Type 0 where
   pub distinct : (f g : Func) (byte : ℕ) → slot c f ≡ Some byte → slot c g ≡ Some byte → f ≡ g
   pub unreserved : (f : Func) (byte : ℕ) → slot c f ≡ Some byte → is_reserved byte ≡ false
 
--- control-C, control-backslash, control-D, control-Z, delete and control-U; EOL is disabled
+-- control-C, control-backslash, control-D, control-Z, delete and control-U; EOL and EOL2 are disabled
 abbrev pub standard_characters : Characters
 standard_characters =
-    record { intr = Some 3; quit = Some 28; eof = Some 4; susp = Some 26; erase = Some 127; kill = Some 21; eol = None }
+    record {
+      intr = Some 3;
+      quit = Some 28;
+      eof = Some 4;
+      susp = Some 26;
+      erase = Some 127;
+      kill = Some 21;
+      eol = None;
+      eol2 = None;
+    }

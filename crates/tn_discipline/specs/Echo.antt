@@ -36,8 +36,7 @@ abbrev pub echo_at : Flags → Role → Effect → List (Option Symbol)
 echo_at flags (role.Ordinary byte) e = one_shown flags.echo (ordinary_shown byte e)
 echo_at flags role.Nl e = one_shown (flags.echo || flags.echonl) Newline
 echo_at flags (role.Eol byte) e = one_shown flags.echo (Byte byte)
-echo_at flags role.Eof e = unshown
-echo_at flags (role.Signal sig) e = unshown
+echo_at flags (role.Eol2 byte) e = one_shown flags.echo (Byte byte)
 echo_at flags role.Erase e = if flags.echo && (flags.echoe && is_erased e) then wiped else unshown
 echo_at flags role.Kill e = one_shown (flags.echo && flags.echok) Newline
-echo_at flags role.Ignored e = unshown
+echo_at flags _ e = unshown

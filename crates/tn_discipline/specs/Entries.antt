@@ -13,13 +13,7 @@ use Rattle.tn_discipline.specs.declared.keys.Role.TheVariants as role
 abbrev pub signals : List Role → List Entry
 signals [] = []
 signals (role.Signal sig ∷ roles) = entry.Signal sig ∷ signals roles
-signals (role.Ordinary byte ∷ roles) = signals roles
-signals (role.Erase ∷ roles) = signals roles
-signals (role.Kill ∷ roles) = signals roles
-signals (role.Ignored ∷ roles) = signals roles
-signals (role.Nl ∷ roles) = signals roles
-signals (role.Eol byte ∷ roles) = signals roles
-signals (role.Eof ∷ roles) = signals roles
+signals (_ ∷ roles) = signals roles
 
 -- XBD 11.1.9, EOF: a closed line is a text, or the end of file where it has no byte
 abbrev pub line_of : List ℕ → Entry
@@ -30,10 +24,11 @@ line_of (byte ∷ bytes) = entry.Text (byte ∷ bytes)
 abbrev pub piece_entries : Piece → List Entry
 piece_entries piece = signals piece.keys ++ line_of (kept piece.keys ++ piece.closing) ∷ []
 
--- what these keys give
-abbrev pub entries_of : List Role → List Entry
-entries_of roles = let pieces = cut (admitted roles) in flat_map piece_entries pieces.closed ++ signals pieces.last
+-- what these keys give, where a line has at most so many bytes with its closing byte
+abbrev pub entries_of : ℕ → List Role → List Entry
+entries_of limit roles =
+    let pieces = cut (admitted limit roles) in flat_map piece_entries pieces.closed ++ signals pieces.last
 
 -- the half line that these keys leave
-abbrev pub half_of : List Role → List ℕ
-half_of roles = kept (cut (admitted roles)).last
+abbrev pub half_of : ℕ → List Role → List ℕ
+half_of limit roles = kept (cut (admitted limit roles)).last

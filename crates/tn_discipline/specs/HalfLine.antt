@@ -1,7 +1,7 @@
 -- The half line in two parts: what was handed on, and what is held.
 use Rattle.std.specs.Prelude.{◌≡◌, ℕ, ◌+◌, ◌-◌, ◌==◌, nat_lt, Bool, List, [], ◌∷◌, ◌++◌, length, if◌then◌else◌}
-use Rattle.tn_discipline.specs.Admitted.{most_counted}
 use Rattle.tn_discipline.specs.Entries.{line_of}
+use Rattle.tn_discipline.specs.Limits.{most_counted}
 use Rattle.tn_discipline.specs.Steps.{front}
 use Rattle.tn_discipline.specs.declared.keys.Role.{Role}
 use Rattle.tn_discipline.specs.declared.keys.Role.TheVariants as role
@@ -10,20 +10,22 @@ use Rattle.tn_discipline.specs.declared.reads.Entry.TheVariants as entry
 use Rattle.tn_discipline.specs.declared.half_line.Effect.{Effect}
 use Rattle.tn_discipline.specs.declared.half_line.Effect.TheVariants as effect
 
--- the bytes that are held, and how many bytes before them were handed on
+-- the bytes that are held, how many bytes before them were handed on, and how many bytes the line has at most
+-- with its closing byte
 pub record HalfLine : Type 0 where
   pub held : List ℕ
   pub ahead : ℕ
+  pub limit : ℕ
 
 -- nothing is held, and nothing was handed on
-abbrev pub empty_line : HalfLine
-empty_line = record { held = []; ahead = 0 }
+abbrev pub empty_line : ℕ → HalfLine
+empty_line limit = record { held = []; ahead = 0; limit = limit }
 
 abbrev pub line_length : HalfLine → ℕ
 line_length line = line.ahead + length line.held
 
 abbrev pub is_full : HalfLine → Bool
-is_full line = line_length line == most_counted
+is_full line = line_length line == most_counted line.limit
 
 abbrev pub has_held : HalfLine → Bool
 has_held line = nat_lt 0 (length line.held)
@@ -35,42 +37,37 @@ has_ahead line = nat_lt 0 line.ahead
 abbrev pub effect_of : HalfLine → Role → Effect
 effect_of line role.Ignored = effect.Nothing
 effect_of line (role.Ordinary byte) = if is_full line then effect.Dropped else effect.Kept
-effect_of line role.Erase = if has_held line then effect.Erased else (if has_ahead line then effect.ErasedAhead else effect.Nothing)
+effect_of line role.Erase =
+    if has_held line then effect.Erased else (if has_ahead line then effect.ErasedAhead else effect.Nothing)
 effect_of line role.Kill = effect.Killed line.ahead
 effect_of line (role.Signal sig) = effect.Gives (entry.Signal sig)
 effect_of line role.Nl = effect.Gives (line_of (line.held ++ 10 ∷ []))
 effect_of line (role.Eol byte) = effect.Gives (line_of (line.held ++ byte ∷ []))
+effect_of line (role.Eol2 byte) = effect.Gives (line_of (line.held ++ byte ∷ []))
 effect_of line role.Eof = effect.Gives (line_of line.held)
 
 -- the line after an ordinary byte
 abbrev pub line_kept : HalfLine → ℕ → HalfLine
-line_kept line byte = if is_full line then line else record { held = line.held ++ byte ∷ []; ahead = line.ahead }
+line_kept line byte = if is_full line then line else record line { held = line.held ++ byte ∷ [] }
 
 -- the line after an erasure, which takes a held byte, or else one that was handed on
 abbrev pub line_erased : HalfLine → HalfLine
 line_erased line =
-    if has_held line then record { held = front line.held; ahead = line.ahead } else record { held = []; ahead = line.ahead - 1 }
+    if has_held line then record line { held = front line.held }
+    else record line { held = []; ahead = line.ahead - 1 }
 
--- what a key of this role leaves
+-- what a key of this role leaves: KILL and the keys that close the line leave nothing of it
 abbrev pub line_after : HalfLine → Role → HalfLine
 line_after line role.Ignored = line
 line_after line (role.Ordinary byte) = line_kept line byte
 line_after line role.Erase = line_erased line
-line_after line role.Kill = empty_line
 line_after line (role.Signal sig) = line
-line_after line role.Nl = empty_line
-line_after line (role.Eol byte) = empty_line
-line_after line role.Eof = empty_line
+line_after line _ = empty_line line.limit
 
 -- the entries that an effect gives
 abbrev pub gained : Effect → List Entry
-gained effect.Nothing = []
-gained effect.Kept = []
-gained effect.Erased = []
-gained effect.ErasedAhead = []
-gained (effect.Killed n) = []
-gained effect.Dropped = []
 gained (effect.Gives e) = e ∷ []
+gained _ = []
 
 -- a key of this role gives a text
 abbrev pub GivesText : HalfLine → Role → Type 0

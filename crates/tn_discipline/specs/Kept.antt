@@ -10,11 +10,7 @@ kept_backwards erasures (role.Kill ∷ before) = []
 kept_backwards erasures (role.Erase ∷ before) = kept_backwards (suc erasures) before
 kept_backwards zero (role.Ordinary byte ∷ before) = kept_backwards zero before ++ byte ∷ []
 kept_backwards (suc erasures) (role.Ordinary byte ∷ before) = kept_backwards erasures before
-kept_backwards erasures (role.Signal sig ∷ before) = kept_backwards erasures before
-kept_backwards erasures (role.Ignored ∷ before) = kept_backwards erasures before
-kept_backwards erasures (role.Nl ∷ before) = kept_backwards erasures before
-kept_backwards erasures (role.Eol byte ∷ before) = kept_backwards erasures before
-kept_backwards erasures (role.Eof ∷ before) = kept_backwards erasures before
+kept_backwards erasures (_ ∷ before) = kept_backwards erasures before
 
 -- what is kept of a piece, which has no closing key
 abbrev pub kept : List Role → List ℕ

@@ -7,12 +7,24 @@ use Rattle.tn_discipline.specs.declared.termios.Settings.{Settings}
 use Rattle.tn_discipline.specs.declared.reads.Sig.{Sig}
 use Rattle.tn_discipline.specs.declared.reads.Sig.TheVariants.{Int, Quit, Tstp}
 use Rattle.tn_discipline.specs.declared.keys.Role.{Role}
-use Rattle.tn_discipline.specs.declared.keys.Role.TheVariants.{Ignored, Nl, Eol, Eof, Signal, Erase, Kill, Ordinary}
+use Rattle.tn_discipline.specs.declared.keys.Role.TheVariants.{Ignored, Nl, Eol, Eol2, Eof, Signal, Erase, Kill, Ordinary}
 
 -- the flags of a terminal that nobody has changed
 abbrev pub standard_flags : Flags
 standard_flags =
-    record { icrnl = true; inlcr = false; igncr = false; isig = true; echo = true; echoe = true; echok = true; echonl = false; tostop = false; opost = true; onlcr = true }
+    record {
+      icrnl = true;
+      inlcr = false;
+      igncr = false;
+      isig = true;
+      echo = true;
+      echoe = true;
+      echok = true;
+      echonl = false;
+      tostop = false;
+      opost = true;
+      onlcr = true;
+    }
 
 -- XBD 11.2.2, IGNCR and ICRNL: what a carriage return becomes
 abbrev pub mapped_return : Flags → Option ℕ
@@ -30,7 +42,9 @@ mapped_keys flags keys = filter_map (mapped_key flags) keys
 -- XBD 11.1.9, INTR, QUIT and SUSP: the signal of a byte
 abbrev pub signal_of : Characters → ℕ → Option Sig
 signal_of chars byte =
-    if is_set_to chars.intr byte then Some Int else (if is_set_to chars.quit byte then Some Quit else (if is_set_to chars.susp byte then Some Tstp else None))
+    if is_set_to chars.intr byte then Some Int else
+    (if is_set_to chars.quit byte then Some Quit else
+    (if is_set_to chars.susp byte then Some Tstp else None))
 
 -- XBD 11.2.5, ISIG: without it a signal character is ordinary
 abbrev pub role_by_signal : Bool → Option Sig → ℕ → Role
@@ -41,7 +55,13 @@ role_by_signal false signal byte = Ordinary byte
 -- XBD 11.1.9: the role of a mapped byte
 abbrev pub role_of_mapped : Settings → ℕ → Role
 role_of_mapped settings byte =
-    if byte == 10 then Nl else (if is_set_to settings.chars.eol byte then Eol byte else (if is_set_to settings.chars.eof byte then Eof else (if is_set_to settings.chars.erase byte then Erase else (if is_set_to settings.chars.kill byte then Kill else role_by_signal settings.flags.isig (signal_of settings.chars byte) byte))))
+    if byte == 10 then Nl else
+    (if is_set_to settings.chars.eol byte then Eol byte else
+    (if is_set_to settings.chars.eol2 byte then Eol2 byte else
+    (if is_set_to settings.chars.eof byte then Eof else
+    (if is_set_to settings.chars.erase byte then Erase else
+    (if is_set_to settings.chars.kill byte then Kill else
+    role_by_signal settings.flags.isig (signal_of settings.chars byte) byte)))))
 
 -- the roles of the typed bytes
 abbrev pub roles_of : Settings → List ℕ → List Role
@@ -57,26 +77,20 @@ role_of_key settings key = role_or_ignored settings (mapped_key settings.flags k
 
 -- the role of a byte of a line that was edited before it came: only the closing bytes have a meaning
 abbrev pub literal_role : Characters → ℕ → Role
-literal_role chars byte = if byte == 10 then Nl else (if is_set_to chars.eol byte then Eol byte else Ordinary byte)
+literal_role chars byte =
+    if byte == 10 then Nl else
+    (if is_set_to chars.eol byte then Eol byte else (if is_set_to chars.eol2 byte then Eol2 byte else Ordinary byte))
 
 -- the roles that one role stands for: none for Ignored
 abbrev pub roles_from : Role → List Role
 roles_from Ignored = []
-roles_from Nl = Nl ∷ []
-roles_from (Eol byte) = Eol byte ∷ []
-roles_from Eof = Eof ∷ []
-roles_from (Signal sig) = Signal sig ∷ []
-roles_from Erase = Erase ∷ []
-roles_from Kill = Kill ∷ []
-roles_from (Ordinary byte) = Ordinary byte ∷ []
+roles_from r = r ∷ []
 
 -- a key of this role makes an entry
 abbrev pub gives_entry : Role → Bool
 gives_entry Nl = true
 gives_entry (Eol byte) = true
+gives_entry (Eol2 byte) = true
 gives_entry Eof = true
 gives_entry (Signal sig) = true
-gives_entry Ignored = false
-gives_entry Erase = false
-gives_entry Kill = false
-gives_entry (Ordinary byte) = false
+gives_entry _ = false

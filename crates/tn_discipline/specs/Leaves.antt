@@ -13,23 +13,30 @@ use Rattle.tn_discipline.specs.declared.half_line.Effect.TheVariants.{Dropped}
 pub record Leaves (history : List Role) (line : HalfLine) : Type 0 where
   pub sent : List ℕ
   pub count : length sent ≡ line.ahead
-  pub bytes : half_of history ≡ sent ++ line.held
+  pub bytes : half_of line.limit history ≡ sent ++ line.held
 
 -- Whatever keys left the old line, with these keys they leave the new one, and give these entries more. While
 -- bytes are ahead, a line is given in parts, and only the half line is spoken of.
 pub record Advances (old : HalfLine) (roles : List Role) (gain : List Entry) (new : HalfLine) : Type 0 where
   pub half : (history : List Role) → Leaves history old → Leaves (history ++ roles) new
-  pub entries : (history : List Role) → Leaves history old → old.ahead ≡ 0 → entries_of (history ++ roles) ≡ entries_of history ++ gain
+  pub entries : (history : List Role) → Leaves history old → old.ahead ≡ 0
+      → entries_of old.limit (history ++ roles) ≡ entries_of old.limit history ++ gain
   pub ahead : new.ahead ≤ old.ahead
+  pub limit : new.limit ≡ old.limit
 
 -- The effect is Dropped exactly where these keys, after any keys that left the line, are not admitted.
 abbrev pub DropsExactly : HalfLine → List Role → Effect → Type 0
 DropsExactly line roles e =
-    (history : List Role) → Leaves history line → (e ≡ Dropped) ↔ ((0 < length roles) × (admitted (history ++ roles) ≡ admitted history))
+    (history : List Role) → Leaves history line
+    → (e ≡ Dropped)
+    ↔ ((0 < length roles) × (admitted line.limit (history ++ roles) ≡ admitted line.limit history))
 
--- The same as `Advances`, from the old line alone: whatever bytes were handed on, these keys leave as many as are
--- ahead in the new line, followed by those that it holds.
+-- The same as `Advances`, from the old line alone: whatever bytes were handed on, these keys leave as many as
+-- are ahead in the new line, followed by those that it holds.
 pub record Moves (old : HalfLine) (roles : List Role) (gain : List Entry) (new : HalfLine) : Type 0 where
-  pub half : (sent : List ℕ) → length sent ≡ old.ahead → (rest : List ℕ) × (length rest ≡ new.ahead) × (half_all (sent ++ old.held) roles ≡ rest ++ new.held)
-  pub entries : old.ahead ≡ 0 → gain ≡ gain_all old.held roles
+  pub half : (sent : List ℕ) → length sent ≡ old.ahead
+      → (rest : List ℕ) × (length rest ≡ new.ahead)
+      × (half_all old.limit (sent ++ old.held) roles ≡ rest ++ new.held)
+  pub entries : old.ahead ≡ 0 → gain ≡ gain_all old.limit old.held roles
   pub ahead : new.ahead ≤ old.ahead
+  pub limit : new.limit ≡ old.limit

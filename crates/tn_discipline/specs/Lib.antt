@@ -1,5 +1,6 @@
 pub mod Characters
 pub mod Keys
+pub mod Limits
 pub mod Admitted
 pub mod Pieces
 pub mod Kept
@@ -7,4 +8,5 @@ pub mod Entries
 pub mod Steps
 pub mod HalfLine
 pub mod Leaves
+pub mod Canon
 pub mod Echo

@@ -11,42 +11,38 @@ use Rattle.tn_discipline.specs.declared.keys.Role.TheVariants as role
 abbrev pub front : List ℕ → List ℕ
 front xs = take (length xs - 1) xs
 
--- what one more key leaves of the half line, where it is admitted
+-- what one more key leaves of the half line, where it is admitted: KILL and the keys that close a line leave
+-- nothing
 abbrev pub half_after : List ℕ → Role → List ℕ
 half_after half (role.Ordinary byte) = half ++ byte ∷ []
 half_after half role.Erase = front half
-half_after half role.Kill = []
 half_after half (role.Signal sig) = half
 half_after half role.Ignored = half
-half_after half role.Nl = []
-half_after half (role.Eol byte) = []
-half_after half role.Eof = []
+half_after half _ = []
 
 -- what one more key gives after this half line, where it is admitted
 abbrev pub gain_after : List ℕ → Role → List Entry
-gain_after half (role.Ordinary byte) = []
-gain_after half role.Erase = []
-gain_after half role.Kill = []
 gain_after half (role.Signal sig) = entry.Signal sig ∷ []
-gain_after half role.Ignored = []
 gain_after half role.Nl = line_of (half ++ 10 ∷ []) ∷ []
 gain_after half (role.Eol byte) = line_of (half ++ byte ∷ []) ∷ []
+gain_after half (role.Eol2 byte) = line_of (half ++ byte ∷ []) ∷ []
 gain_after half role.Eof = line_of half ∷ []
+gain_after half _ = []
 
 -- the half line after one more key, admitted or not
-abbrev pub half_next : List ℕ → Role → List ℕ
-half_next half r = if is_dropped (length half) r then half else half_after half r
+abbrev pub half_next : ℕ → List ℕ → Role → List ℕ
+half_next limit half r = if is_dropped limit (length half) r then half else half_after half r
 
 -- what one more key gives, admitted or not
-abbrev pub gain_next : List ℕ → Role → List Entry
-gain_next half r = if is_dropped (length half) r then [] else gain_after half r
+abbrev pub gain_next : ℕ → List ℕ → Role → List Entry
+gain_next limit half r = if is_dropped limit (length half) r then [] else gain_after half r
 
 -- the half line after these keys
-abbrev pub half_all : List ℕ → List Role → List ℕ
-half_all half [] = half
-half_all half (r ∷ roles) = half_all (half_next half r) roles
+abbrev pub half_all : ℕ → List ℕ → List Role → List ℕ
+half_all limit half [] = half
+half_all limit half (r ∷ roles) = half_all limit (half_next limit half r) roles
 
 -- what these keys give
-abbrev pub gain_all : List ℕ → List Role → List Entry
-gain_all half [] = []
-gain_all half (r ∷ roles) = gain_next half r ++ gain_all (half_next half r) roles
+abbrev pub gain_all : ℕ → List ℕ → List Role → List Entry
+gain_all limit half [] = []
+gain_all limit half (r ∷ roles) = gain_next limit half r ++ gain_all limit (half_next limit half r) roles

@@ -19,7 +19,8 @@ macro_rules! special_characters {
             Susp susp [Susp] = Some(26),
             Ec erase [Ec] = Some(127),
             El kill [El] = Some(21),
-            Forw1 eol [] = None)
+            Forw1 eol [] = None,
+            Forw2 eol2 [] = None)
     };
 }
 
@@ -53,8 +54,8 @@ macro_rules! functions {
     };
 }
 
-// The functions that have a special character.
-const SPECIAL: [Func; 7] = special_characters!(functions);
+/// The functions that have a special character, in rising number.
+pub const SPECIAL: [Func; 8] = special_characters!(functions);
 
 /// Why a special character was not changed.
 #[derive(Clone, Copy, Debug, PartialEq, Eq, Error)]
@@ -77,6 +78,7 @@ pub struct Chars {
     erase: Option<u8>,
     kill: Option<u8>,
     eol: Option<u8>,
+    eol2: Option<u8>,
 }
 
 impl Model for Chars {
@@ -84,15 +86,43 @@ impl Model for Chars {
 
     ghost Value = { Characters };
 
-    ghost view = { λ c. record { intr = c.intr; quit = c.quit; eof = c.eof; susp = c.susp; erase = c.erase; kill = c.kill; eol = c.eol } };
+    ghost view = { λ c. record {
+      intr = c.intr;
+      quit = c.quit;
+      eof = c.eof;
+      susp = c.susp;
+      erase = c.erase;
+      kill = c.kill;
+      eol = c.eol;
+      eol2 = c.eol2;
+    } };
 
-    ghost invariant = { λ c. AreAllowed (record { intr = c.intr; quit = c.quit; eof = c.eof; susp = c.susp; erase = c.erase; kill = c.kill; eol = c.eol }) };
+    ghost invariant = { λ c. AreAllowed (record {
+      intr = c.intr;
+      quit = c.quit;
+      eof = c.eof;
+      susp = c.susp;
+      erase = c.erase;
+      kill = c.kill;
+      eol = c.eol;
+      eol2 = c.eol2;
+    }) };
 
-    ghost inverse = { λ c. record { intr = c.intr; quit = c.quit; eof = c.eof; susp = c.susp; erase = c.erase; kill = c.kill; eol = c.eol } };
+    ghost inverse = { λ c. record {
+      intr = c.intr;
+      quit = c.quit;
+      eof = c.eof;
+      susp = c.susp;
+      erase = c.erase;
+      kill = c.kill;
+      eol = c.eol;
+      eol2 = c.eol2;
+    } };
 }
 
 impl Chars {
-    /// The characters of a terminal that nobody has changed.
+    /// The characters of a terminal that nobody has changed: the bytes 3, 28, 4, 26, 127 and 21, and no
+    /// EOL or EOL2. POSIX.1-2017, XBD 11.1.9 names no values.
     pub fn standard() -> Self
         ensures value { result ≡ standard_characters }
         ensures allowed { AreAllowed result }
@@ -136,7 +166,9 @@ impl Chars {
         None
     }
 
-    /// Changes the character of a function, or disables it by `None`.
+    /// Changes the character of a function, or disables it by `None`. It is refused as `refusal` says, and
+    /// changes nothing then: a function has no special character, a line feed (10), a carriage return
+    /// (13) and 255 are never special, and a byte is the character of one function alone.
     pub fn set(&mut self, func: Func, value: Option<u8>) -> Result<(), CharFault>
         ensures accepted { OnOk result (char_fault self.old func value ≡ None) }
         ensures ok { OnOk result (self.new ≡ with_slot self.old func value) }

@@ -33,7 +33,10 @@ pub fn echo_of(effect: &Effect, key: u8, settings: &Settings) -> [Option<Symbol>
     let flags = settings.flags;
     match (role_of(settings, key), effect) {
         (Role::Ordinary(_), Effect::Dropped) => one_if(flags.echo, Symbol::Byte(BELL)),
-        (Role::Ordinary(byte) | Role::Eol(byte), _) => one_if(flags.echo, Symbol::Byte(byte)),
+        (Role::Ordinary(byte) | Role::Eol(byte) | Role::Eol2(byte), _) => one_if(
+            flags.echo,
+            Symbol::Byte(byte),
+        ),
         (Role::Nl, _) => one_if(flags.echo || flags.echonl, Symbol::Newline),
         (Role::Kill, _) => one_if(flags.echo && flags.echok, Symbol::Newline),
         (Role::Erase, Effect::Erased | Effect::ErasedAhead) if flags.echo && flags.echoe => {

@@ -7,13 +7,11 @@ ghost use Rattle.tn_discipline.specs.declared.half_line.Effect.TheVariants as ef
 ghost use Rattle.tn_discipline.specs.declared.keys.Role.TheVariants as role;
 
 use crate::keys::{Role, role_of, role_of_literal};
+use crate::line_limit::Limit;
 use crate::reads::{Entry, Text};
 use crate::termios::Settings;
 use std::alloc::{AllocError, Global};
 use std::marker::Model;
-
-/// How many bytes a line holds with its closing byte.
-const LINE_BYTES: usize = 255;
 
 /// What a key did to the line.
 #[derive(Debug, PartialEq, Eq, Drop)]
@@ -40,6 +38,7 @@ pub enum Effect {
 pub struct Line {
     held: Vec<u8>,
     ahead: u16,
+    limit: Limit,
 }
 
 impl Model for Line {
@@ -48,26 +47,27 @@ impl Model for Line {
 
     ghost Value = { HalfLine };
 
-    ghost view = { λ l. record { held = l.held.items; ahead = l.ahead } };
+    ghost view = { λ l. record { held = l.held.items; ahead = l.ahead; limit = l.limit } };
 
-    ghost invariant = { λ l. (l.ahead + vec_len l.held < 255) × (255 ≤ vec_capacity l.held) };
+    ghost invariant = { λ l. (l.ahead + vec_len l.held < l.limit) × (l.limit ≤ vec_capacity l.held) };
 }
 
 impl Line {
     /// An empty line. It makes the room for a whole line once.
-    pub fn new(alloc: Global) -> Result<Self, AllocError>
-        ensures { IfOk result (λ line. line ≡ empty_line) }
+    pub fn new(alloc: Global, limit: Limit) -> Result<Self, AllocError>
+        ensures { IfOk result (λ line. line ≡ empty_line limit) }
     {
         Ok(Line {
-            held: Vec::with_capacity(alloc, LINE_BYTES)?,
+            held: Vec::with_capacity(alloc, usize::from(limit.bytes()))?,
             ahead: 0,
+            limit,
         })
     }
 
     /// The bytes that are held.
     pub fn held(&self) -> &[u8]
         ensures value { result.now ≡ self.now.held }
-        ensures within { line_length self.now < 255 }
+        ensures within { line_length self.now < self.now.limit }
     {
         self.held.as_slice()
     }
@@ -75,16 +75,18 @@ impl Line {
     /// How many bytes of the half line were handed on before those that are held.
     pub fn ahead(&self) -> u16
         ensures value { result ≡ self.now.ahead }
-        ensures within { line_length self.now < 255 }
+        ensures within { line_length self.now < self.now.limit }
     {
         self.ahead
     }
 
-    /// Types a key.
+    /// Types a key, a byte from 0 to 255 as the terminal gets it: its role is that of `role_of`. Memory is
+    /// wanted for a text alone, and after a refusal the line is as it was.
     pub fn key(&mut self, settings: &Settings, key: u8) -> Result<Effect, AllocError>
         // Whatever keys led to this half line, with this key they give what the effect gives, and
         // leave the half line that is there now.
-        ensures advances { IfOk result (λ effect. Advances self.old (roles_of settings.now (key ∷ [])) (gained effect) self.new) }
+        ensures advances { let roles = roles_of settings.now (key ∷ []) in
+            IfOk result (λ effect. Advances self.old roles (gained effect) self.new) }
         ensures dropped { IfOk result (DropsExactly self.old (roles_of settings.now (key ∷ []))) }
 
         ensures effect { IfOk result (λ effect. effect ≡ effect_of self.old (role_of_key settings.now key)) }
@@ -96,12 +98,16 @@ impl Line {
         self.act(role_of(settings, key))
     }
 
-    /// Types a byte of a line that was edited before it came.
+    /// Types a byte of a line that was edited before it came (RFC 1184, section 2.2, EDIT): its role
+    /// is that of `role_of_literal`, so only a closing byte is anything but an ordinary byte. Memory is
+    /// wanted for a text alone, and after a refusal the line is as it was.
     pub fn literal(&mut self, settings: &Settings, byte: u8) -> Result<Effect, AllocError>
-        ensures advances { IfOk result (λ effect. Advances self.old (literal_role settings.now.chars byte ∷ []) (gained effect) self.new) }
+        ensures advances { let roles = literal_role settings.now.chars byte ∷ [] in
+            IfOk result (λ effect. Advances self.old roles (gained effect) self.new) }
         ensures dropped { IfOk result (DropsExactly self.old (literal_role settings.now.chars byte ∷ [])) }
 
-        ensures effect { IfOk result (λ effect. effect ≡ effect_of self.old (literal_role settings.now.chars byte)) }
+        ensures effect { let role = literal_role settings.now.chars byte in
+            IfOk result (λ effect. effect ≡ effect_of self.old role) }
         ensures line { OnOk result (self.new ≡ line_after self.old (literal_role settings.now.chars byte)) }
 
         ensures only_a_text { OnErr result (GivesText self.old (literal_role settings.now.chars byte)) }
@@ -110,7 +116,8 @@ impl Line {
         self.act(role_of_literal(settings, byte))
     }
 
-    /// Takes back the last byte: a held one, or else one that was handed on.
+    /// Takes back the last byte, as ERASE does (POSIX.1-2017, XBD 11.1.9): a held one, or else one that
+    /// was handed on. On an empty line there is `Nothing` to take.
     pub fn erase(&mut self) -> Effect
         ensures advances { Advances self.old (role.Erase ∷ []) [] self.new }
         ensures effect { result ≡ effect_of self.old role.Erase }
@@ -119,7 +126,8 @@ impl Line {
         self.erase_byte()
     }
 
-    /// Takes back the whole half line.
+    /// Takes back the whole half line, as KILL does (POSIX.1-2017, XBD 11.1.9), and answers `Killed` with
+    /// how many bytes of it were handed on: 0 to 4,094, and 0 on an empty line too.
     pub fn kill(&mut self) -> Effect
         ensures advances { Advances self.old (role.Kill ∷ []) [] self.new }
         ensures effect { result ≡ effect_of self.old role.Kill }
@@ -131,9 +139,12 @@ impl Line {
         Effect::Killed(ahead)
     }
 
-    /// Closes the line with no byte. Where nothing is held it gives the end of file.
+    /// Closes the line with no byte, as EOF does (POSIX.1-2017, XBD 11.1.9). Where nothing is held it
+    /// gives the end of file, and else a text: memory is wanted for that alone, and after a refusal the
+    /// line is as it was.
     pub fn end_of_file(&mut self) -> Result<Effect, AllocError>
-        ensures advances { IfOk result (λ effect. Advances self.old (role.Eof ∷ []) (gained effect) self.new) }
+        ensures advances { IfOk result
+            (λ effect. Advances self.old (role.Eof ∷ []) (gained effect) self.new) }
         ensures effect { IfOk result (λ effect. effect ≡ effect_of self.old role.Eof) }
         ensures line { OnOk result (self.new ≡ line_after self.old role.Eof) }
 
@@ -154,6 +165,7 @@ impl Line {
             Role::Ignored => Ok(Effect::Nothing),
             Role::Nl => Ok(Effect::Gives(self.close(b"\n")?)),
             Role::Eol(byte) => Ok(Effect::Gives(self.close(&[byte])?)),
+            Role::Eol2(byte) => Ok(Effect::Gives(self.close(&[byte])?)),
             Role::Eof => Ok(Effect::Gives(self.close(&[])?)),
             Role::Signal(sig) => Ok(Effect::Gives(Entry::Signal(sig))),
             Role::Erase => Ok(self.erase()),
@@ -166,7 +178,8 @@ impl Line {
         ensures effect { result ≡ effect_of self.old (role.Ordinary byte) }
         ensures line { self.new ≡ line_kept self.old byte }
     {
-        if self.ahead as usize + self.held.len() + 1 == LINE_BYTES {
+        let most_counted = usize::from(self.limit.bytes()) - 1;
+        if self.ahead as usize + self.held.len() == most_counted {
             return Effect::Dropped;
         }
         self.held.push_reserved(byte);
@@ -191,7 +204,7 @@ impl Line {
     fn close(&mut self, closing: &[u8]) -> Result<Entry, AllocError>
         requires { length closing.now < 2 }
         ensures gives { IfOk result (λ entry. entry ≡ line_of (self.old.held ++ closing.now)) }
-        ensures line { OnOk result (self.new ≡ empty_line) }
+        ensures line { OnOk result (self.new ≡ empty_line self.old.limit) }
 
         ensures only_a_text { OnErr result (0 < length (self.old.held ++ closing.now)) }
         ensures err { OnErr result (self.new ≡ self.old) }

@@ -15,6 +15,8 @@ pub enum Role {
     Nl,
     /// The EOL character closes the line with its own byte.
     Eol(u8),
+    /// The EOL2 character, a second EOL, closes the line with its own byte.
+    Eol2(u8),
     /// The EOF character closes the line with no byte.
     Eof,
     Signal(Sig),
@@ -31,7 +33,10 @@ impl Role {
     pub fn gives_entry(self) -> bool
         ensures { result ≡ gives_entry self }
     {
-        matches!(self, Role::Nl | Role::Eol(_) | Role::Eof | Role::Signal(_))
+        matches!(
+            self,
+            Role::Nl | Role::Eol(_) | Role::Eol2(_) | Role::Eof | Role::Signal(_)
+        )
     }
 }
 
@@ -70,6 +75,9 @@ fn mapped_role(settings: &Settings, byte: u8) -> Role
     if chars.has(Func::Forw1, byte) {
         return Role::Eol(byte);
     }
+    if chars.has(Func::Forw2, byte) {
+        return Role::Eol2(byte);
+    }
     if chars.has(Func::Eof, byte) {
         return Role::Eof;
     }
@@ -96,8 +104,8 @@ pub fn role_of(settings: &Settings, key: u8) -> Role
     }
 }
 
-/// The role of a byte of a line that was edited before it came: it is not mapped, a line feed or the
-/// EOL character closes the line, and any other byte is ordinary.
+/// The role of a byte of a line that was edited before it came: it is not mapped, a line feed, the
+/// EOL or the EOL2 character closes the line, and any other byte is ordinary.
 pub fn role_of_literal(settings: &Settings, byte: u8) -> Role
     ensures { result ≡ literal_role settings.now.chars byte }
 {
@@ -105,6 +113,8 @@ pub fn role_of_literal(settings: &Settings, byte: u8) -> Role
         Role::Nl
     } else if settings.chars.has(Func::Forw1, byte) {
         Role::Eol(byte)
+    } else if settings.chars.has(Func::Forw2, byte) {
+        Role::Eol2(byte)
     } else {
         Role::Ordinary(byte)
     }

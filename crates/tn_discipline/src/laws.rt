@@ -5,6 +5,7 @@ ghost use Rattle.tn_codes.specs.declared.codes.Func.{Func};
 ghost use Rattle.tn_discipline.specs.Characters.{Characters, AreAllowed, slot, with_slot, char_fault};
 ghost use Rattle.tn_discipline.specs.Keys.{roles_of, role_of_key, roles_from, literal_role};
 ghost use Rattle.tn_discipline.specs.Admitted.{count_of};
+ghost use Rattle.tn_discipline.specs.Limits.{most_counted};
 ghost use Rattle.tn_discipline.specs.Entries.{half_of, entries_of};
 ghost use Rattle.tn_discipline.specs.Steps.{half_next, gain_next, half_all, gain_all};
 ghost use Rattle.tn_discipline.specs.HalfLine.{HalfLine, line_length, effect_of, line_after, gained};
@@ -15,50 +16,66 @@ ghost use Rattle.tn_discipline.specs.declared.termios.Settings.{Settings};
 
 /// Characters stay distinct and unreserved where one of them takes a value that is not refused.
 pub fn accepted_characters()
-    ensures distinct { (chars : Characters) (f g : Func) (byte : ℕ) → AreAllowed chars → slot chars f ≡ Some byte → slot chars g ≡ Some byte → f ≡ g }
-    ensures allowed { (chars : Characters) (func : Func) (value : Option ℕ) → AreAllowed chars → char_fault chars func value ≡ None → AreAllowed (with_slot chars func value) }
+    ensures distinct { (chars : Characters) (f g : Func) (byte : ℕ) →
+        AreAllowed chars → slot chars f ≡ Some byte → slot chars g ≡ Some byte → f ≡ g }
+    ensures allowed { (chars : Characters) (func : Func) (value : Option ℕ) →
+        AreAllowed chars → char_fault chars func value ≡ None → AreAllowed (with_slot chars func value) }
 {}
 
 /// The roles of a list of keys are those of its parts.
 pub fn roles_of_more_keys()
-    ensures one { (settings : Settings) (key : ℕ) → roles_of settings (key ∷ []) ≡ roles_from (role_of_key settings key) }
-    ensures more { (settings : Settings) (keys more : List ℕ) → roles_of settings (keys ++ more) ≡ roles_of settings keys ++ roles_of settings more }
-    ensures last { (settings : Settings) (keys : List ℕ) (key : ℕ) → roles_of settings (keys ++ key ∷ []) ≡ roles_of settings keys ++ roles_from (role_of_key settings key) }
-    ensures literal { (chars : Characters) (byte : ℕ) → roles_from (literal_role chars byte) ≡ literal_role chars byte ∷ [] }
+    ensures one { (settings : Settings) (key : ℕ) →
+        roles_of settings (key ∷ []) ≡ roles_from (role_of_key settings key) }
+    ensures more { (settings : Settings) (keys more : List ℕ) →
+        roles_of settings (keys ++ more) ≡ roles_of settings keys ++ roles_of settings more }
+    ensures last { (settings : Settings) (keys : List ℕ) (key : ℕ) →
+        roles_of settings (keys ++ key ∷ [])
+        ≡ roles_of settings keys ++ roles_from (role_of_key settings key) }
+    ensures literal { (chars : Characters) (byte : ℕ) →
+        roles_from (literal_role chars byte) ≡ literal_role chars byte ∷ [] }
 {}
 
 /// The plain count of the admitted keys is the length of the half line, and so it fits.
 pub fn count_is_length()
-    ensures count { (history : List Role) → count_of history ≡ length (half_of history) }
-    ensures fits { (history : List Role) → length (half_of history) ≤ 254 }
+    ensures count { (limit : ℕ) (history : List Role) →
+        count_of limit history ≡ length (half_of limit history) }
+    ensures fits { (limit : ℕ) (history : List Role) → length (half_of limit history) ≤ most_counted limit }
 {}
 
 /// One more role: what it leaves and what it gives depend on the half line alone.
 pub fn one_more_role()
-    ensures half { (history : List Role) (r : Role) → half_of (history ++ r ∷ []) ≡ half_next (half_of history) r }
-    ensures entries { (history : List Role) (r : Role) → entries_of (history ++ r ∷ []) ≡ entries_of history ++ gain_next (half_of history) r }
+    ensures half { (limit : ℕ) (history : List Role) (r : Role) →
+        half_of limit (history ++ r ∷ []) ≡ half_next limit (half_of limit history) r }
+    ensures entries { (limit : ℕ) (history : List Role) (r : Role) → let half = half_of limit history in
+        entries_of limit (history ++ r ∷ []) ≡ entries_of limit history ++ gain_next limit half r }
 {}
 
 /// The same for a list of roles.
 pub fn more_roles()
-    ensures half { (history roles : List Role) → half_of (history ++ roles) ≡ half_all (half_of history) roles }
-    ensures entries { (history roles : List Role) → entries_of (history ++ roles) ≡ entries_of history ++ gain_all (half_of history) roles }
+    ensures half { (limit : ℕ) (history roles : List Role) →
+        half_of limit (history ++ roles) ≡ half_all limit (half_of limit history) roles }
+    ensures entries { (limit : ℕ) (history roles : List Role) → let half = half_of limit history in
+        entries_of limit (history ++ roles) ≡ entries_of limit history ++ gain_all limit half roles }
 {}
 
 /// Each line that fits is left by some keys, so that what is said of all keys that left it says
 /// something.
 pub fn every_line_is_left()
-    ensures { (line : HalfLine) → line_length line < 255 → (history : List Role) × Leaves history line }
+    ensures { (line : HalfLine) → line_length line < line.limit →
+        (history : List Role) × Leaves history line }
 {}
 
 /// What a key of each role does to a line is what the whole list of keys says of it.
 pub fn each_role_advances()
-    ensures advances { (line : HalfLine) (r : Role) → Advances line (roles_from r) (gained (effect_of line r)) (line_after line r) }
+    ensures advances { (line : HalfLine) (r : Role) →
+        Advances line (roles_from r) (gained (effect_of line r)) (line_after line r) }
     ensures dropped { (line : HalfLine) (r : Role) → DropsExactly line (roles_from r) (effect_of line r) }
 {}
 
 /// What is said of all keys that left a line is said by the line alone, and the other way round.
 pub fn moves_are_advances()
-    ensures moves { (old new : HalfLine) (roles : List Role) (gain : List Entry) → line_length old < 255 → Advances old roles gain new → Moves old roles gain new }
-    ensures advances { (old new : HalfLine) (roles : List Role) (gain : List Entry) → Moves old roles gain new → Advances old roles gain new }
+    ensures moves { (old new : HalfLine) (roles : List Role) (gain : List Entry) →
+        line_length old < old.limit → Advances old roles gain new → Moves old roles gain new }
+    ensures advances { (old new : HalfLine) (roles : List Role) (gain : List Entry) →
+        Moves old roles gain new → Advances old roles gain new }
 {}

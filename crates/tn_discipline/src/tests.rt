@@ -1,15 +1,13 @@
 //! Examples from outside, and the definition of canonical input as a plain slow program.
 
 use crate::{
-    CharFault, Chars, Effect, Entry, Flags, Line, Role, Settings, Sig, Symbol, Text, echo_of,
-    role_of_literal,
+    CharFault, Chars, Effect, Entry, Flags, Limit, Line, Role, Settings, Sig, Symbol, Text,
+    echo_of, role_of_literal,
 };
 use std::alloc::{AllocError, Global};
 use std::process::Abort;
 use std::test::Fail;
 use tn_codes::Func;
-
-const BYTES_BEFORE_THE_END: usize = 254;
 
 fn text(alloc: Global, bytes: &[u8]) -> Result<Entry, AllocError> {
     Ok(Entry::Text(Text::from(bytes.to_vec(alloc)?)))
@@ -18,10 +16,11 @@ fn text(alloc: Global, bytes: &[u8]) -> Result<Entry, AllocError> {
 // What a line gives of these keys, and what it holds then.
 fn typed(
     alloc: Global,
+    limit: Limit,
     settings: &Settings,
     keys: &[u8],
 ) -> Result<(Vec<Entry>, Vec<u8>), AllocError> {
-    let mut line = Line::new(alloc)?;
+    let mut line = Line::new(alloc, limit)?;
     let mut entries = Vec::new(alloc);
     for key in keys {
         if let Effect::Gives(entry) = line.key(settings, *key)? {
@@ -62,6 +61,8 @@ fn role(settings: &Settings, byte: u8) -> Role {
         Role::Nl
     } else if is(Func::Forw1) {
         Role::Eol(byte)
+    } else if is(Func::Forw2) {
+        Role::Eol2(byte)
     } else if is(Func::Eof) {
         Role::Eof
     } else if is(Func::Ec) {
@@ -79,17 +80,18 @@ fn role(settings: &Settings, byte: u8) -> Role {
     }
 }
 
-// Those without the ordinary ones that come while 254 are counted.
-fn admitted(alloc: Global, roles: &[Role]) -> Result<Vec<Role>, AllocError> {
+// Those without the ordinary ones that come while as many are counted as fit before a closing byte.
+fn admitted(alloc: Global, limit: Limit, roles: &[Role]) -> Result<Vec<Role>, AllocError> {
+    let most = usize::from(limit.bytes()) - 1;
     let mut admitted = Vec::new(alloc);
     let mut count = 0usize;
     for role in roles {
         match role {
-            Role::Ordinary(_) if count >= BYTES_BEFORE_THE_END => continue,
+            Role::Ordinary(_) if count >= most => continue,
             Role::Ordinary(_) => count = count.saturating_add(1),
             Role::Erase => count = count.saturating_sub(1),
             Role::Signal(_) | Role::Ignored => {},
-            Role::Kill | Role::Nl | Role::Eol(_) | Role::Eof => count = 0,
+            Role::Kill | Role::Nl | Role::Eol(_) | Role::Eol2(_) | Role::Eof => count = 0,
         }
         admitted.push(*role)?;
     }
@@ -135,17 +137,18 @@ fn push_line(bytes: Vec<u8>, entries: &mut Vec<Entry>) -> Result<(), AllocError>
 // The admitted roles, cut after each closing one: what the pieces give, and what is kept of the last.
 fn slowly(
     alloc: Global,
+    limit: Limit,
     settings: &Settings,
     keys: &[u8],
 ) -> Result<(Vec<Entry>, Vec<u8>), AllocError> {
     let roles = roles(alloc, settings, keys)?;
-    let admitted = admitted(alloc, &roles)?;
+    let admitted = admitted(alloc, limit, &roles)?;
     let mut entries = Vec::new(alloc);
     let mut piece = Vec::new(alloc);
     for role in &admitted {
         let closing = match role {
             Role::Nl => Some(10),
-            Role::Eol(byte) => Some(*byte),
+            Role::Eol(byte) | Role::Eol2(byte) => Some(*byte),
             Role::Eof => None,
             _ => {
                 piece.push(*role)?;
@@ -175,10 +178,37 @@ fn gives_what_the_whole_list_says(rt: HostRuntime) -> Result<(), Fail> {
                 keys.push(alphabet[rest as usize % 6])?;
                 rest /= 6;
             }
-            let real = typed(rt.alloc(), &settings, &keys)?;
-            assert_eq!(rt; real, slowly(rt.alloc(), &settings, &keys)?, "of {keys:?}");
+            let real = typed(rt.alloc(), Limit::standard(), &settings, &keys)?;
+            assert_eq!(rt;
+                real,
+                slowly(rt.alloc(), Limit::standard(), &settings, &keys)?,
+                "of {keys:?}"
+            );
         }
     }
+    Ok(())
+}
+
+#[test]
+fn limits_are_of_255_to_4095_bytes(rt: HostRuntime) {
+    for (bytes, within) in [(254, false), (255, true), (4095, true), (4096, false)] {
+        let limit = Limit::new(bytes);
+        assert_eq!(rt; limit.is_some(), within, "of {bytes}");
+        assert_eq!(rt; limit.map_or(bytes, Limit::bytes), bytes);
+    }
+    assert_eq!(rt; Limit::new(255), Some(Limit::standard()));
+}
+
+#[test]
+fn fills_the_longest_line(rt: HostRuntime) -> Result<(), Fail> {
+    let settings = Settings::standard();
+    let limit = Limit::new(4095).unwrap_or(Limit::standard());
+    let mut line = Line::new(rt.alloc(), limit)?;
+    for _ in 0..4094 {
+        assert_eq!(rt; line.key(&settings, b'a')?, Effect::Kept);
+    }
+    assert_eq!(rt; line.key(&settings, b'a')?, Effect::Dropped);
+    assert_eq!(rt; line.held().len(), 4094);
     Ok(())
 }
 
@@ -189,10 +219,10 @@ fn gives_what_the_whole_list_says_of_long_lines(rt: HostRuntime) -> Result<(), F
         for end in [b"b\x7f\r", b"\x7fb\x04", b"\x03cd", b"\x15b\n"] {
             let mut keys = vec![in rt.alloc(); b'a'; length]?;
             keys.extend_from_slice(end)?;
-            let real = typed(rt.alloc(), &settings, &keys)?;
+            let real = typed(rt.alloc(), Limit::standard(), &settings, &keys)?;
             assert_eq!(rt;
                 real,
-                slowly(rt.alloc(), &settings, &keys)?,
+                slowly(rt.alloc(), Limit::standard(), &settings, &keys)?,
                 "of {length} keys"
             );
         }
@@ -203,21 +233,26 @@ fn gives_what_the_whole_list_says_of_long_lines(rt: HostRuntime) -> Result<(), F
 #[test]
 fn gives_the_entries_of_keys(rt: HostRuntime) -> Result<(), Fail> {
     let settings = Settings::standard();
-    let erased = typed(rt.alloc(), &settings, b"ab\x7fc\r")?.0;
+    let erased = typed(rt.alloc(), Limit::standard(), &settings, b"ab\x7fc\r")?.0;
     assert_eq!(rt; erased, vec![in rt.alloc(); text(rt.alloc(), b"ac\n")?]?);
-    let nothing = typed(rt.alloc(), &settings, b"\x7f\x15\x04")?.0;
+    let nothing = typed(rt.alloc(), Limit::standard(), &settings, b"\x7f\x15\x04")?.0;
     assert_eq!(rt; nothing, vec![in rt.alloc(); Entry::Eof]?);
-    let ended = typed(rt.alloc(), &settings, b"a\x04\x04")?.0;
+    let ended = typed(rt.alloc(), Limit::standard(), &settings, b"a\x04\x04")?.0;
     assert_eq!(rt;
         ended,
         vec![in rt.alloc(); text(rt.alloc(), b"a")?, Entry::Eof]?
     );
-    let broken = typed(rt.alloc(), &settings, b"a\x03b\n")?.0;
+    let broken = typed(rt.alloc(), Limit::standard(), &settings, b"a\x03b\n")?.0;
     assert_eq!(rt;
         broken,
         vec![in rt.alloc(); Entry::Signal(Sig::Int), text(rt.alloc(), b"ab\n")?]?
     );
-    let half = typed(rt.alloc(), &settings, b"\x1c\x1aa")?;
+    let mut closing = settings;
+    closing.chars.set(Func::Forw2, Some(b';'))?;
+    let closed = typed(rt.alloc(), Limit::standard(), &closing, b"ab;c")?;
+    assert_eq!(rt; closed.0, vec![in rt.alloc(); text(rt.alloc(), b"ab;")?]?);
+    assert_eq!(rt; closed.1.as_slice(), b"c".as_slice());
+    let half = typed(rt.alloc(), Limit::standard(), &settings, b"\x1c\x1aa")?;
     assert_eq!(rt;
         half.0,
         vec![in rt.alloc(); Entry::Signal(Sig::Quit), Entry::Signal(Sig::Tstp)]?
@@ -271,15 +306,21 @@ fn tells_its_faults(rt: HostRuntime) -> Result<(), Fail> {
 fn edits_a_line(rt: HostRuntime) -> Result<(), Fail> {
     let mut settings = Settings::standard();
     settings.chars.set(Func::Forw1, Some(b';'))?;
+    settings.chars.set(Func::Forw2, Some(b'!'))?;
     assert_eq!(rt; role_of_literal(&settings, 3), Role::Ordinary(3));
     assert_eq!(rt; role_of_literal(&settings, 13).gives_entry(), false);
-    let mut line = Line::new(rt.alloc())?;
+    let mut line = Line::new(rt.alloc(), Limit::standard())?;
     assert_eq!(rt; line.literal(&settings, 3)?, Effect::Kept);
     assert_eq!(rt; line.literal(&settings, 13)?, Effect::Kept);
     assert_eq!(rt; line.erase(), Effect::Erased);
     assert_eq!(rt;
         line.literal(&settings, b';')?,
         Effect::Gives(text(rt.alloc(), b"\x03;")?)
+    );
+    assert_eq!(rt; line.literal(&settings, b'c')?, Effect::Kept);
+    assert_eq!(rt;
+        line.literal(&settings, b'!')?,
+        Effect::Gives(text(rt.alloc(), b"c!")?)
     );
     assert_eq!(rt; line.erase(), Effect::Nothing);
     assert_eq!(rt; line.key(&settings, b'a')?, Effect::Kept);
@@ -314,6 +355,12 @@ fn shows_keys(rt: HostRuntime) {
     ] {
         assert_eq!(rt; echo_of(&effect, key, &settings), wanted, "of {key}");
     }
+    let mut closing = settings;
+    assert_eq!(rt; closing.chars.set(Func::Forw2, Some(b';')), Ok(()));
+    assert_eq!(rt;
+        echo_of(&Effect::Gives(Entry::Eof), b';', &closing),
+        [Some(Symbol::Byte(b';')), None, None]
+    );
     let mut quiet = settings;
     quiet.flags.echo = false;
     quiet.flags.echonl = true;
@@ -325,7 +372,7 @@ fn shows_keys(rt: HostRuntime) {
 #[test]
 fn keeps_a_line_without_memory(rt: HostRuntime) {
     let settings = Settings::standard();
-    let Ok(mut line) = Line::new(rt.alloc()) else {
+    let Ok(mut line) = Line::new(rt.alloc(), Limit::standard()) else {
         return;
     };
     assert_eq!(rt; line.key(&settings, b'a'), Ok(Effect::Kept));

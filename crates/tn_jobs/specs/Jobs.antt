@@ -1,5 +1,5 @@
 -- The jobs that a terminal holds: at each number the state of its job, or nothing.
-use Rattle.std.specs.Prelude.{◌≡◌, ◌≢◌, ◌≤◌, ◌+◌, ℕ, Bool, true, false, Option, Some, None, List, is_some, count_by, slice_index_or, slice_set, if◌then◌else◌, ◌↔◌, ◌==◌}
+use Rattle.std.specs.Prelude.{◌≡◌, ◌≢◌, ◌<◌, ◌≤◌, ◌+◌, ℕ, Bool, true, false, Option, Some, None, List, length, is_some, IsSome, count_by, slice_index_or, slice_set, if◌then◌else◌, ◌↔◌, ◌==◌}
 use Rattle.std.specs.List.{list_any}
 use Rattle.tn_jobs.specs.declared.verdicts.JobState.{JobState}
 use Rattle.tn_jobs.specs.declared.verdicts.JobState.TheVariants.{Foreground, Background, Stopped, Ended}
@@ -31,10 +31,21 @@ is_foreground (Some Ended) = false
 abbrev pub has_foreground : Jobs → Bool
 has_foreground jobs = list_any is_foreground jobs
 
--- at most one job is in the foreground, and at most sixteen are held
+-- at most one job is in the foreground, sixteen at most are held, under numbers below sixteen, and none is Ended
 pub record IsSound (jobs : Jobs) : Type 0 where
-  pub one_foreground : (a b : ℕ) → state_at jobs a ≡ Some Foreground → state_at jobs b ≡ Some Foreground → a ≡ b
-  pub at_most_sixteen : held jobs ≤ 16
+  pub one_foreground : (a b : ℕ) → state_at jobs a ≡ Some Foreground → state_at jobs b ≡ Some Foreground
+      → a ≡ b
+  pub at_most_sixteen : length jobs ≤ 16
+  pub none_ended : (id : ℕ) → state_at jobs id ≢ Some Ended
+
+-- a number below the end that no job has
+pub record IsFreeBelow (jobs : Jobs) (id : ℕ) : Type 0 where
+  pub below : id < length jobs
+  pub free : state_at jobs id ≡ None
+
+-- each number below the end is held
+abbrev pub HasNoGap : Jobs → Type 0
+HasNoGap jobs = (id : ℕ) → id < length jobs → IsSome (state_at jobs id)
 
 -- this is the number of the foreground job, or there is none
 abbrev pub NamesForeground : Jobs → Option ℕ → Type 0
@@ -46,7 +57,8 @@ is_number (Some number) id = number == id
 
 -- the number of the foreground job once this number has this state
 abbrev pub foreground_after : Option ℕ → ℕ → Option JobState → Option ℕ
-foreground_after foreground id state = if is_foreground state then Some id else (if is_number foreground id then None else foreground)
+foreground_after foreground id state =
+    if is_foreground state then Some id else (if is_number foreground id then None else foreground)
 
 -- the new table has this number too, which was free, with its job in the background
 pub record Adds (old new : Jobs) (id : ℕ) : Type 0 where

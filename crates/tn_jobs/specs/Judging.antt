@@ -1,5 +1,5 @@
--- POSIX.1-2017, XBD 11.1.4: a job in the background that reads from its terminal is stopped by SIGTTIN, and one
--- that writes to it while TOSTOP is set by SIGTTOU. What reaches the terminal is this project's own.
+-- POSIX.1-2017, XBD 11.1.4: a job in the background that reads from its terminal is stopped by SIGTTIN,
+-- and one that writes to it while TOSTOP is set by SIGTTOU. What reaches the terminal is this project's own.
 use Rattle.std.specs.Prelude.{Bool, true, false, Option, Some, None}
 use Rattle.tn_jobs.specs.declared.verdicts.After.{After}
 use Rattle.tn_jobs.specs.declared.verdicts.After.TheVariants.{Stay, WantsInput, Done, Stop}
@@ -11,7 +11,8 @@ use Rattle.tn_jobs.specs.declared.verdicts.Verdict.{Verdict}
 abbrev pub verdict : Bool → JobState → Option Verdict
 verdict write next = Some (record { write = write; next = next })
 
--- the state, whether the step wrote a text, what comes after it, and the flag TOSTOP. The first line that fits decides
+-- the state, whether the step wrote a text, what comes after it, and the flag TOSTOP.
+-- The first line that fits decides
 abbrev pub judged : JobState → Bool → After → Bool → Option Verdict
 judged (Stopped why) wrote after tostop = None
 judged Ended wrote after tostop = None

@@ -1,20 +1,21 @@
 //! The jobs that a terminal holds, by their numbers.
 
-ghost use Rattle.std.specs.Prelude.{◌≡◌, ◌+◌, ◌<◌, [], Some, None, true, false, IfOk, OnOk, IfErr, OnErr, IsSome, slice_set};
+ghost use Rattle.std.specs.Prelude.{◌≡◌, ◌≢◌, ◌+◌, ◌<◌, [], Some, None, true, false, IsSome};
+ghost use Rattle.std.specs.Prelude.{IfOk, OnOk, IfErr, OnErr, IsErrOf, MatchOption};
 ghost use Rattle.std.specs.Result.{result_err};
-ghost use Rattle.slab.specs.Slab.{get};
-ghost use Rattle.tn_jobs.specs.Jobs.{state_at, with_state, held, is_foreground, has_foreground, foreground_after, IsSound, Adds, add_fault, foreground_fault, background_fault, stopped_fault, done_fault};
+ghost use Rattle.tn_jobs.specs.Jobs.{state_at, with_state, held, IsSound, HasNoGap, IsFreeBelow, Adds};
+ghost use Rattle.tn_jobs.specs.Jobs.{is_foreground, has_foreground, foreground_after, add_fault};
+ghost use Rattle.tn_jobs.specs.Jobs.{foreground_fault, background_fault, stopped_fault, done_fault};
 
 use crate::verdicts::{JobState, Why};
-use slab::Slab;
-use std::alloc::{AllocError, Global};
+use std::alloc::Global;
 use std::marker::Model;
 use thiserror::Error;
 
 /// A table never holds more jobs than this.
 pub const MOST_JOBS: usize = 16;
 
-/// The number of a held job. It may be given to another job once this one is done.
+/// The number of a held job, of 0 to 15. It may be given to another job once this one is done.
 #[derive(Clone, Copy, Debug, PartialEq, Eq)]
 pub struct JobId(pub usize);
 
@@ -34,7 +35,7 @@ pub enum JobFault {
 /// The jobs of one terminal: at most sixteen, of which at most one is in the foreground.
 #[derive(Drop)]
 pub struct Table {
-    jobs: Slab<JobState>,
+    jobs: Vec<Option<JobState>>,
     foreground: Option<usize>,
 }
 
@@ -45,9 +46,10 @@ impl Model for Table {
 
     ghost Value = { List (Option JobState) };
 
-    ghost view = { λ table. table.jobs.slots };
+    ghost view = { λ table. table.jobs.items };
 
-    ghost invariant = { λ table. IsSound table.jobs.slots × NamesForeground table.jobs.slots table.foreground };
+    ghost invariant = { λ table. IsSound table.jobs.items
+        × NamesForeground table.jobs.items table.foreground };
 }
 
 impl Table {
@@ -56,28 +58,37 @@ impl Table {
         ensures { result ≡ [] }
     {
         Table {
-            jobs: Slab::new(alloc),
+            jobs: Vec::new(alloc),
             foreground: None,
         }
     }
 
-    /// Adds a job to the background, under a number that is free.
+    /// Adds a job to the background, under the lowest number that is free. `Full` where sixteen are
+    /// held already; `Memory` where each lower number is held and the table can't grow.
     pub fn add(&mut self) -> Result<JobId, JobFault>
         ensures adds { IfOk result (λ id. Adds self.old self.new id.0) }
+        ensures number { IfOk result (λ id. id.0 < 16) }
         ensures room { OnOk result (held self.old < 16) }
         ensures fault { IfErr result (λ fault. fault ≡ add_fault self.old) }
+        ensures memory { IsErrOf result JobFault.Memory → HasNoGap self.old }
         ensures err { OnErr result (self.new ≡ self.old) }
     {
-        if self.jobs.len() >= MOST_JOBS {
+        if let Some(id) = free_number(&self.jobs) {
+            self.jobs[id] = Some(JobState::Background);
+            return Ok(JobId(id));
+        }
+        let id = self.jobs.len();
+        if id >= MOST_JOBS {
             return Err(JobFault::Full);
         }
-        match self.jobs.insert(JobState::Background) {
-            Ok(key) => Ok(JobId(key)),
+        match self.jobs.push(Some(JobState::Background)) {
+            Ok(()) => Ok(JobId(id)),
             Err(_) => Err(JobFault::Memory),
         }
     }
 
-    /// Brings a job to the foreground, where no job is there yet, this one included.
+    /// Brings a job to the foreground, where no job is there yet, this one included: `WrongState` where
+    /// one is, `NoSuchJob` where the number isn't held.
     pub fn foreground(&mut self, id: JobId) -> Result<(), JobFault>
         ensures fault { result_err result ≡ foreground_fault self.old id.0 }
         ensures ok { OnOk result (self.new ≡ with_state self.old id.0 (Some JobState.Foreground)) }
@@ -93,7 +104,8 @@ impl Table {
         }
     }
 
-    /// Lets a job go on in the background, from the foreground or from a stop.
+    /// Lets a job go on in the background, from the foreground or from a stop: `WrongState` where it
+    /// is there already, `NoSuchJob` where the number isn't held.
     pub fn background(&mut self, id: JobId) -> Result<(), JobFault>
         ensures fault { result_err result ≡ background_fault self.old id.0 }
         ensures ok { OnOk result (self.new ≡ with_state self.old id.0 (Some JobState.Background)) }
@@ -109,7 +121,8 @@ impl Table {
         }
     }
 
-    /// Stops a job that runs.
+    /// Stops a job that runs: `WrongState` where it is stopped already, `NoSuchJob` where the number
+    /// isn't held.
     pub fn stopped(&mut self, id: JobId, why: Why) -> Result<(), JobFault>
         ensures fault { result_err result ≡ stopped_fault self.old id.0 }
         ensures ok { OnOk result (self.new ≡ with_state self.old id.0 (Some (JobState.Stopped why))) }
@@ -125,29 +138,29 @@ impl Table {
         }
     }
 
-    /// Takes a job out, whatever its state, and frees its number.
+    /// Takes a job out, whatever its state, and frees its number: `NoSuchJob` where it isn't held.
     pub fn done(&mut self, id: JobId) -> Result<(), JobFault>
         ensures fault { result_err result ≡ done_fault self.old id.0 }
         ensures ok { OnOk result (self.new ≡ with_state self.old id.0 None) }
         ensures fewer { OnOk result (held self.new + 1 ≡ held self.old) }
         ensures err { OnErr result (self.new ≡ self.old) }
     {
-        let foreground = foreground_after(self.foreground, id.0, None);
-        match self.jobs.try_remove(id.0) {
+        match self.state(id) {
             None => Err(JobFault::NoSuchJob),
             Some(_) => {
-                self.foreground = foreground;
+                self.foreground = foreground_after(self.foreground, id.0, None);
+                self.jobs[id.0] = None;
                 Ok(())
             },
         }
     }
 
-    /// The state of a job; `None` where no job has the number.
+    /// The state of a job, which is never `Ended`; `None` where no job has the number.
     pub fn state(&self, id: JobId) -> Option<JobState>
         ensures state { result ≡ state_at self.now id.0 }
         ensures sound { IsSound self.now }
     {
-        self.jobs.get(id.0).copied()
+        self.jobs.get(id.0).copied().flatten()
     }
 
     fn has_foreground(&self) -> bool
@@ -159,10 +172,11 @@ impl Table {
     fn set(&mut self, id: JobId, state: JobState)
         requires held { IsSome (state_at self.old id.0) }
         requires one_foreground { is_foreground (Some state) ≡ true → has_foreground self.old ≡ false }
+        requires not_ended { state ≢ JobState.Ended }
         ensures { self.new ≡ with_state self.old id.0 (Some state) }
     {
         self.foreground = foreground_after(self.foreground, id.0, Some(state));
-        put(&mut self.jobs, id.0, state);
+        self.jobs[id.0] = Some(state);
     }
 }
 
@@ -179,11 +193,9 @@ fn foreground_after(foreground: Option<usize>, id: usize, state: Option<JobState
     }
 }
 
-fn put(jobs: &mut Slab<JobState>, key: usize, state: JobState)
-    requires { IsSome (get jobs.old key) }
-    ensures slots { jobs.new.slots ≡ slice_set jobs.old.slots key (Some state) }
+// The lowest number below the end that is free.
+fn free_number(jobs: &[Option<JobState>]) -> Option<usize>
+    ensures { MatchOption result (HasNoGap jobs.now) (λ id. IsFreeBelow jobs.now id) }
 {
-    if let Some(slot) = jobs.get_mut(key) {
-        *slot = state;
-    }
+    jobs.iter().position(|job| job.is_none())
 }

@@ -1,14 +1,17 @@
 -- A client that is sent a whole table, and a server that is sent acknowledgements.
-use Rattle.std.proofs.Common.{◌≡◌, ◌≢◌, ◌⊎◌, ℕ, Bool, true, false, ◌&&◌, ◌||◌, Option, Some, None, option_to_list, List, [], ◌∷◌, ◌++◌, map, refl, sym, ap, ◌∙◌, inl, inr, if◌then◌else◌, arith}
+use Rattle.std.proofs.Common.{◌≡◌, ◌≢◌, ◌⊎◌, ℕ, ◌==◌, Bool, true, false, ◌&&◌, ◌||◌, Option, Some, None, option_to_list, List, [], ◌∷◌, ◌++◌, map, refl, sym, ap, ◌∙◌, inl, inr, if◌then◌else◌, arith}
 use Rattle.std.specs.List.{list_all}
+use Rattle.tn_codes.specs.Codes.{func_code}
 use Rattle.tn_codes.specs.declared.codes.Func.{Func}
 use Rattle.tn_codes.specs.declared.codes.Func.TheVariants as func
+use Rattle.tn_codes.specs.declared.codes.Level.TheVariants as level
 use Rattle.tn_codes.specs.declared.triples.Triple.{Triple}
-use Rattle.tn_discipline.specs.Characters.{Characters, AreAllowed, slot, with_slot, special_functions, is_settable, is_reserved, is_set_to}
+use Rattle.tn_discipline.specs.Characters.{Characters, AreAllowed, slot, with_slot, special_functions, is_same, is_settable, is_reserved, is_set_to}
+use Rattle.tn_discipline.proofs.lemmas.Functions.{same_function, apart, is_same-refl, is_among, among_more, finds, slot-with_slot, slot-with_slot-other, same_slots}
 use Rattle.tn_linemode.specs.declared.triples.Saying.TheVariants as saying
-use Rattle.tn_linemode.specs.Triples.{has_ack, says, triple_of, acknowledging}
-use Rattle.tn_linemode.specs.Exchange.{cleared, without, is_line_end, is_same_value, announcement, answers_along, server_next, server_answer, server_after, server_answers, client_next, client_answer, client_takes, client_after, client_answers}
-use Rattle.tn_linemode.proofs.Taking.{same_slots, stays}
+use Rattle.tn_linemode.specs.Triples.{has_ack, special_at, says_of_all, says_of, says, triple_of, acknowledging}
+use Rattle.tn_linemode.specs.Exchange.{without, is_line_end, is_same_value, announcement, answers_along, server_next, server_answer, server_after, server_answers, client_next, client_answer, client_takes, client_after, client_answers}
+use Rattle.tn_linemode.proofs.Taking.{slot-without, stays}
 
 and_true : (a b : Bool) → (a && b) ≡ true → (a ≡ true) × (b ≡ true)
 and_true true b e = (refl, e)
@@ -35,34 +38,6 @@ acknowledged_answers c (t ∷ ts) acks =
     let silent : server_answer c t ≡ None = rw both.0 in
     ap (λ o. option_to_list o ++ server_answers (server_next c t) ts) silent ∙ ap (λ d. server_answers d ts) same ∙ acknowledged_answers c ts both.1
 
--- a change of one character, at each function
-slot-with_slot : (c : Characters) (k : Func) (v : Option ℕ) (f : Func) → is_settable k ≡ true → ((f ≡ k) × (slot (with_slot c k v) f ≡ v)) ⊎ ((f ≢ k) × (slot (with_slot c k v) f ≡ slot c f))
-slot-with_slot c func.Ip v func.Ip h = inl (refl, refl)
-slot-with_slot c func.Ip v f h = inr (λ e. cc, refl)
-slot-with_slot c func.Abort v func.Abort h = inl (refl, refl)
-slot-with_slot c func.Abort v f h = inr (λ e. cc, refl)
-slot-with_slot c func.Eof v func.Eof h = inl (refl, refl)
-slot-with_slot c func.Eof v f h = inr (λ e. cc, refl)
-slot-with_slot c func.Susp v func.Susp h = inl (refl, refl)
-slot-with_slot c func.Susp v f h = inr (λ e. cc, refl)
-slot-with_slot c func.Ec v func.Ec h = inl (refl, refl)
-slot-with_slot c func.Ec v f h = inr (λ e. cc, refl)
-slot-with_slot c func.El v func.El h = inl (refl, refl)
-slot-with_slot c func.El v f h = inr (λ e. cc, refl)
-slot-with_slot c func.Forw1 v func.Forw1 h = inl (refl, refl)
-slot-with_slot c func.Forw1 v f h = inr (λ e. cc, refl)
-slot-with_slot c _ v f h = cc
-
-slot-without : (c : Characters) (byte : ℕ) (f : Func) → slot (without c (Some byte)) f ≡ cleared (slot c f) byte
-slot-without c byte func.Ip = refl
-slot-without c byte func.Abort = refl
-slot-without c byte func.Eof = refl
-slot-without c byte func.Susp = refl
-slot-without c byte func.Ec = refl
-slot-without c byte func.El = refl
-slot-without c byte func.Forw1 = refl
-slot-without c byte _ = refl
-
 -- a function that has another character than the one that is taken away keeps it
 slot-without-other : (c : Characters) (v : Option ℕ) (f : Func) → ((byte : ℕ) → v ≡ Some byte → slot c f ≢ Some byte) → slot (without c v) f ≡ slot c f
 slot-without-other c None f other = refl
@@ -73,45 +48,41 @@ abbrev took : Characters → Characters → Func → Characters
 took s c k = with_slot (without c (slot s k)) k (slot s k)
 
 took_at : (s c : Characters) (k : Func) → is_settable k ≡ true → slot (took s c k) k ≡ slot s k
-took_at s c k settable =
-    elim (slot-with_slot (without c (slot s k)) k (slot s k) k settable) [ inl w ↦ w.1 | inr w ↦ absurd (w.0 refl) ]
+took_at s c k settable = slot-with_slot (without c (slot s k)) k (slot s k) settable
 
 took_keeps : (s c : Characters) (k f : Func) → AreAllowed s → is_settable k ≡ true → slot c f ≡ slot s f → slot (took s c k) f ≡ slot s f
-took_keeps s c k f allowed settable same =
-    elim (slot-with_slot (without c (slot s k)) k (slot s k) f settable) [
-      | inl w ↦ w.1 ∙ ap (slot s) (sym w.0)
-      | inr w ↦ w.1 ∙ slot-without-other c (slot s k) f (λ byte e there. w.0 (allowed.distinct f k byte (sym same ∙ there) e)) ∙ same
-    ]
+took_keeps s c k f allowed settable same = by_test (is_same f k) refl
+  where
+    by_test : (test : Bool) → is_same f k ≡ test → slot (took s c k) f ≡ slot s f
+    by_test true e =
+        let one : f ≡ k = same_function f k e in ap (slot (took s c k)) one ∙ took_at s c k settable ∙ ap (slot s) (sym one)
+    by_test false e =
+        slot-with_slot-other (without c (slot s k)) k f (slot s k) e
+        ∙ slot-without-other c (slot s k) f (λ byte held there. let one : f ≡ k = allowed.distinct f k byte (sym same ∙ there) held in absurd (apart f k e one))
+        ∙ same
 
 -- a value of an allowed table is neither a line end nor 255
 plain_value : (v : Option ℕ) → ((byte : ℕ) → v ≡ Some byte → is_reserved byte ≡ false) → (is_line_end v ≡ false) × (is_set_to v 255 ≡ false)
 plain_value None fine = (refl, refl)
 plain_value (Some byte) fine = let ok : is_reserved byte ≡ false = fine byte refl in (grind arith, grind arith)
 
+-- the code of a function that has a character is its own, and not that of all
+above_zero : (k : Func) → (func_code k == 0) ≡ false
+above_zero func.Synch = refl
+above_zero _ = refl
+
+special_at-code : (k : Func) → is_settable k ≡ true → special_at (func_code k) ≡ Some k
+special_at-code k settable = finds (λ f. func_code f == func_code k) k special_functions settable (is_same-refl k) (λ f e. same_function f k e)
+
 -- a triple says what it is made of
-says-some : (k : Func) (byte : ℕ) → is_settable k ≡ true → is_set_to (Some byte) 255 ≡ false → says (triple_of k (Some byte)) ≡ saying.Character k (Some byte)
-says-some func.Ip byte settable other = rw other
-says-some func.Abort byte settable other = rw other
-says-some func.Eof byte settable other = rw other
-says-some func.Susp byte settable other = rw other
-says-some func.Ec byte settable other = rw other
-says-some func.El byte settable other = rw other
-says-some func.Forw1 byte settable other = rw other
-says-some _ byte settable other = cc
-
-says-none : (k : Func) → is_settable k ≡ true → says (triple_of k None) ≡ saying.Character k None
-says-none func.Ip settable = refl
-says-none func.Abort settable = refl
-says-none func.Eof settable = refl
-says-none func.Susp settable = refl
-says-none func.Ec settable = refl
-says-none func.El settable = refl
-says-none func.Forw1 settable = refl
-says-none _ settable = cc
-
 pub says-triple_of : (k : Func) (v : Option ℕ) → is_settable k ≡ true → is_set_to v 255 ≡ false → says (triple_of k v) ≡ saying.Character k v
-says-triple_of k None settable other = says-none k settable
-says-triple_of k (Some byte) settable other = says-some k byte settable other
+says-triple_of k None settable other =
+    ap (λ (zero : Bool). if zero then saying.Nothing else says_of (special_at (func_code k)) level.NoSupport (func_code k) 0) (above_zero k)
+    ∙ ap (λ o. says_of o level.NoSupport (func_code k) 0) (special_at-code k settable)
+says-triple_of k (Some byte) settable other =
+    ap (λ (zero : Bool). if zero then says_of_all level.Value (byte == 0) else says_of (special_at (func_code k)) level.Value (func_code k) byte) (above_zero k)
+    ∙ ap (λ o. says_of o level.Value (func_code k) byte) (special_at-code k settable)
+    ∙ ap (λ (escape : Bool). saying.Character k (if escape then None else Some byte)) other
 
 client_next-own : (s c : Characters) (k : Func) → AreAllowed s → is_settable k ≡ true → client_next c (triple_of k (slot s k)) ≡ took s c k
 client_next-own s c k allowed settable =
@@ -125,36 +96,25 @@ client_next-own s c k allowed settable =
 abbrev told : Characters → List Func → List Triple
 told s ks = map (λ k. triple_of k (slot s k)) ks
 
-abbrev Among : Func → List Func → Type 0
-Among f [] = ⊥
-Among f (k ∷ ks) = (f ≡ k) ⊎ Among f ks
-
 -- a function that was told, or agreed before, agrees after
-told_agrees : (s : Characters) (ks : List Func) (c : Characters) (f : Func) → AreAllowed s → list_all is_settable ks ≡ true → (Among f ks) ⊎ (slot c f ≡ slot s f) → slot (client_after c (told s ks)) f ≡ slot s f
+told_agrees : (s : Characters) (ks : List Func) (c : Characters) (f : Func) → AreAllowed s → list_all is_settable ks ≡ true → (is_among f ks ≡ true) ⊎ (slot c f ≡ slot s f) → slot (client_after c (told s ks)) f ≡ slot s f
 unfolding client_after
-told_agrees s [] c f allowed settable h = elim h [ inl among ↦ absurd among | inr same ↦ same ]
+told_agrees s [] c f allowed settable h = elim h [ inl among ↦ cc | inr same ↦ same ]
 told_agrees s (k ∷ ks) c f allowed settable h =
     let both = and_true (is_settable k) (list_all is_settable ks) settable in
     ap (λ d. slot (client_after d (told s ks)) f) (client_next-own s c k allowed both.0)
     ∙ told_agrees s ks (took s c k) f allowed both.1 (next both.0 h)
   where
-    next : is_settable k ≡ true → (Among f (k ∷ ks)) ⊎ (slot c f ≡ slot s f) → (Among f ks) ⊎ (slot (took s c k) f ≡ slot s f)
+    next : is_settable k ≡ true → (is_among f (k ∷ ks) ≡ true) ⊎ (slot c f ≡ slot s f) → (is_among f ks ≡ true) ⊎ (slot (took s c k) f ≡ slot s f)
     next here h =
         elim h [
-          | inl among ↦ elim among [ inl e ↦ inr (ap (slot (took s c k)) e ∙ took_at s c k here ∙ ap (slot s) (sym e)) | inr later ↦ inl later ]
+          | inl among ↦ elim (among_more f k ks among) [ inl e ↦ inr (ap (slot (took s c k)) (sym e) ∙ took_at s c k here ∙ ap (slot s) e) | inr later ↦ inl later ]
           | inr same ↦ inr (took_keeps s c k f allowed here same)
         ]
 
-announced_at : (s c : Characters) → AreAllowed s → (f : Func) → slot (client_after c (announcement s)) f ≡ slot s f
+announced_at : (s c : Characters) → AreAllowed s → (f : Func) → is_settable f ≡ true → slot (client_after c (announcement s)) f ≡ slot s f
 unfolding client_after announcement
-announced_at s c allowed func.Ip = told_agrees s special_functions c func.Ip allowed refl (inl (inl refl))
-announced_at s c allowed func.Abort = told_agrees s special_functions c func.Abort allowed refl (inl (inr (inl refl)))
-announced_at s c allowed func.Eof = told_agrees s special_functions c func.Eof allowed refl (inl (inr (inr (inl refl))))
-announced_at s c allowed func.Susp = told_agrees s special_functions c func.Susp allowed refl (inl (inr (inr (inr (inl refl)))))
-announced_at s c allowed func.Ec = told_agrees s special_functions c func.Ec allowed refl (inl (inr (inr (inr (inr (inl refl))))))
-announced_at s c allowed func.El = told_agrees s special_functions c func.El allowed refl (inl (inr (inr (inr (inr (inr (inl refl)))))))
-announced_at s c allowed func.Forw1 = told_agrees s special_functions c func.Forw1 allowed refl (inl (inr (inr (inr (inr (inr (inr (inl refl))))))))
-announced_at s c allowed _ = refl
+announced_at s c allowed f settable = told_agrees s special_functions c f allowed refl (inl settable)
 
 -- a client that is sent a whole table has it
 pub announced : (c s : Characters) → AreAllowed s → client_after c (announcement s) ≡ s

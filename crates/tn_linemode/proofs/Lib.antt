@@ -1,4 +1,4 @@
-pub mod Answering
+pub mod lemmas
 pub mod Taking
 pub mod Announcing
 pub mod Offers

@@ -6,39 +6,26 @@ use Rattle.tn_codes.specs.declared.codes.Func.TheVariants as func
 use Rattle.tn_codes.specs.declared.codes.Level.{Level}
 use Rattle.tn_codes.specs.declared.codes.Level.TheVariants as level
 use Rattle.tn_codes.specs.declared.triples.Triple.{Triple}
-use Rattle.tn_discipline.specs.Characters.{Characters, AreAllowed, slot, with_slot, standard_characters, is_settable, is_reserved, is_set_to, char_fault}
+use Rattle.tn_discipline.specs.Characters.{Characters, AreAllowed, slot, with_slot, special_functions, standard_characters, is_settable, is_reserved, is_set_to, char_fault}
 use Rattle.tn_linemode.specs.declared.triples.Saying.{Saying}
 use Rattle.tn_linemode.specs.declared.triples.Saying.TheVariants as saying
 use Rattle.tn_linemode.specs.Triples.{has_ack, special_at, level_of, wanted, says_of_all, says_of, says, triple_of, acknowledging, unsupported, IsOffer}
 use Rattle.tn_linemode.specs.Exchange.{cleared, without, is_line_end, is_same_value, server_takes, server_replies, server_next, server_answer, client_takes, client_replies, client_next, client_answer, Answers, table_after}
-use Rattle.tn_linemode.proofs.Taking.{accepts_offer}
+use Rattle.tn_discipline.proofs.lemmas.Functions.{found}
+use Rattle.tn_linemode.proofs.Taking.{slot-without, accepts_offer}
 
 -- what a triple says of a function with a character is an offer
 abbrev Settable : Option Func → Type 0
 Settable o = (f : Func) → o ≡ Some f → is_settable f ≡ true
 
-pick : (test : Bool) (f : Func) (rest : Option Func) → is_settable f ≡ true → Settable rest → Settable (if test then Some f else rest)
-pick true f rest here there = λ g e. let same : f ≡ g = cc in ap is_settable (sym same) ∙ here
-pick false f rest here there = there
-
-none_settable : Settable None
-none_settable f e = cc
-
 settable_at : (code : ℕ) → Settable (special_at code)
-settable_at code =
-    pick _ func.Ip _ refl (pick _ func.Abort _ refl (pick _ func.Eof _ refl (pick _ func.Susp _ refl (pick _ func.Ec _ refl (pick _ func.El _ refl (pick _ func.Forw1 _ refl none_settable))))))
+settable_at code f e = (found (λ g. func_code g == code) f special_functions e).1
 
 no_escape_below : (value : ℕ) → is_set_to (if value == 255 then None else Some value) 255 ≡ false
 no_escape_below value = grind arith
 
 no_escape_standard : (f : Func) → is_set_to (slot standard_characters f) 255 ≡ false
 no_escape_standard func.Ip = refl
-no_escape_standard func.Abort = refl
-no_escape_standard func.Eof = refl
-no_escape_standard func.Susp = refl
-no_escape_standard func.Ec = refl
-no_escape_standard func.El = refl
-no_escape_standard func.Forw1 = refl
 no_escape_standard _ = refl
 
 no_escape_wanted : (f : Func) (l : Level) (value : ℕ) → is_set_to (wanted f l value) 255 ≡ false
@@ -110,14 +97,7 @@ left_over (Some a) byte b e = over (a == byte) a b e
     over false a b e = e
 
 left_at : (c : Characters) (byte b : ℕ) (f : Func) → slot (without c (Some byte)) f ≡ Some b → slot c f ≡ Some b
-left_at c byte b func.Ip e = left_over _ byte b e
-left_at c byte b func.Abort e = left_over _ byte b e
-left_at c byte b func.Eof e = left_over _ byte b e
-left_at c byte b func.Susp e = left_over _ byte b e
-left_at c byte b func.Ec e = left_over _ byte b e
-left_at c byte b func.El e = left_over _ byte b e
-left_at c byte b func.Forw1 e = left_over _ byte b e
-left_at c byte b _ e = e
+left_at c byte b f e = left_over (slot c f) byte b (sym (slot-without c byte f) ∙ e)
 
 without-allowed : (c : Characters) (v : Option ℕ) → AreAllowed c → AreAllowed (without c v)
 without-allowed c None allowed = allowed
@@ -157,19 +137,8 @@ client_after-allowed (t ∷ ts) c accepts allowed = client_after-allowed ts (cli
 abbrev Names : ℕ → Option Func → Type 0
 Names code o = (f : Func) → o ≡ Some f → func_code f ≡ code
 
-name_if : (code : ℕ) (g : Func) (test : Bool) (rest : Option Func) → (test ≡ true → func_code g ≡ code) → Names code rest → Names code (if test then Some g else rest)
-name_if code g true rest here there = λ f e. let same : g ≡ f = cc in ap func_code (sym same) ∙ here refl
-name_if code g false rest here there = there
-
-names_none : (code : ℕ) → Names code None
-names_none code f e = cc
-
 names_at : (code : ℕ) → Names code (special_at code)
-names_at code =
-    at func.Ip _ (at func.Abort _ (at func.Eof _ (at func.Susp _ (at func.Ec _ (at func.El _ (at func.Forw1 _ (names_none code)))))))
-  where
-    at : (g : Func) (rest : Option Func) → Names code rest → Names code (if func_code g == code then Some g else rest)
-    at g rest there = name_if code g (func_code g == code) rest (λ e. grind arith) there
+names_at code f e = let same : (func_code f == code) ≡ true = (found (λ g. func_code g == code) f special_functions e).0 in grind arith
 
 -- the function that a saying names is that of the triple
 abbrev Speaks : ℕ → Saying → Type 0

@@ -3,7 +3,7 @@
 use Rattle.std.specs.Prelude.{◌≡◌, ◌≢◌, ℕ, ◌==◌, Bool, true, false, not, ◌&&◌, ◌||◌, Option, Some, None, is_none, option_to_list, List, [], ◌∷◌, ◌++◌, map, fold, if◌then◌else◌}
 use Rattle.std.specs.List.{list_any}
 use Rattle.tn_codes.specs.declared.triples.Triple.{Triple}
-use Rattle.tn_discipline.specs.Characters.{Characters, slot, with_slot, special_functions, is_set_to, char_fault, standard_characters}
+use Rattle.tn_discipline.specs.Characters.{Characters, slot, with_slot, with_each, special_functions, is_set_to, char_fault, standard_characters}
 use Rattle.tn_linemode.specs.declared.triples.Saying.{Saying}
 use Rattle.tn_linemode.specs.declared.triples.Saying.TheVariants.{Standard, Table, Character, Unsupported, Nothing}
 use Rattle.tn_linemode.specs.Triples.{has_ack, says, triple_of, acknowledging, unsupported}
@@ -33,7 +33,8 @@ server_replies c Standard = None
 server_replies c Table = None
 server_replies c (Character f value) =
     if is_same_value (slot c f) value then None else
-    (if is_none (char_fault c f value) then Some (acknowledging (triple_of f value)) else Some (triple_of f (slot c f)))
+    (if is_none (char_fault c f value) then Some (acknowledging (triple_of f value)) else
+    Some (triple_of f (slot c f)))
 server_replies c (Unsupported code) = Some (unsupported code)
 server_replies c Nothing = None
 
@@ -44,8 +45,8 @@ wants_table (Character f value) = false
 wants_table (Unsupported code) = false
 wants_table Nothing = false
 
--- the server's table after one triple, what it answers, and whether it is to send the whole table. An acknowledgement
--- changes nothing and is not answered
+-- the server's table after one triple, what it answers, and whether it is to send the whole table. An
+-- acknowledgement changes nothing and is not answered
 abbrev pub server_next : Characters → Triple → Characters
 server_next c t = if has_ack t then c else server_takes c (says t)
 
@@ -67,16 +68,7 @@ cleared character byte = if is_set_to character byte then None else character
 -- the characters once none of them is this byte
 abbrev pub without : Characters → Option ℕ → Characters
 without c None = c
-without c (Some byte) =
-    record {
-      intr = cleared c.intr byte;
-      quit = cleared c.quit byte;
-      eof = cleared c.eof byte;
-      susp = cleared c.susp byte;
-      erase = cleared c.erase byte;
-      kill = cleared c.kill byte;
-      eol = cleared c.eol byte;
-    }
+without c (Some byte) = with_each (λ character. cleared character byte) c
 
 -- it takes every other character, and another function that had it loses it
 abbrev pub client_takes : Characters → Saying → Characters
@@ -91,7 +83,8 @@ abbrev pub client_replies : Characters → Saying → Option Triple
 client_replies c Standard = None
 client_replies c Table = None
 client_replies c (Character f value) =
-    if is_line_end value || is_same_value (slot c f) value then None else Some (acknowledging (triple_of f value))
+    if is_line_end value || is_same_value (slot c f) value then None else
+    Some (acknowledging (triple_of f value))
 client_replies c (Unsupported code) = Some (unsupported code)
 client_replies c Nothing = None
 
@@ -107,7 +100,8 @@ abbrev pub table_after : (Characters → Triple → Characters) → Characters �
 table_after next c ts = fold next c ts
 
 -- the answers to a list of triples, each by the table that it meets
-unfoldable pub answers_along : (Characters → Triple → Characters) → (Characters → Triple → Option Triple) → Characters → List Triple → List Triple
+unfoldable pub answers_along : (Characters → Triple → Characters) → (Characters → Triple → Option Triple)
+    → Characters → List Triple → List Triple
 answers_along next answer c [] = []
 answers_along next answer c (t ∷ ts) = option_to_list (answer c t) ++ answers_along next answer (next c t) ts
 

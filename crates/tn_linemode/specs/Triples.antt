@@ -16,7 +16,8 @@ has_ack t = not (bit_and t.flags 128 == 0)
 -- the two low bits of the modifier. Those of flushing, 64 and 32, say nothing here, nor do the others
 abbrev pub level_at : ℕ → Level
 level_at bits =
-    if bits == 0 then level.NoSupport else (if bits == 1 then level.CantChange else (if bits == 2 then level.Value else level.ByDefault))
+    if bits == 0 then level.NoSupport else
+    (if bits == 1 then level.CantChange else (if bits == 2 then level.Value else level.ByDefault))
 
 abbrev pub level_of : Triple → Level
 level_of t = level_at (bit_and t.flags 3)
@@ -52,7 +53,8 @@ says_of None l code value = says_of_other l code
 -- what a triple says
 abbrev pub says : Triple → Saying
 says t =
-    if t.func == 0 then says_of_all (level_of t) (t.value == 0) else says_of (special_at t.func) (level_of t) t.func t.value
+    if t.func == 0 then says_of_all (level_of t) (t.value == 0) else
+    says_of (special_at t.func) (level_of t) t.func t.value
 
 -- a function has no character
 abbrev pub unsupported : ℕ → Triple

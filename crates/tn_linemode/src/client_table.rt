@@ -1,6 +1,6 @@
 //! The table of local characters at the client.
 
-ghost use Rattle.std.specs.Prelude.{◌≡◌, ◌++◌, OnOk, OnErr, IfOk, None, Some, false, take, vec_len};
+ghost use Rattle.std.specs.Prelude.{◌≡◌, ◌+◌, ◌<◌, ◌++◌, length, OnOk, OnErr, IfOk, None, Some, false, take, vec_len, vec_capacity};
 ghost use Rattle.std.specs.Result.{result_err};
 ghost use Rattle.tn_discipline.specs.Characters.{with_slot, char_fault, standard_characters};
 ghost use Rattle.tn_linemode.specs.Triples.{triple_of, IsOffer};
@@ -47,12 +47,18 @@ impl ClientTable {
         self.chars
     }
 
-    /// Takes a list of triples from the server, and appends the answers to it.
+    /// Takes a list of triples from the server, and appends the answers to it. Memory is wanted where
+    /// the vector has no room for the answers, and so never for none; after a refusal nothing has
+    /// changed. A function beyond the eighteen of RFC 1184 is answered as unsupported, but at the
+    /// level NOSUPPORT, which asks for no answer.
     pub fn got(&mut self, triples: &[Triple], answers: &mut Vec<Triple>) -> Result<(), AllocError>
         ensures table { OnOk result (self.new ≡ client_after self.old triples.now) }
-        ensures answers { OnOk result (answers.new.items ≡ answers.old.items ++ client_answers self.old triples.now) }
+        ensures answers { OnOk result
+            (answers.new.items ≡ answers.old.items ++ client_answers self.old triples.now) }
         ensures err { OnErr result (self.new ≡ self.old) }
         ensures err_answers { OnErr result (answers.new.items ≡ answers.old.items) }
+        ensures full { let replies = client_answers self.old triples.now in
+            OnErr result (vec_capacity answers.old < vec_len answers.old + length replies) }
     {
         let answered = answers.len();
         let mut table = *self;
@@ -82,8 +88,11 @@ impl ClientTable {
         answers: &mut Vec<Triple>,
     ) -> Result<(), AllocError>
         ensures table { OnOk result (self.new ≡ client_after self.old triples.now) }
-        ensures answers { OnOk result (answers.new.items ≡ answers.old.items ++ client_answers self.old triples.now) }
+        ensures answers { OnOk result
+            (answers.new.items ≡ answers.old.items ++ client_answers self.old triples.now) }
         ensures err { OnErr result (take (vec_len answers.old) answers.new.items ≡ answers.old.items) }
+        ensures full { let replies = client_answers self.old triples.now in
+            OnErr result (vec_capacity answers.old < vec_len answers.old + length replies) }
     {
         for triple in triples {
             let answer = self.react(*triple);

@@ -20,21 +20,24 @@ pub fn levels_are_two_bits()
 pub fn answers_bounded()
     ensures server { (c : Characters) (ts : List Triple) → length (server_answers c ts) ≤ length ts }
     ensures client { (c : Characters) (ts : List Triple) → length (client_answers c ts) ≤ length ts }
-    ensures announcement { (c : Characters) → length (announcement c) ≡ 7 }
+    ensures announcement { (c : Characters) → length (announcement c) ≡ 8 }
 {}
 
 /// At the server acknowledgements change nothing, and are not answered.
 pub fn acknowledgements_end_the_exchange()
     ensures table { (c : Characters) (ts : List Triple) → list_all has_ack ts ≡ true → server_after c ts ≡ c }
-    ensures answers { (c : Characters) (ts : List Triple) → list_all has_ack ts ≡ true → server_answers c ts ≡ [] }
+    ensures answers { (c : Characters) (ts : List Triple) →
+        list_all has_ack ts ≡ true → server_answers c ts ≡ [] }
 {}
 
 /// A client that was sent the server's table has it, whatever it had before; the server keeps it at
 /// the client's answers, and the exchange ends there.
 pub fn announced_tables_agree()
     ensures client { (c s : Characters) → AreAllowed s → client_after c (announcement s) ≡ s }
-    ensures server { (c s : Characters) → AreAllowed s → server_after s (client_answers c (announcement s)) ≡ s }
-    ensures silence { (c s : Characters) → AreAllowed s → server_answers s (client_answers c (announcement s)) ≡ [] }
+    ensures server { (c s : Characters) →
+        AreAllowed s → server_after s (client_answers c (announcement s)) ≡ s }
+    ensures silence { (c s : Characters) →
+        AreAllowed s → server_answers s (client_answers c (announcement s)) ≡ [] }
 {}
 
 /// Tables stay such as a terminal can have, whatever the other end says.
@@ -48,6 +51,7 @@ pub fn tables_stay_allowed()
 
 /// What is answered to a triple speaks of the same function.
 pub fn answers_name_their_function()
-    ensures server { (c : Characters) (t a : Triple) → AreAllowed c → server_answer c t ≡ Some a → Answers t a }
+    ensures server { (c : Characters) (t a : Triple) →
+        AreAllowed c → server_answer c t ≡ Some a → Answers t a }
     ensures client { (c : Characters) (t a : Triple) → client_answer c t ≡ Some a → Answers t a }
 {}

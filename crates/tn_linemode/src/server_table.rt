@@ -1,6 +1,6 @@
 //! The table of local characters at the server.
 
-ghost use Rattle.std.specs.Prelude.{◌≡◌, ◌++◌, OnOk, OnErr, IfOk, IfErr, None, Some, option_to_list, take, vec_len};
+ghost use Rattle.std.specs.Prelude.{◌≡◌, ◌+◌, ◌<◌, ◌++◌, length, OnOk, OnErr, IfOk, IfErr, None, Some, option_to_list, take, vec_len, vec_capacity};
 ghost use Rattle.tn_discipline.specs.Characters.{with_slot, char_fault};
 ghost use Rattle.tn_linemode.specs.Exchange.{announcement, server_takes, server_replies, server_next, server_answer, asks_for_table, server_after, server_answers, server_is_asked};
 
@@ -52,24 +52,34 @@ impl ServerTable {
         self.chars.set(func, value)
     }
 
-    /// Appends the whole table, which asks the client to take it.
+    /// Appends the whole table (RFC 1184, section 2.4: a triple for each special character), which asks
+    /// the client to take it. Memory is wanted where the vector has no room for it, and after a refusal
+    /// nothing was appended.
     pub fn announce(&self, triples: &mut Vec<Triple>) -> Result<(), AllocError>
         ensures ok { OnOk result (triples.new.items ≡ triples.old.items ++ announcement self.now) }
         ensures err { OnErr result (triples.new.items ≡ triples.old.items) }
+        ensures full { let table = announcement self.now in
+            OnErr result (vec_capacity triples.old < vec_len triples.old + length table) }
     {
         let table = table_of(&self.chars);
         triples.extend_from_slice(&table)
     }
 
     /// Takes a list of triples from the client, and appends the answers to it. Answers whether the
-    /// whole table is to be sent after them.
+    /// whole table is to be sent after them. Memory is wanted where the vector has no room for the
+    /// answers, and so never for none; after a refusal nothing has changed. A function beyond the
+    /// eighteen of RFC 1184 is answered as unsupported, but at the level NOSUPPORT, which asks for
+    /// no answer.
     #[tactic(auto, unfolding(crate::specs::Exchange::server_is_asked))]
     pub fn got(&mut self, triples: &[Triple], answers: &mut Vec<Triple>) -> Result<bool, AllocError>
         ensures table { OnOk result (self.new ≡ server_after self.old triples.now) }
-        ensures answers { OnOk result (answers.new.items ≡ answers.old.items ++ server_answers self.old triples.now) }
+        ensures answers { OnOk result
+            (answers.new.items ≡ answers.old.items ++ server_answers self.old triples.now) }
         ensures asked { IfOk result (λ asked. asked ≡ server_is_asked triples.now) }
         ensures err { OnErr result (self.new ≡ self.old) }
         ensures err_answers { OnErr result (answers.new.items ≡ answers.old.items) }
+        ensures full { let replies = server_answers self.old triples.now in
+            OnErr result (vec_capacity answers.old < vec_len answers.old + length replies) }
     {
         let answered = answers.len();
         let mut table = *self;
@@ -88,8 +98,11 @@ impl ServerTable {
         answers: &mut Vec<Triple>,
     ) -> Result<(), AllocError>
         ensures table { OnOk result (self.new ≡ server_after self.old triples.now) }
-        ensures answers { OnOk result (answers.new.items ≡ answers.old.items ++ server_answers self.old triples.now) }
+        ensures answers { OnOk result
+            (answers.new.items ≡ answers.old.items ++ server_answers self.old triples.now) }
         ensures err { OnErr result (take (vec_len answers.old) answers.new.items ≡ answers.old.items) }
+        ensures full { let replies = server_answers self.old triples.now in
+            OnErr result (vec_capacity answers.old < vec_len answers.old + length replies) }
     {
         for triple in triples {
             let answer = self.react(*triple);

@@ -9,7 +9,7 @@ fn triple((func, flags, value): (u8, u8, u8)) -> Triple {
     Triple { func, flags, value }
 }
 
-const STANDARD: [(u8, u8, u8); 7] = [
+const STANDARD: [(u8, u8, u8); 8] = [
     (3, 2, 3),
     (7, 2, 28),
     (8, 2, 4),
@@ -17,6 +17,7 @@ const STANDARD: [(u8, u8, u8); 7] = [
     (10, 2, 127),
     (11, 2, 21),
     (17, 0, 0),
+    (18, 0, 0),
 ];
 
 fn answers_are(rt: &impl Abort, answers: &[Triple], expected: &[(u8, u8, u8)]) {
@@ -191,8 +192,15 @@ fn client_takes_what_it_is_told(rt: HostRuntime) -> Result<(), Fail> {
         &rt,
         rt.alloc(),
         &mut table,
-        &[(18, 2, 9), (18, 130, 9), (18, 0, 9), (9, 2, 255)],
-        &[(18, 0, 0), (9, 128, 0)],
+        &[
+            (18, 2, 9),
+            (18, 130, 9),
+            (18, 0, 9),
+            (9, 2, 255),
+            (19, 2, 9),
+            (19, 0, 9),
+        ],
+        &[(18, 130, 9), (18, 128, 0), (9, 128, 0), (19, 0, 0)],
     )?;
     Ok(())
 }
@@ -241,12 +249,12 @@ fn a_refusal_changes_nothing(rt: HostRuntime) {
         assert_eq!(rt; answers.len(), 8);
         assert!(rt; server.announce(&mut answers).is_ok());
     }
-    assert_eq!(rt; answers.len(), 15);
+    assert_eq!(rt; answers.len(), 16);
     let mut client = ClientTable::new();
     if client.got(&news, &mut answers).is_err() {
         assert_eq!(rt; client, ClientTable::new());
-        assert_eq!(rt; answers.len(), 15);
+        assert_eq!(rt; answers.len(), 16);
         assert!(rt; client.got(&news, &mut answers).is_ok());
     }
-    assert_eq!(rt; answers.len(), 23);
+    assert_eq!(rt; answers.len(), 24);
 }

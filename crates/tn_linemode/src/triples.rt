@@ -1,12 +1,12 @@
 //! What one triple of a list of local characters says (RFC 1184, section 2.4).
 
-ghost use Rattle.std.specs.Prelude.{◌≡◌, ◌++◌, is_ok, option_to_list, if◌then◌else◌};
+ghost use Rattle.std.specs.Prelude.{◌≡◌, ◌+◌, ◌<◌, ◌≤◌, ◌++◌, length, is_ok, option_to_list, vec_len, vec_capacity, OnOk, OnErr, if◌then◌else◌};
 ghost use Rattle.tn_linemode.specs.Triples.{has_ack, level_of, special_at, wanted, says, triple_of, acknowledging, unsupported};
 ghost use Rattle.tn_linemode.specs.Exchange.{announcement};
 
 use std::alloc::AllocError;
 use tn_codes::{Func, Level, Triple};
-use tn_discipline::{Chars, special_characters};
+use tn_discipline::{Chars, SPECIAL, special_characters};
 
 /// The two low bits of a modifier, which are a level.
 const LEVEL_BITS: u8 = 3;
@@ -28,20 +28,11 @@ pub enum Saying {
     Nothing,
 }
 
-macro_rules! functions {
-    ($($func:ident $name:ident [$($command:ident)?] = $standard:expr),*) => {
-        [$(Func::$func),*]
-    };
-}
-
 macro_rules! whole_table {
     ($chars:expr, $($func:ident $name:ident [$($command:ident)?] = $standard:expr),*) => {
         [$(triple_of(Func::$func, $chars.get(Func::$func))),*]
     };
 }
-
-// The functions that have a character, in rising number.
-const SPECIAL: [Func; 7] = special_characters!(functions);
 
 pub fn has_ack(triple: Triple) -> bool
     ensures { result ≡ has_ack triple }
@@ -133,7 +124,7 @@ pub fn unsupported(code: u8) -> Triple
 
 /// The whole table: a triple for each function that has a character, in rising number.
 #[tactic(auto, unfolding(crate::specs::Exchange::announcement))]
-pub fn table_of(chars: &Chars) -> [Triple; 7]
+pub fn table_of(chars: &Chars) -> [Triple; 8]
     ensures { result ≡ announcement chars.now }
 {
     special_characters!(whole_table, chars)
@@ -141,7 +132,12 @@ pub fn table_of(chars: &Chars) -> [Triple; 7]
 
 /// Appends an answer, where there is one.
 pub fn push_answer(answers: &mut Vec<Triple>, answer: Option<Triple>) -> Result<(), AllocError>
-    ensures { answers.new.items ≡ (if is_ok result then answers.old.items ++ option_to_list answer else answers.old.items) }
+    ensures items { answers.new.items ≡
+        (if is_ok result then answers.old.items ++ option_to_list answer else answers.old.items) }
+    ensures len { OnOk result (vec_len answers.new ≡ vec_len answers.old + length (option_to_list answer)) }
+    ensures capacity { vec_capacity answers.old ≤ vec_capacity answers.new }
+    ensures full { let replies = option_to_list answer in
+        OnErr result (vec_capacity answers.old < vec_len answers.old + length replies) }
 {
     if let Some(triple) = answer {
         return Ok(answers.push(triple)?);

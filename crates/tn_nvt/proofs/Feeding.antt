@@ -7,17 +7,22 @@ use Rattle.tn_codes.specs.declared.codes.Verb.{Verb}
 use Rattle.tn_codes.specs.declared.codes.Verb.TheVariants as verb
 use Rattle.tn_nvt.specs.declared.items.Item.{Item}
 use Rattle.tn_nvt.specs.declared.items.Item.TheVariants.{Newline, Neg}
-use Rattle.tn_nvt.specs.declared.places.Body.TheVariants.{Nothing, Kept, Overlong}
+use Rattle.tn_nvt.specs.Machine.{Nothing, Kept, Overlong}
+use Rattle.tn_nvt.specs.Machine.{Progress}
+use Rattle.tn_nvt.specs.Machine.{Outside, AfterCr, AfterIac, AfterVerb, Inside, InsideIac, Failed}
+use Rattle.tn_nvt.specs.declared.places.Body.{Body}
+use Rattle.tn_nvt.specs.declared.places.Given.{Given}
+use Rattle.tn_nvt.specs.declared.places.Given.TheVariants as given
 use Rattle.tn_nvt.specs.declared.places.Place.{Place}
-use Rattle.tn_nvt.specs.declared.places.Place.TheVariants.{Outside, AfterCr, AfterIac, AfterVerb, Inside, InsideIac, Failed}
+use Rattle.tn_nvt.specs.declared.places.Place.TheVariants as place
 use Rattle.tn_nvt.specs.Spelling.{doubled}
 use Rattle.tn_nvt.specs.Stream.{spelled, escaped, cut, IsPartial}
 use Rattle.tn_nvt.specs.Standing.{StandsAt, HasRead, Adds, Gains, KeepsParameter, StopsWithin}
-use Rattle.tn_nvt.specs.Machine.{standing, Stands, Advances, Keeps}
+use Rattle.tn_nvt.specs.Machine.{standing, progress, Stands, Advances, Keeps}
 use Rattle.tn_nvt.proofs.Steps.{Splits-append, Advances-append}
 
 -- each place stands at less than a segment
-pub partial_of : (place : Place) (rest : List ℕ) → Stands place rest → IsPartial rest
+pub partial_of : (place : Progress) (rest : List ℕ) → Stands place rest → IsPartial rest
 partial_of Outside rest h = record { segment = spelled Newline; more = 13 ∷ 10 ∷ []; is_segment = tt; proper = lit< tt; begins = rw h refl }
 partial_of AfterCr rest h = record { segment = spelled Newline; more = 10 ∷ []; is_segment = tt; proper = lit< tt; begins = rw h refl }
 partial_of AfterIac rest h = record { segment = escaped 0; more = 0 ∷ []; is_segment = inl (lit< tt); proper = lit< tt; begins = rw h refl }
@@ -36,7 +41,7 @@ ends : (bytes : List ℕ) → 255 ∷ 250 ∷ doubled bytes ≡ 255 ∷ 250 ∷ 
 ends bytes = ap (λ x. 255 ∷ 250 ∷ x) (sym (append-nil (doubled bytes)))
 
 -- what is known of the rest is that the place stands there
-pub known : (place : Place) (rest : List ℕ) → Stands place rest → StandsAt (standing place) rest
+pub known : (place : Progress) (rest : List ℕ) → Stands place rest → StandsAt (standing place) rest
 known Outside rest h = (h, λ more e. cc)
 known AfterCr rest h = (h, λ more e. cc)
 known AfterIac rest h = (h, λ more e. cc)
@@ -50,7 +55,7 @@ known (InsideIac Overlong) rest h = h
 known Failed rest h = absurd h
 
 -- and the other way round
-pub stood : (place : Place) (rest : List ℕ) → StandsAt (standing place) rest → Stands place rest
+pub stood : (place : Progress) (rest : List ℕ) → StandsAt (standing place) rest → Stands place rest
 stood Outside rest h = h.0
 stood AfterCr rest h = h.0
 stood AfterIac rest h = h.0
@@ -66,7 +71,7 @@ stood Failed rest h = absurd h
 pub at_start : HasRead (standing Outside) [] []
 at_start = record { rest = []; reading = record { segments = []; splits = refl; partial = partial_of Outside [] refl; read = refl }; stands = known Outside [] refl }
 
-pub Adds-from_advances : (here next : Place) (more : List ℕ) (items : List Item) → Advances here more items next → Adds (standing here) more items (standing next)
+pub Adds-from_advances : (here next : Progress) (more : List ℕ) (items : List Item) → Advances here more items next → Adds (standing here) more items (standing next)
 Adds-from_advances here next more items f = λ stream had h.
     let a = f h.rest (stood here h.rest h.stands) in
     record {
@@ -85,22 +90,22 @@ pub at_element : (xs : List ℕ) (i : ℕ) → i < length xs → xs ≡ take i x
 at_element xs i lt = sym (take-append-drop (i + 1) xs) ∙ ap (λ ys. ys ++ drop (i + 1) xs) (take_more xs i 0 lt) ∙ append_assoc (take i xs) (get_or xs i 0 ∷ []) (drop (i + 1) xs)
 
 -- the list has gained what the bytes complete
-pub record Appends (here : Place) (more : List ℕ) (before after : List Item) (next : Place) : Type 0 where
+pub record Appends (here : Progress) (more : List ℕ) (before after : List Item) (next : Progress) : Type 0 where
   pub items : List Item
   pub appended : after ≡ before ++ items
   pub advances : Advances here more items next
 
-pub Appends-push : (here middle next : Place) (more : List ℕ) (b : ℕ) (given before between after : List Item) → Appends here more before between middle → Advances middle (b ∷ []) given next → after ≡ between ++ given → Appends here (more ++ b ∷ []) before after next
+pub Appends-push : (here middle next : Progress) (more : List ℕ) (b : ℕ) (given before between after : List Item) → Appends here more before between middle → Advances middle (b ∷ []) given next → after ≡ between ++ given → Appends here (more ++ b ∷ []) before after next
 Appends-push here middle next more b given before between after a f e = record {
   items = a.items ++ given;
   appended = rw (e, a.appended) (append_assoc before a.items given);
   advances = Advances-append here middle next more (b ∷ []) a.items given a.advances f;
 }
 
-pub Gains-from_appends : (here next : Place) (piece : List ℕ) (before after : List Item) → Appends here piece before after next → Gains (standing here) piece before after (standing next)
+pub Gains-from_appends : (here next : Progress) (piece : List ℕ) (before after : List Item) → Appends here piece before after next → Gains (standing here) piece before after (standing next)
 Gains-from_appends here next piece before after a = record { items = a.items; appended = a.appended; adds = Adds-from_advances here next piece a.items a.advances }
 
-kept : (place : Place) (b : ℕ) → Keeps place b → KeepsParameter (standing place) b
+pub kept : (place : Progress) (b : ℕ) → Keeps place b → KeepsParameter (standing place) b
 kept Outside b k = absurd k
 kept AfterCr b k = absurd k
 kept AfterIac b k = absurd k
@@ -114,7 +119,7 @@ kept (InsideIac Overlong) b k = absurd k.1
 kept Failed b k = absurd k
 
 -- a parameter was to be kept
-pub StopsWithin-from_kept : (here next : Place) (front back : List ℕ) (b : ℕ) (piece : List ℕ) (before after : List Item) (room : ℕ) → piece ≡ front ++ b ∷ back → Appends here front before after next → Keeps next b → StopsWithin (standing here) piece before after room
+pub StopsWithin-from_kept : (here next : Progress) (front back : List ℕ) (b : ℕ) (piece : List ℕ) (before after : List Item) (room : ℕ) → piece ≡ front ++ b ∷ back → Appends here front before after next → Keeps next b → StopsWithin (standing here) piece before after room
 StopsWithin-from_kept here next front back b piece before after room whole a k = record {
   front = front;
   byte = b;
@@ -128,7 +133,7 @@ StopsWithin-from_kept here next front back b piece before after room whole a k =
 }
 
 -- there was no room for what the byte completes
-pub StopsWithin-from_no_room : (here next then : Place) (front back : List ℕ) (b : ℕ) (piece : List ℕ) (before after given : List Item) (room : ℕ) → piece ≡ front ++ b ∷ back → Appends here front before after next → Advances next (b ∷ []) given then → room < length given → StopsWithin (standing here) piece before after room
+pub StopsWithin-from_no_room : (here next then : Progress) (front back : List ℕ) (b : ℕ) (piece : List ℕ) (before after given : List Item) (room : ℕ) → piece ≡ front ++ b ∷ back → Appends here front before after next → Advances next (b ∷ []) given then → room < length given → StopsWithin (standing here) piece before after room
 StopsWithin-from_no_room here next then front back b piece before after given room whole a f no_room = record {
   front = front;
   byte = b;
@@ -140,3 +145,13 @@ StopsWithin-from_no_room here next then front back b piece before after given ro
   adds = Adds-from_advances here next front a.items a.advances;
   wanted = inl (record { items = given; next = standing then; no_room = no_room; adds = Adds-from_advances next then (b ∷ []) given f });
 }
+
+-- a subnegotiation that was handed on is of no more account
+pub still : (next : Place) (all : Given) (old new : Body) → (all ≡ given.Sub → next ≡ place.Outside) → (all ≢ given.Sub → new ≡ old) → progress next new ≡ progress next old
+still next given.Nothing old new outside same = ap (progress next) (same (λ e. cc))
+still next (given.Byte byte) old new outside same = ap (progress next) (same (λ e. cc))
+still next (given.CrByte byte) old new outside same = ap (progress next) (same (λ e. cc))
+still next given.Newline old new outside same = ap (progress next) (same (λ e. cc))
+still next (given.Cmd command) old new outside same = ap (progress next) (same (λ e. cc))
+still next (given.Neg verb option) old new outside same = ap (progress next) (same (λ e. cc))
+still next given.Sub old new outside same = rw (outside refl) refl

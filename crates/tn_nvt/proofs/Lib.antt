@@ -1,7 +1,11 @@
+pub mod Cuts
 pub mod Doubling
 pub mod Exists
 pub mod Feeding
 pub mod Front
 pub mod LettingGo
+pub mod Runs
 pub mod Steps
+pub mod Taking
 pub mod Unique
+pub mod lemmas

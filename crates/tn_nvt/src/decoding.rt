@@ -1,12 +1,15 @@
 //! Reads a stream that comes in pieces.
 
 ghost use Rattle.std.specs.Prelude.{◌≡◌, ◌↔◌, ◌-◌, [], vec_len, vec_capacity};
-ghost use Rattle.std.specs.Prelude.{IsOk, OnOk, IsErrOf};
+ghost use Rattle.std.specs.Prelude.{IsOk, IfOk, OnOk, IfErr, OnErr, IsErrOf};
+ghost use Rattle.tn_nvt.specs.Machine.{standing, progress};
+ghost use Rattle.tn_nvt.specs.Sinks.{Hands, Refuses, Wants};
 ghost use Rattle.tn_nvt.specs.Standing.{failed, HasRead, Gains, StopsWithin, IsLetGo};
 ghost use Rattle.tn_nvt.specs.declared.decoding.NvtFault.TheVariants.{Memory};
 
 use crate::items::Item;
-use crate::places::Place;
+use crate::places::{Body, Place};
+use crate::sinks::{Refused, Sink};
 use std::alloc::{AllocError, Global};
 use std::marker::Model;
 use std::mem;
@@ -19,6 +22,8 @@ pub enum NvtFault {
     Memory,
     #[error("the decoder has failed before")]
     Failed,
+    #[error("the sink takes no more")]
+    Refused,
 }
 
 impl From<AllocError> for NvtFault {
@@ -29,20 +34,31 @@ impl From<AllocError> for NvtFault {
     }
 }
 
+impl From<Refused> for NvtFault {
+    ghost use Rattle.tn_nvt.specs.declared.decoding.NvtFault.TheVariants as fault;
+
+    ghost from_gives = { λ _ answer. answer ≡ fault.Refused };
+
+    fn from(_refused: Refused) -> NvtFault {
+        NvtFault::Refused
+    }
+}
+
 /// Reads a stream, and keeps what came of an item that is not complete yet.
 #[derive(Drop)]
 pub struct Decoder {
     alloc: Global,
     place: Place,
+    body: Body,
 }
 
 impl Model for Decoder {
     ghost use Rattle.tn_nvt.specs.Standing.{Standing};
-    ghost use Rattle.tn_nvt.specs.Machine.{standing};
+    ghost use Rattle.tn_nvt.specs.Machine.{standing, progress};
 
     ghost Value = { Standing };
 
-    ghost view = { λ decoder. standing decoder.place };
+    ghost view = { λ decoder. standing (progress decoder.place decoder.body) };
 }
 
 impl Decoder {
@@ -54,11 +70,13 @@ impl Decoder {
         Decoder {
             alloc,
             place: Place::Outside,
+            body: Body::new(alloc),
         }
     }
 
-    /// Appends the items that the piece completes. After `Memory` the decoder has failed, and
-    /// `out` keeps the items that were complete before.
+    /// Appends the items that the piece, cut anywhere, completes (RFC 854, RFC 855). `Memory` where
+    /// `out` or the parameters of a subnegotiation, at most 512, can't grow: the decoder has failed
+    /// then, and `out` keeps the items that were complete before. `Failed` where it had failed before.
     pub fn feed(&mut self, piece: &[u8], out: &mut Vec<Item>) -> Result<(), NvtFault>
         ensures ok { OnOk result (Gains self.old piece.now out.old.items out.new.items self.new) }
 
@@ -68,6 +86,7 @@ impl Decoder {
             IsErrOf result NvtFault.Memory →
             StopsWithin self.old piece.now out.old.items out.new.items room }
         ensures memory_fails { IsErrOf result NvtFault.Memory → self.new ≡ failed }
+        ensures no_refusal { ¬ IsErrOf result NvtFault.Refused }
         ensures lets_go { IsLetGo self.old piece.now → IsOk result }
 
         // A decoder that has failed reads nothing more.
@@ -75,16 +94,78 @@ impl Decoder {
         ensures failed_stays { IsErrOf result NvtFault.Failed → self.new ≡ failed }
         ensures failed_appends { IsErrOf result NvtFault.Failed → out.new.items ≡ out.old.items }
     {
-        let mut place = mem::replace(&mut self.place, Place::Failed);
+        let (mut place, mut body) = self.begin()?;
+        for byte in piece {
+            let (next, given) = place.step(&mut body, *byte)?;
+            given.append_to(&mut body, out)?;
+            place = next;
+        }
+        self.resume(place, body);
+        Ok(())
+    }
+
+    /// Hands the items that the piece, cut anywhere, completes to the sink (RFC 854, RFC 855): plain
+    /// bytes in runs as long as can be, all else item by item. `Refused` where the sink took no more,
+    /// `Memory` where the parameters of a subnegotiation can't grow, and `Failed` where the decoder had
+    /// failed before: it has failed after each of them.
+    pub fn feed_to<S: Sink>(&mut self, piece: &[u8], sink: &mut S) -> Result<(), NvtFault>
+        ensures ok { OnOk result
+            (Hands S.takes self.old piece.now sink.old sink.new self.new) }
+        ensures refused { IsErrOf result NvtFault.Refused →
+            Refuses S.takes S.gives_up self.old piece.now sink.old sink.new }
+
+        // Memory is wanted for a parameter alone, and so for no byte of a subnegotiation that is let
+        // go.
+        ensures memory { IsErrOf result NvtFault.Memory →
+            Wants S.takes self.old piece.now sink.old sink.new }
+        ensures lets_go { IsLetGo self.old piece.now → ¬ IsErrOf result NvtFault.Memory }
+        ensures fails { OnErr result (self.new ≡ failed) }
+
+        // A decoder that has failed reads nothing more.
+        ensures failed { IsErrOf result NvtFault.Failed ↔ (self.old ≡ failed) }
+        ensures failed_hands { IsErrOf result NvtFault.Failed → sink.new ≡ sink.old }
+    {
+        let (mut place, mut body) = self.begin()?;
+        let mut at = 0;
+        while at < piece.len() {
+            let rest = &piece[at..];
+            let count = place.run_len(rest);
+            if count > 0 {
+                place.hand_run(&rest[..count], sink)?;
+                place = Place::Outside;
+                at += count;
+            } else {
+                let (here, skipped) = place.escaped(rest);
+                match here.hand_byte(&mut body, rest[skipped], sink) {
+                    Ok(next) => place = next,
+                    Err(fault) => return Err(fault),
+                }
+                at += skipped + 1;
+            }
+        }
+        self.resume(place, body);
+        Ok(())
+    }
+
+    // Hands out what has come of the next segment. Until that is put back the decoder has failed.
+    fn begin(&mut self) -> Result<(Place, Body), NvtFault>
+        ensures ok { IfOk result (λ parts. standing (progress parts.0 parts.1) ≡ self.old) }
+        ensures fault { IfErr result (λ fault. fault ≡ NvtFault.Failed) }
+        ensures failed { IsErrOf result NvtFault.Failed ↔ (self.old ≡ failed) }
+        ensures fails { self.new ≡ failed }
+    {
+        let place = mem::replace(&mut self.place, Place::Failed);
         if matches!(place, Place::Failed) {
             return Err(NvtFault::Failed);
         }
-        for byte in piece {
-            let (next, given) = place.step(self.alloc, *byte)?;
-            given.append_to(out)?;
-            place = next;
-        }
+        let body = mem::replace(&mut self.body, Body::new(self.alloc));
+        Ok((place, body))
+    }
+
+    fn resume(&mut self, place: Place, body: Body)
+        ensures { self.new ≡ standing (progress place body) }
+    {
         self.place = place;
-        Ok(())
+        self.body = body;
     }
 }

@@ -1,9 +1,14 @@
 //! The decoder between two bytes, one byte at a time.
 
-ghost use Rattle.std.specs.Prelude.{◌≡◌, ◌-◌, ◌<◌, [], ◌∷◌, ◌++◌, length, vec_len, vec_capacity};
+ghost use Rattle.std.specs.Prelude.{◌≡◌, ◌≢◌, ◌-◌, ◌<◌, [], ◌∷◌, ◌++◌, length, vec_len, vec_capacity};
 ghost use Rattle.std.specs.Prelude.{IfOk, OnOk, OnErr};
+ghost use Rattle.tn_nvt.specs.declared.places.Given.TheVariants as given;
 ghost use Rattle.tn_nvt.specs.declared.places.Place.TheVariants as place;
-ghost use Rattle.tn_nvt.specs.Machine.{Advances, Lengthens, IsKept, Keeps, closes, given_items};
+ghost use Rattle.tn_nvt.specs.Machine as machine;
+ghost use Rattle.tn_nvt.specs.declared.places.Body.{Body as Held};
+ghost use Rattle.tn_nvt.specs.Machine.{Advances, Lengthens, IsKept, Keeps};
+ghost use Rattle.tn_nvt.specs.Machine.{gathered, progress, given_items, HasNoRun};
+ghost use Rattle.tn_nvt.specs.Sinks.{AreSpecial};
 
 use crate::bytes::{CR, IAC, LF, NUL, SB, SE};
 use crate::items::Item;
@@ -14,169 +19,226 @@ use tn_codes::{Command, Verb};
 /// The most parameters that a subnegotiation may have; one with more is dropped.
 const MAX_PARAMS: usize = 512;
 
-/// What has come of a subnegotiation.
-#[derive(Drop)]
-pub(crate) enum Body {
-    Nothing,
-    /// Its option and its parameters so far.
-    Kept(u8, Params),
-    Overlong,
-}
-
-/// What has come of the next segment of the stream.
-#[derive(Drop)]
+/// What has come of the next segment of the stream, but for a subnegotiation's bytes.
+#[derive(Clone, Copy)]
 pub(crate) enum Place {
     Outside,
     AfterCr,
     AfterIac,
     AfterVerb(Verb),
-    Inside(Body),
-    InsideIac(Body),
+    Inside,
+    InsideIac,
     Failed,
 }
 
-/// The items that one byte completes.
+/// How much of a subnegotiation has come.
+#[derive(Clone, Copy)]
+pub(crate) enum Came {
+    Nothing,
+    /// Its option, and no more parameters than it may have.
+    Kept(u8),
+    Overlong,
+}
+
+/// What has come of a subnegotiation. Its parameters stay where they are from one to the next.
 #[derive(Drop)]
+pub(crate) struct Body {
+    pub(crate) came: Came,
+    pub(crate) params: Params,
+}
+
+/// What one byte completes.
+#[derive(Clone, Copy)]
 pub(crate) enum Given {
     Nothing,
-    One(Item),
-    Two(Item, Item),
+    Byte(u8),
+    /// A CR, and this byte after it.
+    CrByte(u8),
+    Newline,
+    Cmd(Command),
+    Neg(Verb, u8),
+    /// The subnegotiation that has come.
+    Sub,
+}
+
+impl Body {
+    /// Nothing of a subnegotiation.
+    pub(crate) fn new(alloc: Global) -> Body
+        ensures { gathered result ≡ machine.Nothing }
+    {
+        Body {
+            came: Came::Nothing,
+            params: Params::new(alloc),
+        }
+    }
+
+    // One more byte has come.
+    fn keep(&mut self, byte: u8) -> Result<(), AllocError>
+        ensures ok { OnOk result (Lengthens (gathered self.old) byte (gathered self.new)) }
+        ensures err { OnErr result (IsKept (gathered self.old)) }
+    {
+        match self.came {
+            Came::Nothing => {
+                self.params.clear();
+                self.came = Came::Kept(byte);
+                Ok(())
+            },
+            Came::Kept(_) => {
+                if self.params.len() < MAX_PARAMS {
+                    return self.params.push(byte);
+                }
+                self.came = Came::Overlong;
+                Ok(())
+            },
+            Came::Overlong => Ok(()),
+        }
+    }
 }
 
 impl Place {
     /// Where one more byte leads, and what it completes. It takes memory for a parameter alone.
-    pub(crate) fn step(self, alloc: Global, byte: u8) -> Result<(Place, Given), AllocError>
-        ensures ok { IfOk result (λ r. Advances self (byte ∷ []) (given_items r.1) r.0) }
-        ensures err { OnErr result (Keeps self byte) }
+    pub(crate) fn step(self, body: &mut Body, byte: u8) -> Result<(Place, Given), AllocError>
+        ensures ok { IfOk result (λ r. Advances (progress self body.old) (byte ∷ [])
+            (given_items r.1 body.new) (progress r.0 body.new)) }
+        ensures special { IfOk result (λ r.
+            HasNoRun self byte → AreSpecial (given_items r.1 body.new)) }
+        ensures closes { IfOk result (λ r. r.1 ≡ given.Sub → r.0 ≡ place.Outside) }
+        ensures err { OnErr result (Keeps (progress self body.old) byte) }
     {
         match self {
             Place::Outside => Ok(outside(byte)),
             Place::AfterCr => Ok(after_cr(byte)),
-            Place::AfterIac => Ok(after_iac(byte)),
-            Place::AfterVerb(verb) => Ok((Place::Outside, Given::One(Item::Neg(verb, byte)))),
-            Place::Inside(body) => inside(alloc, body, byte),
-            Place::InsideIac(body) => inside_iac(alloc, body, byte),
+            Place::AfterIac => Ok(after_iac(body, byte)),
+            Place::AfterVerb(verb) => Ok((Place::Outside, Given::Neg(verb, byte))),
+            Place::Inside => inside(body, byte),
+            Place::InsideIac => inside_iac(body, byte),
             Place::Failed => Ok((Place::Failed, Given::Nothing)),
         }
     }
 }
 
 fn outside(byte: u8) -> (Place, Given)
-    ensures { Advances place.Outside (byte ∷ []) (given_items result.1) result.0 }
+    ensures advances { (body : Held) → Advances machine.Outside (byte ∷ [])
+        (given_items result.1 body) (progress result.0 body) }
+    ensures special { (body : Held) →
+        HasNoRun place.Outside byte → AreSpecial (given_items result.1 body) }
+    ensures closes { result.1 ≢ given.Sub }
 {
     match byte {
         CR => (Place::AfterCr, Given::Nothing),
         IAC => (Place::AfterIac, Given::Nothing),
-        _ => (Place::Outside, Given::One(Item::Byte(byte))),
+        _ => (Place::Outside, Given::Byte(byte)),
     }
 }
 
 fn after_cr(byte: u8) -> (Place, Given)
-    ensures { Advances place.AfterCr (byte ∷ []) (given_items result.1) result.0 }
+    ensures advances { (body : Held) → Advances machine.AfterCr (byte ∷ [])
+        (given_items result.1 body) (progress result.0 body) }
+    ensures special { (body : Held) →
+        HasNoRun place.AfterCr byte → AreSpecial (given_items result.1 body) }
+    ensures closes { result.1 ≢ given.Sub }
 {
     match byte {
-        LF => (Place::Outside, Given::One(Item::Newline)),
-        NUL => (Place::Outside, Given::One(Item::Byte(CR))),
-        CR => (Place::AfterCr, Given::One(Item::Byte(CR))),
-        IAC => (Place::AfterIac, Given::One(Item::Byte(CR))),
-        _ => (Place::Outside, Given::Two(Item::Byte(CR), Item::Byte(byte))),
+        LF => (Place::Outside, Given::Newline),
+        NUL => (Place::Outside, Given::Byte(CR)),
+        CR => (Place::AfterCr, Given::Byte(CR)),
+        IAC => (Place::AfterIac, Given::Byte(CR)),
+        _ => (Place::Outside, Given::CrByte(byte)),
     }
 }
 
-fn after_iac(byte: u8) -> (Place, Given)
-    ensures { Advances place.AfterIac (byte ∷ []) (given_items result.1) result.0 }
+fn after_iac(body: &mut Body, byte: u8) -> (Place, Given)
+    ensures advances { Advances machine.AfterIac (byte ∷ [])
+        (given_items result.1 body.new) (progress result.0 body.new) }
+    ensures special { AreSpecial (given_items result.1 body.new) }
+    ensures closes { result.1 ≢ given.Sub }
 {
     if byte == IAC {
-        return (Place::Outside, Given::One(Item::Byte(IAC)));
+        return (Place::Outside, Given::Byte(IAC));
     }
     if byte == SB {
-        return (Place::Inside(Body::Nothing), Given::Nothing);
+        body.came = Came::Nothing;
+        return (Place::Inside, Given::Nothing);
     }
     if let Some(verb) = Verb::from_code(byte) {
         return (Place::AfterVerb(verb), Given::Nothing);
     }
     if let Some(command) = Command::from_code(byte) {
-        return (Place::Outside, Given::One(Item::Cmd(command)));
+        return (Place::Outside, Given::Cmd(command));
     }
     (Place::Outside, Given::Nothing)
 }
 
-fn inside(alloc: Global, body: Body, byte: u8) -> Result<(Place, Given), AllocError>
-    ensures ok { IfOk result (λ r. Advances (place.Inside body) (byte ∷ []) (given_items r.1) r.0) }
-    ensures err { OnErr result (Keeps (place.Inside body) byte) }
+fn inside(body: &mut Body, byte: u8) -> Result<(Place, Given), AllocError>
+    ensures ok { IfOk result (λ r. Advances (machine.Inside (gathered body.old)) (byte ∷ [])
+        (given_items r.1 body.new) (progress r.0 body.new)) }
+    ensures special { IfOk result (λ r. AreSpecial (given_items r.1 body.new)) }
+    ensures closes { IfOk result (λ r. r.1 ≢ given.Sub) }
+    ensures err { OnErr result (Keeps (machine.Inside (gathered body.old)) byte) }
 {
     if byte == IAC {
-        return Ok((Place::InsideIac(body), Given::Nothing));
+        return Ok((Place::InsideIac, Given::Nothing));
     }
-    let longer = body.with(alloc, byte)?;
-    Ok((Place::Inside(longer), Given::Nothing))
+    body.keep(byte)?;
+    Ok((Place::Inside, Given::Nothing))
 }
 
-fn inside_iac(alloc: Global, body: Body, byte: u8) -> Result<(Place, Given), AllocError>
-    ensures ok { IfOk result
-        (λ r. Advances (place.InsideIac body) (byte ∷ []) (given_items r.1) r.0) }
-    ensures err { OnErr result (Keeps (place.InsideIac body) byte) }
+fn inside_iac(body: &mut Body, byte: u8) -> Result<(Place, Given), AllocError>
+    ensures ok { IfOk result (λ r. Advances (machine.InsideIac (gathered body.old)) (byte ∷ [])
+        (given_items r.1 body.new) (progress r.0 body.new)) }
+    ensures special { IfOk result (λ r. AreSpecial (given_items r.1 body.new)) }
+    ensures closes { IfOk result (λ r. r.1 ≡ given.Sub → r.0 ≡ place.Outside) }
+    ensures err { OnErr result (Keeps (machine.InsideIac (gathered body.old)) byte) }
 {
     if byte == IAC {
-        let longer = body.with(alloc, IAC)?;
-        return Ok((Place::Inside(longer), Given::Nothing));
+        body.keep(IAC)?;
+        return Ok((Place::Inside, Given::Nothing));
     }
     if byte == SE {
-        return Ok((Place::Outside, body.close()));
+        return Ok((Place::Outside, Given::Sub));
     }
-    Ok(after_iac(byte))
-}
-
-impl Body {
-    /// The body with one more byte.
-    fn with(self, alloc: Global, byte: u8) -> Result<Body, AllocError>
-        ensures ok { IfOk result (λ longer. Lengthens self byte longer) }
-        ensures err { OnErr result (IsKept self) }
-    {
-        match self {
-            Body::Nothing => Ok(Body::Kept(byte, Params::new(alloc))),
-            Body::Kept(option, mut params) => {
-                if params.len() >= MAX_PARAMS {
-                    return Ok(Body::Overlong);
-                }
-                params.push(byte)?;
-                Ok(Body::Kept(option, params))
-            },
-            Body::Overlong => Ok(Body::Overlong),
-        }
-    }
-
-    fn close(self) -> Given
-        ensures { given_items result ≡ closes self }
-    {
-        match self {
-            Body::Kept(option, params) => Given::One(Item::Sub(option, params)),
-            Body::Nothing | Body::Overlong => Given::Nothing,
-        }
-    }
+    Ok(after_iac(body, byte))
 }
 
 impl Given {
     /// Appends all of the items, or none.
-    pub(crate) fn append_to(self, out: &mut Vec<Item>) -> Result<(), AllocError>
-        ensures ok { OnOk result (out.new.items ≡ out.old.items ++ given_items self) }
+    pub(crate) fn append_to(self, body: &mut Body, out: &mut Vec<Item>) -> Result<(), AllocError>
+        ensures ok { OnOk result (out.new.items ≡ out.old.items ++ given_items self body.old) }
+        ensures body { self ≢ given.Sub → body.new ≡ body.old }
         ensures err { OnErr result (out.new.items ≡ out.old.items) }
         ensures full { OnErr result
-            (vec_capacity out.new - vec_len out.new < length (given_items self)) }
+            (vec_capacity out.new - vec_len out.new < length (given_items self body.old)) }
     {
         match self {
             Given::Nothing => Ok(()),
-            Given::One(item) => {
-                out.reserve(1)?;
-                out.push_reserved(item);
+            Given::Byte(byte) => append(Item::Byte(byte), out),
+            Given::CrByte(byte) => {
+                out.reserve(2)?;
+                out.push_reserved(Item::Byte(CR));
+                out.push_reserved(Item::Byte(byte));
                 Ok(())
             },
-            Given::Two(first, second) => {
-                out.reserve(2)?;
-                out.push_reserved(first);
-                out.push_reserved(second);
-                Ok(())
+            Given::Newline => append(Item::Newline, out),
+            Given::Cmd(command) => append(Item::Cmd(command), out),
+            Given::Neg(verb, option) => append(Item::Neg(verb, option), out),
+            Given::Sub => match body.came {
+                Came::Kept(option) => {
+                    out.reserve(1)?;
+                    out.push_reserved(Item::Sub(option, body.params.take()));
+                    Ok(())
+                },
+                Came::Nothing | Came::Overlong => Ok(()),
             },
         }
     }
+}
+
+fn append(item: Item, out: &mut Vec<Item>) -> Result<(), AllocError>
+    ensures ok { OnOk result (out.new.items ≡ out.old.items ++ item ∷ []) }
+    ensures err { OnErr result (out.new.items ≡ out.old.items) }
+    ensures full { OnErr result (vec_capacity out.new - vec_len out.new < 1) }
+{
+    out.reserve(1)?;
+    out.push_reserved(item);
+    Ok(())
 }

@@ -1,1 +1,4 @@
+pub mod EngineSteps
 pub mod OptionLaws
+pub mod OptionRows
+pub mod lemmas

@@ -19,10 +19,18 @@ pub record Terminal : Type 0 where
   pub height : ℕ
   pub closed : Bool
 
--- a terminal at which nothing was typed
-abbrev pub fresh : Settings → Terminal
-fresh settings =
-    record { settings = settings; line = empty_line; entries = []; queue = []; width = 0; height = 0; closed = false }
+-- a terminal at which nothing was typed, a line of which has at most so many bytes with its closing byte
+abbrev pub fresh : Settings → ℕ → Terminal
+fresh settings limit =
+    record {
+      settings = settings;
+      line = empty_line limit;
+      entries = [];
+      queue = [];
+      width = 0;
+      height = 0;
+      closed = false;
+    }
 
 -- a terminal that takes no key and no command any more
 abbrev pub shut : Terminal → Terminal
@@ -38,7 +46,8 @@ most_waiting = 1024
 
 -- the queue with these symbols behind it where all of them fit, else as it is
 abbrev pub fitted : List Symbol → List Symbol → List Symbol
-fitted queue symbols = if nat_le (length queue + length symbols) queue_symbols then queue ++ symbols else queue
+fitted queue symbols =
+    if nat_le (length queue + length symbols) queue_symbols then queue ++ symbols else queue
 
 -- XBD 11.2.3, OPOST and ONLCR: how a byte of output is shown
 abbrev pub output : Flags → ℕ → Symbol

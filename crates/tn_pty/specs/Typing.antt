@@ -27,12 +27,16 @@ present (Some symbol ∷ rest) = symbol ∷ present rest
 -- the echo of a key that comes at this line, where there is one
 abbrev pub echoed : Bool → Settings → ℕ → HalfLine → List Symbol
 echoed echo settings key line =
-    if echo then present (echo_at settings.flags (role_of_key settings key) (effect_of line (role_of_key settings key))) else []
+    let r = role_of_key settings key in if echo then present (echo_at settings.flags r (effect_of line r)) else []
 
 -- the terminal after a key or command of this role, which is answered by these symbols
 abbrev pub typed : Terminal → Role → List Symbol → Terminal
 typed old r symbols =
-    record old { line = line_after old.line r; entries = old.entries ++ gain_of old.line r; queue = fitted old.queue symbols }
+    record old {
+      line = line_after old.line r;
+      entries = old.entries ++ gain_of old.line r;
+      queue = fitted old.queue symbols;
+    }
 
 -- RFC 854 and RFC 1184, section 2: the key that a command stands for. BRK is an interrupt here; commands that
 -- stand for none change no line

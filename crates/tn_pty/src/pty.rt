@@ -13,7 +13,7 @@ use std::marker::Model;
 use thiserror::Error;
 use tn_codes::Command;
 use tn_discipline::{
-    Chars, Effect, Entry, Flags, Line, Role, Settings, Sig, Symbol, echo_of, role_of,
+    Chars, Effect, Entry, Flags, Limit, Line, Role, Settings, Sig, Symbol, echo_of, role_of,
     role_of_literal,
 };
 
@@ -33,13 +33,17 @@ const YES: [Option<Symbol>; 6] = [
     Some(Symbol::Newline),
 ];
 
-/// Why a key or a command had no effect.
+/// Why a key or a command had no effect. After any of these the pair is closed: it takes no more keys
+/// and no commands, and all that waits can still be taken and pulled.
 #[derive(Clone, Copy, Debug, PartialEq, Eq, Error)]
 pub enum PtyFault {
+    /// The key would make an entry while 1,024 wait.
     #[error("the slave is too far behind")]
     TooFarAhead,
+    /// No memory was found for a text.
     #[error("out of memory")]
     Memory,
+    /// The pair was closed before the key came.
     #[error("the pair takes no more keys")]
     Closed,
 }
@@ -63,20 +67,28 @@ impl Model for Pair {
 
     ghost Value = { Terminal };
 
-    ghost view = { λ p. record { settings = p.settings; line = p.line; entries = p.entries.items; queue = p.queue.items; width = p.width; height = p.height; closed = p.closed } };
+    ghost view = { λ p. record {
+      settings = p.settings;
+      line = p.line;
+      entries = p.entries.items;
+      queue = p.queue.items;
+      width = p.width;
+      height = p.height;
+      closed = p.closed;
+    } };
 
     ghost invariant = { λ p. (p.queue.capacity ≡ 4096) × (p.entries.capacity ≡ 1024) };
 }
 
 impl Pair {
-    /// A pair at which nothing was typed, of size (0, 0). It makes the room for all that it will
-    /// ever hold but the texts.
-    pub fn new(alloc: Global, settings: Settings) -> Result<Pair, AllocError>
-        ensures { IfOk result (λ pair. pair ≡ fresh settings) }
+    /// A pair at which nothing was typed, of size (0, 0), a line of which has at most `limit` bytes with
+    /// its closing byte. It makes the room for all that it will ever hold but the texts.
+    pub fn new(alloc: Global, settings: Settings, limit: Limit) -> Result<Pair, AllocError>
+        ensures { IfOk result (λ pair. pair ≡ fresh settings limit) }
     {
         Ok(Pair {
             settings,
-            line: Line::new(alloc)?,
+            line: Line::new(alloc, limit)?,
             entries: HeapCircularBuffer::with_capacity(alloc, MOST_WAITING)?,
             queue: HeapCircularBuffer::with_capacity(alloc, QUEUE_SYMBOLS)?,
             width: 0,
@@ -89,10 +101,15 @@ impl Pair {
     /// into the queue is dropped whole. After any fault the pair is closed.
     pub fn raw_key(&mut self, key: u8, echo: bool) -> Result<(), PtyFault>
         // Whatever keys led to this half line, the entries gain what this key adds.
-        ensures advances { OnOk result (Advances self.old.line (roles_of self.old.settings (key ∷ [])) (gain_of self.old.line (role_of_key self.old.settings key)) self.new.line) }
-        ensures pair { OnOk result (self.new ≡ typed self.old (role_of_key self.old.settings key) (echoed echo self.old.settings key self.old.line)) }
+        ensures advances { let roles = roles_of self.old.settings (key ∷ []) in
+            let gain = gain_of self.old.line (role_of_key self.old.settings key) in
+            OnOk result (Advances self.old.line roles gain self.new.line) }
+        ensures pair { let role = role_of_key self.old.settings key in
+            let shown = echoed echo self.old.settings key self.old.line in
+            OnOk result (self.new ≡ typed self.old role shown) }
         ensures accepted { OnOk result (Accepts self.old (role_of_key self.old.settings key)) }
-        ensures refused { IfErr result (λ fault. Refuses self.old (role_of_key self.old.settings key) fault self.new) }
+        ensures refused { let role = role_of_key self.old.settings key in
+            IfErr result (λ fault. Refuses self.old role fault self.new) }
     {
         let settings = self.settings;
         if let Some(fault) = self.refusal(role_of(&settings, key)) {
@@ -113,10 +130,13 @@ impl Pair {
 
     /// The master types a byte of a line that was edited before it came. Nothing is shown.
     pub fn edited_byte(&mut self, byte: u8) -> Result<(), PtyFault>
-        ensures advances { OnOk result (Advances self.old.line (literal_role self.old.settings.chars byte ∷ []) (gain_of self.old.line (literal_role self.old.settings.chars byte)) self.new.line) }
-        ensures pair { OnOk result (self.new ≡ typed self.old (literal_role self.old.settings.chars byte) []) }
+        ensures advances { let role = literal_role self.old.settings.chars byte in
+            OnOk result (Advances self.old.line (role ∷ []) (gain_of self.old.line role) self.new.line) }
+        ensures pair { let role = literal_role self.old.settings.chars byte in
+            OnOk result (self.new ≡ typed self.old role []) }
         ensures accepted { OnOk result (Accepts self.old (literal_role self.old.settings.chars byte)) }
-        ensures refused { IfErr result (λ fault. Refuses self.old (literal_role self.old.settings.chars byte) fault self.new) }
+        ensures refused { let role = literal_role self.old.settings.chars byte in
+            IfErr result (λ fault. Refuses self.old role fault self.new) }
     {
         let settings = self.settings;
         if let Some(fault) = self.refusal(role_of_literal(&settings, byte)) {
@@ -134,8 +154,10 @@ impl Pair {
     /// The master gives a command. AYT is answered where the answer fits whole into the queue, and
     /// nothing else is shown.
     pub fn command(&mut self, command: Command) -> Result<(), PtyFault>
-        ensures advances { OnOk result (Advances self.old.line (roles_from (command_role command)) (gain_of self.old.line (command_role command)) self.new.line) }
-        ensures pair { OnOk result (self.new ≡ typed self.old (command_role command) (command_shows command)) }
+        ensures advances { let role = command_role command in
+            OnOk result (Advances self.old.line (roles_from role) (gain_of self.old.line role) self.new.line) }
+        ensures pair { OnOk result
+            (self.new ≡ typed self.old (command_role command) (command_shows command)) }
         ensures accepted { OnOk result (Accepts self.old (command_role command)) }
         ensures refused { IfErr result (λ fault. Refuses self.old (command_role command) fault self.new) }
     {
@@ -153,12 +175,16 @@ impl Pair {
         }
     }
 
-    /// The master moves the first symbols into `out`, at most `max`. It answers how many they are.
+    /// The master moves the first symbols into `out`, at most `max`, and answers how many they are: from 0
+    /// to 4,096. Memory is wanted where `out` has no room for them, and so never for none; after a
+    /// refusal nothing has moved.
     pub fn pull(&mut self, max: usize, out: &mut Vec<Symbol>) -> Result<usize, AllocError>
         ensures count { IfOk result (λ n. n ≡ min max (length self.old.queue)) }
         ensures out { IfOk result (λ n. out.new.items ≡ out.old.items ++ take n self.old.queue) }
         ensures pair { IfOk result (λ n. self.new ≡ record self.old { queue = drop n self.old.queue }) }
         ensures err { OnErr result ((self.new ≡ self.old) × (out.new.items ≡ out.old.items)) }
+        ensures full { let count = min max (length self.old.queue) in
+            OnErr result (vec_capacity out.old < vec_len out.old + count) }
     {
         let count = max.min(self.queue.len());
         out.reserve(count)?;
@@ -220,7 +246,8 @@ impl Pair {
     /// The slave writes output. Its first bytes are taken, as many as symbols fit.
     pub fn write(&mut self, bytes: &[u8]) -> usize
         ensures count { result ≡ fits self.old.queue bytes.now }
-        ensures pair { self.new ≡ record self.old { queue = self.old.queue ++ outputs self.old.settings.flags (take result bytes.now) } }
+        ensures pair { let shown = outputs self.old.settings.flags (take result bytes.now) in
+            self.new ≡ record self.old { queue = self.old.queue ++ shown } }
     {
         let flags = self.settings.flags;
         let count = bytes.len().min(QUEUE_SYMBOLS - self.queue.len());
@@ -244,14 +271,16 @@ impl Pair {
 
     /// Sets the flags for all that is typed and written from now on.
     pub fn set_flags(&mut self, flags: Flags)
-        ensures { self.new ≡ record self.old { settings = record { flags = flags; chars = self.old.settings.chars } } }
+        ensures { let settings = record self.old.settings { flags = flags } in
+            self.new ≡ record self.old { settings = settings } }
     {
         self.settings.flags = flags;
     }
 
     /// Sets the special characters for all that is typed from now on.
     pub fn set_chars(&mut self, chars: Chars)
-        ensures { self.new ≡ record self.old { settings = record { flags = self.old.settings.flags; chars = chars } } }
+        ensures { let settings = record self.old.settings { chars = chars } in
+            self.new ≡ record self.old { settings = settings } }
     {
         self.settings.chars = chars;
     }

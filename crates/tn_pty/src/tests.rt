@@ -5,7 +5,7 @@ use std::alloc::{AllocError, Global};
 use std::process::Abort;
 use std::test::Fail;
 use tn_codes::{Command, Func};
-use tn_discipline::{Effect, Entry, Line, Settings, Sig, Symbol, Text, echo_of};
+use tn_discipline::{Effect, Entry, Limit, Line, Settings, Sig, Symbol, Text, echo_of};
 
 fn text(alloc: Global, bytes: &[u8]) -> Result<Entry, AllocError> {
     Ok(Entry::Text(Text::from(bytes.to_vec(alloc)?)))
@@ -31,7 +31,7 @@ fn pulled(alloc: Global, pair: &mut Pair) -> Result<Vec<Symbol>, AllocError> {
 
 #[test]
 fn gives_entries_once_and_in_order(rt: HostRuntime) -> Result<(), Fail> {
-    let mut pair = Pair::new(rt.alloc(), Settings::standard())?;
+    let mut pair = Pair::new(rt.alloc(), Settings::standard(), Limit::standard())?;
     for key in [b'a', 10, 3] {
         pair.raw_key(key, true)?;
     }
@@ -48,7 +48,7 @@ fn gives_entries_once_and_in_order(rt: HostRuntime) -> Result<(), Fail> {
 
 #[test]
 fn closes_when_too_far_ahead(rt: HostRuntime) -> Result<(), Fail> {
-    let mut pair = Pair::new(rt.alloc(), Settings::standard())?;
+    let mut pair = Pair::new(rt.alloc(), Settings::standard(), Limit::standard())?;
     for _ in 0..1024 {
         assert_eq!(rt; pair.raw_key(10, true), Ok(()));
     }
@@ -69,7 +69,7 @@ fn closes_when_too_far_ahead(rt: HostRuntime) -> Result<(), Fail> {
 
 #[test]
 fn follows_commands(rt: HostRuntime) -> Result<(), Fail> {
-    let mut pair = Pair::new(rt.alloc(), Settings::standard())?;
+    let mut pair = Pair::new(rt.alloc(), Settings::standard(), Limit::standard())?;
     for byte in [b'a', 3, b'b', b'c'] {
         pair.edited_byte(byte)?;
     }
@@ -101,9 +101,9 @@ fn follows_commands(rt: HostRuntime) -> Result<(), Fail> {
 #[test]
 fn keeps_settings_and_size(rt: HostRuntime) -> Result<(), Fail> {
     let mut settings = Settings::standard();
-    settings.chars.set(Func::Forw1, Some(b';'))?;
+    settings.chars.set(Func::Forw2, Some(b';'))?;
     settings.flags.onlcr = false;
-    let mut pair = Pair::new(rt.alloc(), Settings::standard())?;
+    let mut pair = Pair::new(rt.alloc(), Settings::standard(), Limit::standard())?;
     pair.set_chars(settings.chars);
     pair.set_flags(settings.flags);
     assert_eq!(rt; pair.settings(), settings);
@@ -120,7 +120,7 @@ fn keeps_settings_and_size(rt: HostRuntime) -> Result<(), Fail> {
 
 #[test]
 fn answers_are_you_there(rt: HostRuntime) -> Result<(), Fail> {
-    let mut pair = Pair::new(rt.alloc(), Settings::standard())?;
+    let mut pair = Pair::new(rt.alloc(), Settings::standard(), Limit::standard())?;
     pair.command(Command::Ayt)?;
     let mut first = Vec::new(rt.alloc());
     assert_eq!(rt; pair.pull(1, &mut first)?, 1);
@@ -134,7 +134,7 @@ fn answers_are_you_there(rt: HostRuntime) -> Result<(), Fail> {
 
 #[test]
 fn shows_what_fits(rt: HostRuntime) -> Result<(), Fail> {
-    let mut pair = Pair::new(rt.alloc(), Settings::standard())?;
+    let mut pair = Pair::new(rt.alloc(), Settings::standard(), Limit::standard())?;
     let most = vec![in rt.alloc(); b'a'; 5000]?;
     assert_eq!(rt; pair.write(&most[..4093]), 4093);
     pair.command(Command::Ayt)?;
@@ -177,7 +177,7 @@ struct Plain {
 impl Plain {
     fn new(alloc: Global) -> Result<Plain, AllocError> {
         Ok(Plain {
-            line: Line::new(alloc)?,
+            line: Line::new(alloc, Limit::standard())?,
             entries: Vec::new(alloc),
             queue: Vec::new(alloc),
         })
@@ -287,7 +287,7 @@ fn pull_at_both(
 fn does_what_plain_lists_do(rt: HostRuntime) -> Result<(), Fail> {
     let keys = [b'a', b'b', 127, 21, 4, 3, 13, 10];
     let output = [b'x'; 700];
-    let mut pair = Pair::new(rt.alloc(), Settings::standard())?;
+    let mut pair = Pair::new(rt.alloc(), Settings::standard(), Limit::standard())?;
     let mut plain = Plain::new(rt.alloc())?;
     let mut seed = 1u32;
     for _ in 0..2000 {
@@ -310,7 +310,7 @@ fn does_what_plain_lists_do(rt: HostRuntime) -> Result<(), Fail> {
 // A line whose memory is refused closes the pair, and leaves all that waits.
 #[test]
 fn closes_without_memory(rt: HostRuntime) {
-    let Ok(mut pair) = Pair::new(rt.alloc(), Settings::standard()) else {
+    let Ok(mut pair) = Pair::new(rt.alloc(), Settings::standard(), Limit::standard()) else {
         return;
     };
     assert_eq!(rt; pair.raw_key(3, true), Ok(()));

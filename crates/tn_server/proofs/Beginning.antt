@@ -1,6 +1,6 @@
 -- A new end stands at the beginning.
 use Rattle.std.proofs.Common.{◌≡◌, ℕ, Bool, true, false, [], refl, sym, ap, ◌∙◌}
-use Rattle.tn_discipline.specs.declared.termios.Settings.{Settings}
+use Rattle.tn_discipline.specs.Canon.{Canon}
 use Rattle.tn_linemode.specs.Modes.{no_mode}
 use Rattle.tn_option.specs.Options.{Options}
 use Rattle.tn_pty.specs.Terminal.{fresh}
@@ -13,12 +13,13 @@ pub nothing_asked : (on : Bool) → asked_while on 0 ≡ 0
 nothing_asked true = refl
 nothing_asked false = refl
 
-pub begins : (s : Settings) (end : End) → end.terminal ≡ fresh s → end.table ≡ s.chars → end.terms.options ≡ opened → end.terms.wish ≡ 0 → end.modes ≡ no_mode → end.pulled ≡ false → Stands (begun s) end
-begins s end terminal table options wish modes pulled = record {
+pub begins : (canon : Canon) (end : End) → end.terminal ≡ fresh canon.settings canon.limit → end.table ≡ canon.settings.chars → end.terms.options ≡ opened → end.terms.wish ≡ 0 → end.modes ≡ no_mode → end.pulled ≡ false → Stands (begun canon) end
+begins canon end terminal table options wish modes pulled = record {
   settings = ap (λ t. t.settings) terminal;
   table = table;
   terms = ap (λ (o : Options). record { options = o; wish = end.terms.wish }) options ∙ ap (λ (w : ℕ). record { options = opened; wish = w }) wish;
   modes = modes ∙ ap (λ (n : ℕ). record { asked = n; current = 0 }) (sym (nothing_asked (linemode opened)));
+  limit = ap (λ t. t.line.limit) terminal;
   leaves = rw (ap (λ t. t.line) terminal) (record { sent = []; count = refl; bytes = refl });
   ahead = ap (λ t. t.line.ahead) terminal;
   read = [];

@@ -1,39 +1,43 @@
 -- Where the owner's calls lead.
-use Rattle.std.proofs.Common.{◌≡◌, ℕ, ◌+◌, nat_lt, Bool, true, false, not, ◌&&◌, ◌||◌, Option, Some, None, is_some, List, [], ◌∷◌, ◌++◌, length, take, drop, refl, sym, ap, ◌∙◌, subst, arith, append-nil, append_assoc, length-append, if◌then◌else◌}
+use Rattle.std.proofs.Common.{◌≡◌, ℕ, ◌+◌, nat_lt, Bool, true, false, not, ◌&&◌, ◌||◌, Option, Some, None, is_some, List, [], ◌∷◌, ◌++◌, length, take, refl, sym, ap, ◌∙◌, subst, arith, append-nil, append_assoc, length-append, if◌then◌else◌}
 use Rattle.std.proofs.lemmas.Bool.{lt-ltb, le-ltb}
-use Rattle.std.proofs.Math.Seq.{drop-append_seam}
 use Rattle.tn_discipline.specs.Characters.{Characters}
 use Rattle.tn_discipline.specs.declared.reads.Entry.{Entry}
 use Rattle.tn_discipline.specs.declared.echo.Symbol.{Symbol}
 use Rattle.tn_discipline.specs.declared.termios.Flags.{Flags}
 use Rattle.tn_discipline.specs.declared.termios.Settings.{Settings}
+use Rattle.tn_codes.specs.declared.codes.Command.TheVariants.{Ga}
 use Rattle.tn_linemode.specs.Modes.{Modes}
+use Rattle.tn_nvt.specs.Spelling.{spells}
+use Rattle.tn_nvt.specs.declared.items.Item.{Item}
+use Rattle.tn_nvt.specs.declared.items.Item.TheVariants.{Cmd}
 use Rattle.tn_option.specs.Options.{Options, state_of, is_yes}
 use Rattle.tn_option.specs.declared.q_method.Side.TheVariants.{Us}
 use Rattle.tn_pty.specs.Terminal.{Terminal, fits, outputs}
-use Rattle.tn_server.specs.Events.{History, next, took, wrote, wished, echo_set}
+use Rattle.tn_server.specs.Events.{History, next, took, wrote, pulled, wished, echo_set}
 use Rattle.tn_server.specs.Terms.{Terms, terms, terms_by, flags, chars, settings, asked, asked_of, asked_while, changes, differ, mode_after, linemode, mask_for, asks_echo, echo_asked, wants_echo, told_by}
-use Rattle.tn_server.specs.Lines.{entries, taken, waiting}
-use Rattle.tn_server.specs.Screen.{queue}
+use Rattle.tn_server.specs.Lines.{entries, taken}
+use Rattle.tn_server.specs.Screen.{queue, due}
 use Rattle.tn_server.specs.Replies.{says_by, echo_told, mode_told, table_told}
 use Rattle.tn_server.specs.Standing.{End, Stands, Goes}
 use Rattle.tn_server.specs.Steps.{after_wished, says_wished, negotiated, with_negotiated}
 use Rattle.tn_server.specs.declared.terms.Negotiation.{Negotiation}
 use Rattle.tn_server.specs.declared.wishes.Editing.{Editing}
-use Rattle.tn_server.proofs.Settling.{differ_self, told_again, table_again}
-use Rattle.tn_server.proofs.Turning.{sound, with_all, echo_keeps_linemode}
-use Rattle.tn_server.proofs.Wishing.{wish_done, wish_said, wished_decoder, wished_failed, wished_closed}
+use Rattle.tn_server.proofs.lemmas.Terms.{differ_self, told_again, table_again, echo_keeps_linemode}
+use Rattle.tn_server.proofs.Turning.{sound, with_all}
+use Rattle.tn_server.proofs.Wishing.{wish_done, wish_said, wished_closed}
 
 pub goes_wrote : (old : End) (new : Terminal) (bytes before : List ℕ) → new ≡ record (old.terminal) { queue = old.terminal.queue ++ outputs old.terminal.settings.flags (take (fits old.terminal.queue bytes) bytes) } → Goes old (wrote bytes) before before (record old { terminal = new })
 goes_wrote old new bytes before is = record {
-  bytes = [];
+  said = [];
   appended = sym (append-nil before);
-  adds = λ h s. refl;
+  replies = λ h s. refl;
   stands = λ h s. record {
     settings = ap (λ t. t.settings) is ∙ s.settings;
     table = s.table;
     terms = s.terms;
     modes = s.modes;
+    limit = ap (λ t. t.line.limit) is ∙ s.limit;
     leaves = rw (ap (λ t. t.line) is) s.leaves;
     ahead = ap (λ t. t.line.ahead) is ∙ s.ahead;
     read = s.read;
@@ -43,8 +47,6 @@ goes_wrote old new bytes before is = record {
     size = ap (λ t. (t.width, t.height)) is ∙ s.size;
     due = s.due;
   };
-  decoder = refl;
-  failed = refl;
   closed = ap (λ t. t.closed) is;
 }
   where
@@ -72,9 +74,9 @@ not_taken_if false n e = refl
 -- an entry that waits is taken
 pub goes_took : (old : End) (new : Terminal) (r : Entry) (before : List ℕ) → old.terminal.entries ≡ r ∷ new.entries → new ≡ record (old.terminal) { entries = new.entries } → Goes old took before before (record old { terminal = new })
 goes_took old new r before first is = record {
-  bytes = [];
+  said = [];
   appended = sym (append-nil before);
-  adds = λ h s. rw (some_left s.read new.entries r (taken h) (entries h) s.count (s.waits ∙ ap (λ (xs : List Entry). s.read ++ xs) first)) refl;
+  replies = λ h s. rw (some_left s.read new.entries r (taken h) (entries h) s.count (s.waits ∙ ap (λ (xs : List Entry). s.read ++ xs) first)) refl;
   stands = λ h s.
       let waits = s.waits ∙ ap (λ (xs : List Entry). s.read ++ xs) first in
       let left = some_left s.read new.entries r (taken h) (entries h) s.count waits in
@@ -83,6 +85,7 @@ goes_took old new r before first is = record {
         table = s.table;
         terms = s.terms;
         modes = s.modes;
+        limit = ap (λ t. t.line.limit) is ∙ s.limit;
         leaves = rw (ap (λ t. t.line) is) s.leaves;
         ahead = ap (λ t. t.line.ahead) is ∙ s.ahead;
         read = s.read ++ r ∷ [];
@@ -92,17 +95,15 @@ goes_took old new r before first is = record {
         size = ap (λ t. (t.width, t.height)) is ∙ s.size;
         due = rw left s.due;
       };
-  decoder = refl;
-  failed = refl;
   closed = ap (λ t. t.closed) is;
 }
 
 -- none waits, and GA is said or not
-pub goes_idle : (old : End) (ga : Bool) (before after : List ℕ) → old.terminal.entries ≡ [] → ga ≡ (not (is_yes (state_of old.terms.options Us 3)) && old.pulled) → after ≡ before ++ (if ga then 255 ∷ 249 ∷ [] else []) → Goes old took before after (record old { pulled = if ga then false else old.pulled })
+pub goes_idle : (old : End) (ga : Bool) (before after : List ℕ) → old.terminal.entries ≡ [] → ga ≡ (not (is_yes (state_of old.terms.options Us 3)) && old.pulled) → after ≡ before ++ spells (if ga then Cmd Ga ∷ [] else []) → Goes old took before after (record old { pulled = if ga then false else old.pulled })
 goes_idle old ga before after none is said = record {
-  bytes = if ga then 255 ∷ 249 ∷ [] else [];
+  said = if ga then Cmd Ga ∷ [] else [];
   appended = said;
-  adds = λ h s.
+  replies = λ h s.
       let o = ap (λ (t : Terms). t.options) s.terms in
       rw (none_left s.read (taken h) (entries h) s.count (s.waits ∙ ap (λ (xs : List Entry). s.read ++ xs) none ∙ append-nil s.read), ← o, ← s.due, ← is) refl;
   stands = λ h s.
@@ -113,6 +114,7 @@ goes_idle old ga before after none is said = record {
         table = s.table;
         terms = s.terms;
         modes = s.modes;
+        limit = s.limit;
         leaves = s.leaves;
         ahead = s.ahead;
         read = s.read;
@@ -122,17 +124,8 @@ goes_idle old ga before after none is said = record {
         size = s.size;
         due = rw (left, ← o, ← s.due, ← is) refl;
       };
-  decoder = refl;
-  failed = refl;
   closed = refl;
 }
-
-drop_read : (read rest : List Entry) (n : ℕ) (es : List Entry) → length read ≡ n → es ≡ read ++ rest → drop n es ≡ rest
-drop_read read rest n es e f = rw (← e, f) (drop-append_seam read rest)
-
--- what waits is what the end holds
-pub waits_are : (h : History) (end : End) → Stands h end → waiting h ≡ end.terminal.entries
-waits_are h end s = drop_read s.read end.terminal.entries (taken h) (entries h) s.count s.waits
 
 -- a wish changes the terms alone
 stands_wished : (h : History) (old : End) (editing : Editing) → Stands h old → Stands (next h (wished editing)) (with_all old (terms_by old.terminal.settings.flags old.terms old.terms.options (Some editing) false) None old.terminal)
@@ -153,6 +146,7 @@ stands_wished h old editing s =
           ap (λ (b : Bool). record { asked = asked_of all.options all.wish; current = mode_after b old.modes.current None }) stays
           ∙ ap (λ (t : Terms). record { asked = asked_of t.options t.wish; current = old.modes.current }) is_terms
           ∙ ap (λ (m : Modes). record { asked = asked (next h (wished editing)); current = m.current }) s.modes;
+      limit = s.limit;
       leaves = s.leaves;
       ahead = s.ahead;
       read = s.read;
@@ -163,13 +157,13 @@ stands_wished h old editing s =
       due = s.due;
     }
 
-pub goes_wished : (old new : End) (editing : Editing) (before after : List ℕ) → new ≡ after_wished old (mask_for old.terminal.settings.flags editing) → after ≡ before ++ says_wished old (mask_for old.terminal.settings.flags editing) → Goes old (wished editing) before after new
+pub goes_wished : (old new : End) (editing : Editing) (before after : List ℕ) → new ≡ after_wished old (mask_for old.terminal.settings.flags editing) → after ≡ before ++ spells (says_wished old (mask_for old.terminal.settings.flags editing)) → Goes old (wished editing) before after new
 goes_wished old new editing before after is said =
     let mask = mask_for old.terminal.settings.flags editing in
     record {
-      bytes = says_wished old mask;
+      said = says_wished old mask;
       appended = said;
-      adds = λ h s.
+      replies = λ h s.
           let is_flags = ap (λ (x : Settings). x.flags) s.settings in
           sym (ap (λ (x : Flags). says_by x old.table old.terms old.terms.options (Some editing) false) is_flags
           ∙ ap (λ (c : Characters). says_by (flags h) c old.terms old.terms.options (Some editing) false) s.table
@@ -177,8 +171,6 @@ goes_wished old new editing before after is said =
           ∙ wish_said old editing mask refl (sound h old s);
       stands = λ h s.
           subst (Stands (next h (wished editing))) (wish_done old editing mask None old.terminal refl refl refl refl (sound h old s) ∙ sym is) (stands_wished h old editing s);
-      decoder = ap (λ (e : End). e.decoder) is ∙ wished_decoder old mask;
-      failed = ap (λ (e : End). e.failed) is ∙ wished_failed old mask;
       closed = ap (λ (e : End). e.terminal.closed) is ∙ wished_closed old mask;
     }
 
@@ -198,15 +190,15 @@ echo_terms f t =
 echo_says : (f : Flags) (c : Characters) (t : Terms) → says_by f c t t.options None true ≡ echo_told true (wants_echo (asked_of t.options t.wish) f) t.options
 echo_says f c t =
     ap (λ (b : Bool). table_told (linemode t.options) (linemode t.options) c ++ (mode_told (told_by t t.options t.wish) ++ echo_told b (wants_echo (asked_of t.options t.wish) f) t.options)) (or_true (changes t.options t.options) (is_some (told_by t t.options t.wish)))
-    ∙ ap (λ (xs : List ℕ). xs ++ (mode_told (told_by t t.options t.wish) ++ echo_told true (wants_echo (asked_of t.options t.wish) f) t.options)) (table_again (linemode t.options) c)
+    ∙ ap (λ (xs : List Item). xs ++ (mode_told (told_by t t.options t.wish) ++ echo_told true (wants_echo (asked_of t.options t.wish) f) t.options)) (table_again (linemode t.options) c)
     ∙ ap (λ (told : Option ℕ). mode_told told ++ echo_told true (wants_echo (asked_of t.options t.wish) f) t.options) (told_again (linemode t.options) t.wish)
 
 -- the flag ECHO is set
-pub goes_echo : (old : End) (o : Options) (new : Terminal) (on : Bool) (before after : List ℕ) → o ≡ echo_asked true (wants_echo old.modes.asked (with_echo old.terminal.settings.flags on)) old.terms.options → new ≡ record (old.terminal) { settings = record { flags = with_echo old.terminal.settings.flags on; chars = old.terminal.settings.chars } } → after ≡ before ++ echo_told true (wants_echo old.modes.asked (with_echo old.terminal.settings.flags on)) old.terms.options → Goes old (echo_set on) before after (record old { terms = record { options = o; wish = old.terms.wish }; terminal = new })
+pub goes_echo : (old : End) (o : Options) (new : Terminal) (on : Bool) (before after : List ℕ) → o ≡ echo_asked true (wants_echo old.modes.asked (with_echo old.terminal.settings.flags on)) old.terms.options → new ≡ record (old.terminal) { settings = record { flags = with_echo old.terminal.settings.flags on; chars = old.terminal.settings.chars } } → after ≡ before ++ spells (echo_told true (wants_echo old.modes.asked (with_echo old.terminal.settings.flags on)) old.terms.options) → Goes old (echo_set on) before after (record old { terms = record { options = o; wish = old.terms.wish }; terminal = new })
 goes_echo old o new on before after asks is said = record {
-  bytes = echo_told true (wants_echo old.modes.asked (with_echo old.terminal.settings.flags on)) old.terms.options;
+  said = echo_told true (wants_echo old.modes.asked (with_echo old.terminal.settings.flags on)) old.terms.options;
   appended = said;
-  adds = λ h s.
+  replies = λ h s.
       let is_flags = ap (λ (x : Settings). x.flags) s.settings in
       let sounds = sound h old s in
       sym (ap (λ (x : Flags). says_by (with_echo x on) old.table old.terms old.terms.options None true) is_flags
@@ -235,6 +227,7 @@ goes_echo old o new on before after asks is said = record {
             ap (λ (a : ℕ). record { asked = a; current = old.modes.current }) (sounds.masks ∙ sym (ap (λ (b : Bool). asked_while b old.terms.wish) stays))
             ∙ ap (λ (t : Terms). record { asked = asked_of t.options t.wish; current = old.modes.current }) is_terms
             ∙ ap (λ (m : Modes). record { asked = asked (next h (echo_set on)); current = m.current }) s.modes;
+        limit = ap (λ t. t.line.limit) is ∙ s.limit;
         leaves = rw (ap (λ t. t.line) is) s.leaves;
         ahead = ap (λ t. t.line.ahead) is ∙ s.ahead;
         read = s.read;
@@ -244,16 +237,28 @@ goes_echo old o new on before after asks is said = record {
         size = ap (λ t. (t.width, t.height)) is ∙ s.size;
         due = s.due;
       };
-  decoder = refl;
-  failed = refl;
   closed = ap (λ t. t.closed) is;
 }
 
 -- the same, seen from what was negotiated
-pub goes_echoed : (old : End) (x : Settings) (n : Negotiation) (new : Terminal) (on : Bool) (before after : List ℕ) → x ≡ old.terminal.settings → n ≡ record (negotiated old) { options = echo_asked true (wants_echo old.modes.asked (with_echo x.flags on)) old.terms.options } → new ≡ record (old.terminal) { settings = record { flags = with_echo x.flags on; chars = old.terminal.settings.chars } } → after ≡ before ++ echo_told true (wants_echo old.modes.asked (with_echo x.flags on)) old.terms.options → Goes old (echo_set on) before after (record (with_negotiated old n) { terminal = new })
+pub goes_echoed : (old : End) (x : Settings) (n : Negotiation) (new : Terminal) (on : Bool) (before after : List ℕ) → x ≡ old.terminal.settings → n ≡ record (negotiated old) { options = echo_asked true (wants_echo old.modes.asked (with_echo x.flags on)) old.terms.options } → new ≡ record (old.terminal) { settings = record { flags = with_echo x.flags on; chars = old.terminal.settings.chars } } → after ≡ before ++ spells (echo_told true (wants_echo old.modes.asked (with_echo x.flags on)) old.terms.options) → Goes old (echo_set on) before after (record (with_negotiated old n) { terminal = new })
 goes_echoed old x n new on before after same is set said =
     let f = ap (λ (y : Settings). y.flags) same in
     rw is (goes_echo old (echo_asked true (wants_echo old.modes.asked (with_echo x.flags on)) old.terms.options) new on before after
     (ap (λ (g : Flags). echo_asked true (wants_echo old.modes.asked (with_echo g on)) old.terms.options) f)
     (set ∙ ap (λ (g : Flags). record (old.terminal) { settings = record { flags = with_echo g on; chars = old.terminal.settings.chars } }) f)
-    (said ∙ ap (λ (g : Flags). before ++ echo_told true (wants_echo old.modes.asked (with_echo g on)) old.terms.options) f))
+    (said ∙ ap (λ (g : Flags). before ++ spells (echo_told true (wants_echo old.modes.asked (with_echo g on)) old.terms.options)) f))
+
+or_false : (b : Bool) → (b || false) ≡ b
+or_false true = refl
+or_false false = refl
+
+-- no symbol is pulled
+pub goes_pulled_none : (old : End) (before : List ℕ) → Goes old (pulled 0) before before old
+goes_pulled_none old before = record {
+  said = [];
+  appended = sym (append-nil before);
+  replies = λ h s. refl;
+  stands = λ h s. record { settings = s.settings; table = s.table; terms = s.terms; modes = s.modes; limit = s.limit; leaves = s.leaves; ahead = s.ahead; read = s.read; count = s.count; waits = s.waits; queue = s.queue; size = s.size; due = s.due ∙ sym (or_false (due h)) };
+  closed = refl;
+}

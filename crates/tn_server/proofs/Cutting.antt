@@ -1,19 +1,36 @@
 -- A front of what was to be said was said.
-use Rattle.std.proofs.Common.{◌≡◌, ℕ, List, ◌++◌, sym, ap, ◌∙◌, append_assoc}
+use Rattle.std.proofs.Common.{◌≡◌, ◌≢◌, ℕ, List, [], ◌∷◌, ◌++◌, refl, sym, ap, ◌∙◌, append_assoc}
+use Rattle.std.proofs.lemmas.Grind.{flat_map-append}
+use Rattle.tn_nvt.specs.Spelling.{spelling, spells}
+use Rattle.tn_nvt.specs.declared.items.Item.{Item}
 use Rattle.tn_server.specs.Steps.{Cuts}
 
-pub cut_after_two : (whole a b c before first second after : List ℕ) → whole ≡ a ++ (b ++ c) → first ≡ before ++ a → second ≡ first ++ b → after ≡ second → Cuts whole before after
+pub spells-append : (xs ys : List Item) → spells (xs ++ ys) ≡ spells xs ++ spells ys
+spells-append xs ys = flat_map-append spelling xs ys
+
+-- bytes that spell some items, and behind them bytes that spell more
+pub spelled_on : (a b : List Item) (before first after : List ℕ) → first ≡ before ++ spells a → after ≡ first ++ spells b → after ≡ before ++ spells (a ++ b)
+spelled_on a b before first after one two =
+    two ∙ ap (λ (xs : List ℕ). xs ++ spells b) one ∙ append_assoc before (spells a) (spells b)
+    ∙ ap (λ (xs : List ℕ). before ++ xs) (sym (spells-append a b))
+
+pub cut_after_two : (whole a b c : List Item) (before first second after : List ℕ) → whole ≡ a ++ (b ++ c) → first ≡ before ++ spells a → second ≡ first ++ spells b → after ≡ second → Cuts whole before after
 cut_after_two whole a b c before first second after is one two three = record {
   part = a ++ b;
   rest = c;
   whole_is = is ∙ sym (append_assoc a b c);
-  appended = three ∙ two ∙ ap (λ (xs : List ℕ). xs ++ b) one ∙ append_assoc before a b;
+  appended = three ∙ spelled_on a b before first second one two;
 }
 
-pub cut_after_one : (whole a b before first after : List ℕ) → whole ≡ a ++ b → first ≡ before ++ a → Cuts b first after → Cuts whole before after
+pub cut_after_one : (whole a b : List Item) (before first after : List ℕ) → whole ≡ a ++ b → first ≡ before ++ spells a → Cuts b first after → Cuts whole before after
 cut_after_one whole a b before first after is one c = record {
   part = a ++ c.part;
   rest = c.rest;
-  whole_is = is ∙ ap (λ (xs : List ℕ). a ++ xs) c.whole_is ∙ sym (append_assoc a c.part c.rest);
-  appended = c.appended ∙ ap (λ (xs : List ℕ). xs ++ c.part) one ∙ append_assoc before a c.part;
+  whole_is = is ∙ ap (λ (xs : List Item). a ++ xs) c.whole_is ∙ sym (append_assoc a c.part c.rest);
+  appended = spelled_on a c.part before first after one c.appended;
 }
+
+-- where one part is something, the whole is
+pub some_left : (xs ys : List Item) → xs ≢ [] → xs ++ ys ≢ []
+some_left [] ys some = λ none. some refl
+some_left (x ∷ xs) ys some = λ none. cc

@@ -7,5 +7,6 @@ pub mod Settling
 pub mod Standings
 pub mod Turning
 pub mod Wishing
-pub mod Halting
-pub mod Histories
+pub mod Loans
+pub mod lemmas
+pub mod Causes

@@ -1,104 +1,139 @@
 -- Some items one after another, and refusals.
-use Rattle.std.proofs.Common.{◌≡◌, inl, inr, ℕ, List, [], ◌∷◌, ◌++◌, refl, sym, ap, ◌∙◌, append-nil, append_assoc}
-use Rattle.tn_nvt.specs.Standing.{Standing, Gains}
+use Rattle.std.proofs.Common.{◌≡◌, inl, inr, ℕ, ◌+◌, ◌<◌, List, [], ◌∷◌, ◌++◌, length, map, take, drop, get_or, true, Err, IsErrOf, refl, sym, ap, ◌∙◌, subst, append-nil, append_assoc}
+use Rattle.std.proofs.lemmas.List.{take_more, drop_more, take-append-drop, map-append}
+use Rattle.tn_discipline.specs.declared.keys.Role.{Role}
+use Rattle.tn_nvt.specs.Standing.{Standing}
 use Rattle.tn_nvt.specs.declared.items.Item.{Item}
+use Rattle.tn_nvt.specs.declared.items.Item.TheVariants.{Byte, Sub}
 use Rattle.tn_pty.specs.Terminal.{shut}
-use Rattle.tn_server.specs.Events.{History, next, got, gets}
-use Rattle.tn_server.specs.Replies.{adds, sent}
-use Rattle.tn_server.specs.Standing.{End, Stands, Goes, Gets, Feeds, Refuses, Stops}
-use Rattle.tn_server.specs.Steps.{IsShut, Cuts, says_got}
-use Rattle.tn_server.proofs.Standings.{adds_got}
-use Rattle.tn_server.proofs.Turning.{IsSound, sound}
+use Rattle.tn_pty.specs.declared.pty.PtyFault.{PtyFault}
+use Rattle.tn_pty.specs.declared.pty.PtyFault.TheVariants as pty
+use Rattle.tn_pty.specs.declared.pty.PtyFault.TheVariants.{Closed, TooFarAhead}
+use Rattle.tn_server.specs.Events.{History, got, gets}
+use Rattle.tn_server.specs.Faults.{IsCause}
+use Rattle.tn_server.specs.Replies.{replies, sent}
+use Rattle.tn_server.specs.Terms.{payload_at}
+use Rattle.tn_server.specs.Standing.{End, Stands, Goes, Gets, Refuses, Stops}
+use Rattle.tn_server.specs.Steps.{IsShut, IsKeyCause, CanGrow, Cuts, role_typed, typed_byte, says_got, says_sub}
+use Rattle.tn_server.specs.declared.faults.ServerFault.{ServerFault}
+use Rattle.tn_server.specs.declared.faults.ServerFault.TheVariants.{Pty, Memory}
+use Rattle.tn_server.proofs.Causes.{typed_cause, sub_cause}
+use Rattle.tn_server.proofs.Wishing.{sub_said}
+use Rattle.tn_server.proofs.Cutting.{spelled_on}
+use Rattle.tn_server.proofs.lemmas.Histories.{gets-append}
+use Rattle.tn_server.proofs.Standings.{replies_got}
+use Rattle.tn_server.proofs.Turning.{IsSound, sound, goes_typed}
 
 pub gets_none : (old : End) (before : List ℕ) → Gets old [] before before old
 gets_none old before = record {
-  bytes = [];
+  said = [];
   appended = sym (append-nil before);
   sends = λ h s. sym (append-nil (sent h));
   stands = λ h s. s;
-  decoder = refl;
-  failed = refl;
   closed = refl;
 }
 
-pub gets_push : (h : History) (items : List Item) (item : Item) → gets h (items ++ item ∷ []) ≡ next (gets h items) (got item)
-gets_push h [] item = refl
-gets_push h (x ∷ xs) item = gets_push (next h (got x)) xs item
+-- an item
+pub gets_one : (old new : End) (item : Item) (before after : List ℕ) → Goes old (got item) before after new → Gets old (item ∷ []) before after new
+gets_one old new item before after e = record {
+  said = e.said;
+  appended = e.appended;
+  sends = λ h s. ap (λ (xs : List Item). sent h ++ xs) (e.replies h s);
+  stands = e.stands;
+  closed = e.closed;
+}
 
-pub gets_more : (old mid new : End) (items : List Item) (item : Item) (before between after : List ℕ) → Gets old items before between mid → Goes mid (got item) between after new → Gets old (items ++ item ∷ []) before after new
-gets_more old mid new items item before between after g e = record {
-  bytes = g.bytes ++ e.bytes;
-  appended = e.appended ∙ ap (λ (xs : List ℕ). xs ++ e.bytes) g.appended ∙ append_assoc before g.bytes e.bytes;
+-- more items
+pub gets_both : (old mid new : End) (xs ys : List Item) (before between after : List ℕ) → Gets old xs before between mid → Gets mid ys between after new → Gets old (xs ++ ys) before after new
+gets_both old mid new xs ys before between after g k = record {
+  said = g.said ++ k.said;
+  appended = spelled_on g.said k.said before between after g.appended k.appended;
   sends = λ h s.
-      ap sent (gets_push h items item)
-      ∙ ap (λ (xs : List ℕ). sent (gets h items) ++ xs) (e.adds (gets h items) (g.stands h s))
-      ∙ ap (λ (xs : List ℕ). xs ++ e.bytes) (g.sends h s)
-      ∙ append_assoc (sent h) g.bytes e.bytes;
-  stands = λ h s. rw (gets_push h items item) (e.stands (gets h items) (g.stands h s));
-  decoder = e.decoder ∙ g.decoder;
-  failed = e.failed ∙ g.failed;
-  closed = e.closed ∙ g.closed;
+      ap sent (gets-append h xs ys)
+      ∙ k.sends (gets h xs) (g.stands h s)
+      ∙ ap (λ (zs : List Item). zs ++ k.said) (g.sends h s)
+      ∙ append_assoc (sent h) g.said k.said;
+  stands = λ h s. rw (gets-append h xs ys) (k.stands (gets h xs) (g.stands h s));
+  closed = k.closed ∙ g.closed;
 }
 
 pub stands_decoder : (h : History) (old : End) (d : Standing) → Stands h old → Stands h (record old { decoder = d })
-stands_decoder h old d s = record { settings = s.settings; table = s.table; terms = s.terms; modes = s.modes; leaves = s.leaves; ahead = s.ahead; read = s.read; count = s.count; waits = s.waits; queue = s.queue; size = s.size; due = s.due }
-
-pub feeds_of : (old new : End) (d : Standing) (piece before after : List ℕ) (first items : List Item) → first ≡ [] → Gains old.decoder piece first items d → Gets (record old { decoder = d }) items before after new → Feeds old piece before after new
-feeds_of old new d piece before after first items none gains gets' =
-    let here : items ≡ gains.items = gains.appended ∙ ap (λ (xs : List Item). xs ++ gains.items) none in
-    let all : Gets (record old { decoder = d }) gains.items before after new = rw here at gets' in
-    record {
-      items = gains.items;
-      bytes = all.bytes;
-      appended = all.appended;
-      sends = λ h s. all.sends h (stands_decoder h old d s);
-      stands = λ h s. all.stands h (stands_decoder h old d s);
-      reads = λ stream had read. rw all.decoder (gains.adds stream had read);
-      failed = all.failed;
-      closed = all.closed;
-    }
+stands_decoder h old d s = record { settings = s.settings; table = s.table; terms = s.terms; modes = s.modes; limit = s.limit; leaves = s.leaves; ahead = s.ahead; read = s.read; count = s.count; waits = s.waits; queue = s.queue; size = s.size; due = s.due }
 
 pub stands_shut : (h : History) (old : End) → Stands h old → Stands h (record old { terminal = shut old.terminal })
-stands_shut h old s = record { settings = s.settings; table = s.table; terms = s.terms; modes = s.modes; leaves = s.leaves; ahead = s.ahead; read = s.read; count = s.count; waits = s.waits; queue = s.queue; size = s.size; due = s.due }
+stands_shut h old s = record { settings = s.settings; table = s.table; terms = s.terms; modes = s.modes; limit = s.limit; leaves = s.leaves; ahead = s.ahead; read = s.read; count = s.count; waits = s.waits; queue = s.queue; size = s.size; due = s.due }
 
 -- a key or a command that was refused
-pub refuses_shut : (old new : End) (item : Item) → IsShut old new → (before : List ℕ) → Refuses old (got item) before before new
-refuses_shut old new item (inl same) before = record {
-  part = [];
+pub refuses_shut : (old new : End) (item : Item) (fault : ServerFault) → IsShut old new → ((h : History) → Stands h old → IsCause h item fault) → (before : List ℕ) → Refuses old item fault before before new
+refuses_shut old new item fault shut' cause before = record {
+  said = [];
   appended = sym (append-nil before);
-  cut = λ h s. (adds h (got item), refl);
-  stands = λ h s. rw same s;
-  decoder = ap (λ (e : End). e.decoder) same;
+  front = λ h s. (replies h (got item), refl);
+  cause = cause;
+  stands = λ h s. stays h s shut';
 }
-refuses_shut old new item (inr closed) before = record {
-  part = [];
-  appended = sym (append-nil before);
-  cut = λ h s. (adds h (got item), refl);
-  stands = λ h s. rw closed (stands_shut h old s);
-  decoder = ap (λ (e : End). e.decoder) closed;
-}
+  where
+    stays : (h : History) → Stands h old → IsShut old new → Stands h new
+    stays h s (inl same) = subst (Stands h) (sym same) s
+    stays h s (inr closed) = subst (Stands h) (sym closed) (stands_shut h old s)
 
 -- what answers an item was cut
-pub refuses_cut : (old new : End) (item : Item) (whole before after : List ℕ) → (IsSound old → says_got old item ≡ whole) → Cuts whole before after → new ≡ old → Refuses old (got item) before after new
-refuses_cut old new item whole before after says c same = record {
-  part = c.part;
+pub refuses_cut : (old new : End) (item : Item) (fault : ServerFault) (whole : List Item) (before after : List ℕ) → (IsSound old → says_got old item ≡ whole) → Cuts whole before after → new ≡ old → ((h : History) → Stands h old → IsCause h item fault) → Refuses old item fault before after new
+refuses_cut old new item fault whole before after says c same cause = record {
+  said = c.part;
   appended = c.appended;
-  cut = λ h s. (c.rest, adds_got h old item s ∙ says (sound h old s) ∙ c.whole_is);
-  stands = λ h s. rw same s;
-  decoder = ap (λ (e : End). e.decoder) same;
+  front = λ h s. (c.rest, replies_got h old item s ∙ says (sound h old s) ∙ c.whole_is);
+  cause = cause;
+  stands = λ h s. subst (Stands h) (sym same) s;
 }
 
-pub stops_at : (old mid new : End) (front back : List Item) (item : Item) (before between after : List ℕ) → Gets old front before between mid → Refuses mid (got item) between after new → Stops old (front ++ item ∷ back) before after new
-stops_at old mid new front back item before between after g r = record {
-  front = front;
+pub refuses_sub : (old new : End) (option : ℕ) (params before after : List ℕ) → Cuts (says_sub old (payload_at old.terms.options (Sub option params))) before after → new ≡ old → CanGrow old (payload_at old.terms.options (Sub option params)) → Refuses old (Sub option params) Memory before after new
+refuses_sub old new option params before after cut same grows =
+    let payload = payload_at old.terms.options (Sub option params) in
+    refuses_cut old new (Sub option params) Memory (says_sub old payload) before after (sub_said old option params payload refl) cut same (λ h s. sub_cause h old option params grows s)
+
+-- an item was refused, after these
+pub stops_at : (old mid new : End) (items done left : List Item) (item : Item) (fault : ServerFault) (before between after : List ℕ) → items ≡ done ++ item ∷ left → Gets old done before between mid → Refuses mid item fault between after new → Stops old items fault before after new
+stops_at old mid new items done left item fault before between after is g r = record {
+  done = done;
   item = item;
-  back = back;
-  whole = refl;
-  bytes = g.bytes;
-  part = r.part;
-  appended = r.appended ∙ ap (λ (xs : List ℕ). xs ++ r.part) g.appended ∙ append_assoc before g.bytes r.part;
-  sends = g.sends;
-  cut = λ h s. r.cut (gets h front) (g.stands h s);
-  stands = λ h s. r.stands (gets h front) (g.stands h s);
-  decoder = r.decoder ∙ g.decoder;
+  left = left;
+  whole = is;
+  mid = mid;
+  between = between;
+  gets = g;
+  refuses = r;
 }
+
+-- BYTES OF DATA
+pub goes_byte : (old new : End) (byte : ℕ) → new ≡ typed_byte old byte → (before : List ℕ) → Goes old (got (Byte byte)) before before new
+goes_byte old new byte is = goes_typed old new (Byte byte) (λ _. refl) (λ _. refl) (λ _. refl) is
+
+pub refuses_byte : (old new : End) (byte : ℕ) (f : PtyFault) → IsShut old new → IsKeyCause old.terminal (role_typed old byte) f → (before : List ℕ) → Refuses old (Byte byte) (Pty f) before before new
+refuses_byte old new byte f shut' cause before = refuses_shut old new (Byte byte) (Pty f) shut' (λ h s. typed_cause h old (Byte byte) (role_typed old byte) f refl cause s) before
+
+-- the bytes that were taken, and one more
+taken_next : (bytes : List ℕ) (i d : ℕ) → i < length bytes → map Byte (take (i + 1) bytes) ≡ map Byte (take i bytes) ++ Byte (get_or bytes i d) ∷ []
+taken_next bytes i d lt = ap (map Byte) (take_more bytes i d lt) ∙ map-append Byte (take i bytes) (get_or bytes i d ∷ [])
+
+pub bytes_next : (old mid new : End) (bytes : List ℕ) (i d : ℕ) → i < length bytes → ((before : List ℕ) → Gets old (map Byte (take i bytes)) before before mid) → new ≡ typed_byte mid (get_or bytes i d) → (before : List ℕ) → Gets old (map Byte (take (i + 1) bytes)) before before new
+bytes_next old mid new bytes i d lt g is before =
+    rw (taken_next bytes i d lt) (gets_both old mid new (map Byte (take i bytes)) (Byte (get_or bytes i d) ∷ []) before before before (g before) (gets_one mid new (Byte (get_or bytes i d)) before before (goes_byte mid new (get_or bytes i d) is before)))
+
+-- one of the bytes was refused
+pub bytes_stop : (old mid new : End) (bytes : List ℕ) (i d : ℕ) (f : PtyFault) → i < length bytes → ((before : List ℕ) → Gets old (map Byte (take i bytes)) before before mid) → IsShut mid new → IsKeyCause mid.terminal (role_typed mid (get_or bytes i d)) f → (before : List ℕ) → Stops old (map Byte bytes) (Pty f) before before new
+bytes_stop old mid new bytes i d f lt g shut' cause before =
+    let rest = drop (i + 1) bytes in
+    let parts : bytes ≡ take i bytes ++ get_or bytes i d ∷ rest = sym (take-append-drop i bytes) ∙ ap (λ (xs : List ℕ). take i bytes ++ xs) (drop_more bytes i d lt) in
+    stops_at old mid new (map Byte bytes) (map Byte (take i bytes)) (map Byte rest) (Byte (get_or bytes i d)) (Pty f) before before before
+    (ap (map Byte) parts ∙ map-append Byte (take i bytes) (get_or bytes i d ∷ rest)) (g before) (refuses_byte mid new (get_or bytes i d) f shut' cause before)
+
+pub shut_keeps : (old new : End) → IsShut old new → new.failed ≡ old.failed
+shut_keeps old new (inl same) = ap (λ (e : End). e.failed) same
+shut_keeps old new (inr closed) = ap (λ (e : End). e.failed) closed
+
+-- a terminal that was shut was so from the beginning
+pub shut_then : (old mid : End) (r : Role) (f : PtyFault) → mid.terminal.closed ≡ old.terminal.closed → IsKeyCause mid.terminal r f → IsErrOf {T = Unit {0}} (Err f) Closed → old.terminal.closed ≡ true
+shut_then old mid r Closed kept cause is = sym kept ∙ cause
+shut_then old mid r TooFarAhead kept cause is = cc
+shut_then old mid r pty.Memory kept cause is = cc

@@ -1,5 +1,5 @@
 -- What the code settles is what the terms of a history settle.
-use Rattle.std.proofs.Common.{◌≡◌, ℕ, ◌==◌, Bool, true, false, Option, Some, None, [], ◌++◌, refl, ap, ◌∙◌, if◌then◌else◌, rules}
+use Rattle.std.proofs.Common.{◌≡◌, ℕ, ◌==◌, Bool, true, false, Option, Some, None, ◌++◌, refl, ap, ◌∙◌, if◌then◌else◌}
 use Rattle.tn_discipline.specs.Characters.{Characters}
 use Rattle.tn_discipline.specs.declared.termios.Flags.{Flags}
 use Rattle.tn_linemode.specs.Modes.{Modes, mode_of, sent_by_wish}
@@ -63,27 +63,3 @@ says_settle f c t m o editing set e =
     let asked : ℕ = (masks_by (linemode t.options) (now o m wish)).asked in
     ap (λ (told : Option ℕ). table_told (linemode t.options) (linemode o) c ++ (mode_told told ++ echo_told (asks_echo t.options o told set) (wants_echo asked f) o)) (told_settles t m o wish e)
     ∙ ap (λ (a : ℕ). table_told (linemode t.options) (linemode o) c ++ (mode_told (told_by t o wish) ++ echo_told (asks_echo t.options o (told_by t o wish) set) (wants_echo a f) o)) (asked_settles t m o wish e)
-
--- where nothing is new, nothing is said and all stays
-pub differ_self : (b : Bool) → differ b b ≡ false
-differ_self true = refl
-differ_self false = refl
-
-same_number : (n : ℕ) → (n == n) ≡ true
-same_number n = search rules
-
-pub told_again : (on : Bool) (wish : ℕ) → mode_sent on (asked_while on wish) wish ≡ None
-told_again true wish = rw (same_number (mode_of wish)) refl
-told_again false wish = refl
-
-pub table_again : (on : Bool) (c : Characters) → table_told on on c ≡ []
-table_again true c = refl
-table_again false c = refl
-
-pub terms_stay : (f : Flags) (t : Terms) (editing : Option Editing) → wished_after f t.wish editing ≡ t.wish → terms_by f t t.options editing false ≡ t
-terms_stay f t editing e =
-    rw (e, told_again (linemode t.options) t.wish, differ_self (linemode t.options)) refl
-
-pub says_nothing : (f : Flags) (c : Characters) (t : Terms) (editing : Option Editing) → wished_after f t.wish editing ≡ t.wish → says_by f c t t.options editing false ≡ []
-says_nothing f c t editing e =
-    rw (e, told_again (linemode t.options) t.wish, differ_self (linemode t.options), table_again (linemode t.options) c) refl

@@ -1,9 +1,9 @@
 -- Where an item leads, from a history to the end.
-use Rattle.std.proofs.Common.{◌≡◌, ℕ, Option, List, [], ◌∷◌, ◌++◌, length, refl, sym, ap, ◌∙◌, append_assoc, arith, subst}
+use Rattle.std.proofs.Common.{◌≡◌, ℕ, Option, List, ◌++◌, refl, sym, ap, ◌∙◌, append_assoc, arith, subst}
 use Rattle.tn_codes.specs.declared.payloads.Payload.{Payload}
 use Rattle.tn_discipline.specs.Characters.{Characters}
 use Rattle.tn_discipline.specs.Keys.{roles_from}
-use Rattle.tn_discipline.specs.Entries.{entries_of, half_of}
+use Rattle.tn_discipline.specs.Entries.{entries_of}
 use Rattle.tn_discipline.specs.HalfLine.{HalfLine, line_after}
 use Rattle.tn_discipline.specs.Leaves.{Leaves}
 use Rattle.tn_discipline.specs.declared.keys.Role.{Role}
@@ -11,7 +11,7 @@ use Rattle.tn_discipline.specs.declared.reads.Entry.{Entry}
 use Rattle.tn_discipline.specs.declared.echo.Symbol.{Symbol}
 use Rattle.tn_discipline.specs.declared.termios.Flags.{Flags}
 use Rattle.tn_discipline.specs.declared.termios.Settings.{Settings}
-use Rattle.tn_discipline.proofs.Theorems.{advances}
+use Rattle.tn_discipline.proofs.lemmas.Lines.{advances}
 use Rattle.tn_linemode.specs.Modes.{Modes, edits}
 use Rattle.tn_nvt.specs.declared.items.Item.{Item}
 use Rattle.tn_option.specs.Options.{Options}
@@ -19,22 +19,12 @@ use Rattle.tn_pty.specs.Terminal.{fitted}
 use Rattle.tn_pty.specs.Typing.{gain_of}
 use Rattle.tn_server.specs.Events.{History, next, got}
 use Rattle.tn_server.specs.Terms.{Terms, terms_after, asked_of, changes, mode_after, chars_after, payload_at, echoes}
-use Rattle.tn_server.specs.Lines.{roles, role_at, line}
+use Rattle.tn_server.specs.Lines.{roles, role_at, role_of_item}
 use Rattle.tn_server.specs.Screen.{shows, size_after}
-use Rattle.tn_server.specs.Replies.{adds, says, list_answered}
+use Rattle.tn_server.specs.Replies.{replies, says, list_answered}
 use Rattle.tn_server.specs.Standing.{End, Stands}
 use Rattle.tn_server.specs.Steps.{after_got, says_got}
-
--- where nothing is ahead, the half line is what is held
-pub line_is : (h : History) (end : End) → Stands h end → end.terminal.line ≡ line h
-line_is h end s = go s.leaves.sent (s.leaves.count ∙ s.ahead) s.leaves.bytes
-  where
-    l : HalfLine
-    l = end.terminal.line
-
-    go : (sent : List ℕ) → length sent ≡ 0 → half_of (roles h) ≡ sent ++ end.terminal.line.held → end.terminal.line ≡ line h
-    go [] e f = ap (λ (a : ℕ). record { held = end.terminal.line.held; ahead = a }) s.ahead ∙ ap (λ (held : List ℕ). record { held = held; ahead = 0 }) (sym f)
-    go (b ∷ bs) e f = absurd (omega (arith, e))
+use Rattle.tn_server.proofs.lemmas.Ends.{line_is}
 
 same_settings : (f g : Flags) (c d : Characters) (o p : Options) (item : Item) → f ≡ g → c ≡ d → o ≡ p → ◌≡◌ {A = Settings} (record { flags = f; chars = chars_after c (payload_at o item) }) (record { flags = g; chars = chars_after d (payload_at p item) })
 same_settings f g c d o p item a b e = rw (a, b, e) refl
@@ -66,6 +56,10 @@ same_says f g c d t u item a b e =
     ∙ ap (λ (x : Characters). says g x t (got item) ++ list_answered x (payload_at t.options item)) b
     ∙ ap (λ (x : Terms). says g d x (got item) ++ list_answered d (payload_at x.options item)) e
 
+-- the role of the next item
+pub role_is : (h : History) (old : End) (item : Item) → Stands h old → role_at old.terminal.settings (edits old.modes.current) item ≡ role_of_item h item
+role_is h old item s = same_role _ _ _ _ item s.settings (ap (λ (m : Modes). m.current) s.modes)
+
 pub stands_got : (h : History) (old : End) (item : Item) → Stands h old → Stands (next h (got item)) (after_got old item)
 stands_got h old item s =
     let is_flags = ap (λ (x : Settings). x.flags) s.settings in
@@ -80,6 +74,7 @@ stands_got h old item s =
       table = same_chars _ _ _ _ item s.table is_options;
       terms = is_terms;
       modes = same_modes _ _ _ _ _ _ item is_options is_terms is_mode;
+      limit = moves.limit ∙ s.limit;
       leaves =
           let P : Role → Type 0 = λ r. Leaves (roles h ++ roles_from r) (line_after old.terminal.line old_role) in
           subst P is_role (moves.half (roles h) s.leaves);
@@ -87,8 +82,10 @@ stands_got h old item s =
       read = s.read;
       count = s.count;
       waits =
-          ap (λ (r : Role). entries_of (roles h ++ roles_from r)) (sym is_role)
+          ap (λ (n : ℕ). entries_of n (roles h ++ roles_from (role_of_item h item))) (sym s.limit)
+          ∙ ap (λ (r : Role). entries_of old.terminal.line.limit (roles h ++ roles_from r)) (sym is_role)
           ∙ moves.entries (roles h) s.leaves s.ahead
+          ∙ ap (λ (n : ℕ). entries_of n (roles h) ++ gain_of old.terminal.line old_role) s.limit
           ∙ ap (λ (xs : List Entry). xs ++ gain_of old.terminal.line old_role) s.waits
           ∙ append_assoc s.read old.terminal.entries (gain_of old.terminal.line old_role);
       queue = same_queue _ _ _ _ _ _ _ _ _ _ item s.settings is_mode is_options (line_is h old s) s.queue;
@@ -96,5 +93,5 @@ stands_got h old item s =
       due = s.due;
     }
 
-pub adds_got : (h : History) (old : End) (item : Item) → Stands h old → adds h (got item) ≡ says_got old item
-adds_got h old item s = sym (same_says _ _ _ _ _ _ item (ap (λ (x : Settings). x.flags) s.settings) s.table s.terms)
+pub replies_got : (h : History) (old : End) (item : Item) → Stands h old → replies h (got item) ≡ says_got old item
+replies_got h old item s = sym (same_says _ _ _ _ _ _ item (ap (λ (x : Settings). x.flags) s.settings) s.table s.terms)

@@ -9,13 +9,14 @@ use Rattle.tn_discipline.specs.declared.reads.Entry.{Entry}
 use Rattle.tn_discipline.specs.declared.echo.Symbol.{Symbol}
 use Rattle.tn_discipline.specs.declared.termios.Settings.{Settings}
 use Rattle.tn_linemode.specs.Modes.{Modes, edits, mode_of, is_acknowledged}
+use Rattle.tn_nvt.specs.Spelling.{spells}
 use Rattle.tn_nvt.specs.declared.items.Item.{Item}
 use Rattle.tn_nvt.specs.declared.items.Item.TheVariants.{Neg, Sub}
-use Rattle.tn_option.specs.Options.{Options, after_word, after_wish, state_of}
+use Rattle.tn_option.specs.Options.{Options, after_word}
 use Rattle.tn_pty.specs.Terminal.{Terminal, fitted}
 use Rattle.tn_pty.specs.Typing.{typed}
 use Rattle.tn_server.specs.Events.{History, next, got}
-use Rattle.tn_server.specs.Terms.{Terms, terms_by, told_by, asks_echo, echo_asked, wants_echo, asked_of, asked_while, changes, differ, mode_after, chars_after, payload_at, wish_in, heard, linemode, echoes, wished_after}
+use Rattle.tn_server.specs.Terms.{Terms, terms_by, told_by, asks_echo, wants_echo, asked_of, asked_while, changes, differ, mode_after, chars_after, payload_at, wish_in, heard, linemode, echoes, wished_after}
 use Rattle.tn_server.specs.Lines.{role_at}
 use Rattle.tn_server.specs.Screen.{shows, size_after}
 use Rattle.tn_server.specs.Replies.{says, says_by, word_back, list_answered}
@@ -23,8 +24,9 @@ use Rattle.tn_server.specs.Standing.{End, Stands, Goes}
 use Rattle.tn_server.specs.Steps.{after_got, says_got, agreed, terminal_after, after_words, says_words, after_wished, mask_wished, after_mode_got, with_negotiated, settled}
 use Rattle.tn_server.specs.declared.terms.Negotiation.{Negotiation}
 use Rattle.tn_server.specs.declared.wishes.Editing.{Editing}
-use Rattle.tn_server.proofs.Settling.{Agree, terms_settle, masks_settle, says_settle, terms_stay, says_nothing, differ_self}
-use Rattle.tn_server.proofs.Standings.{stands_got, adds_got}
+use Rattle.tn_server.proofs.lemmas.Terms.{terms_stay, says_nothing, differ_self, echo_keeps_linemode}
+use Rattle.tn_server.proofs.Settling.{Agree, terms_settle, masks_settle, says_settle}
+use Rattle.tn_server.proofs.Standings.{stands_got, replies_got}
 
 -- the parts of an end that say the same agree
 pub record IsSound (old : End) : Type 0 where
@@ -37,14 +39,12 @@ sound h old s = record {
   chars = s.table ∙ ap (λ (x : Settings). x.chars) (sym s.settings);
 }
 
-pub goes_from : (old new : End) (item : Item) (before after bytes : List ℕ) → after ≡ before ++ bytes → (IsSound old → says_got old item ≡ bytes) → (IsSound old → after_got old item ≡ new) → new.decoder ≡ old.decoder → new.failed ≡ old.failed → new.terminal.closed ≡ old.terminal.closed → Goes old (got item) before after new
-goes_from old new item before after bytes appended says is decoder failed closed = record {
-  bytes = bytes;
+pub goes_from : (old new : End) (item : Item) (before after : List ℕ) (said : List Item) → after ≡ before ++ spells said → (IsSound old → says_got old item ≡ said) → (IsSound old → after_got old item ≡ new) → new.terminal.closed ≡ old.terminal.closed → Goes old (got item) before after new
+goes_from old new item before after said appended says is closed = record {
+  said = said;
   appended = appended;
-  adds = λ h s. adds_got h old item s ∙ says (sound h old s);
+  replies = λ h s. replies_got h old item s ∙ says (sound h old s);
   stands = λ h s. subst (Stands (next h (got item))) (is (sound h old s)) (stands_got h old item s);
-  decoder = decoder;
-  failed = failed;
   closed = closed;
 }
 
@@ -111,9 +111,9 @@ quiet_says old item payload h b p w =
     let t = old.terms in
     let c = old.table in
     ap (λ (o : Options). (word_back t.options (got item) ++ says_by f c t o (wish_in (payload_at t.options item)) false) ++ list_answered c (payload_at t.options item)) h
-    ∙ ap (λ (xs : List ℕ). (xs ++ says_by f c t t.options (wish_in (payload_at t.options item)) false) ++ list_answered c (payload_at t.options item)) b
+    ∙ ap (λ (xs : List Item). (xs ++ says_by f c t t.options (wish_in (payload_at t.options item)) false) ++ list_answered c (payload_at t.options item)) b
     ∙ ap (λ (x : Option Payload). says_by f c t t.options (wish_in x) false ++ list_answered c x) p
-    ∙ ap (λ (xs : List ℕ). xs ++ list_answered c payload) (says_nothing f c t (wish_in payload) w)
+    ∙ ap (λ (xs : List Item). xs ++ list_answered c payload) (says_nothing f c t (wish_in payload) w)
 
 -- the settings as they were
 pub unset : (old : End) (t : Terminal) → t.settings ≡ old.terminal.settings → t.width ≡ old.terminal.width → t.height ≡ old.terminal.height → IsSound old → set_by old t None ≡ t
@@ -130,7 +130,7 @@ typed_got old item h p s = quiet_got old item None h p refl s ∙ ap (λ (t : Te
 pub goes_typed : (old new : End) (item : Item) → ((o : Options) → heard o (got item) ≡ o) → ((o : Options) → word_back o (got item) ≡ []) → ((o : Options) → payload_at o item ≡ None) → new ≡ record old { terminal = typed_by old item } → (before : List ℕ) → Goes old (got item) before before new
 goes_typed old new item h b p is before =
     goes_from old new item before before [] (sym (append-nil before)) (λ s. quiet_says old item None (h old.terms.options) (b old.terms.options) (p old.terms.options) refl)
-    (λ s. typed_got old item (h old.terms.options) (p old.terms.options) s ∙ sym is) (ap (λ (e : End). e.decoder) is) (ap (λ (e : End). e.failed) is) (ap (λ (e : End). e.terminal.closed) is)
+    (λ s. typed_got old item (h old.terms.options) (p old.terms.options) s ∙ sym is) (ap (λ (e : End). e.terminal.closed) is)
 
 -- the item types nothing
 abbrev pub TypesNothing : End → Item → Type 0
@@ -162,12 +162,6 @@ mode_acked old mask is =
     ap (λ (b : Bool). record old { modes = record { asked = old.modes.asked; current = if b then mode_of mask else old.modes.current } }) is
     ∙ sym (ap (λ (b : Bool). by_ack old mask b (if b then None else Some (edits mask))) is)
 
--- the server's word for ECHO changes nothing at LINEMODE
-pub echo_keeps_linemode : (due wanted : Bool) (o : Options) → linemode (echo_asked due wanted o) ≡ linemode o
-unfolding after_wish state_of
-echo_keeps_linemode true wanted o = refl
-echo_keeps_linemode false wanted o = refl
-
 abbrev pub masks_at : Options → Bool → ℕ → ℕ → Option Payload → Modes
 masks_at before on wish current payload = record { asked = asked_while on wish; current = mode_after (differ (linemode before) on) current payload }
 
@@ -198,9 +192,9 @@ words_said old verb option s =
     let t = old.terms in
     let said = word_back t.options (got (Neg verb option)) in
     append-nil (said ++ says_by f old.table t (after_word t.options verb option) None false)
-    ∙ ap (λ (xs : List ℕ). said ++ xs) (sym (says_settle f old.table t old.modes (after_word t.options verb option) None false s.masks))
+    ∙ ap (λ (xs : List Item). said ++ xs) (sym (says_settle f old.table t old.modes (after_word t.options verb option) None false s.masks))
 
-pub goes_words : (old new : End) (verb : Verb) (option : ℕ) (before after : List ℕ) → new ≡ after_words old verb option → after ≡ before ++ says_words old verb option → Goes old (got (Neg verb option)) before after new
+pub goes_words : (old new : End) (verb : Verb) (option : ℕ) (before after : List ℕ) → new ≡ after_words old verb option → after ≡ before ++ spells (says_words old verb option) → Goes old (got (Neg verb option)) before after new
 goes_words old new verb option before after is said =
     goes_from old new (Neg verb option) before after (says_words old verb option) said (words_said old verb option)
-    (λ s. words_got old verb option s ∙ sym is) (ap (λ (e : End). e.decoder) is) (ap (λ (e : End). e.failed) is) (ap (λ (e : End). e.terminal.closed) is)
+    (λ s. words_got old verb option s ∙ sym is) (ap (λ (e : End). e.terminal.closed) is)

@@ -4,15 +4,17 @@ use Rattle.tn_codes.specs.declared.payloads.Payload.{Payload}
 use Rattle.tn_codes.specs.declared.payloads.Payload.TheVariants.{Naws, Mode, ForwardOn, ForwardOff, ForwardYes, ForwardNo, Slc}
 use Rattle.tn_discipline.specs.Characters.{Characters}
 use Rattle.tn_linemode.specs.Modes.{edits, is_acknowledged, wished_by}
+use Rattle.tn_nvt.specs.Spelling.{spells}
 use Rattle.tn_nvt.specs.declared.items.Item.TheVariants.{Sub}
 use Rattle.tn_pty.specs.Terminal.{Terminal}
 use Rattle.tn_server.specs.Events.{got}
 use Rattle.tn_server.specs.Terms.{Terms, terms_by, changes, mode_after, chars_after, payload_at, wish_in, linemode, wished_after, mask_for, mask_or, editing, editing_wished}
 use Rattle.tn_server.specs.Replies.{says_by, list_answered}
-use Rattle.tn_server.specs.Standing.{End, Goes}
+use Rattle.tn_server.specs.Standing.{End, Goes, Keeps}
 use Rattle.tn_server.specs.Steps.{after_got, says_got, after_wished, says_wished, mask_wished, after_mode_by, says_mode_by, after_mode_got, says_mode_got, after_sub, says_sub, with_negotiated, settled, settling}
 use Rattle.tn_server.specs.declared.wishes.Editing.{Editing}
-use Rattle.tn_server.proofs.Settling.{terms_stay, says_nothing, says_settle, differ_self}
+use Rattle.tn_server.proofs.lemmas.Terms.{terms_stay, says_nothing, differ_self}
+use Rattle.tn_server.proofs.Settling.{says_settle}
 use Rattle.tn_server.proofs.Turning.{IsSound, goes_from, with_all, still, settled_all, set_by, typed_by, unset, own_chars, unwished, mode_acked, quiet_says, sub_types_nothing}
 
 -- a wish by the mask that it asks for, where the item brings this payload
@@ -112,63 +114,46 @@ sub_said old option params (Some ForwardOff) p s = quiet_says old (Sub option pa
 sub_said old option params (Some ForwardYes) p s = quiet_says old (Sub option params) (Some ForwardYes) refl refl p refl
 sub_said old option params (Some ForwardNo) p s = quiet_says old (Sub option params) (Some ForwardNo) refl refl p refl
 
--- each payload keeps the decoder, whether the end has failed, and whether its terminal is shut
-pub wished_decoder : (old : End) (mask : Option ℕ) → (after_wished old mask).decoder ≡ old.decoder
-wished_decoder old None = refl
-wished_decoder old (Some mask) = refl
-
-pub wished_failed : (old : End) (mask : Option ℕ) → (after_wished old mask).failed ≡ old.failed
-wished_failed old None = refl
-wished_failed old (Some mask) = refl
-
+-- each payload keeps whether the terminal is shut
 pub wished_closed : (old : End) (mask : Option ℕ) → (after_wished old mask).terminal.closed ≡ old.terminal.closed
 wished_closed old None = refl
 wished_closed old (Some mask) = refl
-
-mode_decoder : (old : End) (mask : ℕ) (wish : Option Bool) → (after_mode_by old mask wish).decoder ≡ old.decoder
-mode_decoder old mask None = refl
-mode_decoder old mask (Some edit) = wished_decoder old (mask_wished old edit)
-
-mode_failed : (old : End) (mask : ℕ) (wish : Option Bool) → (after_mode_by old mask wish).failed ≡ old.failed
-mode_failed old mask None = refl
-mode_failed old mask (Some edit) = wished_failed old (mask_wished old edit)
 
 mode_closed : (old : End) (mask : ℕ) (wish : Option Bool) → (after_mode_by old mask wish).terminal.closed ≡ old.terminal.closed
 mode_closed old mask None = refl
 mode_closed old mask (Some edit) = wished_closed old (mask_wished old edit)
 
-sub_decoder : (old : End) (payload : Option Payload) → (after_sub old payload).decoder ≡ old.decoder
-sub_decoder old None = refl
-sub_decoder old (Some (Naws width height)) = refl
-sub_decoder old (Some (Mode mask)) = mode_decoder old mask (wished_by mask)
-sub_decoder old (Some (Slc triples)) = refl
-sub_decoder old (Some (ForwardOn mask)) = refl
-sub_decoder old (Some ForwardOff) = refl
-sub_decoder old (Some ForwardYes) = refl
-sub_decoder old (Some ForwardNo) = refl
-
-sub_failed : (old : End) (payload : Option Payload) → (after_sub old payload).failed ≡ old.failed
-sub_failed old None = refl
-sub_failed old (Some (Naws width height)) = refl
-sub_failed old (Some (Mode mask)) = mode_failed old mask (wished_by mask)
-sub_failed old (Some (Slc triples)) = refl
-sub_failed old (Some (ForwardOn mask)) = refl
-sub_failed old (Some ForwardOff) = refl
-sub_failed old (Some ForwardYes) = refl
-sub_failed old (Some ForwardNo) = refl
-
 sub_closed : (old : End) (payload : Option Payload) → (after_sub old payload).terminal.closed ≡ old.terminal.closed
 sub_closed old None = refl
-sub_closed old (Some (Naws width height)) = refl
 sub_closed old (Some (Mode mask)) = mode_closed old mask (wished_by mask)
+sub_closed old (Some (Naws width height)) = refl
 sub_closed old (Some (Slc triples)) = refl
 sub_closed old (Some (ForwardOn mask)) = refl
 sub_closed old (Some ForwardOff) = refl
 sub_closed old (Some ForwardYes) = refl
 sub_closed old (Some ForwardNo) = refl
 
-pub goes_sub : (old new : End) (option : ℕ) (params : List ℕ) (before after : List ℕ) → new ≡ after_sub old (payload_at old.terms.options (Sub option params)) → after ≡ before ++ says_sub old (payload_at old.terms.options (Sub option params)) → Goes old (got (Sub option params)) before after new
+-- and whether the end has failed
+pub wished_keeps : (old : End) (mask : Option ℕ) → Keeps old (after_wished old mask)
+wished_keeps old None = record { decoder = refl; failed = refl }
+wished_keeps old (Some mask) = record { decoder = refl; failed = refl }
+
+pub mode_failed : (old : End) (mask : ℕ) (wish : Option Bool) → (after_mode_by old mask wish).failed ≡ old.failed
+mode_failed old mask None = refl
+mode_failed old mask (Some edit) = (wished_keeps old (mask_wished old edit)).failed
+
+pub sub_failed : (old : End) (payload : Option Payload) → (after_sub old payload).failed ≡ old.failed
+sub_failed old None = refl
+sub_failed old (Some (Mode mask)) = mode_failed old mask (wished_by mask)
+sub_failed old (Some (Naws width height)) = refl
+sub_failed old (Some (Slc triples)) = refl
+sub_failed old (Some (ForwardOn mask)) = refl
+sub_failed old (Some ForwardOff) = refl
+sub_failed old (Some ForwardYes) = refl
+sub_failed old (Some ForwardNo) = refl
+
+pub goes_sub : (old new : End) (option : ℕ) (params : List ℕ) (before after : List ℕ) → new ≡ after_sub old (payload_at old.terms.options (Sub option params)) → after ≡ before ++ spells (says_sub old (payload_at old.terms.options (Sub option params))) → Goes old (got (Sub option params)) before after new
 goes_sub old new option params before after is said =
     let payload = payload_at old.terms.options (Sub option params) in
     goes_from old new (Sub option params) before after (says_sub old payload) said (sub_said old option params payload refl)
-    (λ s. sub_got old option params payload refl s ∙ sym is) (ap (λ (e : End). e.decoder) is ∙ sub_decoder old payload) (ap (λ (e : End). e.failed) is ∙ sub_failed old payload) (ap (λ (e : End). e.terminal.closed) is ∙ sub_closed old payload)
+    (λ s. sub_got old option params payload refl s ∙ sym is) (ap (λ (e : End). e.terminal.closed) is ∙ sub_closed old payload)

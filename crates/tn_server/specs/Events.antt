@@ -1,6 +1,7 @@
 -- What happens at a server end: items come and calls are made.
 use Rattle.std.specs.Prelude.{ℕ, Bool, Option, List, [], ◌∷◌, ◌++◌}
 use Rattle.tn_codes.specs.declared.codes.Func.{Func}
+use Rattle.tn_discipline.specs.Canon.{Canon}
 use Rattle.tn_discipline.specs.declared.termios.Settings.{Settings}
 use Rattle.tn_nvt.specs.declared.items.Item.{Item}
 use Rattle.tn_server.specs.declared.wishes.Editing.{Editing}
@@ -15,19 +16,24 @@ pub data Event : Type 0 where
   char_set : Func → Option ℕ → Event
   echo_set : Bool → Event
 
--- what has happened since the end was started, the latest at the right
+-- what has happened since the end was started over a terminal, the latest at the right
 pub data History : Type 0 where
-  begun : Settings → History
+  begun : Canon → History
   next : History → Event → History
 
 -- the settings that the end was started with
 abbrev pub opening_settings : History → Settings
-opening_settings (begun settings) = settings
+opening_settings (begun canon) = canon.settings
 opening_settings (next h e) = opening_settings h
+
+-- how many bytes a line has at most, with its closing byte
+abbrev pub limit : History → ℕ
+limit (begun canon) = canon.limit
+limit (next h e) = limit h
 
 -- the items alone
 abbrev pub items : History → List Item
-items (begun settings) = []
+items (begun canon) = []
 items (next h (got item)) = items h ++ item ∷ []
 items (next h _) = items h
 

@@ -1,8 +1,37 @@
 -- Why calls are refused.
-use Rattle.std.specs.Prelude.{◌≡◌, Bool, Option, Some, None, option_map, if◌then◌else◌}
-use Rattle.tn_discipline.specs.declared.characters.CharFault.{CharFault}
+use Rattle.std.specs.Prelude.{◌≡◌, ◌≢◌, ◌⊎◌, true, Option, Some, None, List, [], length}
+use Rattle.tn_codes.specs.declared.payloads.Payload.{Payload}
+use Rattle.tn_codes.specs.declared.payloads.Payload.TheVariants.{Slc}
+use Rattle.tn_codes.specs.declared.triples.Triple.{Triple}
+use Rattle.tn_discipline.specs.HalfLine.{GivesText}
+use Rattle.tn_discipline.specs.Keys.{gives_entry}
+use Rattle.tn_nvt.specs.declared.items.Item.{Item}
+use Rattle.tn_pty.specs.Terminal.{most_waiting}
+use Rattle.tn_pty.specs.declared.pty.PtyFault.TheVariants as pty
+use Rattle.tn_server.specs.Events.{Event, got, History}
+use Rattle.tn_server.specs.Lines.{role_of_item, line, waiting}
+use Rattle.tn_server.specs.Replies.{replies}
+use Rattle.tn_server.specs.Terms.{options, payload_at}
 use Rattle.tn_server.specs.declared.faults.ServerFault.{ServerFault}
 use Rattle.tn_server.specs.declared.faults.ServerFault.TheVariants.{Pty, Memory, Failed, Char}
+
+-- an event makes the server send something
+abbrev pub SaysSomething : History → Event → Type 0
+SaysSomething h e = replies h e ≢ []
+
+-- a list of local characters that is not empty: it has to be kept while it is answered
+abbrev pub IsList : Option Payload → Type 0
+IsList payload = (triples : List Triple) × (triples ≢ []) × (payload ≡ Some (Slc triples))
+
+-- why an item is refused: too many entries wait for the one that it makes; memory is wanting for the text of a line, for
+-- what is to be sent, or for a list
+abbrev pub IsCause : History → Item → ServerFault → Type 0
+IsCause h item (Pty pty.TooFarAhead) = (gives_entry (role_of_item h item) ≡ true) × (length (waiting h) ≡ most_waiting)
+IsCause h item (Pty pty.Memory) = GivesText (line h) (role_of_item h item)
+IsCause h item (Pty pty.Closed) = Unit {0}
+IsCause h item Memory = SaysSomething h (got item) ⊎ IsList (payload_at (options h) item)
+IsCause h item Failed = ⊥
+IsCause h item (Char fault) = ⊥
 
 -- an item is refused by the pair or for want of memory
 abbrev pub IsOfItem : ServerFault → Type 0
@@ -10,11 +39,6 @@ IsOfItem (Pty fault) = Unit {0}
 IsOfItem Memory = Unit {0}
 IsOfItem Failed = ⊥
 IsOfItem (Char fault) = ⊥
-
--- why a change of a character is refused whatever memory there is: the end has failed before, or the terminal can't have
--- the character
-abbrev pub char_refusal : Bool → Option CharFault → Option ServerFault
-char_refusal failed fault = if failed then Some Failed else option_map Char fault
 
 -- a call that is not refused for such a cause is refused for want of memory alone
 abbrev pub IsFault : Option ServerFault → ServerFault → Type 0

@@ -3,6 +3,8 @@ pub mod Terms
 pub mod Lines
 pub mod Screen
 pub mod Replies
-pub mod Standing
-pub mod Steps
 pub mod Faults
+pub mod Standing
+pub mod Course
+pub mod Steps
+pub mod Lending

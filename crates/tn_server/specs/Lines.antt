@@ -11,7 +11,7 @@ use Rattle.tn_linemode.specs.Modes.{edits}
 use Rattle.tn_nvt.specs.declared.items.Item.{Item}
 use Rattle.tn_nvt.specs.declared.items.Item.TheVariants.{Byte, Newline, Cmd}
 use Rattle.tn_pty.specs.Typing.{command_role}
-use Rattle.tn_server.specs.Events.{got, took, History, begun, next}
+use Rattle.tn_server.specs.Events.{got, took, History, begun, next, limit}
 use Rattle.tn_server.specs.Terms.{settings, mode}
 
 -- the role of a byte: with EDIT the line was edited before, and only its closing byte is special
@@ -25,24 +25,28 @@ role_at s edit Newline = role_of_byte s edit 10
 role_at s edit (Cmd command) = command_role command
 role_at s edit _ = role.Ignored
 
+-- the role of an item that comes next
+abbrev pub role_of_item : History → Item → Role
+role_of_item h item = role_at (settings h) (edits (mode h)) item
+
 abbrev pub roles : History → List Role
-roles (begun s) = []
-roles (next h (got item)) = roles h ++ roles_from (role_at (settings h) (edits (mode h)) item)
+roles (begun canon) = []
+roles (next h (got item)) = roles h ++ roles_from (role_of_item h item)
 roles (next h _) = roles h
 
 abbrev pub entries : History → List Entry
-entries h = entries_of (roles h)
+entries h = entries_of (limit h) (roles h)
 
 abbrev pub half : History → List ℕ
-half h = half_of (roles h)
+half h = half_of (limit h) (roles h)
 
 -- nothing of the half line is ahead at a server
 abbrev pub line : History → HalfLine
-line h = record { held = half h; ahead = 0 }
+line h = record { held = half h; ahead = 0; limit = limit h }
 
 -- how many entries were taken
 abbrev pub taken : History → ℕ
-taken (begun s) = 0
+taken (begun canon) = 0
 taken (next h took) = if nat_lt (taken h) (length (entries h)) then taken h + 1 else taken h
 taken (next h _) = taken h
 

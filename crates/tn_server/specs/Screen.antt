@@ -29,7 +29,7 @@ shows s edit on half _ = []
 
 -- the symbols that wait to be pulled
 abbrev pub queue : History → List Symbol
-queue (begun s) = []
+queue (begun canon) = []
 queue (next h (got item)) =
     fitted (queue h) (shows (settings h) (edits (mode h)) (echoes (options h)) (line h) item)
 queue (next h (wrote bytes)) = queue h ++ outputs (settings h).flags (take (fits (queue h) bytes) bytes)
@@ -46,7 +46,7 @@ none_waits h = not (nat_lt (taken h) (length (entries h)))
 
 -- symbols were pulled since the last GA
 abbrev pub due : History → Bool
-due (begun s) = false
+due (begun canon) = false
 due (next h took) = if sends_ga (none_waits h) (options h) (due h) then false else due h
 due (next h (pulled n)) = due h || nat_lt 0 (length (take n (queue h)))
 due (next h _) = due h
@@ -57,6 +57,6 @@ size_after size (Some (Naws width height)) = (width, height)
 size_after size _ = size
 
 abbrev pub size : History → ℕ × ℕ
-size (begun s) = (0, 0)
+size (begun canon) = (0, 0)
 size (next h (got item)) = size_after (size h) (payload_at (options h) item)
 size (next h _) = size h

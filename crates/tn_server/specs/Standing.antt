@@ -1,17 +1,22 @@
 -- Where a history leads a server end, and what a call adds to it, whatever the history was.
-use Rattle.std.specs.Prelude.{◌≡◌, ℕ, Bool, List, [], ◌∷◌, ◌++◌, length}
-use Rattle.tn_discipline.specs.Characters.{Characters}
+use Rattle.std.specs.Prelude.{◌≡◌, ◌≢◌, ℕ, Bool, List, [], ◌∷◌, ◌++◌, length, Option, Some, None, option_map, if◌then◌else◌}
+use Rattle.tn_codes.specs.declared.codes.Func.{Func}
+use Rattle.tn_discipline.specs.Characters.{Characters, char_fault}
 use Rattle.tn_discipline.specs.Leaves.{Leaves}
 use Rattle.tn_discipline.specs.declared.reads.Entry.{Entry}
 use Rattle.tn_linemode.specs.Modes.{Modes}
-use Rattle.tn_nvt.specs.Standing.{Standing, HasRead, Adds}
+use Rattle.tn_nvt.specs.Spelling.{spells}
+use Rattle.tn_nvt.specs.Standing.{Standing, failed, Adds, KeepsParameter}
 use Rattle.tn_nvt.specs.declared.items.Item.{Item}
 use Rattle.tn_pty.specs.Terminal.{Terminal}
-use Rattle.tn_server.specs.Events.{History, Event, next, got, gets}
+use Rattle.tn_server.specs.Events.{History, Event, next, got, gets, limit}
 use Rattle.tn_server.specs.Terms.{Terms, terms, asked, mode, settings, chars}
 use Rattle.tn_server.specs.Lines.{roles, entries, taken}
 use Rattle.tn_server.specs.Screen.{queue, due, size}
-use Rattle.tn_server.specs.Replies.{adds, sent}
+use Rattle.tn_server.specs.Replies.{replies, sent}
+use Rattle.tn_server.specs.Faults.{IsCause}
+use Rattle.tn_server.specs.declared.faults.ServerFault.{ServerFault}
+use Rattle.tn_server.specs.declared.faults.ServerFault.TheVariants as fault
 
 -- a server end, seen from outside
 pub record End : Type 0 where
@@ -29,6 +34,7 @@ pub record Stands (h : History) (end : End) : Type 0 where
   pub table : end.table ≡ chars h
   pub terms : end.terms ≡ terms h
   pub modes : end.modes ≡ record { asked = asked h; current = mode h }
+  pub limit : end.terminal.line.limit ≡ limit h
   pub leaves : Leaves (roles h) end.terminal.line
   pub ahead : end.terminal.line.ahead ≡ 0
   pub read : List Entry
@@ -38,68 +44,75 @@ pub record Stands (h : History) (end : End) : Type 0 where
   pub size : (end.terminal.width, end.terminal.height) ≡ size h
   pub due : end.pulled ≡ due h
 
--- From wherever the end may stand, the event leads to where it stands now, and what was appended is what the history's
--- bytes gain.
+-- From wherever the end may stand, the event leads to where it stands now, and what was appended spells the replies.
 pub record Goes (old : End) (e : Event) (before after : List ℕ) (new : End) : Type 0 where
-  pub bytes : List ℕ
-  pub appended : after ≡ before ++ bytes
-  pub adds : (h : History) → Stands h old → adds h e ≡ bytes
+  pub said : List Item
+  pub appended : after ≡ before ++ spells said
+  pub replies : (h : History) → Stands h old → replies h e ≡ said
   pub stands : (h : History) → Stands h old → Stands (next h e) new
-  pub decoder : new.decoder ≡ old.decoder
-  pub failed : new.failed ≡ old.failed
   pub closed : new.terminal.closed ≡ old.terminal.closed
 
--- the same for some items, one after another
+-- a call of the owner reads nothing and fails no end
+pub record Keeps (old new : End) : Type 0 where
+  pub decoder : new.decoder ≡ old.decoder
+  pub failed : new.failed ≡ old.failed
+
+-- An item was refused: the end stands where it stood, and what was appended spells a front of the replies.
+pub record Refuses (old : End) (item : Item) (fault : ServerFault) (before after : List ℕ) (new : End) : Type 0 where
+  pub said : List Item
+  pub appended : after ≡ before ++ spells said
+  pub front : (h : History) → Stands h old → (rest : List Item) × (replies h (got item) ≡ said ++ rest)
+  pub cause : (h : History) → Stands h old → IsCause h item fault
+  pub stands : (h : History) → Stands h old → Stands h new
+
+-- Some items came, one after another, and each was done.
 pub record Gets (old : End) (items : List Item) (before after : List ℕ) (new : End) : Type 0 where
-  pub bytes : List ℕ
-  pub appended : after ≡ before ++ bytes
-  pub sends : (h : History) → Stands h old → sent (gets h items) ≡ sent h ++ bytes
+  pub said : List Item
+  pub appended : after ≡ before ++ spells said
+  pub sends : (h : History) → Stands h old → sent (gets h items) ≡ sent h ++ said
   pub stands : (h : History) → Stands h old → Stands (gets h items) new
-  pub decoder : new.decoder ≡ old.decoder
-  pub failed : new.failed ≡ old.failed
   pub closed : new.terminal.closed ≡ old.terminal.closed
 
--- the same for a piece of the stream, however that was cut before
+-- Some items came: those before one of them were done, and that one was refused.
+pub record Stops (old : End) (items : List Item) (fault : ServerFault) (before after : List ℕ) (new : End) : Type 0 where
+  pub done : List Item
+  pub item : Item
+  pub left : List Item
+  pub whole : items ≡ done ++ item ∷ left
+  pub mid : End
+  pub between : List ℕ
+  pub gets : Gets old done before between mid
+  pub refuses : Refuses mid item fault between after new
+
+-- A piece of the stream was taken, however that was cut before.
 pub record Feeds (old : End) (piece before after : List ℕ) (new : End) : Type 0 where
   pub items : List Item
-  pub bytes : List ℕ
-  pub appended : after ≡ before ++ bytes
-  pub sends : (h : History) → Stands h old → sent (gets h items) ≡ sent h ++ bytes
+  pub reads : Adds old.decoder piece items new.decoder
+  pub said : List Item
+  pub appended : after ≡ before ++ spells said
+  pub sends : (h : History) → Stands h old → sent (gets h items) ≡ sent h ++ said
   pub stands : (h : History) → Stands h old → Stands (gets h items) new
-  pub reads : (stream : List ℕ) (had : List Item) → HasRead old.decoder stream had → HasRead new.decoder (stream ++ piece) (had ++ items)
   pub failed : new.failed ≡ old.failed
   pub closed : new.terminal.closed ≡ old.terminal.closed
 
--- an item was refused: the end stands where it stood, and a front of the replies was appended
-pub record Refuses (old : End) (e : Event) (before after : List ℕ) (new : End) : Type 0 where
-  pub part : List ℕ
-  pub appended : after ≡ before ++ part
-  pub cut : (h : History) → Stands h old → (rest : List ℕ) × (adds h e ≡ part ++ rest)
-  pub stands : (h : History) → Stands h old → Stands h new
-  pub decoder : new.decoder ≡ old.decoder
+-- the decoder wants memory for the next byte of the stream, a parameter
+abbrev pub WantsMemory : Standing → List ℕ → Type 0
+WantsMemory here [] = ⊥
+WantsMemory here (byte ∷ bytes) = KeepsParameter here byte
 
--- some items, and then one that was refused
-pub record Stops (old : End) (items : List Item) (before after : List ℕ) (new : End) : Type 0 where
-  pub front : List Item
-  pub item : Item
-  pub back : List Item
-  pub whole : items ≡ front ++ item ∷ back
-  pub bytes : List ℕ
-  pub part : List ℕ
-  pub appended : after ≡ before ++ (bytes ++ part)
-  pub sends : (h : History) → Stands h old → sent (gets h front) ≡ sent h ++ bytes
-  pub cut : (h : History) → Stands h old → (rest : List ℕ) × (adds (gets h front) (got item) ≡ part ++ rest)
-  pub stands : (h : History) → Stands h old → Stands (gets h front) new
-  pub decoder : new.decoder ≡ old.decoder
+-- what the first of these items makes the server send, if there is one
+abbrev pub first_replies : History → List Item → List Item
+first_replies h [] = []
+first_replies h (item ∷ left) = replies h (got item)
 
--- what the first of these items adds, if there is one
-abbrev pub first_adds : History → List Item → List ℕ
-first_adds h [] = []
-first_adds h (item ∷ rest) = adds h (got item)
+-- why a piece was refused there: the first of these items was, or the decoder wanted memory at the next byte
+abbrev pub IsHaltCause : History → List Item → Standing → List ℕ → ServerFault → Type 0
+IsHaltCause h [] here back f = (f ≡ fault.Memory) × WantsMemory here back
+IsHaltCause h (item ∷ left) here back f = IsCause h item f
 
--- A piece was refused: of the items of a front of it some were done, and what was appended is the replies to them and a
--- front of the reply to the next.
-pub record Halts (old : End) (piece before after : List ℕ) (new : End) : Type 0 where
+-- A piece was refused: of the items of a front of it some were done, and what was appended spells the replies to them,
+-- and a front of those to the next.
+pub record Halts (old : End) (piece : List ℕ) (fault : ServerFault) (before after : List ℕ) (new : End) : Type 0 where
   pub front : List ℕ
   pub back : List ℕ
   pub whole : piece ≡ front ++ back
@@ -107,9 +120,18 @@ pub record Halts (old : End) (piece before after : List ℕ) (new : End) : Type 
   pub left : List Item
   pub here : Standing
   pub reads : Adds old.decoder front (done ++ left) here
-  pub bytes : List ℕ
-  pub part : List ℕ
-  pub appended : after ≡ before ++ (bytes ++ part)
-  pub sends : (h : History) → Stands h old → sent (gets h done) ≡ sent h ++ bytes
-  pub cut : (h : History) → Stands h old → (rest : List ℕ) × (first_adds (gets h done) left ≡ part ++ rest)
+  pub said : List Item
+  pub part : List Item
+  pub appended : after ≡ before ++ spells (said ++ part)
+  pub sends : (h : History) → Stands h old → sent (gets h done) ≡ sent h ++ said
+  pub begins : (h : History) → Stands h old → (rest : List Item) × (first_replies (gets h done) left ≡ part ++ rest)
+  pub cause : old.decoder ≢ failed → (h : History) → Stands h old → IsHaltCause (gets h done) left here back fault
   pub stands : (h : History) → Stands h old → Stands (gets h done) new
+
+-- why a call is refused whatever memory there is: the end has failed before
+abbrev pub call_fault : End → Option ServerFault
+call_fault end = if end.failed then Some fault.Failed else None
+
+-- or the terminal can't have the character
+abbrev pub char_fault_at : End → Func → Option ℕ → Option ServerFault
+char_fault_at end func value = if end.failed then Some fault.Failed else option_map fault.Char (char_fault end.table func value)

@@ -1,19 +1,26 @@
 -- One event at a server end, as a step from what the end knows now. `Standing` ties these steps to histories.
-use Rattle.std.specs.Prelude.{◌≡◌, ◌⊎◌, ℕ, Bool, true, false, ◌||◌, Option, Some, None, is_some, List, [], ◌++◌}
+use Rattle.std.specs.Prelude.{◌≡◌, ◌≢◌, ◌⊎◌, ℕ, Bool, true, false, ◌||◌, Option, Some, None, is_some, List, [], ◌++◌, length}
 use Rattle.tn_codes.specs.declared.codes.Command.{Command}
 use Rattle.tn_codes.specs.declared.codes.Verb.{Verb}
 use Rattle.tn_codes.specs.declared.payloads.Payload.{Payload}
 use Rattle.tn_codes.specs.declared.payloads.Payload.TheVariants.{Naws, Mode, Slc}
 use Rattle.tn_codes.specs.declared.triples.Triple.{Triple}
 use Rattle.tn_discipline.specs.Characters.{Characters}
+use Rattle.tn_discipline.specs.HalfLine.{GivesText}
+use Rattle.tn_discipline.specs.Keys.{gives_entry}
+use Rattle.tn_discipline.specs.declared.keys.Role.{Role}
 use Rattle.tn_discipline.specs.declared.termios.Flags.{Flags}
 use Rattle.tn_linemode.specs.Modes.{Modes, no_mode, edits, sent_by_wish, after_wish, after_mode, wished_by}
 use Rattle.tn_linemode.specs.Exchange.{server_after}
+use Rattle.tn_nvt.specs.Spelling.{spells}
 use Rattle.tn_nvt.specs.declared.items.Item.{Item}
 use Rattle.tn_option.specs.Options.{after_word, reply_to}
-use Rattle.tn_pty.specs.Terminal.{Terminal, shut}
+use Rattle.tn_pty.specs.Terminal.{Terminal, shut, most_waiting}
 use Rattle.tn_pty.specs.Typing.{typed, command_role, command_shows}
+use Rattle.tn_pty.specs.declared.pty.PtyFault.{PtyFault}
+use Rattle.tn_pty.specs.declared.pty.PtyFault.TheVariants as pty
 use Rattle.tn_server.specs.Events.{Event, got}
+use Rattle.tn_server.specs.Faults.{IsList}
 use Rattle.tn_server.specs.Terms.{Terms, terms_after, payload_at, asked_of, changes, differ, mode_after, chars_after, echoes, linemode, echo_asked, wants_echo, mask_for, editing}
 use Rattle.tn_server.specs.Lines.{role_at, role_of_byte}
 use Rattle.tn_server.specs.Screen.{shows, byte_shows, size_after}
@@ -49,7 +56,7 @@ abbrev pub settled : Bool → Bool → Flags → Negotiation → Negotiation
 settled was set f n =
     record n { modes = masks_by was n; options = echo_asked (is_due was set n) (wants_echo (masks_by was n).asked f) n.options }
 
-abbrev pub settling : Bool → Bool → Flags → Characters → Negotiation → List ℕ
+abbrev pub settling : Bool → Bool → Flags → Characters → Negotiation → List Item
 settling was set f c n =
     table_told was (linemode n.options) c
     ++ (mode_told (told_now was n) ++ echo_told (is_due was set n) (wants_echo (masks_by was n).asked f) n.options)
@@ -69,7 +76,7 @@ abbrev pub after_words : End → Verb → ℕ → End
 after_words old verb option =
     with_negotiated old (settled (linemode old.terms.options) false old.terminal.settings.flags (heard_by old verb option))
 
-abbrev pub says_words : End → Verb → ℕ → List ℕ
+abbrev pub says_words : End → Verb → ℕ → List Item
 says_words old verb option =
     word (reply_to old.terms.options verb option)
     ++ settling (linemode old.terms.options) false old.terminal.settings.flags old.table (heard_by old verb option)
@@ -83,7 +90,7 @@ after_wished old None = old
 after_wished old (Some mask) =
     with_negotiated old (settled (linemode old.terms.options) false old.terminal.settings.flags (wishing old mask))
 
-abbrev pub says_wished : End → Option ℕ → List ℕ
+abbrev pub says_wished : End → Option ℕ → List Item
 says_wished old None = []
 says_wished old (Some mask) =
     settling (linemode old.terms.options) false old.terminal.settings.flags old.table (wishing old mask)
@@ -101,7 +108,7 @@ abbrev pub after_mode_by : End → ℕ → Option Bool → End
 after_mode_by old mask None = record old { modes = after_mode old.modes mask }
 after_mode_by old mask (Some edit) = after_wished old (mask_wished old edit)
 
-abbrev pub says_mode_by : End → Option Bool → List ℕ
+abbrev pub says_mode_by : End → Option Bool → List Item
 says_mode_by old None = []
 says_mode_by old (Some edit) = says_wished old (mask_wished old edit)
 
@@ -109,7 +116,7 @@ says_mode_by old (Some edit) = says_wished old (mask_wished old edit)
 abbrev pub after_mode_got : End → ℕ → End
 after_mode_got old mask = after_mode_by old mask (wished_by mask)
 
-abbrev pub says_mode_got : End → ℕ → List ℕ
+abbrev pub says_mode_got : End → ℕ → List Item
 says_mode_got old mask = says_mode_by old (wished_by mask)
 
 -- the end with other characters
@@ -128,28 +135,41 @@ after_sub old (Some (Mode mask)) = after_mode_got old mask
 after_sub old (Some (Slc triples)) = after_list old triples
 after_sub old _ = old
 
-abbrev pub says_sub : End → Option Payload → List ℕ
+abbrev pub says_sub : End → Option Payload → List Item
 says_sub old (Some (Mode mask)) = says_mode_got old mask
 says_sub old (Some (Slc triples)) = list_answered old.table (Some (Slc triples))
 says_sub old _ = []
 
--- a front of these bytes was appended
-pub record Cuts (whole before after : List ℕ) : Type 0 where
-  pub part : List ℕ
-  pub rest : List ℕ
+-- a front of these items was appended
+pub record Cuts (whole : List Item) (before after : List ℕ) : Type 0 where
+  pub part : List Item
+  pub rest : List Item
   pub whole_is : whole ≡ part ++ rest
-  pub appended : after ≡ before ++ part
+  pub appended : after ≡ before ++ spells part
 
 -- a key or command was refused: it had no effect but that the terminal may be shut
 abbrev pub IsShut : End → End → Type 0
 IsShut old new = (new ≡ old) ⊎ (new ≡ record old { terminal = shut old.terminal })
 
+-- why the terminal refuses a key or command of this role
+abbrev pub IsKeyCause : Terminal → Role → PtyFault → Type 0
+IsKeyCause t r pty.TooFarAhead = (gives_entry r ≡ true) × (length t.entries ≡ most_waiting)
+IsKeyCause t r pty.Memory = GivesText t.line r
+IsKeyCause t r pty.Closed = t.closed ≡ true
+
+-- memory may be wanted for a payload
+abbrev pub CanGrow : End → Option Payload → Type 0
+CanGrow old payload = (says_sub old payload ≢ []) ⊎ IsList payload
+
 -- the end after a byte, and after a command
+abbrev pub role_typed : End → ℕ → Role
+role_typed old byte = role_of_byte old.terminal.settings (edits old.modes.current) byte
+
 abbrev pub typed_byte : End → ℕ → End
 typed_byte old byte =
     let t = old.terminal in
     let edit = edits old.modes.current in
-    record old { terminal = typed t (role_of_byte t.settings edit byte) (byte_shows t.settings edit (echoes old.terms.options) t.line byte) }
+    record old { terminal = typed t (role_typed old byte) (byte_shows t.settings edit (echoes old.terms.options) t.line byte) }
 
 abbrev pub typed_command : End → Command → End
 typed_command old command = record old { terminal = typed old.terminal (command_role command) (command_shows command) }
@@ -182,6 +202,6 @@ after_got old item =
     }
 
 -- what it says to the item
-abbrev pub says_got : End → Item → List ℕ
+abbrev pub says_got : End → Item → List Item
 says_got old item =
     says old.terminal.settings.flags old.table old.terms (got item) ++ list_answered old.table (payload_at old.terms.options item)

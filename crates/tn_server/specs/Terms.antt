@@ -77,7 +77,7 @@ wish_at o _ = None
 
 -- the flags, of which only ECHO changes
 abbrev pub flags : History → Flags
-flags (begun settings) = settings.flags
+flags (begun canon) = canon.settings.flags
 flags (next h (echo_set on)) = record (flags h) { echo = on }
 flags (next h _) = flags h
 
@@ -146,7 +146,7 @@ abbrev pub terms_after : Flags → Terms → Event → Terms
 terms_after f t e = terms_by f t (heard t.options e) (wish_at t.options e) (is_echo_set e)
 
 abbrev pub terms : History → Terms
-terms (begun settings) = record { options = opened; wish = 0 }
+terms (begun canon) = record { options = opened; wish = 0 }
 terms (next h (got item)) = terms_after (flags h) (terms h) (got item)
 terms (next h (wished editing)) = terms_after (flags h) (terms h) (wished editing)
 terms (next h (echo_set on)) = terms_after (flags (next h (echo_set on))) (terms h) (echo_set on)
@@ -165,7 +165,7 @@ mode_after false mode (Some (Mode mask)) = if is_acknowledged mask then mode_of 
 mode_after false mode _ = mode
 
 abbrev pub mode : History → ℕ
-mode (begun settings) = 0
+mode (begun canon) = 0
 mode (next h (got item)) = mode_after (changes (options h) (options (next h (got item)))) (mode h) (payload_at (options h) item)
 mode (next h _) = mode h
 
@@ -175,7 +175,7 @@ chars_after c _ = c
 
 -- the characters in force: the opening ones, changed by each adopted triple, each reset and each call
 abbrev pub chars : History → Characters
-chars (begun settings) = settings.chars
+chars (begun canon) = canon.settings.chars
 chars (next h (got item)) = chars_after (chars h) (payload_at (options h) item)
 chars (next h (char_set func value)) = with_slot (chars h) func value
 chars (next h _) = chars h

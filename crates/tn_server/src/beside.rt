@@ -7,7 +7,7 @@ use std::alloc::{AllocError, Global};
 use std::process::Abort;
 use std::test::Fail;
 use tn_codes::Func;
-use tn_discipline::{Entry, Settings, Sig};
+use tn_discipline::{Entry, Limit, Settings, Sig};
 use tn_pty::PtyFault;
 
 // Numbers that look like chance, the same in each run.
@@ -30,7 +30,7 @@ const OPTIONS: [u8; 7] = [1, 1, 3, 31, 34, 34, 99];
 
 const MASKS: [u8; 10] = [0, 1, 3, 3, 4, 5, 7, 7, 7, 255];
 
-const FUNCS: [u8; 12] = [0, 3, 7, 8, 9, 10, 10, 11, 17, 17, 5, 99];
+const FUNCS: [u8; 12] = [0, 3, 7, 8, 9, 10, 10, 11, 17, 18, 5, 99];
 
 const MODIFIERS: [u8; 10] = [0, 1, 2, 2, 2, 3, 130, 128, 98, 252];
 
@@ -151,7 +151,7 @@ impl Trial {
         let mut sent = Vec::new(alloc);
         Ok(Trial {
             alloc,
-            end: ServerEnd::start(alloc, settings, &mut sent)?,
+            end: ServerEnd::start(alloc, settings, Limit::standard(), &mut sent)?,
             stream: Vec::new(alloc),
             read: 0,
             sent,

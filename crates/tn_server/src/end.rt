@@ -3,29 +3,32 @@
 ghost use Rattle.std.specs.Prelude.{◌≡◌, ◌≢◌, ◌↔◌, ◌⊎◌, ◌&&◌, not, ℕ, List, true, false, Some, None, Err, [], ◌++◌, ◌∷◌, length, min, IfOk, IfErr, OnOk, OnErr, IsErrOf, MatchOption, option_copied, slice_get};
 ghost use Rattle.tn_discipline.specs.Characters.{char_fault};
 ghost use Rattle.tn_discipline.specs.declared.characters.CharFault.{CharFault};
+ghost use Rattle.tn_nvt.specs.Spelling.{spells};
 ghost use Rattle.tn_nvt.specs.Standing.{HasRead};
 ghost use Rattle.tn_option.specs.Options.{state_of, is_yes};
 ghost use Rattle.tn_option.specs.declared.q_method.Side.TheVariants.{Us};
-ghost use Rattle.tn_pty.specs.Terminal.{fits, first_signal, most_waiting};
+ghost use Rattle.tn_pty.specs.Terminal.{fits, first_signal};
 ghost use Rattle.tn_pty.specs.declared.pty.PtyFault.{PtyFault};
-ghost use Rattle.tn_pty.specs.declared.pty.PtyFault.TheVariants.{TooFarAhead, Closed};
+ghost use Rattle.tn_pty.specs.declared.pty.PtyFault.TheVariants.{Closed};
 ghost use Rattle.tn_server.specs.Events.{History, begun, next, took, wrote, pulled, wished, char_set, echo_set};
 ghost use Rattle.tn_server.specs.Lines.{half, waiting};
 ghost use Rattle.tn_server.specs.Screen.{queue, size, sends_ga, none_waits, due};
 ghost use Rattle.tn_server.specs.Terms.{mode, asked, chars, options, sends_mode};
 ghost use Rattle.tn_server.specs.Replies.{opening};
-ghost use Rattle.tn_server.specs.Faults.{IsOfItem, IsFault, char_refusal};
-ghost use Rattle.tn_server.specs.Standing.{Stands, Goes, Feeds, Halts};
+ghost use Rattle.tn_server.specs.Faults.{IsOfItem, IsFault, SaysSomething};
+ghost use Rattle.tn_server.specs.Standing.{Stands, Goes, Keeps, Feeds, Halts, call_fault, char_fault_at};
 
 use crate::faults::ServerFault;
 use crate::screen::{SYMBOL_BYTES, spell_all};
 use crate::sending::put_char;
+use crate::taking::Lent;
 use crate::terms::Negotiation;
 use crate::wishes::Editing;
 use std::alloc::Global;
 use std::marker::Model;
+use std::mem;
 use tn_codes::{Command, Func};
-use tn_discipline::{CharFault, Chars, Entry, Settings, Sig};
+use tn_discipline::{CharFault, Chars, Entry, Limit, Settings, Sig};
 use tn_linemode::ServerTable;
 use tn_nvt::{Decoder, put_cmd};
 use tn_option::{QState, SUPPRESS_GO_AHEAD, Side};
@@ -58,22 +61,24 @@ impl Model for ServerEnd {
 }
 
 impl ServerEnd {
-    /// Starts an end over a terminal with these settings, and appends the opening words.
+    /// Starts an end over a terminal with these settings, whose lines have at most `limit` bytes, and
+    /// appends the opening words.
     pub fn start(
         alloc: Global,
         settings: Settings,
+        limit: Limit,
         out: &mut Vec<u8>,
     ) -> Result<ServerEnd, ServerFault>
-        ensures stands { IfOk result (λ end. Stands (begun settings) end) }
+        ensures stands { IfOk result (λ end. Stands (begun (record { settings = settings; limit = limit })) end) }
         ensures reads { IfOk result (λ end. HasRead end.decoder [] []) }
         ensures runs { IfOk result (λ end. end.failed ≡ false) }
         ensures opens { IfOk result (λ end. end.terminal.closed ≡ false) }
-        ensures out { OnOk result (out.new.items ≡ out.old.items ++ opening) }
+        ensures out { OnOk result (out.new.items ≡ out.old.items ++ spells opening) }
         ensures err { OnErr result (out.new.items ≡ out.old.items) }
         ensures fault { IfErr result (λ fault. fault ≡ ServerFault.Memory) }
     {
         let table = ServerTable::new(settings.chars);
-        let pair = match Pair::new(alloc, settings) {
+        let pair = match Pair::new(alloc, settings, limit) {
             Ok(pair) => pair,
             Err(_) => return Err(ServerFault::Memory),
         };
@@ -96,33 +101,32 @@ impl ServerEnd {
     /// refusal the end has failed, and `out` may hold replies to what came before the refusal.
     pub fn feed(&mut self, piece: &[u8], out: &mut Vec<u8>) -> Result<(), ServerFault>
         ensures ok { OnOk result (Feeds self.old piece.now out.old.items out.new.items self.new) }
+        ensures accepted { OnOk result (call_fault self.old ≡ None) }
         ensures failed { IsErrOf result ServerFault.Failed ↔ (self.old.failed ≡ true) }
         ensures failed_stays { IsErrOf result ServerFault.Failed → self.new ≡ self.old }
         ensures failed_appends { IsErrOf result ServerFault.Failed → out.new.items ≡ out.old.items }
-        ensures halts { IfErr result (λ fault. IsOfItem fault → Halts self.old piece.now out.old.items out.new.items self.new) }
+        ensures halts { IfErr result (λ fault. IsOfItem fault → Halts self.old piece.now fault out.old.items out.new.items self.new) }
         ensures err { OnErr result (self.new.failed ≡ true) }
         ensures no_char { (fault : CharFault) → result ≢ Err (ServerFault.Char fault) }
-
-        // Whatever led here, as many entries wait as may; and no terminal is shut that was not.
-        ensures too_far { IsErrOf result (ServerFault.Pty TooFarAhead) → (h : History) → Stands h self.new → length (waiting h) ≡ most_waiting }
         ensures shut { IsErrOf result (ServerFault.Pty Closed) → self.old.terminal.closed ≡ true }
     {
         if self.failed {
             return Err(ServerFault::Failed);
         }
-        let mut items = Vec::new(self.alloc);
-        let decoded = self.decoder.feed(piece, &mut items);
-        match self.items(items, out) {
-            Ok(()) => match decoded {
-                Ok(()) => Ok(()),
-                Err(_) => {
-                    self.failed = true;
-                    Err(ServerFault::Memory)
-                },
-            },
-            Err(fault) => {
+        let mut decoder = mem::replace(&mut self.decoder, Decoder::new(self.alloc));
+        let mut lent = Lent {
+            end: self,
+            out,
+            cause: ServerFault::Memory,
+        };
+        let fed = decoder.feed_to(piece, &mut lent);
+        let cause = lent.cause;
+        self.decoder = decoder;
+        match fed {
+            Ok(()) => Ok(()),
+            Err(_) => {
                 self.failed = true;
-                Err(fault)
+                Err(cause)
             },
         }
     }
@@ -130,6 +134,7 @@ impl ServerEnd {
     /// Writes output of a job to the terminal's screen: the first bytes, as many as fit.
     pub fn write(&mut self, bytes: &[u8]) -> usize
         ensures goes { (before : List ℕ) → Goes self.old (wrote bytes.now) before before self.new }
+        ensures keeps { Keeps self.old self.new }
         ensures count { (h : History) → Stands h self.old → result ≡ fits (queue h) bytes.now }
     {
         self.pair.write(bytes)
@@ -138,13 +143,12 @@ impl ServerEnd {
     /// Takes the first entry that waits. Where none waits it may append GA (RFC 858).
     pub fn take(&mut self, out: &mut Vec<u8>) -> Result<Option<Entry>, ServerFault>
         ensures ok { OnOk result (Goes self.old took out.old.items out.new.items self.new) }
+        ensures keeps { OnOk result (Keeps self.old self.new) }
         ensures entry { IfOk result (λ entry. (h : History) → Stands h self.old → MatchOption entry (waiting h ≡ []) (λ e. waiting h ≡ e ∷ waiting (next h took))) }
         ensures err { OnErr result (self.new ≡ self.old) }
         ensures err_appends { OnErr result (out.new.items ≡ out.old.items) }
         ensures fault { IfErr result (λ fault. fault ≡ ServerFault.Memory) }
-
-        // An entry that waits takes no memory.
-        ensures needs { OnErr result ((h : History) → Stands h self.old → sends_ga (none_waits h) (options h) (due h) ≡ true) }
+        ensures grows { OnErr result ((h : History) → Stands h self.old → SaysSomething h took) }
     {
         if let Some(entry) = self.pair.take() {
             return Ok(Some(entry));
@@ -172,12 +176,17 @@ impl ServerEnd {
     /// how many symbols.
     pub fn pull(&mut self, max: usize, out: &mut Vec<u8>) -> Result<usize, ServerFault>
         ensures ok { IfOk result (λ n. Goes self.old (pulled n) out.old.items out.new.items self.new) }
+        ensures keeps { OnOk result (Keeps self.old self.new) }
+        ensures grows { OnErr result ((h : History) → Stands h self.old → SaysSomething h (pulled max)) }
         ensures count { IfOk result (λ n. (h : History) → Stands h self.old → n ≡ min max (length (queue h))) }
         ensures err { OnErr result (self.new ≡ self.old) }
         ensures err_appends { OnErr result (out.new.items ≡ out.old.items) }
         ensures fault { IfErr result (λ fault. fault ≡ ServerFault.Memory) }
     {
         let most = max.min(self.pair.queued());
+        if most == 0 {
+            return Ok(0);
+        }
         match out.reserve(SYMBOL_BYTES * most) {
             Ok(()) => {},
             Err(_) => return Err(ServerFault::Memory),
@@ -186,7 +195,7 @@ impl ServerEnd {
         match self.pair.pull(most, &mut symbols) {
             Ok(count) => {
                 spell_all(&symbols, out);
-                self.pulled = self.pulled || !symbols.is_empty();
+                self.pulled = true;
                 Ok(count)
             },
             Err(_) => Err(ServerFault::Memory),
@@ -198,11 +207,13 @@ impl ServerEnd {
     /// it is in force.
     pub fn wish(&mut self, editing: Editing, out: &mut Vec<u8>) -> Result<bool, ServerFault>
         ensures ok { OnOk result (Goes self.old (wished editing) out.old.items out.new.items self.new) }
+        ensures keeps { OnOk result (Keeps self.old self.new) }
+        ensures grows { IsErrOf result ServerFault.Memory → (h : History) → Stands h self.old → SaysSomething h (wished editing) }
         ensures sent { IfOk result (λ sent. (h : History) → Stands h self.old → sent ≡ sends_mode h editing) }
-        ensures failed { IsErrOf result ServerFault.Failed ↔ (self.old.failed ≡ true) }
+        ensures accepted { OnOk result (call_fault self.old ≡ None) }
         ensures err { OnErr result (self.new ≡ self.old) }
         ensures err_appends { OnErr result (out.new.items ≡ out.old.items) }
-        ensures fault { IfErr result (λ fault. (fault ≡ ServerFault.Failed) ⊎ (fault ≡ ServerFault.Memory)) }
+        ensures fault { IfErr result (IsFault (call_fault self.old)) }
     {
         if self.failed {
             return Err(ServerFault::Failed);
@@ -226,11 +237,10 @@ impl ServerEnd {
         out: &mut Vec<u8>,
     ) -> Result<(), ServerFault>
         ensures ok { OnOk result (Goes self.old (char_set func value) out.old.items out.new.items self.new) }
-        ensures failed { IsErrOf result ServerFault.Failed ↔ (self.old.failed ≡ true) }
-        ensures accepted { OnOk result ((h : History) → Stands h self.old → char_fault (chars h) func value ≡ None) }
-        ensures char { (fault : CharFault) → result ≡ Err (ServerFault.Char fault) → (h : History) → Stands h self.old → char_fault (chars h) func value ≡ Some fault }
-        ensures no_pty { (fault : PtyFault) → result ≢ Err (ServerFault.Pty fault) }
-        ensures fault { IfErr result (λ fault. (h : History) → Stands h self.old → IsFault (char_refusal self.old.failed (char_fault (chars h) func value)) fault) }
+        ensures keeps { OnOk result (Keeps self.old self.new) }
+        ensures grows { IsErrOf result ServerFault.Memory → (h : History) → Stands h self.old → SaysSomething h (char_set func value) }
+        ensures accepted { OnOk result (char_fault_at self.old func value ≡ None) }
+        ensures fault { IfErr result (IsFault (char_fault_at self.old func value)) }
         ensures err { OnErr result (self.new ≡ self.old) }
         ensures err_appends { OnErr result (out.new.items ≡ out.old.items) }
     {
@@ -257,10 +267,12 @@ impl ServerEnd {
     /// Sets or clears the terminal's flag ECHO, and appends the word for the option ECHO, if one is due.
     pub fn set_echo(&mut self, on: bool, out: &mut Vec<u8>) -> Result<(), ServerFault>
         ensures ok { OnOk result (Goes self.old (echo_set on) out.old.items out.new.items self.new) }
-        ensures failed { IsErrOf result ServerFault.Failed ↔ (self.old.failed ≡ true) }
+        ensures keeps { OnOk result (Keeps self.old self.new) }
+        ensures grows { IsErrOf result ServerFault.Memory → (h : History) → Stands h self.old → SaysSomething h (echo_set on) }
+        ensures accepted { OnOk result (call_fault self.old ≡ None) }
         ensures err { OnErr result (self.new ≡ self.old) }
         ensures err_appends { OnErr result (out.new.items ≡ out.old.items) }
-        ensures fault { IfErr result (λ fault. (fault ≡ ServerFault.Failed) ⊎ (fault ≡ ServerFault.Memory)) }
+        ensures fault { IfErr result (IsFault (call_fault self.old)) }
     {
         if self.failed {
             return Err(ServerFault::Failed);

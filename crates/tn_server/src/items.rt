@@ -1,16 +1,18 @@
 //! What a server end does with an item that came.
 
-ghost use Rattle.std.specs.Prelude.{◌≡◌, ◌≤◌, ◌++◌, ◌⊎◌, true, false, Some, None, [], length, IfOk, IfErr, IfSome, IfNone, OnOk, OnErr, IsErrOf, option_map};
-ghost use Rattle.tn_pty.specs.Terminal.{most_waiting};
+ghost use Rattle.std.specs.Prelude.{◌≡◌, ◌≢◌, ◌≤◌, ◌++◌, ℕ, List, true, Some, [], length, map, IfOk, IfErr, IfSome, OnOk, OnErr, IsErrOf};
 ghost use Rattle.tn_codes.specs.Payloads.{IsShort};
 ghost use Rattle.tn_codes.specs.declared.payloads.Payload.TheVariants as payload;
+ghost use Rattle.tn_nvt.specs.Spelling.{spells};
 ghost use Rattle.tn_nvt.specs.declared.items.Item.TheVariants as item;
+ghost use Rattle.tn_pty.specs.Typing.{command_role};
+ghost use Rattle.tn_pty.specs.declared.pty.PtyFault.{PtyFault};
 ghost use Rattle.tn_server.specs.Events.{got};
 ghost use Rattle.tn_server.specs.Terms.{payload_at, mask_for};
 ghost use Rattle.tn_server.specs.Replies.{list_answered};
 ghost use Rattle.tn_server.specs.Standing.{Goes, Gets, Refuses, Stops};
-ghost use Rattle.tn_server.specs.Faults.{IsOfItem};
-ghost use Rattle.tn_server.specs.Steps.{typed_byte, typed_command, IsShut, Cuts, after_words, says_words, after_wished, says_wished, sends_wished, after_mode_got, says_mode_got, after_list, after_sub, says_sub};
+ghost use Rattle.tn_server.specs.Faults.{IsOfItem, IsList};
+ghost use Rattle.tn_server.specs.Steps.{role_typed, typed_byte, typed_command, IsShut, IsKeyCause, CanGrow, Cuts, after_words, says_words, after_wished, says_wished, sends_wished, after_mode_got, says_mode_got, after_list, after_sub, says_sub};
 
 use crate::end::ServerEnd;
 use crate::faults::ServerFault;
@@ -31,24 +33,27 @@ const MOST_PARAMS: usize = 512;
 const MOST_TRIPLES: usize = 170;
 
 impl ServerEnd {
-    pub(crate) fn items(&mut self, items: Vec<Item>, out: &mut Vec<u8>) -> Result<(), ServerFault>
-        ensures ok { OnOk result (Gets self.old items.items out.old.items out.new.items self.new) }
-        ensures err { OnErr result (Stops self.old items.items out.old.items out.new.items self.new) }
-        ensures fault { IfErr result IsOfItem }
-        ensures too_far { IsErrOf result (ServerFault.Pty PtyFault.TooFarAhead) → length self.new.terminal.entries ≡ most_waiting }
-        ensures shut { IsErrOf result (ServerFault.Pty PtyFault.Closed) → self.old.terminal.closed ≡ true }
+    /// Takes bytes of data, one after another.
+    pub(crate) fn bytes(&mut self, bytes: &[u8]) -> Result<(), PtyFault>
+        ensures ok { OnOk result
+            ((before : List ℕ) → Gets self.old (map item.Byte bytes.now) before before self.new) }
+        ensures err { IfErr result (λ fault. (before : List ℕ) →
+            Stops self.old (map item.Byte bytes.now) (ServerFault.Pty fault) before before self.new) }
+        ensures failed { self.new.failed ≡ self.old.failed }
+        ensures shut { IsErrOf result PtyFault.Closed → self.old.terminal.closed ≡ true }
     {
-        for item in items {
-            self.item(item, out)?;
+        for byte in bytes {
+            self.byte(*byte)?;
         }
         Ok(())
     }
 
-    fn item(&mut self, item: Item, out: &mut Vec<u8>) -> Result<(), ServerFault>
+    /// Takes one item.
+    pub(crate) fn item(&mut self, item: Item, out: &mut Vec<u8>) -> Result<(), ServerFault>
         ensures ok { OnOk result (Goes self.old (got item) out.old.items out.new.items self.new) }
-        ensures err { OnErr result (Refuses self.old (got item) out.old.items out.new.items self.new) }
+        ensures err { IfErr result (λ fault. Refuses self.old item fault out.old.items out.new.items self.new) }
         ensures fault { IfErr result IsOfItem }
-        ensures too_far { IsErrOf result (ServerFault.Pty PtyFault.TooFarAhead) → length self.new.terminal.entries ≡ most_waiting }
+        ensures failed { self.new.failed ≡ self.old.failed }
         ensures shut { IsErrOf result (ServerFault.Pty PtyFault.Closed) → self.old.terminal.closed ≡ true }
     {
         match item {
@@ -79,8 +84,7 @@ impl ServerEnd {
     fn byte(&mut self, byte: u8) -> Result<(), PtyFault>
         ensures ok { OnOk result (self.new ≡ typed_byte self.old byte) }
         ensures err { OnErr result (IsShut self.old self.new) }
-        ensures too_far { IsErrOf result PtyFault.TooFarAhead → length self.new.terminal.entries ≡ most_waiting }
-        ensures shut { IsErrOf result PtyFault.Closed → self.old.terminal.closed ≡ true }
+        ensures cause { IfErr result (λ fault. IsKeyCause self.old.terminal (role_typed self.old byte) fault) }
     {
         if self.terms.modes.current() & EDIT != 0 {
             return self.pair.edited_byte(byte);
@@ -92,8 +96,7 @@ impl ServerEnd {
     fn command(&mut self, command: Command) -> Result<(), PtyFault>
         ensures ok { OnOk result (self.new ≡ typed_command self.old command) }
         ensures err { OnErr result (IsShut self.old self.new) }
-        ensures too_far { IsErrOf result PtyFault.TooFarAhead → length self.new.terminal.entries ≡ most_waiting }
-        ensures shut { IsErrOf result PtyFault.Closed → self.old.terminal.closed ≡ true }
+        ensures cause { IfErr result (λ fault. IsKeyCause self.old.terminal (command_role command) fault) }
     {
         self.pair.command(command)
     }
@@ -101,8 +104,9 @@ impl ServerEnd {
     // An option word: it is answered, and what follows from it is said.
     fn word(&mut self, verb: Verb, option: u8, out: &mut Vec<u8>) -> Result<(), AllocError>
         ensures ok { OnOk result (self.new ≡ after_words self.old verb option) }
-        ensures out { OnOk result (out.new.items ≡ out.old.items ++ says_words self.old verb option) }
+        ensures out { OnOk result (out.new.items ≡ out.old.items ++ spells (says_words self.old verb option)) }
         ensures cut { OnErr result (Cuts (says_words self.old verb option) out.old.items out.new.items) }
+        ensures some { OnErr result (says_words self.old verb option ≢ []) }
         ensures err { OnErr result (self.new ≡ self.old) }
     {
         let was_on = self.terms.has_linemode();
@@ -124,8 +128,9 @@ impl ServerEnd {
     ) -> Result<bool, AllocError>
         ensures ok { OnOk result (self.new ≡ after_wished self.old (mask_for self.old.terminal.settings.flags editing)) }
         ensures sent { IfOk result (λ sent. sent ≡ sends_wished self.old (mask_for self.old.terminal.settings.flags editing)) }
-        ensures out { OnOk result (out.new.items ≡ out.old.items ++ says_wished self.old (mask_for self.old.terminal.settings.flags editing)) }
+        ensures out { OnOk result (out.new.items ≡ out.old.items ++ spells (says_wished self.old (mask_for self.old.terminal.settings.flags editing))) }
         ensures cut { OnErr result (Cuts (says_wished self.old (mask_for self.old.terminal.settings.flags editing)) out.old.items out.new.items) }
+        ensures some { OnErr result (says_wished self.old (mask_for self.old.terminal.settings.flags editing) ≢ []) }
         ensures err { OnErr result (self.new ≡ self.old) }
     {
         let flags = self.pair.settings().flags;
@@ -143,8 +148,9 @@ impl ServerEnd {
     // A MODE of the client: an acknowledgement is in force from here on, and any other is a wish.
     fn mode_got(&mut self, mask: u8, out: &mut Vec<u8>) -> Result<(), AllocError>
         ensures ok { OnOk result (self.new ≡ after_mode_got self.old mask) }
-        ensures out { OnOk result (out.new.items ≡ out.old.items ++ says_mode_got self.old mask) }
+        ensures out { OnOk result (out.new.items ≡ out.old.items ++ spells (says_mode_got self.old mask)) }
         ensures cut { OnErr result (Cuts (says_mode_got self.old mask) out.old.items out.new.items) }
+        ensures some { OnErr result (says_mode_got self.old mask ≢ []) }
         ensures err { OnErr result (self.new ≡ self.old) }
     {
         let mut modes = self.terms.modes;
@@ -168,8 +174,9 @@ impl ServerEnd {
     fn list(&mut self, triples: &Triples, out: &mut Vec<u8>) -> Result<(), AllocError>
         requires { length triples.now ≤ 170 }
         ensures ok { OnOk result (self.new ≡ after_list self.old triples.now) }
-        ensures out { OnOk result (out.new.items ≡ out.old.items ++ list_answered self.old.table (Some (payload.Slc triples.now))) }
+        ensures out { OnOk result (out.new.items ≡ out.old.items ++ spells (list_answered self.old.table (Some (payload.Slc triples.now)))) }
         ensures cut { OnErr result (Cuts (list_answered self.old.table (Some (payload.Slc triples.now))) out.old.items out.new.items) }
+        ensures some { OnErr result (triples.now ≢ []) }
         ensures err { OnErr result (self.new ≡ self.old) }
     {
         let mut table = self.table;
@@ -184,15 +191,17 @@ impl ServerEnd {
         Ok(())
     }
 
-    fn subnegotiation(
+    /// Takes a subnegotiation.
+    pub(crate) fn subnegotiation(
         &mut self,
         option: u8,
         params: &Params,
         out: &mut Vec<u8>,
     ) -> Result<(), AllocError>
         ensures ok { OnOk result (self.new ≡ after_sub self.old (payload_at self.old.terms.options (item.Sub option params.now))) }
-        ensures out { OnOk result (out.new.items ≡ out.old.items ++ says_sub self.old (payload_at self.old.terms.options (item.Sub option params.now))) }
+        ensures out { OnOk result (out.new.items ≡ out.old.items ++ spells (says_sub self.old (payload_at self.old.terms.options (item.Sub option params.now)))) }
         ensures cut { OnErr result (Cuts (says_sub self.old (payload_at self.old.terms.options (item.Sub option params.now))) out.old.items out.new.items) }
+        ensures some { OnErr result (CanGrow self.old (payload_at self.old.terms.options (item.Sub option params.now))) }
         ensures err { OnErr result (self.new ≡ self.old) }
     {
         match self.payload(option, params)? {
@@ -216,6 +225,7 @@ impl ServerEnd {
     fn payload(&self, option: u8, params: &Params) -> Result<Option<Payload>, AllocError>
         ensures value { IfOk result (λ payload. payload ≡ payload_at self.now.terms.options (item.Sub option params.now)) }
         ensures short { IfOk result (λ payload. IfSome payload IsShort) }
+        ensures list { OnErr result (IsList (payload_at self.now.terms.options (item.Sub option params.now))) }
     {
         if !self.terms.options.is_on(Side::Them, option) || params.len() > MOST_PARAMS {
             return Ok(None);

@@ -15,6 +15,7 @@ pub mod laws;
 mod plain;
 mod screen;
 mod sending;
+mod taking;
 mod terms;
 #[cfg(test)]
 mod tests;

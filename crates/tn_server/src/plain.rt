@@ -144,8 +144,8 @@ fn cell(place: &Place, cause: Cause) -> (QState, Option<bool>) {
     }
 }
 
-/// The codes of the seven functions with a character, and the standard characters.
-const STANDARD: [(u8, Option<u8>); 7] = [
+/// The codes of the eight functions with a character, and the standard characters.
+const STANDARD: [(u8, Option<u8>); 8] = [
     (3, Some(3)),
     (7, Some(28)),
     (8, Some(4)),
@@ -153,6 +153,7 @@ const STANDARD: [(u8, Option<u8>); 7] = [
     (10, Some(127)),
     (11, Some(21)),
     (17, None),
+    (18, None),
 ];
 
 // A character in a list of local characters: its function, its level and its value.
@@ -169,7 +170,7 @@ pub(crate) struct Account {
     alloc: Global,
     places: [Place; 8],
     flags: Flags,
-    chars: [(u8, Option<u8>); 7],
+    chars: [(u8, Option<u8>); 8],
     wish: u8,
     asked: u8,
     mode: u8,
@@ -540,6 +541,7 @@ impl Account {
             return self.add(match self.holder_of(byte) {
                 _ if byte == 10 => Role::Nl,
                 Some(17) => Role::Eol(byte),
+                Some(18) => Role::Eol2(byte),
                 _ => Role::Ordinary(byte),
             });
         }
@@ -560,6 +562,7 @@ impl Account {
         match self.holder_of(byte) {
             _ if byte == 10 => Role::Nl,
             Some(17) => Role::Eol(byte),
+            Some(18) => Role::Eol2(byte),
             Some(8) => Role::Eof,
             Some(10) => Role::Erase,
             Some(11) => Role::Kill,
@@ -600,7 +603,7 @@ impl Account {
         let counted = self.half()?.len();
         match role {
             Role::Ordinary(_) if flags.echo && counted >= 254 => self.show(&[Symbol::Byte(7)]),
-            Role::Ordinary(byte) | Role::Eol(byte) if flags.echo => {
+            Role::Ordinary(byte) | Role::Eol(byte) | Role::Eol2(byte) if flags.echo => {
                 self.show(&[Symbol::Byte(byte)])
             }
             Role::Nl if flags.echo || flags.echonl => self.show(&[Symbol::Newline]),
@@ -685,7 +688,7 @@ impl Account {
             let mut bytes = kept(self.alloc, piece)?;
             match piece.last() {
                 Some(Role::Nl) => bytes.push(10)?,
-                Some(Role::Eol(byte)) => bytes.push(*byte)?,
+                Some(Role::Eol(byte) | Role::Eol2(byte)) => bytes.push(*byte)?,
                 Some(Role::Eof) => {},
                 _ => break,
             }
@@ -700,7 +703,7 @@ impl Account {
 }
 
 fn closes(role: Role) -> bool {
-    matches!(role, Role::Nl | Role::Eol(_) | Role::Eof)
+    matches!(role, Role::Nl | Role::Eol(_) | Role::Eol2(_) | Role::Eof)
 }
 
 fn gives_entry(role: Role) -> bool {
@@ -716,7 +719,7 @@ fn admitted(alloc: Global, roles: &[Role]) -> Result<Vec<Role>, AllocError> {
             Role::Ordinary(_) if count >= 254 => continue,
             Role::Ordinary(_) => count = count.saturating_add(1),
             Role::Erase => count = count.saturating_sub(1),
-            Role::Kill | Role::Nl | Role::Eol(_) | Role::Eof => count = 0,
+            Role::Kill | Role::Nl | Role::Eol(_) | Role::Eol2(_) | Role::Eof => count = 0,
             Role::Signal(_) | Role::Ignored => {},
         }
         keys.push(*role)?;

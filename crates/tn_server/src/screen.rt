@@ -1,8 +1,8 @@
 //! Symbols of the screen as bytes of the stream.
 
-ghost use Rattle.std.specs.Prelude.{◌≡◌, ◌+◌, ◌*◌, ◌≤◌, ◌++◌, length, vec_len, vec_capacity};
-ghost use Rattle.std.specs.List.{flat_map};
-ghost use Rattle.tn_server.specs.Replies.{spelled};
+ghost use Rattle.std.specs.Prelude.{◌≡◌, ◌+◌, ◌*◌, ◌≤◌, ◌++◌, map, length, vec_len, vec_capacity};
+ghost use Rattle.tn_nvt.specs.Spelling.{spelling, spells};
+ghost use Rattle.tn_server.specs.Replies.{data_of};
 
 use tn_discipline::Symbol;
 
@@ -12,7 +12,7 @@ pub(crate) const SYMBOL_BYTES: usize = 2;
 /// Appends the spellings of symbols to a vector that has room.
 pub(crate) fn spell_all(symbols: &[Symbol], out: &mut Vec<u8>)
     requires { vec_len out.old + 2 * length symbols.now ≤ vec_capacity out.old }
-    ensures { out.new.items ≡ out.old.items ++ flat_map spelled symbols.now }
+    ensures { out.new.items ≡ out.old.items ++ spells (map data_of symbols.now) }
 {
     for symbol in symbols {
         spell(*symbol, out);
@@ -21,7 +21,7 @@ pub(crate) fn spell_all(symbols: &[Symbol], out: &mut Vec<u8>)
 
 fn spell(symbol: Symbol, out: &mut Vec<u8>)
     requires { vec_len out.old + 2 ≤ vec_capacity out.old }
-    ensures items { out.new.items ≡ out.old.items ++ spelled symbol }
+    ensures items { out.new.items ≡ out.old.items ++ spelling (data_of symbol) }
     ensures len { vec_len out.new ≤ vec_len out.old + 2 }
     ensures capacity { vec_capacity out.new ≡ vec_capacity out.old }
 {

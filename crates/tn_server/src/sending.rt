@@ -1,6 +1,7 @@
 //! What a server end sends: option words and payloads of LINEMODE, each whole or not at all.
 
-ghost use Rattle.std.specs.Prelude.{◌≡◌, ◌≤◌, ◌++◌, length, OnOk, OnErr};
+ghost use Rattle.std.specs.Prelude.{◌≡◌, ◌≢◌, ◌≤◌, [], ◌++◌, true, length, OnOk, OnErr};
+ghost use Rattle.tn_nvt.specs.Spelling.{spells};
 ghost use Rattle.tn_server.specs.Replies.{word, listed, mode_told, triple_told};
 
 use std::alloc::{AllocError, Global};
@@ -14,8 +15,9 @@ const MODE: u8 = 1;
 
 /// Appends an option word, where there is one to say.
 pub(crate) fn put_word(said: Option<(Verb, u8)>, out: &mut Vec<u8>) -> Result<(), AllocError>
-    ensures ok { OnOk result (out.new.items ≡ out.old.items ++ word said) }
+    ensures ok { OnOk result (out.new.items ≡ out.old.items ++ spells (word said)) }
     ensures err { OnErr result (out.new.items ≡ out.old.items) }
+    ensures some { OnErr result (word said ≢ []) }
 {
     match said {
         Some((verb, option)) => put_neg(verb, option, out),
@@ -25,8 +27,9 @@ pub(crate) fn put_word(said: Option<(Verb, u8)>, out: &mut Vec<u8>) -> Result<()
 
 /// Appends a MODE with this mask, where one is to be sent.
 pub(crate) fn put_mode(mask: Option<u8>, out: &mut Vec<u8>) -> Result<(), AllocError>
-    ensures ok { OnOk result (out.new.items ≡ out.old.items ++ mode_told mask) }
+    ensures ok { OnOk result (out.new.items ≡ out.old.items ++ spells (mode_told mask)) }
     ensures err { OnErr result (out.new.items ≡ out.old.items) }
+    ensures some { OnErr result (mode_told mask ≢ []) }
 {
     match mask {
         Some(mask) => put_sub(LINEMODE, &[MODE, mask], out),
@@ -41,8 +44,9 @@ pub(crate) fn put_list(
     out: &mut Vec<u8>,
 ) -> Result<(), AllocError>
     requires { length triples.items ≤ 170 }
-    ensures ok { OnOk result (out.new.items ≡ out.old.items ++ listed triples.items) }
+    ensures ok { OnOk result (out.new.items ≡ out.old.items ++ spells (listed triples.items)) }
     ensures err { OnErr result (out.new.items ≡ out.old.items) }
+    ensures some { OnErr result (triples.items ≢ []) }
 {
     if triples.is_empty() {
         return Ok(());
@@ -61,8 +65,9 @@ pub(crate) fn put_char(
     value: Option<u8>,
     out: &mut Vec<u8>,
 ) -> Result<(), AllocError>
-    ensures ok { OnOk result (out.new.items ≡ out.old.items ++ triple_told is_told func value) }
+    ensures ok { OnOk result (out.new.items ≡ out.old.items ++ spells (triple_told is_told func value)) }
     ensures err { OnErr result (out.new.items ≡ out.old.items) }
+    ensures some { OnErr result (is_told ≡ true) }
 {
     if !is_told {
         return Ok(());

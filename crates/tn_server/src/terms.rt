@@ -1,7 +1,8 @@
 //! What a server end has agreed on with its client.
 
-ghost use Rattle.std.specs.Prelude.{◌≡◌, ◌++◌, true, is_some, IfOk, OnOk, OnErr};
+ghost use Rattle.std.specs.Prelude.{◌≡◌, ◌≢◌, [], ◌++◌, true, is_some, IfOk, OnOk, OnErr};
 ghost use Rattle.tn_linemode.specs.Modes.{no_mode};
+ghost use Rattle.tn_nvt.specs.Spelling.{spells};
 ghost use Rattle.tn_server.specs.Terms.{opened, linemode, echoes, echo_asked, wants_echo};
 ghost use Rattle.tn_server.specs.Replies.{table_told, listed, echo_told};
 ghost use Rattle.tn_linemode.specs.Exchange.{announcement};
@@ -73,8 +74,9 @@ impl Negotiation {
         out: &mut Vec<u8>,
     ) -> Result<(), AllocError>
         ensures options { OnOk result (self.new ≡ record self.old { options = echo_asked is_due (wants_echo self.old.modes.asked flags.now) self.old.options }) }
-        ensures out { OnOk result (out.new.items ≡ out.old.items ++ echo_told is_due (wants_echo self.old.modes.asked flags.now) self.old.options) }
+        ensures out { OnOk result (out.new.items ≡ out.old.items ++ spells (echo_told is_due (wants_echo self.old.modes.asked flags.now) self.old.options)) }
         ensures err { OnErr result (out.new.items ≡ out.old.items) }
+        ensures some { OnErr result (echo_told is_due (wants_echo self.old.modes.asked flags.now) self.old.options ≢ []) }
     {
         if !is_due {
             return Ok(());
@@ -102,8 +104,9 @@ impl Negotiation {
     ) -> Result<bool, AllocError>
         ensures sent { IfOk result (λ sent. sent ≡ is_some (told_now was_on self.old)) }
         ensures terms { OnOk result (self.new ≡ settled was_on is_set flags.now self.old) }
-        ensures out { OnOk result (out.new.items ≡ out.old.items ++ settling was_on is_set flags.now table.now self.old) }
+        ensures out { OnOk result (out.new.items ≡ out.old.items ++ spells (settling was_on is_set flags.now table.now self.old)) }
         ensures err { OnErr result (Cuts (settling was_on is_set flags.now table.now self.old) out.old.items out.new.items) }
+        ensures some { OnErr result (settling was_on is_set flags.now table.now self.old ≢ []) }
     {
         let is_on = self.has_linemode();
         put_table(alloc, was_on, is_on, table, out)?;
@@ -123,8 +126,9 @@ fn put_table(
     table: &ServerTable,
     out: &mut Vec<u8>,
 ) -> Result<(), AllocError>
-    ensures ok { OnOk result (out.new.items ≡ out.old.items ++ table_told was_on is_on table.now) }
+    ensures ok { OnOk result (out.new.items ≡ out.old.items ++ spells (table_told was_on is_on table.now)) }
     ensures err { OnErr result (out.new.items ≡ out.old.items) }
+    ensures some { OnErr result (table_told was_on is_on table.now ≢ []) }
 {
     if was_on || !is_on {
         return Ok(());
@@ -138,7 +142,7 @@ pub(crate) fn announce(
     table: &ServerTable,
     out: &mut Vec<u8>,
 ) -> Result<(), AllocError>
-    ensures ok { OnOk result (out.new.items ≡ out.old.items ++ listed (announcement table.now)) }
+    ensures ok { OnOk result (out.new.items ≡ out.old.items ++ spells (listed (announcement table.now))) }
     ensures err { OnErr result (out.new.items ≡ out.old.items) }
 {
     let mut triples = Vec::new(alloc);

@@ -5,7 +5,7 @@ use std::alloc::Global;
 use std::process::Abort;
 use std::test::Fail;
 use tn_codes::Func;
-use tn_discipline::{CharFault, Entry, Settings, Sig};
+use tn_discipline::{CharFault, Entry, Limit, Settings, Sig};
 use tn_pty::PtyFault;
 
 const OPENING: [u8; 15] = [
@@ -19,9 +19,9 @@ pub(crate) const JOINING: [u8; 24] = [
 ];
 
 // The standard characters, as the server tells them.
-const TABLE: [u8; 27] = [
-    255, 250, 34, 3, 3, 2, 3, 7, 2, 28, 8, 2, 4, 9, 2, 26, 10, 2, 127, 11, 2, 21, 17, 0, 0, 255,
-    240,
+const TABLE: [u8; 30] = [
+    255, 250, 34, 3, 3, 2, 3, 7, 2, 28, 8, 2, 4, 9, 2, 26, 10, 2, 127, 11, 2, 21, 17, 0, 0, 18, 0,
+    0, 255, 240,
 ];
 
 // What is done to an end, and what comes of it.
@@ -54,7 +54,7 @@ fn is_text(entry: Option<&Entry>, bytes: &[u8]) -> bool {
 }
 
 fn started(alloc: Global, settings: Settings) -> Result<ServerEnd, ServerFault> {
-    ServerEnd::start(alloc, settings, &mut Vec::new(alloc))
+    ServerEnd::start(alloc, settings, Limit::standard(), &mut Vec::new(alloc))
 }
 
 // An end whose client has said all that it says at the opening.
@@ -182,7 +182,12 @@ const LARGE: [u8; 11] = [255, 250, 31, 255, 255, 255, 255, 0, 7, 255, 240];
 #[test]
 fn opens_and_answers_options(rt: HostRuntime) -> Result<(), Fail> {
     let mut out = Vec::new(rt.alloc());
-    let mut end = ServerEnd::start(rt.alloc(), Settings::standard(), &mut out)?;
+    let mut end = ServerEnd::start(
+        rt.alloc(),
+        Settings::standard(),
+        Limit::standard(),
+        &mut out,
+    )?;
     assert_eq!(rt; out.as_slice(), OPENING.as_slice());
     walk(
         &rt,
@@ -352,7 +357,7 @@ fn wishes_wait_for_linemode(rt: HostRuntime) -> Result<(), Fail> {
     end.feed(&[255, 251, 34], &mut out)?;
     assert!(rt; out.starts_with(&TABLE));
     assert!(rt; out.ends_with(&[255, 250, 34, 1, 3, 255, 240]));
-    assert_eq!(rt; out.len(), 34);
+    assert_eq!(rt; out.len(), TABLE.len() + 7);
     Ok(())
 }
 
@@ -438,6 +443,9 @@ fn gives_entries_once_and_in_order(rt: HostRuntime) -> Result<(), Fail> {
             Step::Signal(Sig::Int),
             Step::SignalWaits(None),
             Step::Yields(&[]),
+            Step::Says(b"xy\x7fz\n\xff\xffw", &[]),
+            Step::Text(b"xz\n"),
+            Step::Half(b"\xffw"),
         ],
     )?;
     Ok(())
@@ -541,7 +549,12 @@ fn tells_its_faults(rt: HostRuntime) -> Result<(), Fail> {
 #[test]
 fn goes_on_without_memory(rt: HostRuntime) {
     let mut out = Vec::new(rt.alloc());
-    let Ok(mut end) = ServerEnd::start(rt.alloc(), Settings::standard(), &mut out) else {
+    let Ok(mut end) = ServerEnd::start(
+        rt.alloc(),
+        Settings::standard(),
+        Limit::standard(),
+        &mut out,
+    ) else {
         assert!(rt; out.is_empty());
         return;
     };

@@ -1,91 +1,104 @@
 -- The invariant of a world after each event, in the words of the calls that it makes.
-use Rattle.std.proofs.Common.{◌≡◌, ℕ, true, Option, List, [], ◌∷◌, ◌++◌, take, drop, refl, sym, ap, ◌∙◌, subst}
-use Rattle.std.specs.Prelude.{option_to_list, MatchOption, Result, Ok, Err, OnOk, OnErr}
+use Rattle.std.proofs.Common.{◌≡◌, ◌≢◌, inl, ℕ, Bool, true, false, if◌then◌else◌, Option, Some, None, List, [], ◌∷◌, ◌++◌, take, drop, refl, sym, ap, ◌∙◌, subst}
+use Rattle.std.specs.Prelude.{option_to_list, Result, Ok, Err, OnOk, OnErr}
+use Rattle.tn_discipline.specs.Canon.{Canon}
 use Rattle.tn_discipline.specs.declared.reads.Entry.{Entry}
-use Rattle.tn_discipline.specs.declared.termios.Settings.{Settings}
+use Rattle.tn_nvt.specs.Spelling.{spells}
 use Rattle.tn_nvt.specs.Standing.{HasRead}
+use Rattle.tn_server.specs.Course as asked_course
 use Rattle.tn_server.specs.Events as asked
-use Rattle.tn_server.specs.Faults.{IsOfItem}
-use Rattle.tn_server.specs.Lines.{waiting}
 use Rattle.tn_server.specs.Replies.{opening}
 use Rattle.tn_server.specs.Standing as server
-use Rattle.tn_server.specs.declared.faults.ServerFault.{ServerFault}
-use Rattle.tn_server.specs.declared.faults.ServerFault.TheVariants as refused
+use Rattle.tn_server.proofs.lemmas.Fitting.{sent-fit}
+use Rattle.tn_client.specs.Course as told_course
 use Rattle.tn_client.specs.Events as told
 use Rattle.tn_client.specs.Standing as client
+use Rattle.tn_client.specs.Replies as client_says
+use Rattle.tn_client.specs.declared.faults.ClientFault.{ClientFault}
+use Rattle.tn_client.specs.declared.faults.ClientFault.TheVariants as broken
 use Rattle.tn_world.specs.Flight.{InFlight}
+use Rattle.tn_world.specs.Opened.{IsOpened}
 use Rattle.tn_world.specs.Settled.{IsSound}
-use Rattle.tn_world.specs.Worlds.{World}
-use Rattle.tn_world.proofs.Cut.{start}
-use Rattle.tn_world.proofs.ServerItems.{opening_made}
-use Rattle.tn_world.proofs.Soundness.{opposite, sound_types, sound_tells, sound_reaches, sound_returns, sound_asks, sound_takes}
-use Rattle.tn_world.proofs.Tied.{behind}
+use Rattle.tn_world.specs.Worlds.{World, client_fault, RefusesTold}
+use Rattle.tn_world.specs.declared.events.Event.TheVariants.{Key, Resize}
+use Rattle.tn_world.proofs.Cut.{said_behind, start}
+use Rattle.tn_world.proofs.Soundness.{made, asked_sound, told_sound, sound_as, sound_reaches, sound_returns, propose_goes_on, breaks_sound, again_sound}
 
-pub key_sound : (old : World) (end : client.End) (key : ℕ) (later seen keys : List ℕ) → client.Goes old.client (told.typed key) end → client.Sends old.client (told.typed key) old.to_server later → client.Shows old.client (told.typed key) old.echoed seen → keys ≡ old.typed ++ key ∷ [] → IsSound old → IsSound (record old { client = end; to_server = later; echoed = seen; typed = keys })
-key_sound old end key later seen keys goes sends shows is s =
-    sound_types old (record old { client = end; to_server = later; echoed = seen; typed = keys }) key
-    (record { goes = goes; sends = sends; shows = shows; rest = ap (λ x. record old { client = end; to_server = later; echoed = seen; typed = x }) is }) s
+-- a call of the client that is accepted
+pub tells_sound : (old : World) (end : client.End) (e : told.Event) (later : List ℕ) → told_course.IsCall e → client_fault old.client e ≡ None → client.Goes old.client e end → client.Keeps old.client end → client.Sends old.client e old.to_server later → IsSound old → IsSound (record old { client = end; to_server = later })
+tells_sound old end e later call accepted goes keeps sends s =
+    told_sound old (record old { client = end; to_server = later }) e call goes keeps sends (propose_goes_on old.client e accepted) s
 
-pub tells_sound : (old : World) (end : client.End) (e : told.Event) (later : List ℕ) → client.Goes old.client e end → client.Sends old.client e old.to_server later → IsSound old → IsSound (record old { client = end; to_server = later })
-tells_sound old end e later goes sends s = sound_tells old (record old { client = end; to_server = later }) e (record { goes = goes; sends = sends; rest = refl }) s
+pub key_sound : (old : World) (end : client.End) (key : ℕ) (later seen keys : List ℕ) → client_fault old.client (told.typed key) ≡ None → client.Goes old.client (told.typed key) end → client.Keeps old.client end → client.Sends old.client (told.typed key) old.to_server later → IsSound old → IsSound (record old { client = end; to_server = later; echoed = seen; typed = keys })
+key_sound old end key later seen keys accepted goes keeps sends s =
+    sound_as (record old { client = end; to_server = later }) (record old { client = end; to_server = later; echoed = seen; typed = keys }) refl refl refl refl
+    (tells_sound old end (told.typed key) later tt accepted goes keeps sends s)
 
-pub asks_sound : (old : World) (end : server.End) (e : asked.Event) (later : List ℕ) → server.Goes old.server e old.to_client later end → IsSound old → IsSound (record old { server = end; to_client = later })
-asks_sound old end e later goes s = sound_asks old (record old { server = end; to_client = later }) e (record { goes = goes; rest = refl }) s
+-- a call of the server that is accepted
+pub asks_sound : (old : World) (end : server.End) (e : asked.Event) (later : List ℕ) → asked_course.IsCall e → server.Goes old.server e old.to_client later end → server.Keeps old.server end → IsSound old → IsSound (record old { server = end; to_client = later })
+asks_sound old end e later call goes keeps s = asked_sound old (record old { server = end; to_client = later }) e call goes keeps s
 
-pub takes_sound : (old : World) (end : server.End) (entry : Option Entry) (later : List ℕ) (entries : List Entry) → server.Goes old.server asked.took old.to_client later end → ((h : asked.History) → server.Stands h old.server → MatchOption entry (waiting h ≡ []) (λ e. waiting h ≡ e ∷ waiting (asked.next h asked.took))) → entries ≡ old.taken ++ option_to_list entry → IsSound old → IsSound (record old { server = end; to_client = later; taken = entries })
-takes_sound old end entry later entries goes is_first is s =
-    sound_takes old (record old { server = end; to_client = later; taken = entries })
-    (record { entry = entry; is_first = is_first; goes = goes; rest = ap (λ x. record old { server = end; to_client = later; taken = x }) is }) s
+pub takes_sound : (old : World) (end : server.End) (later : List ℕ) (entries : List Entry) → server.Goes old.server asked.took old.to_client later end → server.Keeps old.server end → IsSound old → IsSound (record old { server = end; to_client = later; taken = entries })
+takes_sound old end later entries goes keeps s =
+    sound_as (record old { server = end; to_client = later }) (record old { server = end; to_client = later; taken = entries }) refl refl refl refl
+    (asks_sound old end asked.took later tt goes keeps s)
 
-pub reaches_sound : (old : World) (end : server.End) (n : ℕ) (piece left later : List ℕ) → piece ≡ take n old.to_server → left ≡ drop n old.to_server → server.Feeds old.server piece old.to_client later end → IsSound old → IsSound (record old { server = end; to_server = left; to_client = later })
-reaches_sound old end n piece left later is rest feeds s =
+-- deliveries
+pub reaches_sound : (old : World) (end : server.End) (n : ℕ) (piece left later : List ℕ) → server.call_fault old.server ≡ None → piece ≡ take n old.to_server → left ≡ drop n old.to_server → server.Feeds old.server piece old.to_client later end → IsSound old → IsSound (record old { server = end; to_server = left; to_client = later })
+reaches_sound old end n piece left later accepted is rest feeds s =
     sound_reaches old (record old { server = end; to_server = left; to_client = later }) n
-    (record { feeds = subst (λ x. server.Feeds old.server x old.to_client later end) is feeds; rest = ap (λ x. record old { server = end; to_server = x; to_client = later }) rest }) s
+    (record { accepted = accepted; feeds = subst (λ x. server.Feeds old.server x old.to_client later end) is feeds; rest = ap (λ x. record old { server = end; to_server = x; to_client = later }) rest }) s
 
-pub returns_sound : (old : World) (end : client.End) (n : ℕ) (piece left later seen : List ℕ) → piece ≡ take n old.to_client → left ≡ drop n old.to_client → client.Feeds old.client piece old.to_server later old.shown seen end → IsSound old → IsSound (record old { client = end; to_client = left; to_server = later; shown = seen })
-returns_sound old end n piece left later seen is rest feeds s =
+pub returns_sound : (old : World) (end : client.End) (n : ℕ) (piece left later seen : List ℕ) → client.call_fault old.client ≡ None → piece ≡ take n old.to_client → left ≡ drop n old.to_client → client.Feeds old.client piece old.to_server later old.shown seen end → IsSound old → IsSound (record old { client = end; to_client = left; to_server = later; shown = seen })
+returns_sound old end n piece left later seen accepted is rest feeds s =
     sound_returns old (record old { client = end; to_client = left; to_server = later; shown = seen }) n
-    (record { feeds = subst (λ x. client.Feeds old.client x old.to_server later old.shown seen end) is feeds; rest = ap (λ x. record old { client = end; to_client = x; to_server = later; shown = seen }) rest }) s
+    (record { accepted = accepted; feeds = subst (λ x. client.Feeds old.client x old.to_server later old.shown seen end) is feeds; rest = ap (λ x. record old { client = end; to_client = x; to_server = later; shown = seen }) rest }) s
+
+pub breaks_or_again : (old : World) (end : client.End) (piece left later seen : List ℕ) (fault : ClientFault) → client.IsFault (client.call_fault old.client) fault → (fault ≡ broken.Memory → client.Breaks old.client piece old.to_server later old.shown seen) → (fault ≡ broken.Failed → end ≡ old.client) → (fault ≡ broken.Failed → later ≡ old.to_server) → end.failed ≡ true → IsSound old → IsSound (record old { client = end; to_client = left; to_server = later; shown = seen })
+breaks_or_again old end piece left later seen fault cause breaks stays none failed s = by_test old.client.failed refl cause
+  where
+    by_test : (b : Bool) → old.client.failed ≡ b → client.IsFault (if b then Some broken.Failed else None) fault → IsSound (record old { client = end; to_client = left; to_server = later; shown = seen })
+    by_test true is f = sound_as (record old { to_client = left }) (record old { client = end; to_client = left; to_server = later; shown = seen }) refl (stays f) (none f) refl (again_sound old left is s)
+    by_test false is f = breaks_sound old end piece left later seen is (breaks f) failed s
+
+-- a call of the client that is refused
+pub key_refused : (old : World) (end : client.End) (key : ℕ) (later seen keys : List ℕ) (fault : ClientFault) → old.client_stopped ≡ false → client.IsFault (client.call_fault old.client) fault → (fault ≡ broken.Memory → (h : told.History) → client.Stands h old.client → client.Grows h (told.typed key)) → end ≡ old.client → later ≡ old.to_server → seen ≡ old.echoed → keys ≡ old.typed → (w : World) → old ≡ w → RefusesTold w (Key key) fault × (record old { client = end; to_server = later; echoed = seen; typed = keys } ≡ w)
+key_refused old end key later seen keys fault goes cause grows a b c d w is =
+    subst (λ w. RefusesTold w (Key key) fault × (record old { client = end; to_server = later; echoed = seen; typed = keys } ≡ w)) is
+    ((goes, record { cause = cause; grows = grows }), rw (a, b, c, d) refl)
+
+pub resize_refused : (old : World) (end : client.End) (width height : ℕ) (later : List ℕ) (fault : ClientFault) → old.client_stopped ≡ false → client.IsFault (client.call_fault old.client) fault → (fault ≡ broken.Memory → (h : told.History) → client.Stands h old.client → client_says.replies h (told.resized width height) ≢ []) → end ≡ old.client → later ≡ old.to_server → (w : World) → old ≡ w → RefusesTold w (Resize width height) fault × (record old { client = end; to_server = later } ≡ w)
+resize_refused old end width height later fault goes cause grows a b w is =
+    subst (λ w. RefusesTold w (Resize width height) fault × (record old { client = end; to_server = later } ≡ w)) is
+    ((goes, record { cause = cause; grows = λ m h s. inl (grows m h s) }), rw (a, b) refl)
 
 -- a call that may be refused, and then changes nothing
-pub asks_or_not : {A E : Type 0} (old : World) (end : server.End) (e : asked.Event) (later : List ℕ) (r : Result A E) → OnOk r (server.Goes old.server e old.to_client later end) → OnErr r (end ≡ old.server) → OnErr r (later ≡ old.to_client) → IsSound old → IsSound (record old { server = end; to_client = later })
-asks_or_not old end e later (Ok x) goes same none s = asks_sound old end e later goes s
-asks_or_not old end e later (Err x) goes same none s =
-    subst (λ l. IsSound (record old { server = end; to_client = l })) (sym none) (subst (λ d. IsSound (record old { server = d })) (sym same) s)
+pub asks_or_not : {A E : Type 0} (old : World) (end : server.End) (e : asked.Event) (later : List ℕ) (r : Result A E) → asked_course.IsCall e → OnOk r (server.Goes old.server e old.to_client later end) → OnOk r (server.Keeps old.server end) → OnErr r (end ≡ old.server) → OnErr r (later ≡ old.to_client) → IsSound old → IsSound (record old { server = end; to_client = later })
+asks_or_not old end e later (Ok x) call goes keeps same none s = asks_sound old end e later call goes keeps s
+asks_or_not old end e later (Err x) call goes keeps same none s = sound_as old (record old { server = end; to_client = later }) same refl refl none s
 
-pub tells_or_not : {A E : Type 0} (old : World) (end : client.End) (e : told.Event) (later : List ℕ) (r : Result A E) → OnOk r (client.Goes old.client e end) → OnOk r (client.Sends old.client e old.to_server later) → OnErr r (end ≡ old.client) → OnErr r (later ≡ old.to_server) → IsSound old → IsSound (record old { client = end; to_server = later })
-tells_or_not old end e later (Ok x) goes sends same none s = tells_sound old end e later goes sends s
-tells_or_not old end e later (Err x) goes sends same none s =
-    subst (λ l. IsSound (record old { client = end; to_server = l })) (sym none) (subst (λ d. IsSound (record old { client = d })) (sym same) s)
+pub tells_or_not : {A E : Type 0} (old : World) (end : client.End) (e : told.Event) (later : List ℕ) (r : Result A E) → told_course.IsCall e → OnOk r (client_fault old.client e ≡ None) → OnOk r (client.Goes old.client e end) → OnOk r (client.Keeps old.client end) → OnOk r (client.Sends old.client e old.to_server later) → OnErr r (end ≡ old.client) → OnErr r (later ≡ old.to_server) → IsSound old → IsSound (record old { client = end; to_server = later })
+tells_or_not old end e later (Ok x) call accepted goes keeps sends same none s = tells_sound old end e later call accepted goes keeps sends s
+tells_or_not old end e later (Err x) call accepted goes keeps sends same none s = sound_as old (record old { client = end; to_server = later }) refl same none refl s
 
--- the server failed, at a piece or before
-pub halts_sound : (old : World) (end : server.End) (piece left later : List ℕ) (fault : ServerFault) → (fault ≡ refused.Failed → end ≡ old.server) → (IsOfItem fault → server.Halts old.server piece old.to_client later end) → ((f : _) → fault ≡ refused.Char f → ⊥) → end.failed ≡ true → IsSound old → IsSound (record old { server = end; to_server = left; to_client = later })
-halts_sound old end piece left later fault again halts no_char failed s =
-    let h = stood fault again halts no_char in
+-- just opened: both ends are where they start
+pub open_sound : (canon : Canon) (width height : ℕ) (w : World) → server.Stands (asked.begun canon) w.server → HasRead w.server.decoder [] [] → client.Stands (told.begun width height canon.limit) w.client → HasRead w.client.decoder [] [] → w.to_server ≡ [] → w.to_client ≡ spells opening → IsSound w
+open_sound canon width height w stands reads begins began nothing said =
+    made w (asked.begun canon) stands
+    (λ r. (asked_course.started canon, record { history = asked.begun canon; leads = refl; stands = stands; reads = reads }))
+    (λ r. (told_course.started width height canon.limit, record { history = told.begun width height canon.limit; leads = refl; stands = begins; reads = began }))
+    (λ r. begins.limit ∙ sym stands.limit)
+    (λ r. ([], subst (λ x. InFlight w.server.decoder x []) (sym nothing) (start w.server.decoder reads)))
+    (λ r. (opening, said_behind w.client.decoder [] w.to_client [] opening said (sent-fit (asked.begun canon)) (start w.client.decoder began)))
+
+-- and so it was opened
+pub opened_world : (canon : Canon) (width height : ℕ) (end : server.End) (other : client.End) (there here typed shown echoed : List ℕ) (taken : List Entry) → server.Stands (asked.begun canon) end → HasRead end.decoder [] [] → end.failed ≡ false → end.terminal.closed ≡ false → client.Stands (told.begun width height canon.limit) other → HasRead other.decoder [] [] → other.failed ≡ false → there ≡ [] → here ≡ spells opening → typed ≡ [] → taken ≡ [] → shown ≡ [] → echoed ≡ [] → IsOpened canon width height (record { server = end; client = other; server_stopped = false; client_stopped = false; to_server = there; to_client = here; typed = typed; taken = taken; shown = shown; echoed = echoed })
+opened_world canon width height end other there here typed shown echoed taken stands reads runs opens begins began goes a b c d e f =
     record {
-      history = h.0;
-      server = h.1;
-      client = s.client;
-      flights = λ runs b. opposite end.failed _ failed runs;
-    }
-  where
-    stood : (fault : ServerFault) → (fault ≡ refused.Failed → end ≡ old.server) → (IsOfItem fault → server.Halts old.server piece old.to_client later end) → ((f : _) → fault ≡ refused.Char f → ⊥) → (h : asked.History) × server.Stands h end
-    stood (refused.Pty f) again halts no_char = let x = halts tt in (asked.gets s.history x.done, x.stands s.history s.server)
-    stood refused.Memory again halts no_char = let x = halts tt in (asked.gets s.history x.done, x.stands s.history s.server)
-    stood refused.Failed again halts no_char = (s.history, subst (λ x. server.Stands s.history x) (sym (again refl)) s.server)
-    stood (refused.Char f) again halts no_char = absurd (no_char f refl)
-
--- just opened
-pub open_sound : (w : World) (settings : Settings) (width height : ℕ) → server.Stands (asked.begun settings) w.server → HasRead w.server.decoder [] [] → client.Stands (told.begun width height) w.client → HasRead w.client.decoder [] [] → w.to_server ≡ [] → w.to_client ≡ opening → IsSound w
-open_sound w settings width height stands reads begins began nothing said =
-    record {
-      history = asked.begun settings;
-      server = stands;
-      client = λ runs. (told.begun width height, begins);
-      flights = λ a b. record {
-        items = [];
-        to_server = subst (λ x. InFlight w.server.decoder x []) (sym nothing) (start w.server.decoder reads);
-        messages = opening_made.items;
-        to_client = behind w.client.decoder [] w.to_client [] opening_made.items opening_made.fit (said ∙ opening_made.spelled) (start w.client.decoder began);
-      };
+      server = record { history = asked.begun canon; leads = refl; stands = stands; reads = reads };
+      client = record { history = told.begun width height canon.limit; leads = refl; stands = begins; reads = began };
+      takes_keys = opens;
+      server_runs = runs;
+      client_runs = goes;
+      rest = rw (a, b, c, d, e, f) refl;
     }

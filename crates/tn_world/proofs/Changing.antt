@@ -3,11 +3,12 @@
 use Rattle.std.proofs.Common.{◌≡◌, ◌≤◌, inl, inr, ℕ, ◌+◌, Bool, true, false, not, ◌&&◌, List, [], ◌∷◌, ◌++◌, length, refl, sym, ap, ◌∙◌, if◌then◌else◌, subst, arith, append-nil, append_assoc, length-append}
 use Rattle.tn_discipline.specs.declared.reads.Entry.{Entry}
 use Rattle.tn_discipline.specs.Admitted.{is_dropped}
-use Rattle.tn_discipline.specs.Entries.{half_of}
+use Rattle.tn_discipline.specs.Canon.{Canon, typed_half}
+use Rattle.tn_discipline.specs.Limits.{most_counted}
 use Rattle.tn_discipline.specs.Steps.{half_after, half_next, gain_next}
 use Rattle.tn_discipline.specs.Keys.{role_of_mapped, role_of_key, roles_of}
 use Rattle.tn_discipline.specs.declared.termios.Settings.{Settings}
-use Rattle.tn_discipline.proofs.Histories.{half_of-fits, length_by_test}
+use Rattle.tn_discipline.proofs.lemmas.Histories.{half_of-fits, length_by_test}
 use Rattle.tn_world.specs.Machine.{Mode, Rules, Item, byte, mode_ack, other, Server, Client, Message, mode, forward_at, chatter, read, read_all, bytes, as_client, edit_key, remote_item, count_next, keyed, is_same, mode_taken, mode_came, came, allows_local, remote_mode, local_mode}
 use Rattle.tn_world.specs.Headline.{IsAskable}
 use Rattle.tn_world.proofs.Reading.{read-bytes_then, half-typed, entries-typed}
@@ -46,43 +47,43 @@ same_role s key h =
     ∙ ap (λ (x : Bool). role_of_key (record { chars = s.chars; flags = record flags { icrnl = s.flags.icrnl; inlcr = x; igncr = false } }) key) (sym inlcr)
     ∙ ap (λ (x : Bool). role_of_key (record { chars = s.chars; flags = record flags { icrnl = s.flags.icrnl; inlcr = s.flags.inlcr; igncr = x } }) key) (sym igncr)
 
-fits_at : (s : Settings) (typed half held : List ℕ) → half_of (roles_of s typed) ≡ half ++ held → length (half ++ held) ≤ 254
-fits_at s typed half held line = subst (λ x. length x ≤ 254) line (half_of-fits (roles_of s typed))
+fits_at : (s : Canon) (typed half held : List ℕ) → typed_half s typed ≡ half ++ held → length (half ++ held) ≤ most_counted s.limit
+fits_at s typed half held line = subst (λ x. length x ≤ most_counted s.limit) line (half_of-fits s.limit (roles_of s.settings typed))
 
 -- the count at the client, after one more key
-count-step : (s : Settings) (key : ℕ) (trapped plain : ℕ) (half : List ℕ) (b : Bool) → s.flags.isig ≡ b → allows_local s ≡ true → (if b then trapped else plain) ≡ length half → (if b then count_next trapped (role_of_key (as_client s true) key) else count_next plain (role_of_key (as_client s false) key)) ≡ length (half_next half (role_of_key s key))
-count-step s key trapped plain half true isig allowed count =
-    ap (λ r. count_next trapped r) (ap (λ (b : Bool). role_of_key (as_client s b) key) (sym isig) ∙ same_role s key allowed)
-    ∙ sym (length_by_test (is_dropped trapped (role_of_key s key)) half trapped (role_of_key s key) (sym count))
-    ∙ ap (λ n. length (if is_dropped n (role_of_key s key) then half else half_after half (role_of_key s key))) count
-count-step s key trapped plain half false isig allowed count =
-    ap (λ r. count_next plain r) (ap (λ (b : Bool). role_of_key (as_client s b) key) (sym isig) ∙ same_role s key allowed)
-    ∙ sym (length_by_test (is_dropped plain (role_of_key s key)) half plain (role_of_key s key) (sym count))
-    ∙ ap (λ n. length (if is_dropped n (role_of_key s key) then half else half_after half (role_of_key s key))) count
+count-step : (limit : ℕ) (s : Settings) (key : ℕ) (trapped plain : ℕ) (half : List ℕ) (b : Bool) → s.flags.isig ≡ b → allows_local s ≡ true → (if b then trapped else plain) ≡ length half → (if b then count_next limit trapped (role_of_key (as_client s true) key) else count_next limit plain (role_of_key (as_client s false) key)) ≡ length (half_next limit half (role_of_key s key))
+count-step limit s key trapped plain half true isig allowed count =
+    ap (λ r. count_next limit trapped r) (ap (λ (b : Bool). role_of_key (as_client s b) key) (sym isig) ∙ same_role s key allowed)
+    ∙ sym (length_by_test (is_dropped limit trapped (role_of_key s key)) half trapped (role_of_key s key) (sym count))
+    ∙ ap (λ n. length (if is_dropped limit n (role_of_key s key) then half else half_after half (role_of_key s key))) count
+count-step limit s key trapped plain half false isig allowed count =
+    ap (λ r. count_next limit plain r) (ap (λ (b : Bool). role_of_key (as_client s b) key) (sym isig) ∙ same_role s key allowed)
+    ∙ sym (length_by_test (is_dropped limit plain (role_of_key s key)) half plain (role_of_key s key) (sym count))
+    ∙ ap (λ n. length (if is_dropped limit n (role_of_key s key) then half else half_after half (role_of_key s key))) count
 
 -- a key
-pub key-agrees : (rules : Rules) (typed : List ℕ) (taken : List Entry) (v : Server) (c : Client) (key : ℕ) (e : Bool) → c.mask.edit ≡ e → Agrees rules typed taken v c → Agrees rules (typed ++ key ∷ []) taken (read_all rules.settings v (keyed rules e c key).items) (keyed rules e c key).client
+pub key-agrees : (rules : Rules) (typed : List ℕ) (taken : List Entry) (v : Server) (c : Client) (key : ℕ) (e : Bool) → c.mask.edit ≡ e → Agrees rules typed taken v c → Agrees rules (typed ++ key ∷ []) taken (read_all rules.canon v (keyed rules e c key).items) (keyed rules e c key).client
 key-agrees rules typed taken v c key true is_edit a =
-    let ok = local_of rules.settings c.mask a.askable is_edit in
-    let same : role_of_key (as_client rules.settings c.mask.trapsig) key ≡ role_of_key rules.settings key =
-    ap (λ (m : Mode). role_of_key (as_client rules.settings m.trapsig) key) ok.1 ∙ same_role rules.settings key ok.0 in
-    let f : Follows rules.settings a.half a.waiting c.held (role_of_key rules.settings key) (edit_key c (role_of_key (as_client rules.settings c.mask.trapsig) key)) =
-    subst (λ r. Follows rules.settings a.half a.waiting c.held (role_of_key rules.settings key) (edit_key c r)) (sym same)
-    (key-follows rules.settings a.half a.waiting c (role_of_key rules.settings key) (literal_key rules.settings key) a.plain (a.ahead is_edit) (fits_at rules.settings typed a.half c.held a.line)) in
+    let ok = local_of rules.canon.settings c.mask a.askable is_edit in
+    let same : role_of_key (as_client rules.canon.settings c.mask.trapsig) key ≡ role_of_key rules.canon.settings key =
+    ap (λ (m : Mode). role_of_key (as_client rules.canon.settings m.trapsig) key) ok.1 ∙ same_role rules.canon.settings key ok.0 in
+    let f : Follows rules.canon a.half a.waiting c.held (role_of_key rules.canon.settings key) (edit_key rules.canon.limit c (role_of_key (as_client rules.canon.settings c.mask.trapsig) key)) =
+    subst (λ r. Follows rules.canon a.half a.waiting c.held (role_of_key rules.canon.settings key) (edit_key rules.canon.limit c r)) (sym same)
+    (key-follows rules.canon a.half a.waiting c (role_of_key rules.canon.settings key) (literal_key rules.canon.settings key) a.plain (a.ahead is_edit) (fits_at rules.canon typed a.half c.held a.line)) in
     record {
       half = f.half;
-      waiting = a.waiting ++ gain_next (a.half ++ c.held) (role_of_key rules.settings key);
+      waiting = a.waiting ++ gain_next rules.canon.limit (a.half ++ c.held) (role_of_key rules.canon.settings key);
       is =
-          ap (λ x. read_all rules.settings x (keyed rules true c key).items) a.is
-          ∙ ap (λ e. read_all rules.settings (at e a.half a.waiting) (keyed rules true c key).items) is_edit
+          ap (λ x. read_all rules.canon x (keyed rules true c key).items) a.is
+          ∙ ap (λ e. read_all rules.canon (at e a.half a.waiting) (keyed rules true c key).items) is_edit
           ∙ f.reads
-          ∙ ap (λ e. at e f.half (a.waiting ++ gain_next (a.half ++ c.held) (role_of_key rules.settings key))) (sym is_edit);
+          ∙ ap (λ e. at e f.half (a.waiting ++ gain_next rules.canon.limit (a.half ++ c.held) (role_of_key rules.canon.settings key))) (sym is_edit);
       entries =
-          entries-typed rules.settings typed key
-          ∙ ap (λ x. x ++ gain_next (half_of (roles_of rules.settings typed)) (role_of_key rules.settings key)) a.entries
-          ∙ ap (λ x. (taken ++ a.waiting) ++ gain_next x (role_of_key rules.settings key)) a.line
-          ∙ append_assoc taken a.waiting (gain_next (a.half ++ c.held) (role_of_key rules.settings key));
-      line = half-typed rules.settings typed key ∙ ap (λ x. half_next x (role_of_key rules.settings key)) a.line ∙ f.line;
+          entries-typed rules.canon typed key
+          ∙ ap (λ x. x ++ gain_next rules.canon.limit (typed_half rules.canon typed) (role_of_key rules.canon.settings key)) a.entries
+          ∙ ap (λ x. (taken ++ a.waiting) ++ gain_next rules.canon.limit x (role_of_key rules.canon.settings key)) a.line
+          ∙ append_assoc taken a.waiting (gain_next rules.canon.limit (a.half ++ c.held) (role_of_key rules.canon.settings key));
+      line = half-typed rules.canon typed key ∙ ap (λ x. half_next rules.canon.limit x (role_of_key rules.canon.settings key)) a.line ∙ f.line;
       askable = a.askable;
       ahead = λ e. f.ahead;
       none = λ e. absurd (cc);
@@ -90,32 +91,32 @@ key-agrees rules typed taken v c key true is_edit a =
       count = λ r e allowed. absurd (cc);
     }
 key-agrees rules typed taken v c key false is_remote a =
-    let ok = remote_of rules.settings c.mask a.askable is_remote in
-    let item : remote_item c.mask.trapsig (role_of_mapped (as_client rules.settings c.mask.trapsig) key) key ≡ byte key =
-    ap (λ (m : Mode). remote_item m.trapsig (role_of_mapped (as_client rules.settings m.trapsig) key) key) ok in
-    let whole : half_of (roles_of rules.settings typed) ≡ a.half = a.line ∙ ap (λ x. a.half ++ x) (a.none is_remote) ∙ append-nil a.half in
+    let ok = remote_of rules.canon.settings c.mask a.askable is_remote in
+    let item : remote_item c.mask.trapsig (role_of_mapped (as_client rules.canon.settings c.mask.trapsig) key) key ≡ byte key =
+    ap (λ (m : Mode). remote_item m.trapsig (role_of_mapped (as_client rules.canon.settings m.trapsig) key) key) ok in
+    let whole : typed_half rules.canon typed ≡ a.half = a.line ∙ ap (λ x. a.half ++ x) (a.none is_remote) ∙ append-nil a.half in
     record {
-      half = half_next a.half (role_of_key rules.settings key);
-      waiting = a.waiting ++ gain_next a.half (role_of_key rules.settings key);
+      half = half_next rules.canon.limit a.half (role_of_key rules.canon.settings key);
+      waiting = a.waiting ++ gain_next rules.canon.limit a.half (role_of_key rules.canon.settings key);
       is =
-          ap (λ x. read_all rules.settings x (keyed rules false c key).items) a.is
-          ∙ ap (λ i. read rules.settings (at c.mask.edit a.half a.waiting) i) item
-          ∙ ap (λ e. read rules.settings (at e a.half a.waiting) (byte key)) is_remote
-          ∙ ap (λ e. at e (half_next a.half (role_of_key rules.settings key)) (a.waiting ++ gain_next a.half (role_of_key rules.settings key))) (sym is_remote);
+          ap (λ x. read_all rules.canon x (keyed rules false c key).items) a.is
+          ∙ ap (λ i. read rules.canon (at c.mask.edit a.half a.waiting) i) item
+          ∙ ap (λ e. read rules.canon (at e a.half a.waiting) (byte key)) is_remote
+          ∙ ap (λ e. at e (half_next rules.canon.limit a.half (role_of_key rules.canon.settings key)) (a.waiting ++ gain_next rules.canon.limit a.half (role_of_key rules.canon.settings key))) (sym is_remote);
       entries =
-          entries-typed rules.settings typed key
-          ∙ ap (λ x. x ++ gain_next (half_of (roles_of rules.settings typed)) (role_of_key rules.settings key)) a.entries
-          ∙ ap (λ x. (taken ++ a.waiting) ++ gain_next x (role_of_key rules.settings key)) whole
-          ∙ append_assoc taken a.waiting (gain_next a.half (role_of_key rules.settings key));
+          entries-typed rules.canon typed key
+          ∙ ap (λ x. x ++ gain_next rules.canon.limit (typed_half rules.canon typed) (role_of_key rules.canon.settings key)) a.entries
+          ∙ ap (λ x. (taken ++ a.waiting) ++ gain_next rules.canon.limit x (role_of_key rules.canon.settings key)) whole
+          ∙ append_assoc taken a.waiting (gain_next rules.canon.limit a.half (role_of_key rules.canon.settings key));
       line =
-          half-typed rules.settings typed key
-          ∙ ap (λ x. half_next x (role_of_key rules.settings key)) whole
-          ∙ sym (ap (λ x. half_next a.half (role_of_key rules.settings key) ++ x) (a.none is_remote) ∙ append-nil (half_next a.half (role_of_key rules.settings key)));
+          half-typed rules.canon typed key
+          ∙ ap (λ x. half_next rules.canon.limit x (role_of_key rules.canon.settings key)) whole
+          ∙ sym (ap (λ x. half_next rules.canon.limit a.half (role_of_key rules.canon.settings key) ++ x) (a.none is_remote) ∙ append-nil (half_next rules.canon.limit a.half (role_of_key rules.canon.settings key)));
       askable = a.askable;
       ahead = λ e. absurd (cc);
       none = a.none;
       plain = a.plain;
-      count = λ r e allowed. count-step rules.settings key c.trapped c.plain a.half rules.settings.flags.isig refl allowed (a.count r e allowed);
+      count = λ r e allowed. count-step rules.canon.limit rules.canon.settings key c.trapped c.plain a.half rules.canon.settings.flags.isig refl allowed (a.count r e allowed);
     }
 
 same_if : (b : Bool) (n : ℕ) → (if b then n else n) ≡ n
@@ -127,22 +128,22 @@ empty_left [] ys h = refl
 empty_left (x ∷ xs) ys h = absurd (cc)
 
 -- how many bytes are ahead where EDIT begins
-resumed : (rules : Rules) (typed half : List ℕ) (c : Client) (m : Mode) (b : Bool) → rules.resumes ≡ b → m ≡ local_mode rules.settings → half_of (roles_of rules.settings typed) ≡ half ++ c.held → (rules.resumes ≡ true → (if rules.settings.flags.isig then c.trapped else c.plain) ≡ length half) → (rules.resumes ≡ false → half_of (roles_of rules.settings typed) ≡ []) → length half ≡ (if b then (if m.trapsig then c.trapped else c.plain) else 0)
+resumed : (rules : Rules) (typed half : List ℕ) (c : Client) (m : Mode) (b : Bool) → rules.resumes ≡ b → m ≡ local_mode rules.canon.settings → typed_half rules.canon typed ≡ half ++ c.held → (rules.resumes ≡ true → (if rules.canon.settings.flags.isig then c.trapped else c.plain) ≡ length half) → (rules.resumes ≡ false → typed_half rules.canon typed ≡ []) → length half ≡ (if b then (if m.trapsig then c.trapped else c.plain) else 0)
 resumed rules typed half c m true is local line count quiet =
     sym (count is) ∙ ap (λ (n : Mode). if n.trapsig then c.trapped else c.plain) (sym local)
 resumed rules typed half c m false is local line count quiet =
     ap length (empty_left half c.held (sym line ∙ quiet is))
 
 -- a mode that changes something
-taken-agrees : (rules : Rules) (typed : List ℕ) (taken : List Entry) (v : Server) (c : Client) (m : Mode) (e f : Bool) → c.mask.edit ≡ e → m.edit ≡ f → Agrees rules typed taken v c → IsAskable rules.settings m → (rules.resumes ≡ false → half_of (roles_of rules.settings typed) ≡ []) → Agrees rules typed taken (read_all rules.settings v (mode_taken rules c m e f).items) (mode_taken rules c m e f).client
+taken-agrees : (rules : Rules) (typed : List ℕ) (taken : List Entry) (v : Server) (c : Client) (m : Mode) (e f : Bool) → c.mask.edit ≡ e → m.edit ≡ f → Agrees rules typed taken v c → IsAskable rules.canon.settings m → (rules.resumes ≡ false → typed_half rules.canon typed ≡ []) → Agrees rules typed taken (read_all rules.canon v (mode_taken rules c m e f).items) (mode_taken rules c m e f).client
 taken-agrees rules typed taken v c m true false before after a askable quiet =
     record {
       half = a.half ++ c.held;
       waiting = a.waiting;
       is =
-          ap (λ x. read_all rules.settings x (bytes c.held ++ mode_ack m ∷ [])) a.is
-          ∙ ap (λ e. read_all rules.settings (at e a.half a.waiting) (bytes c.held ++ mode_ack m ∷ [])) before
-          ∙ read-bytes_then rules.settings a.half a.waiting c.held (mode_ack m) a.plain (let fits = fits_at rules.settings typed a.half c.held a.line in omega (arith, length-append a.half c.held))
+          ap (λ x. read_all rules.canon x (bytes c.held ++ mode_ack m ∷ [])) a.is
+          ∙ ap (λ e. read_all rules.canon (at e a.half a.waiting) (bytes c.held ++ mode_ack m ∷ [])) before
+          ∙ read-bytes_then rules.canon a.half a.waiting c.held (mode_ack m) a.plain (let fits = fits_at rules.canon typed a.half c.held a.line in omega (arith, length-append a.half c.held))
           ∙ ap (λ x. at m.edit (a.half ++ c.held) x) (append-nil a.waiting);
       entries = a.entries;
       line = a.line ∙ sym (append-nil (a.half ++ c.held));
@@ -151,7 +152,7 @@ taken-agrees rules typed taken v c m true false before after a askable quiet =
       none = λ e. refl;
       plain = tt;
       count = λ r e allowed.
-          same_if rules.settings.flags.isig (c.ahead + length c.held)
+          same_if rules.canon.settings.flags.isig (c.ahead + length c.held)
           ∙ ap (λ n. n + length c.held) (sym (a.ahead before))
           ∙ sym (length-append a.half c.held);
     }
@@ -159,11 +160,11 @@ taken-agrees rules typed taken v c m false true before after a askable quiet =
     record {
       half = a.half;
       waiting = a.waiting;
-      is = ap (λ x. read rules.settings x (mode_ack m)) a.is ∙ ap (λ x. at m.edit a.half x) (append-nil a.waiting);
+      is = ap (λ x. read rules.canon x (mode_ack m)) a.is ∙ ap (λ x. at m.edit a.half x) (append-nil a.waiting);
       entries = a.entries;
       line = a.line ∙ ap (λ x. a.half ++ x) (a.none before);
       askable = askable;
-      ahead = λ e. resumed rules typed a.half c m rules.resumes refl (local_of rules.settings m askable after).1 a.line (λ r. a.count r before (local_of rules.settings m askable after).0) quiet;
+      ahead = λ e. resumed rules typed a.half c m rules.resumes refl (local_of rules.canon.settings m askable after).1 a.line (λ r. a.count r before (local_of rules.canon.settings m askable after).0) quiet;
       none = λ e. refl;
       plain = tt;
       count = λ r e allowed. absurd (cc);
@@ -172,7 +173,7 @@ taken-agrees rules typed taken v c m true true before after a askable quiet =
     record {
       half = a.half;
       waiting = a.waiting;
-      is = ap (λ x. read rules.settings x (mode_ack m)) a.is ∙ ap (λ x. at m.edit a.half x) (append-nil a.waiting);
+      is = ap (λ x. read rules.canon x (mode_ack m)) a.is ∙ ap (λ x. at m.edit a.half x) (append-nil a.waiting);
       entries = a.entries;
       line = a.line;
       askable = askable;
@@ -185,7 +186,7 @@ taken-agrees rules typed taken v c m false false before after a askable quiet =
     record {
       half = a.half;
       waiting = a.waiting;
-      is = ap (λ x. read rules.settings x (mode_ack m)) a.is ∙ ap (λ x. at m.edit a.half x) (append-nil a.waiting);
+      is = ap (λ x. read rules.canon x (mode_ack m)) a.is ∙ ap (λ x. at m.edit a.half x) (append-nil a.waiting);
       entries = a.entries;
       line = a.line;
       askable = askable;
@@ -195,7 +196,7 @@ taken-agrees rules typed taken v c m false false before after a askable quiet =
       count = λ r e allowed. a.count r before allowed;
     }
 
-mode-agrees : (rules : Rules) (typed : List ℕ) (taken : List Entry) (v : Server) (c : Client) (m : Mode) (b : Bool) → is_same c.mask m ≡ b → Agrees rules typed taken v c → IsAskable rules.settings m → (rules.resumes ≡ false → is_same c.mask m ≡ false → half_of (roles_of rules.settings typed) ≡ []) → Agrees rules typed taken (read_all rules.settings v (mode_came rules c m b).items) (mode_came rules c m b).client
+mode-agrees : (rules : Rules) (typed : List ℕ) (taken : List Entry) (v : Server) (c : Client) (m : Mode) (b : Bool) → is_same c.mask m ≡ b → Agrees rules typed taken v c → IsAskable rules.canon.settings m → (rules.resumes ≡ false → is_same c.mask m ≡ false → typed_half rules.canon typed ≡ []) → Agrees rules typed taken (read_all rules.canon v (mode_came rules c m b).items) (mode_came rules c m b).client
 mode-agrees rules typed taken v c m true same a askable quiet = a
 mode-agrees rules typed taken v c m false differs a askable quiet =
     taken-agrees rules typed taken v c m c.mask.edit m.edit refl refl a askable (λ r. quiet r differs)
@@ -207,17 +208,17 @@ IsAskableMessage s (forward_at f) = Unit
 IsAskableMessage s chatter = Unit
 
 abbrev pub IsCalm : Rules → List ℕ → Client → Message → Type 0
-IsCalm rules typed c (mode m) = is_same c.mask m ≡ false → half_of (roles_of rules.settings typed) ≡ []
+IsCalm rules typed c (mode m) = is_same c.mask m ≡ false → typed_half rules.canon typed ≡ []
 IsCalm rules typed c (forward_at f) = Unit
 IsCalm rules typed c chatter = Unit
 
 -- an item that has no role and changes no mode
-pub skipped : (rules : Rules) (typed : List ℕ) (taken : List Entry) (v : Server) (c new : Client) (item : Item) → ((e : Bool) (h : List ℕ) (w : List Entry) → read rules.settings (at e h w) item ≡ at e h (w ++ [])) → new ≡ record c { forward = new.forward } → Agrees rules typed taken v c → Agrees rules typed taken (read rules.settings v item) new
+pub skipped : (rules : Rules) (typed : List ℕ) (taken : List Entry) (v : Server) (c new : Client) (item : Item) → ((e : Bool) (h : List ℕ) (w : List Entry) → read rules.canon (at e h w) item ≡ at e h (w ++ [])) → new ≡ record c { forward = new.forward } → Agrees rules typed taken v c → Agrees rules typed taken (read rules.canon v item) new
 skipped rules typed taken v c new item silent same a =
-    subst (λ x. Agrees rules typed taken (read rules.settings v item) x) (sym same) (record {
+    subst (λ x. Agrees rules typed taken (read rules.canon v item) x) (sym same) (record {
       half = a.half;
       waiting = a.waiting;
-      is = ap (λ x. read rules.settings x item) a.is ∙ silent c.mask.edit a.half a.waiting ∙ ap (λ x. at c.mask.edit a.half x) (append-nil a.waiting);
+      is = ap (λ x. read rules.canon x item) a.is ∙ silent c.mask.edit a.half a.waiting ∙ ap (λ x. at c.mask.edit a.half x) (append-nil a.waiting);
       entries = a.entries;
       line = a.line;
       askable = a.askable;
@@ -227,7 +228,7 @@ skipped rules typed taken v c new item silent same a =
       count = a.count;
     })
 
-pub message-agrees : (rules : Rules) (typed : List ℕ) (taken : List Entry) (v : Server) (c : Client) (m : Message) → Agrees rules typed taken v c → IsAskableMessage rules.settings m → (rules.resumes ≡ false → IsCalm rules typed c m) → Agrees rules typed taken (read_all rules.settings v (came rules c m).items) (came rules c m).client
+pub message-agrees : (rules : Rules) (typed : List ℕ) (taken : List Entry) (v : Server) (c : Client) (m : Message) → Agrees rules typed taken v c → IsAskableMessage rules.canon.settings m → (rules.resumes ≡ false → IsCalm rules typed c m) → Agrees rules typed taken (read_all rules.canon v (came rules c m).items) (came rules c m).client
 message-agrees rules typed taken v c (mode m) a askable quiet = mode-agrees rules typed taken v c m (is_same c.mask m) refl a askable quiet
 message-agrees rules typed taken v c (forward_at f) a askable quiet = skipped rules typed taken v c (record c { forward = f }) other (λ e h w. refl) refl a
 message-agrees rules typed taken v c chatter a askable quiet = skipped rules typed taken v c c other (λ e h w. refl) refl a

@@ -1,8 +1,6 @@
--- What a client end writes: whole items, and what they say to a server.
+-- What a client end writes, and what that says to a server.
 use Rattle.std.proofs.Common.{◌≡◌, ◌≢◌, ◌⊎◌, inl, inr, ◌≤◌, ℕ, ◌==◌, nat_le, Bool, true, false, not, ◌&&◌, Option, Some, None, List, [], ◌∷◌, ◌++◌, length, refl, sym, ap, ◌∙◌, if◌then◌else◌, subst, arith, append-nil, append_assoc}
-use Rattle.std.specs.List.{flat_map}
 use Rattle.std.proofs.lemmas.List.{append_cancel_left, map-append}
-use Rattle.std.proofs.lemmas.Grind.{flat_map-append}
 use Rattle.std.proofs.lemmas.List.Elements.{All-nil, All-cons, All-append}
 use Rattle.tn_codes.specs.Payloads.{written, IsShort}
 use Rattle.tn_codes.specs.PayloadOf.{payload_of}
@@ -11,7 +9,8 @@ use Rattle.tn_codes.specs.declared.codes.Verb.{Verb}
 use Rattle.tn_codes.specs.declared.payloads.Payload.{Payload}
 use Rattle.tn_codes.specs.declared.payloads.Payload.TheVariants as payload
 use Rattle.tn_codes.specs.declared.triples.Triple.{Triple}
-use Rattle.tn_codes.proofs.Telling.{says}
+use Rattle.tn_codes.proofs.lemmas.Telling.{says}
+use Rattle.tn_discipline.specs.Canon.{Canon}
 use Rattle.tn_discipline.specs.Characters.{Characters}
 use Rattle.tn_discipline.specs.HalfLine.{HalfLine, has_held, has_ahead}
 use Rattle.tn_discipline.specs.declared.keys.Role.{Role}
@@ -23,225 +22,69 @@ use Rattle.tn_discipline.specs.declared.termios.Settings.{Settings}
 use Rattle.tn_linemode.specs.Exchange.{client_answers}
 use Rattle.tn_linemode.specs.Modes.{edits, is_acknowledged, mode_answer}
 use Rattle.tn_linemode.specs.Triples.{triple_of}
-use Rattle.tn_nvt.specs.Spelling.{spelling, Fits}
+use Rattle.tn_nvt.specs.Spelling.{Fits}
 use Rattle.tn_nvt.specs.declared.items.Item.{Item}
 use Rattle.tn_nvt.specs.declared.items.Item.TheVariants.{Byte, Newline, Cmd, Neg, Sub}
 use Rattle.tn_option.specs.Options.{Options, after_word, reply_to, is_yes}
 use Rattle.tn_option.specs.QMethod.{side_of, cause_of}
 use Rattle.tn_option.specs.declared.q_method.Side.TheVariants.{Us}
-use Rattle.tn_option.proofs.OptionLaws.{LeavesOthers-moved}
+use Rattle.tn_option.proofs.lemmas.OptionLaws.{LeavesOthers-moved}
 use Rattle.tn_client.specs.Events.{Event, typed, got, resized, proposed, History, next, gets}
 use Rattle.tn_client.specs.Terms as terms
 use Rattle.tn_client.specs.Terms.{linemode, tells_size, payload_at, options, differ, mode_by, mode_at, chars_by, chars, size}
 use Rattle.tn_client.specs.Lines.{role_at, line}
-use Rattle.tn_client.specs.Replies.{spelled_byte, spelled, command_of, commanded, sent_raw, sent_edited, key_sent, word, subnegotiated, size_told, mode_told, listed, size_told_on, payload_answered, answered, ending, is_same_size, adds, sent}
-use Rattle.tn_client.specs.Screen.{item_shown, shown}
-use Rattle.tn_client.specs.Standing.{End, Stands, Sends, Feeds}
-use Rattle.tn_client.proofs.Listing.{list_fits, short_list, answers_fit}
+use Rattle.tn_client.specs.Replies.{spelled, word, subnegotiated, size_told, size_told_on, payload_answered, answered}
 use Rattle.tn_world.specs.Machine as machine
 use Rattle.tn_world.specs.Machine.{Mode, Rules, chatter, Server, read, read_item, read_all, byte, other, bytes}
 use Rattle.tn_world.specs.Headline.{IsAskable}
 use Rattle.tn_world.specs.Calm.{bits, IsCalmToServer, AsksCalmly, seen, heard_payload}
-use Rattle.tn_world.specs.Ends.{spells, seen_all, Writes}
+use Rattle.tn_world.specs.Ends.{seen_all, Writes}
 use Rattle.tn_world.proofs.Reading.{read_all-append}
 use Rattle.tn_world.proofs.ServerSteps.{Speaks, reply_speaks}
-use Rattle.tn_world.proofs.Cut.{Whole}
-
--- WHOLE ITEMS
-whole-none : Whole []
-whole-none = record { items = []; spelled = refl; fit = All-nil Fits }
-
-whole-one : (item : Item) → Fits item → Whole (spelling item)
-whole-one item f = record { items = item ∷ []; spelled = sym (append-nil (spelling item)); fit = All-cons Fits item [] f (All-nil Fits) }
-
-whole-append : (xs ys : List ℕ) → Whole xs → Whole ys → Whole (xs ++ ys)
-whole-append xs ys h k = record {
-  items = h.items ++ k.items;
-  spelled = ap (λ (z : List ℕ). z ++ ys) h.spelled ∙ ap (λ (z : List ℕ). spells h.items ++ z) k.spelled ∙ sym (flat_map-append spelling h.items k.items);
-  fit = All-append Fits h.items k.items h.fit k.fit;
-}
-
-whole-bytes : (bs : List ℕ) → Whole (spelled bs)
-whole-bytes [] = whole-none
-whole-bytes (b ∷ bs) = whole-append (spelled_byte b) (spelled bs) (whole-one (Byte b) tt) (whole-bytes bs)
-
-whole-signal : (sig : Sig) → Whole (commanded (command_of (role.Signal sig)))
-whole-signal Int = whole-one (Cmd command.Ip) tt
-whole-signal Quit = whole-one (Cmd command.Abort) tt
-whole-signal Tstp = whole-one (Cmd command.Susp) tt
-
-whole-raw : (r : Role) (key : ℕ) → Whole (sent_raw r key)
-whole-raw (role.Signal sig) key = whole-signal sig
-whole-raw role.Ignored key = whole-one (Byte key) tt
-whole-raw role.Nl key = whole-one (Byte key) tt
-whole-raw (role.Eol b) key = whole-one (Byte key) tt
-whole-raw role.Eof key = whole-one (Byte key) tt
-whole-raw role.Erase key = whole-one (Byte key) tt
-whole-raw role.Kill key = whole-one (Byte key) tt
-whole-raw (role.Ordinary b) key = whole-one (Byte key) tt
-
-whole-if : (b : Bool) (xs : List ℕ) → Whole xs → Whole (if b then xs else [])
-whole-if true xs h = h
-whole-if false xs h = whole-none
-
-whole-edited : (r : Role) (l : HalfLine) → Whole (sent_edited r l)
-whole-edited role.Nl l = whole-append (spelled l.held) (spelling Newline) (whole-bytes l.held) (whole-one Newline tt)
-whole-edited (role.Eol b) l = whole-append (spelled l.held) (spelled_byte b) (whole-bytes l.held) (whole-one (Byte b) tt)
-whole-edited role.Eof l = whole-append (spelled l.held) (spelling (Cmd command.Eof)) (whole-bytes l.held) (whole-one (Cmd command.Eof) tt)
-whole-edited (role.Signal sig) l = whole-signal sig
-whole-edited role.Erase l = whole-if (not (has_held l) && has_ahead l) (spelling (Cmd command.Ec)) (whole-one (Cmd command.Ec) tt)
-whole-edited role.Kill l = whole-if (has_ahead l) (spelling (Cmd command.El)) (whole-one (Cmd command.El) tt)
-whole-edited role.Ignored l = whole-none
-whole-edited (role.Ordinary b) l = whole-none
-
-whole-key : (edit : Bool) (r : Role) (l : HalfLine) (key : ℕ) → Whole (key_sent edit r l key)
-whole-key true r l key = whole-edited r l
-whole-key false r l key = whole-raw r key
-
-whole-word : (w : Option (Verb × ℕ)) → Whole (word w)
-whole-word None = whole-none
-whole-word (Some w) = whole-one (Neg w.0 w.1) tt
-
-whole-size : (z : ℕ × ℕ) → Whole (size_told z)
-whole-size (width, height) = whole-one (Sub 31 (written (payload.Naws width height))) (omega arith)
-
-whole-mode : (m : Option ℕ) → Whole (mode_told m)
-whole-mode None = whole-none
-whole-mode (Some mask) = whole-one (Sub 34 (written (payload.Mode mask))) (omega arith)
-
-whole-list : (ts : List Triple) → length ts ≤ 170 → Whole (listed ts)
-whole-list [] h = whole-none
-whole-list (t ∷ ts) h = whole-one (Sub 34 (written (payload.Slc (t ∷ ts)))) (list_fits (t ∷ ts) (written (payload.Slc (t ∷ ts))) h refl)
-
--- a payload that is said, if one is, is short
-abbrev pub IsShortOrNone : Option Payload → Type 0
-IsShortOrNone None = Unit {0}
-IsShortOrNone (Some p) = IsShort p
-
-fits_by : (n : ℕ) → nat_le n 512 ≡ true → n ≤ 512
-fits_by n h = grind arith
-
-short_told : (option : ℕ) (params : List ℕ) (p : Option Payload) → payload_of option params ≡ p → length params ≤ 512 → IsShortOrNone p
-short_told option params None e h = tt
-short_told option params (Some p) e h = short_list option params p h (says option params p e)
-
-short_by_tests : (option : ℕ) (params : List ℕ) (a b c : Bool) → nat_le (length params) 512 ≡ c → IsShortOrNone (if a && (b && c) then payload_of option params else None)
-short_by_tests option params true true true e = short_told option params (payload_of option params) refl (fits_by (length params) e)
-short_by_tests option params true true false e = tt
-short_by_tests option params true false c e = tt
-short_by_tests option params false b c e = tt
-
-pub short_at : (o : Options) (option : ℕ) (params : List ℕ) → IsShortOrNone (payload_at o (Sub option params))
-short_at o option params = short_by_tests option params (option == 34) (linemode o) (nat_le (length params) 512) refl
-
-whole-payload : (m : ℕ) (c : Characters) (p : Option Payload) → IsShortOrNone p → Whole (payload_answered m c p)
-whole-payload m c None h = whole-none
-whole-payload m c (Some (payload.Naws width height)) h = whole-none
-whole-payload m c (Some (payload.Mode mask)) h = whole-mode (mode_answer m mask)
-whole-payload m c (Some (payload.ForwardOn mask)) h = whole-one (Sub 34 (written payload.ForwardNo)) (omega arith)
-whole-payload m c (Some payload.ForwardOff) h = whole-one (Sub 34 (written payload.ForwardNo)) (omega arith)
-whole-payload m c (Some payload.ForwardYes) h = whole-none
-whole-payload m c (Some payload.ForwardNo) h = whole-none
-whole-payload m c (Some (payload.Slc triples)) h = whole-list (client_answers c triples) (omega (arith, answers_fit c triples, h))
-
-whole-answered : (o : Options) (m : ℕ) (c : Characters) (z : ℕ × ℕ) (item : Item) → Whole (answered o m c z item)
-whole-answered o m c z (Byte b) = whole-none
-whole-answered o m c z Newline = whole-none
-whole-answered o m c z (Cmd command) = whole-none
-whole-answered o m c z (Neg verb option) =
-    whole-append (word (reply_to o verb option)) (size_told_on (tells_size o) (tells_size (terms.heard o (Neg verb option))) z)
-    (whole-word (reply_to o verb option)) (whole-if (tells_size (terms.heard o (Neg verb option)) && not (tells_size o)) (size_told z) (whole-size z))
-whole-answered o m c z (Sub option params) = whole-payload m c (payload_at o (Sub option params)) (short_at o option params)
-
-whole-ending : (before after : Bool) (bs : List ℕ) → Whole (ending before after bs)
-whole-ending true false bs = whole-bytes bs
-whole-ending true true bs = whole-none
-whole-ending false after bs = whole-none
-
--- Whatever happens at a client, what it says is whole items.
-pub says_items : (h : History) (e : Event) → Whole (adds h e)
-says_items h (typed key) = whole-key (edits (terms.mode h)) (role_at h key) (line h) key
-says_items h (got item) =
-    whole-append (ending (edits (terms.mode h)) (edits (mode_at (options h) (terms.mode h) item)) (line h).held) (answered (options h) (terms.mode h) (chars h) (size h) item)
-    (whole-ending (edits (terms.mode h)) (edits (mode_at (options h) (terms.mode h) item)) (line h).held) (whole-answered (options h) (terms.mode h) (chars h) (size h) item)
-says_items h (resized width height) = whole-if (tells_size (options h) && not (is_same_size (size h) (width, height))) (size_told (width, height)) (whole-size (width, height))
-says_items h (proposed func value) = whole-list (triple_of func value ∷ []) (omega arith)
-
--- the same for a call, and for a piece
-pub sends_items : (h : History) (old : End) (e : Event) (before after : List ℕ) → Stands h old → (g : Sends old e before after) → Whole g.bytes
-sends_items h old e before after s g = subst (λ (xs : List ℕ). Whole xs) (g.adds h s) (says_items h e)
-
--- the bytes of more items
-gets_items : (h : History) (items : List Item) → (out : List ℕ) × (sent (gets h items) ≡ sent h ++ out) × Whole out
-gets_items h [] = ([], sym (append-nil (sent h)), whole-none)
-gets_items h (item ∷ items) =
-    let rest = gets_items (next h (got item)) items in (
-      adds h (got item) ++ rest.0,
-      rest.1 ∙ append_assoc (sent h) (adds h (got item)) rest.0,
-      whole-append (adds h (got item)) rest.0 (says_items h (got item)) rest.2,
-    )
-
-pub feeds_items : (h : History) (old new : End) (piece before after seen now : List ℕ) → Stands h old → (f : Feeds old piece before after seen now new) → Whole f.bytes
-feeds_items h old new piece before after seen now s f =
-    let all = gets_items h f.items in
-    subst (λ (xs : List ℕ). Whole xs) (append_cancel_left (sent h) all.0 f.bytes (sym all.1 ∙ f.sends h s)) all.2
-
-shown-items : (h : History) (items : List Item) → shown (gets h items) ≡ shown h ++ flat_map item_shown items
-shown-items h [] = sym (append-nil (shown h))
-shown-items h (item ∷ items) = shown-items (next h (got item)) items ∙ append_assoc (shown h) (item_shown item) (flat_map item_shown items)
-
--- What is shown for a piece is what the server wrote.
-pub feeds_text : (h : History) (old new : End) (piece before after seen now : List ℕ) → Stands h old → (f : Feeds old piece before after seen now new) → f.text ≡ flat_map item_shown f.items
-feeds_text h old new piece before after seen now s f =
-    append_cancel_left (shown h) f.text (flat_map item_shown f.items) (sym (f.shows h s) ∙ shown-items h f.items)
 
 -- WHAT IS WRITTEN
--- what these bytes say to any server, part by part
+-- what these items say to any server, part by part
 pub writes-none : (rules : Rules) → Writes rules [] []
-writes-none rules = record { items = []; spelled = refl; fit = All-nil Fits; calm = All-nil IsCalmToServer; says_so = λ v. refl }
+writes-none rules = record { fit = All-nil Fits; calm = All-nil IsCalmToServer; says_so = λ v. refl }
 
-pub writes-one : (rules : Rules) (item : Item) (says : machine.Item) → Fits item → IsCalmToServer item → seen rules.linemode item ≡ says → Writes rules (says ∷ []) (spelling item)
+pub writes-one : (rules : Rules) (item : Item) (says : machine.Item) → Fits item → IsCalmToServer item → seen rules.linemode item ≡ says → Writes rules (says ∷ []) (item ∷ [])
 writes-one rules item says f calm e = record {
-  items = item ∷ [];
-  spelled = sym (append-nil (spelling item));
   fit = All-cons Fits item [] f (All-nil Fits);
   calm = All-cons IsCalmToServer item [] calm (All-nil IsCalmToServer);
-  says_so = λ v. ap (λ (i : machine.Item). read rules.settings v i) e;
+  says_so = λ v. ap (λ (i : machine.Item). read rules.canon v i) e;
 }
 
-pub writes-append : (rules : Rules) (a b : List machine.Item) (x y : List ℕ) → Writes rules a x → Writes rules b y → Writes rules (a ++ b) (x ++ y)
+pub writes-append : (rules : Rules) (a b : List machine.Item) (x y : List Item) → Writes rules a x → Writes rules b y → Writes rules (a ++ b) (x ++ y)
 writes-append rules a b x y h k = record {
-  items = h.items ++ k.items;
-  spelled = ap (λ (z : List ℕ). z ++ y) h.spelled ∙ ap (λ (z : List ℕ). spells h.items ++ z) k.spelled ∙ sym (flat_map-append spelling h.items k.items);
-  fit = All-append Fits h.items k.items h.fit k.fit;
-  calm = All-append IsCalmToServer h.items k.items h.calm k.calm;
+  fit = All-append Fits x y h.fit k.fit;
+  calm = All-append IsCalmToServer x y h.calm k.calm;
   says_so = λ v.
-      ap (λ (xs : List machine.Item). read_all rules.settings v xs) (map-append (seen rules.linemode) h.items k.items)
-      ∙ read_all-append rules.settings v (seen_all rules h.items) (seen_all rules k.items)
-      ∙ k.says_so (read_all rules.settings v (seen_all rules h.items))
-      ∙ ap (λ (u : Server). read_all rules.settings u b) (h.says_so v)
-      ∙ sym (read_all-append rules.settings v a b);
+      ap (λ (xs : List machine.Item). read_all rules.canon v xs) (map-append (seen rules.linemode) x y)
+      ∙ read_all-append rules.canon v (seen_all rules x) (seen_all rules y)
+      ∙ k.says_so (read_all rules.canon v (seen_all rules x))
+      ∙ ap (λ (u : Server). read_all rules.canon u b) (h.says_so v)
+      ∙ sym (read_all-append rules.canon v a b);
 }
 
 pub writes-bytes : (rules : Rules) (bs : List ℕ) → Writes rules (bytes bs) (spelled bs)
 writes-bytes rules [] = writes-none rules
-writes-bytes rules (b ∷ bs) = writes-append rules (byte b ∷ []) (bytes bs) (spelled_byte b) (spelled bs) (writes-one rules (Byte b) (byte b) tt tt refl) (writes-bytes rules bs)
+writes-bytes rules (b ∷ bs) = writes-append rules (byte b ∷ []) (bytes bs) (Byte b ∷ []) (spelled bs) (writes-one rules (Byte b) (byte b) tt tt refl) (writes-bytes rules bs)
 
 -- what says nothing of lines leaves a server as it is
-read-other : (s : Settings) (v : Server) → read s v other ≡ v
+read-other : (s : Canon) (v : Server) → read s v other ≡ v
 read-other s v = by_test v.failed refl
   where
     by_test : (b : Bool) → v.failed ≡ b → (if b then v else read_item s v other) ≡ v
     by_test true e = refl
     by_test false e = ap (λ (w : List Entry). record v { waiting = w; failed = false }) (append-nil v.waiting) ∙ ap (λ (f : Bool). record v { failed = f }) (sym e)
 
-writes-hushed : (rules : Rules) (out : List ℕ) → Writes rules (other ∷ []) out → Writes rules [] out
-writes-hushed rules out h = record { items = h.items; spelled = h.spelled; fit = h.fit; calm = h.calm; says_so = λ v. h.says_so v ∙ read-other rules.settings v }
+writes-hushed : (rules : Rules) (out : List Item) → Writes rules (other ∷ []) out → Writes rules [] out
+writes-hushed rules out h = record { fit = h.fit; calm = h.calm; says_so = λ v. h.says_so v ∙ read-other rules.canon v }
 
-pub writes-other : (rules : Rules) (out : List ℕ) → Writes rules [] out → Writes rules (other ∷ []) out
-writes-other rules out h = record { items = h.items; spelled = h.spelled; fit = h.fit; calm = h.calm; says_so = λ v. h.says_so v ∙ sym (read-other rules.settings v) }
+pub writes-other : (rules : Rules) (out : List Item) → Writes rules [] out → Writes rules (other ∷ []) out
+writes-other rules out h = record { fit = h.fit; calm = h.calm; says_so = λ v. h.says_so v ∙ sym (read-other rules.canon v) }
 
-pub writes-if : (rules : Rules) (b : Bool) (out : List ℕ) → Writes rules [] out → Writes rules [] (if b then out else [])
+pub writes-if : (rules : Rules) (b : Bool) (out : List Item) → Writes rules [] out → Writes rules [] (if b then out else [])
 writes-if rules true out h = h
 writes-if rules false out h = writes-none rules
 

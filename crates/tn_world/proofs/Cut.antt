@@ -1,57 +1,52 @@
 -- Whole items in flight stay whole items, however they are delivered.
-use Rattle.std.proofs.Common.{◌≡◌, ℕ, List, [], ◌∷◌, ◌++◌, flat_map, refl, sym, ◌∙◌, subst, append_assoc, lit<}
+use Rattle.std.proofs.Common.{◌≡◌, ℕ, List, [], ◌∷◌, ◌++◌, take, drop, refl, sym, ap, ◌∙◌, subst, append_assoc, append-nil}
 use Rattle.std.specs.Prelude.{All}
-use Rattle.std.proofs.lemmas.List.{append-nil, append_cancel_left}
-use Rattle.std.proofs.lemmas.List.Elements.{All-head, All-tail}
+use Rattle.std.proofs.lemmas.List.{take-append-drop, append_cancel_left}
 use Rattle.tn_nvt.specs.declared.items.Item.{Item}
-use Rattle.tn_nvt.specs.declared.items.Item.TheVariants.{Newline}
-use Rattle.tn_nvt.specs.Spelling.{spelling, Fits}
-use Rattle.tn_nvt.specs.Stream.{spelled, Reading}
-use Rattle.tn_nvt.specs.Standing.{Standing, HasRead, Gains}
-use Rattle.tn_nvt.proofs.Unique.{one_reading, reads_on, reads_written}
-use Rattle.tn_world.specs.Flight.{InFlight, Delivered}
+use Rattle.tn_nvt.specs.Spelling.{spells, Fits}
+use Rattle.tn_nvt.specs.Stream.{Reading}
+use Rattle.tn_nvt.specs.Standing.{Standing, HasRead, Adds}
+use Rattle.tn_nvt.proofs.lemmas.Reading.{one_reading, reads_none, reads_all_written, Delivers, delivers}
+use Rattle.tn_world.specs.Flight.{InFlight}
 
--- These bytes are whole items, each in its spelling.
-pub record Whole (out : List ℕ) : Type 0 where
-  pub items : List Item
-  pub spelled : out ≡ flat_map spelling items
-  pub fit : All Fits items
-
--- nothing is read of nothing
-nothing_left : (rest : List ℕ) → Reading [] [] rest → rest ≡ []
-nothing_left rest r = (one_reading [] rest [] [] [] r (record { segments = []; splits = refl; partial = record { segment = spelled Newline; more = 13 ∷ 10 ∷ []; is_segment = tt; proper = lit< tt; begins = refl }; read = refl })).1
-
+-- nothing flies to who has read nothing
 pub start : (d : Standing) → HasRead d [] [] → InFlight d [] []
-start d h = record { stream = []; had = []; has_read = h; reads = subst (λ x. Reading [] [] x) (nothing_left h.rest h.reading) h.reading }
+start d h = record { stream = []; had = []; has_read = h; reads = reads_none }
 
-pub written : (d : Standing) (flight : List ℕ) (items : List Item) (item : Item) → Fits item → InFlight d flight items → InFlight d (flight ++ spelling item) (items ++ item ∷ [])
-written d flight items item f h =
+-- what was said flies behind
+pub behind : (d : Standing) (flight : List ℕ) (items said : List Item) → All Fits said → InFlight d flight items → InFlight d (flight ++ spells said) (items ++ said)
+behind d flight items said fit f = record {
+  stream = f.stream;
+  had = f.had;
+  has_read = f.has_read;
+  reads =
+      subst (λ x. Reading x (f.had ++ (items ++ said)) []) (append_assoc f.stream flight (spells said))
+      (subst (λ x. Reading ((f.stream ++ flight) ++ spells said) x []) (append_assoc f.had items said)
+      (reads_all_written said (f.had ++ items) (f.stream ++ flight) fit f.reads));
+}
+
+-- the same, seen from what was appended
+pub said_behind : (d : Standing) (flight later : List ℕ) (items said : List Item) → later ≡ flight ++ spells said → All Fits said → InFlight d flight items → InFlight d later (items ++ said)
+said_behind d flight later items said is fit f =
+    subst (λ x. InFlight d x (items ++ said)) (sym is) (behind d flight items said fit f)
+
+-- what a delivery leaves in flight
+pub record Delivered (new : Standing) (got items : List Item) (later : List ℕ) : Type 0 where
+  pub left : List Item
+  pub all : items ≡ got ++ left
+  pub flight : InFlight new later left
+
+pub cut_at : (old new : Standing) (n : ℕ) (flight : List ℕ) (items got : List Item) → InFlight old flight items → Adds old (take n flight) got new → Delivered new got items (drop n flight)
+cut_at old new n flight items got f adds =
+    let whole = subst (λ x. Reading (f.stream ++ x) (f.had ++ items) []) (sym (take-append-drop n flight)) f.reads in
+    let d = delivers old new f.stream (take n flight) (drop n flight) f.had got items f.has_read adds whole in
     record {
-      stream = h.stream;
-      had = h.had;
-      has_read = h.has_read;
-      reads =
-          subst (λ x. Reading x (h.had ++ (items ++ item ∷ [])) []) (append_assoc h.stream flight (spelling item))
-          (subst (λ x. Reading ((h.stream ++ flight) ++ spelling item) x []) (append_assoc h.had items (item ∷ [])) (reads_written item (h.had ++ items) (h.stream ++ flight) f h.reads));
+      left = d.left;
+      all = d.all;
+      flight = record { stream = f.stream ++ take n flight; had = f.had ++ got; has_read = d.has_read; reads = d.reads };
     }
 
-pub appended : (d : Standing) (flight : List ℕ) (items more : List Item) → All Fits more → InFlight d flight items → InFlight d (flight ++ flat_map spelling more) (items ++ more)
-appended d flight items [] f h = subst (λ x. InFlight d x (items ++ [])) (sym (append-nil flight)) (subst (λ x. InFlight d flight x) (sym (append-nil items)) h)
-appended d flight items (item ∷ more) f h =
-    subst (λ x. InFlight d x (items ++ item ∷ more)) (append_assoc flight (spelling item) (flat_map spelling more))
-    (subst (λ x. InFlight d ((flight ++ spelling item) ++ flat_map spelling more) x) (append_assoc items (item ∷ []) more)
-    (appended d (flight ++ spelling item) (items ++ item ∷ []) more (All-tail Fits item more f) (written d flight items item (All-head Fits item more f) h)))
-
-pub delivered : (old new : Standing) (piece later : List ℕ) (before after items : List Item) → InFlight old (piece ++ later) items → Gains old piece before after new → (got : List Item) × (after ≡ before ++ got) × Delivered new got items later
-delivered old new piece later before after items h g =
-    let reached = g.adds h.stream h.had h.has_read in
-    let whole : Reading ((h.stream ++ piece) ++ later) (h.had ++ items) [] = subst (λ x. Reading x (h.had ++ items) []) (sym (append_assoc h.stream piece later)) h.reads in
-    let on = reads_on (h.stream ++ piece) later reached.rest [] (h.had ++ g.items) (h.had ++ items) reached.reading whole in (
-      g.items,
-      g.appended,
-      record {
-        left = on.0;
-        all = append_cancel_left h.had items (g.items ++ on.0) (on.1 ∙ append_assoc h.had g.items on.0);
-        flight = record { stream = h.stream ++ piece; had = h.had ++ g.items; has_read = reached; reads = subst (λ x. Reading ((h.stream ++ piece) ++ later) x []) on.1 whole };
-      },
-    )
+-- no bytes are no items
+pub no_items : (d : Standing) (items : List Item) → InFlight d [] items → items ≡ []
+no_items d items h =
+    append_cancel_left h.had items [] ((one_reading (h.stream ++ []) [] h.has_read.rest (h.had ++ items) h.had h.reads (subst (λ x. Reading x h.had h.has_read.rest) (sym (append-nil h.stream)) h.has_read.reading)).0 ∙ sym (append-nil h.had))

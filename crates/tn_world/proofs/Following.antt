@@ -2,9 +2,9 @@
 use Rattle.std.proofs.Common.{◌≡◌, inl, inr, ℕ, Bool, true, false, List, [], ◌∷◌, ◌++◌, take, drop, flat_map, refl, sym, ap, ◌∙◌, subst}
 use Rattle.std.specs.Prelude.{All, option_to_list}
 use Rattle.std.proofs.lemmas.List.Elements.{All-nil, All-cons}
-use Rattle.tn_discipline.specs.declared.termios.Settings.{Settings}
+use Rattle.tn_discipline.specs.Canon.{Canon}
 use Rattle.tn_nvt.specs.Spelling.{Fits}
-use Rattle.tn_nvt.specs.Standing.{Standing, Adds, Gains}
+use Rattle.tn_nvt.specs.Standing.{Standing, Adds}
 use Rattle.tn_nvt.specs.Stream.{Segment, spelled, lone_cr, escaped, unread, cut, Splits, gives, Reading}
 use Rattle.tn_nvt.specs.declared.items.Item.{Item}
 use Rattle.tn_server.specs.Events as asked
@@ -24,7 +24,8 @@ use Rattle.tn_world.proofs.ClientSteps as client_steps
 use Rattle.tn_world.proofs.ServerSteps as server_steps
 use Rattle.tn_world.proofs.ServerSteps.{KeepsEntries, IsCall}
 use Rattle.tn_world.proofs.Soundness.{opposite, Refusal, unchanged, by_server, by_client, refusal_of, sound_does}
-use Rattle.tn_world.proofs.Tied.{all_parts, cut_at, happens-tied}
+use Rattle.tn_world.proofs.Cut.{cut_at}
+use Rattle.tn_world.proofs.Tied.{all_parts, happens-tied}
 use Rattle.tn_world.specs.Relation.{Holds, Tied, picture, rules_of}
 
 -- a call that makes no entry and takes none changes no character either
@@ -53,48 +54,48 @@ flight_fits : (d : Standing) (flight : List ℕ) (items : List Item) → InFligh
 flight_fits d flight items f = (all_parts Fits f.had items (reading_fits (f.stream ++ flight) (f.had ++ items) [] f.reads)).1
 
 -- a key
-holds_types : (s : Settings) (old new : World) (key : ℕ) → NoneFailed old → IsSound new → Types old key new → Holds s old → Holds s new
+holds_types : (s : Canon) (old new : World) (key : ℕ) → NoneFailed old → IsSound new → Types old key new → Holds s old → Holds s new
 holds_types s old new key none sound t h =
     let rules = rules_of s h.linemode in
-    let c = h.sound.client none.1 in
-    let k = client_steps.keys_done rules c.0 old.client new.client key h.trapped h.plain old.to_server new.to_server c.1 h.client h.tied.agrees.askable none.1 t.goes t.sends in
+    let c = (h.sound.told none.1).1 in
+    let k = client_steps.keys_done rules c.history old.client new.client key h.trapped h.plain old.to_server new.to_server c.stands h.client h.tied.agrees.askable none.1 t.goes t.keeps t.sends in
     record {
       linemode = h.linemode;
       trapped = k.0;
       plain = k.1;
       tied = happens-tied rules (picture old h.trapped h.plain) (picture new k.0 k.1) (ends.key key) (λ r. tt) (
         client_picture new.client k.0 k.1,
-        t.sends.bytes,
+        t.sends.said,
         k.2,
         ap (λ w. picture w k.0 k.1) t.rest ∙ ap (λ x. record (picture old h.trapped h.plain) { typed = old.typed ++ key ∷ []; client = client_picture new.client k.0 k.1; to_server = x }) t.sends.appended,
       ) h.tied;
       server = subst (λ (w : World). ServerStays rules w.server) (sym t.rest) h.server;
-      client = client_steps.keys_stay rules c.0 old.client new.client key c.1 h.client t.goes;
+      client = client_steps.keys_stay rules c.history old.client new.client key c.stands h.client t.goes;
       sound = sound;
     }
 
 -- the window's size
-holds_resizes : (s : Settings) (old new : World) (width height : ℕ) → NoneFailed old → IsSound new → Tells old (told.resized width height) new → Holds s old → Holds s new
+holds_resizes : (s : Canon) (old new : World) (width height : ℕ) → NoneFailed old → IsSound new → Tells old (told.resized width height) new → Holds s old → Holds s new
 holds_resizes s old new width height none sound t h =
     let rules = rules_of s h.linemode in
-    let c = h.sound.client none.1 in
+    let c = (h.sound.told none.1).1 in
     record {
       linemode = h.linemode;
       trapped = h.trapped;
       plain = h.plain;
       tied = happens-tied rules (picture old h.trapped h.plain) (picture new h.trapped h.plain) ends.client_call (λ r. tt) (
         client_picture new.client h.trapped h.plain,
-        t.sends.bytes,
-        client_steps.resized_done rules c.0 old.client new.client width height h.trapped h.plain old.to_server new.to_server c.1 t.goes t.sends,
+        t.sends.said,
+        client_steps.resized_done rules c.history old.client new.client width height h.trapped h.plain old.to_server new.to_server c.stands none.1 t.goes t.keeps t.sends,
         ap (λ w. picture w h.trapped h.plain) t.rest ∙ ap (λ x. record (picture old h.trapped h.plain) { client = client_picture new.client h.trapped h.plain; to_server = x }) t.sends.appended,
       ) h.tied;
       server = subst (λ (w : World). ServerStays rules w.server) (sym t.rest) h.server;
-      client = client_steps.resized_stays rules c.0 old.client new.client width height c.1 h.client t.goes;
+      client = client_steps.resized_stays rules c.history old.client new.client width height c.stands h.client t.goes;
       sound = sound;
     }
 
 -- a call of the server that makes no entry and takes none
-holds_asks : (s : Settings) (old new : World) (e : asked.Event) → KeepsEntries e → IsSound new → Asks old e new → Holds s old → Holds s new
+holds_asks : (s : Canon) (old new : World) (e : asked.Event) → KeepsEntries e → IsSound new → Asks old e new → Holds s old → Holds s new
 holds_asks s old new e plain sound t h =
     let rules = rules_of s h.linemode in
     record {
@@ -103,10 +104,10 @@ holds_asks s old new e plain sound t h =
       plain = h.plain;
       tied = happens-tied rules (picture old h.trapped h.plain) (picture new h.trapped h.plain) ends.server_call (λ r. tt) (
         server_picture new.server,
-        t.goes.bytes,
+        t.goes.said,
         record {
-          same = ap (λ d. record { decoder = d; core = server_core new.server }) t.goes.decoder
-              ∙ ap (λ c. record { decoder = old.server.decoder; core = c }) (server_steps.says_core h.sound.history old.server new.server e old.to_client new.to_client plain h.sound.server t.goes);
+          same = ap (λ d. record { decoder = d; core = server_core new.server }) t.keeps.decoder
+              ∙ ap (λ c. record { decoder = old.server.decoder; core = c }) (server_steps.says_core h.sound.history old.server new.server e old.to_client new.to_client plain h.sound.server t.goes t.keeps);
           replies = server_steps.says_replies rules h.sound.history old.server new.server e old.to_client new.to_client (calls e plain) h.sound.server h.server t.goes;
         },
         ap (λ w. picture w h.trapped h.plain) t.rest ∙ ap (λ x. record (picture old h.trapped h.plain) { server = server_picture new.server; to_client = x }) t.goes.appended,
@@ -117,7 +118,7 @@ holds_asks s old new e plain sound t h =
     }
 
 -- an entry is asked for
-holds_takes : (s : Settings) (old new : World) → IsSound new → Takes old new → Holds s old → Holds s new
+holds_takes : (s : Canon) (old new : World) → IsSound new → Takes old new → Holds s old → Holds s new
 holds_takes s old new sound t h =
     let rules = rules_of s h.linemode in
     record {
@@ -126,9 +127,9 @@ holds_takes s old new sound t h =
       plain = h.plain;
       tied = happens-tied rules (picture old h.trapped h.plain) (picture new h.trapped h.plain) ends.take_entry (λ r. tt) (
         server_picture new.server,
-        t.goes.bytes,
+        t.goes.said,
         option_to_list t.entry,
-        server_steps.took_core h.sound.history old.server new.server old.to_client new.to_client t.entry h.sound.server t.goes (t.is_first h.sound.history h.sound.server),
+        server_steps.took_core h.sound.history old.server new.server old.to_client new.to_client t.entry h.sound.server t.goes t.keeps (t.is_first h.sound.history h.sound.server),
         server_steps.says_replies rules h.sound.history old.server new.server asked.took old.to_client new.to_client tt h.sound.server h.server t.goes,
         ap (λ w. picture w h.trapped h.plain) t.rest ∙ ap (λ x. record (picture old h.trapped h.plain) { taken = old.taken ++ option_to_list t.entry; server = server_picture new.server; to_client = x }) t.goes.appended,
       ) h.tied;
@@ -138,10 +139,10 @@ holds_takes s old new sound t h =
     }
 
 -- a delivery to the server
-holds_reaches : (s : Settings) (old new : World) (n : ℕ) → NoneFailed old → IsSound new → Reaches old n new → Holds s old → Holds s new
+holds_reaches : (s : Canon) (old new : World) (n : ℕ) → NoneFailed old → IsSound new → Reaches old n new → Holds s old → Holds s new
 holds_reaches s old new n none sound t h =
     let rules = rules_of s h.linemode in
-    let gains : Gains old.server.decoder (take n old.to_server) [] t.feeds.items new.server.decoder = record { items = t.feeds.items; appended = refl; adds = t.feeds.reads } in
+    let gains = t.feeds.reads in
     let d = cut_at old.server.decoder new.server.decoder n old.to_server h.tied.items t.feeds.items h.tied.flight gains in
     let fit = (all_parts Fits t.feeds.items d.left (subst (λ l. All Fits l) d.all (flight_fits old.server.decoder old.to_server h.tied.items h.tied.flight))).0 in
     let calm = (all_parts IsCalmToServer t.feeds.items d.left (subst (λ l. All IsCalmToServer l) d.all h.tied.calm)).0 in
@@ -151,10 +152,10 @@ holds_reaches s old new n none sound t h =
       plain = h.plain;
       tied = happens-tied rules (picture old h.trapped h.plain) (picture new h.trapped h.plain) (ends.to_server n) (λ r. tt) (
         server_picture new.server,
-        t.feeds.bytes,
+        t.feeds.said,
         record {
           got = t.feeds.items;
-          decodes = gains;
+          reads = gains;
           core = server_steps.feeds_core rules h.sound.history old.server new.server (take n old.to_server) old.to_client new.to_client h.sound.server h.server none.0 t.feeds fit calm;
           replies = server_steps.feeds_replies rules h.sound.history old.server new.server (take n old.to_server) old.to_client new.to_client h.sound.server h.server none.0 t.feeds fit calm;
         },
@@ -166,53 +167,52 @@ holds_reaches s old new n none sound t h =
     }
 
 -- what a quiet delivery is to the relation
-quiet_there : (s : Settings) (old : World) (n : ℕ) → NoneFailed old → (h : Holds s old) → DeliversWhere (IsBetweenLines s) old n → ends.IsQuietEvent (rules_of s h.linemode) (picture old h.trapped h.plain) (ends.to_client n)
+quiet_there : (s : Canon) (old : World) (n : ℕ) → NoneFailed old → (h : Holds s old) → DeliversWhere (IsBetweenLines s) old n → ends.IsQuietEvent (rules_of s h.linemode) (picture old h.trapped h.plain) (ends.to_client n)
 quiet_there s old n none h quiet = λ got next gains.
     let rules = rules_of s h.linemode in
-    let c = h.sound.client none.1 in
+    let c = (h.sound.told none.1).1 in
     let d = cut_at old.client.decoder next n old.to_client h.tied.messages got h.tied.back gains in
-    let calm = (all_parts (IsCalmToClient s) got d.left (subst (λ l. All (IsCalmToClient s) l) d.all h.tied.asked)).0 in
-    let adds : Adds old.client.decoder (take n old.to_client) got next = subst (λ l. Adds old.client.decoder (take n old.to_client) l next) (sym gains.appended) gains.adds in
-    client_steps.feeds_quiet rules c.0 old.client old.typed h.trapped h.plain got refl c.1 h.client calm (quiet got next adds)
+    let calm = (all_parts (IsCalmToClient s.settings) got d.left (subst (λ l. All (IsCalmToClient s.settings) l) d.all h.tied.asked)).0 in
+    client_steps.feeds_quiet rules c.history old.client old.typed h.trapped h.plain got refl c.stands h.client none.1 calm (quiet got next gains)
 
 -- a delivery to the client
-holds_returns : (s : Settings) (old new : World) (n : ℕ) → NoneFailed old → IsSound new → DeliversWhere (IsBetweenLines s) old n → Returns old n new → Holds s old → Holds s new
+holds_returns : (s : Canon) (old new : World) (n : ℕ) → NoneFailed old → IsSound new → DeliversWhere (IsBetweenLines s) old n → Returns old n new → Holds s old → Holds s new
 holds_returns s old new n none sound quiet t h =
     let rules = rules_of s h.linemode in
-    let c = h.sound.client none.1 in
-    let gains : Gains old.client.decoder (take n old.to_client) [] t.feeds.items new.client.decoder = record { items = t.feeds.items; appended = refl; adds = t.feeds.reads } in
+    let c = (h.sound.told none.1).1 in
+    let gains = t.feeds.reads in
     let d = cut_at old.client.decoder new.client.decoder n old.to_client h.tied.messages t.feeds.items h.tied.back gains in
-    let calm = (all_parts (IsCalmToClient s) t.feeds.items d.left (subst (λ l. All (IsCalmToClient s) l) d.all h.tied.asked)).0 in
-    let k = client_steps.feeds_done rules c.0 old.client new.client h.trapped h.plain (take n old.to_client) old.to_server new.to_server old.shown new.shown refl c.1 h.client none.1 t.feeds calm in
+    let calm = (all_parts (IsCalmToClient s.settings) t.feeds.items d.left (subst (λ l. All (IsCalmToClient s.settings) l) d.all h.tied.asked)).0 in
+    let k = client_steps.feeds_done rules c.history old.client new.client h.trapped h.plain (take n old.to_client) old.to_server new.to_server old.shown new.shown refl c.stands h.client none.1 t.feeds calm in
     record {
       linemode = h.linemode;
       trapped = k.0;
       plain = k.1;
       tied = happens-tied rules (picture old h.trapped h.plain) (picture new k.0 k.1) (ends.to_client n) (λ r. quiet_there s old n none h quiet) (
         client_picture new.client k.0 k.1,
-        t.feeds.bytes,
-        record { got = t.feeds.items; decodes = gains; core = k.2; writes = k.3 },
+        t.feeds.said,
+        record { got = t.feeds.items; reads = gains; core = k.2; writes = k.3 },
         ap (λ w. picture w k.0 k.1) t.rest ∙ ap (λ x. record (picture old h.trapped h.plain) { client = client_picture new.client k.0 k.1; to_client = drop n old.to_client; to_server = x }) t.feeds.appended,
       ) h.tied;
       server = subst (λ (w : World). ServerStays rules w.server) (sym t.rest) h.server;
-      client = client_steps.feeds_stay rules c.0 old.client new.client (take n old.to_client) old.to_server new.to_server old.shown new.shown c.1 h.client t.feeds calm;
+      client = client_steps.feeds_stay rules c.history old.client new.client (take n old.to_client) old.to_server new.to_server old.shown new.shown refl c.stands h.client t.feeds calm;
       sound = sound;
     }
 
-holds_as : (s : Settings) (old new : World) → new ≡ old → Holds s old → Holds s new
+holds_as : (s : Canon) (old new : World) → new ≡ old → Holds s old → Holds s new
 holds_as s old new is h = subst (λ w. Holds s w) (sym is) h
 
-unless : (s : Settings) (stopped : Bool) (old new : World) (happens : Type 0) → (happens → Holds s old → Holds s new) → Unless stopped old new happens → Holds s old → Holds s new
+unless : (s : Canon) (stopped : Bool) (old new : World) (happens : Type 0) → (happens → Holds s old → Holds s new) → Unless stopped old new happens → Holds s old → Holds s new
 unless s true old new happens done is h = holds_as s old new is h
 unless s false old new happens done is h = done is h
 
 -- a delivery to a client that may have been stopped
-holds_delivered : (s : Settings) (old new : World) (n : ℕ) (stopped : Bool) → old.client_stopped ≡ stopped → NoneFailed old → IsSound new → IsQuietEvent (IsBetweenLines s) old (ToClient n) → Unless stopped old new (Returns old n new) → Holds s old → Holds s new
+holds_delivered : (s : Canon) (old new : World) (n : ℕ) (stopped : Bool) → old.client_stopped ≡ stopped → NoneFailed old → IsSound new → IsQuietEvent (IsBetweenLines s) old (ToClient n) → Unless stopped old new (Returns old n new) → Holds s old → Holds s new
 holds_delivered s old new n true stopped none sound quiet is h = holds_as s old new is h
-holds_delivered s old new n false goes none sound quiet t h = holds_returns s old new n none sound (quiet goes) t h
+holds_delivered s old new n false goes none sound quiet t h = holds_returns s old new n none sound (quiet goes none.1) t h
 
 -- an end that stops changes nothing of it
-holds_stops : (s : Settings) (old new : World) (a b : Bool) → new ≡ record old { server_stopped = a; client_stopped = b } → IsSound new → Holds s old → Holds s new
+holds_stops : (s : Canon) (old new : World) (a b : Bool) → new ≡ record old { server_stopped = a; client_stopped = b } → IsSound new → Holds s old → Holds s new
 holds_stops s old new a b is sound h =
     record {
       linemode = h.linemode;
@@ -225,7 +225,7 @@ holds_stops s old new a b is sound h =
     }
 
 -- an event that is done
-holds_does : (s : Settings) (old new : World) (e : Event) → NoneFailed old → IsSound new → IsQuietEvent (IsBetweenLines s) old e → Does old e new → Holds s old → Holds s new
+holds_does : (s : Canon) (old new : World) (e : Event) → NoneFailed old → IsSound new → IsQuietEvent (IsBetweenLines s) old e → Does old e new → Holds s old → Holds s new
 holds_does s old new (Key key) none sound quiet d h = unless s old.client_stopped old new (Types old key new) (holds_types s old new key none sound) d h
 holds_does s old new (ToServer n) none sound quiet d h = unless s old.server_stopped old new (Reaches old n new) (holds_reaches s old new n none sound) d h
 holds_does s old new (ToClient n) none sound quiet d h = holds_delivered s old new n old.client_stopped refl none sound quiet d h
@@ -254,18 +254,18 @@ unless_ran true old new happens done is none = as_before old new is none
 unless_ran false old new happens done is none = done is none
 
 asks_ran : (old new : World) (e : asked.Event) → Asks old e new → NoneFailed new → NoneFailed old
-asks_ran old new e t none = both_ran old new t.goes.failed (ap (λ (w : World). w.client.failed) t.rest) none
+asks_ran old new e t none = both_ran old new t.keeps.failed (ap (λ (w : World). w.client.failed) t.rest) none
 
 tells_ran : (old new : World) (e : told.Event) → Tells old e new → NoneFailed new → NoneFailed old
-tells_ran old new e t none = both_ran old new (ap (λ (w : World). w.server.failed) t.rest) t.goes.failed none
+tells_ran old new e t none = both_ran old new (ap (λ (w : World). w.server.failed) t.rest) t.keeps.failed none
 
 does_ran : (old new : World) (e : Event) → Does old e new → NoneFailed new → NoneFailed old
-does_ran old new (Key key) d none = unless_ran old.client_stopped old new (Types old key new) (λ t. both_ran old new (ap (λ (w : World). w.server.failed) t.rest) t.goes.failed) d none
+does_ran old new (Key key) d none = unless_ran old.client_stopped old new (Types old key new) (λ t. both_ran old new (ap (λ (w : World). w.server.failed) t.rest) t.keeps.failed) d none
 does_ran old new (ToServer n) d none = unless_ran old.server_stopped old new (Reaches old n new) (λ t. both_ran old new t.feeds.failed (ap (λ (w : World). w.client.failed) t.rest)) d none
 does_ran old new (ToClient n) d none = unless_ran old.client_stopped old new (Returns old n new) (λ t. both_ran old new (ap (λ (w : World). w.server.failed) t.rest) t.feeds.failed) d none
 does_ran old new (Write bytes) d none = unless_ran old.server_stopped old new (Asks old (asked.wrote bytes) new) (asks_ran old new (asked.wrote bytes)) d none
 does_ran old new (Pull n) d none = unless_ran old.server_stopped old new (Pulls old n new) (λ p. asks_ran old new (asked.pulled p.count) p.asks) d none
-does_ran old new Take d none = both_ran old new d.goes.failed (ap (λ (w : World). w.client.failed) d.rest) none
+does_ran old new Take d none = both_ran old new d.keeps.failed (ap (λ (w : World). w.client.failed) d.rest) none
 does_ran old new (Wish editing) d none = unless_ran old.server_stopped old new (Asks old (asked.wished editing) new) (asks_ran old new (asked.wished editing)) d none
 does_ran old new (Resize width height) d none = unless_ran old.client_stopped old new (Tells old (told.resized width height) new) (tells_ran old new (told.resized width height)) d none
 does_ran old new (SetChar func value) d none = unless_ran old.server_stopped old new (Asks old (asked.char_set func value) new) (asks_ran old new (asked.char_set func value)) d none
@@ -275,13 +275,13 @@ does_ran old new ServerStops d none = both_ran old new (ap (λ (w : World). w.se
 does_ran old new ClientStops d none = both_ran old new (ap (λ (w : World). w.server.failed) d) (ap (λ (w : World). w.client.failed) d) none
 
 -- a refusal at which no end failed changed nothing
-unrefused : (old new : World) → Refusal old new → NoneFailed new → new ≡ old
-unrefused old new (unchanged is) none = is
-unrefused old new (by_server n fault r) none = opposite new.server.failed (new ≡ old) r.failed none.0
-unrefused old new (by_client n fault r) none = opposite new.client.failed (new ≡ old) r.failed none.1
+unrefused : (old new : World) (e : Event) → Refusal old e new → NoneFailed new → new ≡ old
+unrefused old new e (unchanged is) none = is
+unrefused old new e (by_server n fault is r) none = opposite new.server.failed (new ≡ old) r.failed none.0
+unrefused old new e (by_client n fault is r) none = opposite new.client.failed (new ≡ old) r.failed none.1
 
 refused_same : (old new : World) (e : Event) (c : Cause) → Refuses old e c new → NoneFailed new → new ≡ old
-refused_same old new e c r none = unrefused old new (refusal_of old new e c r) none
+refused_same old new e c r none = unrefused old new e (refusal_of old new e c r) none
 
 occurs_ran : (may : List ℕ → Type 0) (old new : World) (e : Event) → Occurs may old e new → NoneFailed new → NoneFailed old
 occurs_ran may old new e (inl d) none = does_ran old new e d.1 none
@@ -291,11 +291,11 @@ pub passes_ran : (may : List ℕ → Type 0) (old new : World) (events : List Ev
 passes_ran may old new [] p none = as_before old new p none
 passes_ran may old new (e ∷ events) p none = occurs_ran may old p.0 e p.1 (passes_ran may p.0 new events p.2 none)
 
-holds_occurs : (s : Settings) (old new : World) (e : Event) → NoneFailed new → Occurs (IsBetweenLines s) old e new → Holds s old → Holds s new
+holds_occurs : (s : Canon) (old new : World) (e : Event) → NoneFailed new → Occurs (IsBetweenLines s) old e new → Holds s old → Holds s new
 holds_occurs s old new e none (inl d) h = holds_does s old new e (does_ran old new e d.1 none) (sound_does old new e d.1 h.sound) d.0 d.1 h
 holds_occurs s old new e none (inr r) h = holds_as s old new (refused_same old new e r.0 r.1 none) h
 
-pub holds_passes : (s : Settings) (old new : World) (events : List Event) → NoneFailed new → Passes (IsBetweenLines s) old events new → Holds s old → Holds s new
+pub holds_passes : (s : Canon) (old new : World) (events : List Event) → NoneFailed new → Passes (IsBetweenLines s) old events new → Holds s old → Holds s new
 holds_passes s old new [] none p h = holds_as s old new p h
 holds_passes s old new (e ∷ events) none p h =
     holds_passes s p.0 new events none p.2 (holds_occurs s old p.0 e (passes_ran (IsBetweenLines s) p.0 new events p.2 none) p.1 h)

@@ -3,6 +3,7 @@ use Rattle.std.proofs.Common.{◌≡◌, ◌⊎◌, inl, inr, ℕ, Bool, true, f
 use Rattle.std.proofs.lemmas.List.Elements.{All-nil}
 use Rattle.tn_discipline.specs.declared.reads.Entry.{Entry}
 use Rattle.tn_discipline.specs.declared.termios.Flags.{Flags}
+use Rattle.tn_discipline.specs.Canon.{Canon}
 use Rattle.tn_discipline.specs.declared.termios.Settings.{Settings}
 use Rattle.tn_linemode.specs.Modes.{Modes, edits, mode_of}
 use Rattle.tn_option.specs.Options.{is_yes}
@@ -20,7 +21,8 @@ use Rattle.tn_world.specs.Pictures.{server_core}
 use Rattle.tn_world.specs.Quiet.{IsMark}
 use Rattle.tn_world.specs.Settled.{AgreeOnLinemode}
 use Rattle.tn_world.specs.Worlds.{World}
-use Rattle.tn_world.proofs.Tied.{rest-agrees, no_items}
+use Rattle.tn_world.proofs.Cut.{no_items}
+use Rattle.tn_world.proofs.Tied.{rest-agrees}
 use Rattle.tn_world.specs.Relation.{Agrees, Holds, at, picture, rules_of}
 
 -- a wish that was allowed
@@ -67,14 +69,14 @@ askable_while s true wish h = askable_wish s wish h
 askable_while s false wish h = inl refl
 
 -- the mask in force is one that the server may ask for
-mark_askable : (s : Settings) (w : World) → IsMark s w → IsAskable s (bits w.client.mode)
+mark_askable : (s : Canon) (w : World) → IsMark s w → IsAskable s.settings (bits w.client.mode)
 mark_askable s w m =
     let stands = m.sound.server in
     let h = m.sound.history in
-    let flags : terms.flags h ≡ s.flags = ap (λ (x : Settings). x.flags) (sym stands.settings ∙ m.settings) in
+    let flags : terms.flags h ≡ s.settings.flags = ap (λ (x : Settings). x.flags) (sym stands.settings ∙ ap (λ (x : Canon). x.settings) m.rules) in
     let mask : terms.asked h ≡ w.client.mode = sym (ap (λ (x : Modes). x.asked) stands.modes) ∙ m.settled.agreed.mask.0 ∙ m.settled.agreed.mask.1 in
-    subst (λ (n : ℕ). IsAskable s (bits n)) mask
-    (askable_while s (terms.linemode (terms.options h)) (terms.terms h).wish (subst (λ f. IsAllowed f (terms.terms h).wish) flags (wish_allowed h)))
+    subst (λ (n : ℕ). IsAskable s.settings (bits n)) mask
+    (askable_while s.settings (terms.linemode (terms.options h)) (terms.terms h).wish (subst (λ f. IsAllowed f (terms.terms h).wish) flags (wish_allowed h)))
 
 agreed_linemode : (w : World) → AgreeOnLinemode w.server.terms.options w.client.options → client_terms.linemode w.client.options ≡ terms.linemode w.server.terms.options
 agreed_linemode w (inl p) = ap is_yes p.1 ∙ sym (ap is_yes p.0)
@@ -87,7 +89,7 @@ core_is e f b half entries p q r t =
     ∙ ap (λ x. record { edit = f; half = []; waiting = x; failed = b }) r
     ∙ ap (λ x. record { edit = f; half = []; waiting = []; failed = x }) t
 
-mark_agrees : (s : Settings) (linemode : Bool) (w : World) → IsMark s w → Agrees (rules_of s linemode) w.typed w.taken (server_core w.server) (picture w 0 0).client.core
+mark_agrees : (s : Canon) (linemode : Bool) (w : World) → IsMark s w → Agrees (rules_of s linemode) w.typed w.taken (server_core w.server) (picture w 0 0).client.core
 mark_agrees s linemode w m =
     let rules = rules_of s linemode in
     let c = (picture w 0 0).client.core in
@@ -100,32 +102,36 @@ mark_agrees s linemode w m =
     (subst (λ (x : Bool). Agrees rules [] [] (at (edits w.client.mode) [] []) (record c { held = []; ahead = 0; failed = x })) (sym settled.idle.client_failed)
     (rest-agrees rules (bits w.client.mode) (λ b. false) (mark_askable s w m)))))))
 
-pub mark_holds : (s : Settings) (w : World) → IsMark s w → Holds s w
+pub mark_holds : (s : Canon) (w : World) → IsMark s w → Holds s w
 mark_holds s w m =
     let lm = terms.linemode w.server.terms.options in
     let stands = m.sound.server in
-    let chars : w.server.table ≡ s.chars = stands.table ∙ sym (ap (λ (x : Settings). x.chars) stands.settings) ∙ ap (λ (x : Settings). x.chars) m.settings in
-    let f = m.sound.flights m.settled.idle.server_failed m.settled.idle.client_failed in
-    let none : f.items ≡ [] = no_items w.server.decoder f.items (subst (λ x. InFlight w.server.decoder x f.items) m.settled.idle.to_server f.to_server) in
-    let silent : f.messages ≡ [] = no_items w.client.decoder f.messages (subst (λ x. InFlight w.client.decoder x f.messages) m.settled.idle.to_client f.to_client) in
+    let is_settings : w.server.terminal.settings ≡ s.settings = ap (λ (x : Canon). x.settings) m.rules in
+    let is_limit : w.server.terminal.line.limit ≡ s.limit = ap (λ (x : Canon). x.limit) m.rules in
+    let chars : w.server.table ≡ s.settings.chars = stands.table ∙ sym (ap (λ (x : Settings). x.chars) stands.settings) ∙ ap (λ (x : Settings). x.chars) is_settings in
+    let there = m.sound.to_server m.settled.idle.server_failed in
+    let back = m.sound.to_client m.settled.idle.client_failed in
+    let none : there.0 ≡ [] = no_items w.server.decoder there.0 (subst (λ x. InFlight w.server.decoder x there.0) m.settled.idle.to_server there.1) in
+    let silent : back.0 ≡ [] = no_items w.client.decoder back.0 (subst (λ x. InFlight w.client.decoder x back.0) m.settled.idle.to_client back.1) in
     record {
       linemode = lm;
       trapped = 0;
       plain = 0;
       tied = record {
         items = [];
-        flight = subst (λ x. InFlight w.server.decoder w.to_server x) none f.to_server;
+        flight = subst (λ x. InFlight w.server.decoder w.to_server x) none there.1;
         calm = All-nil IsCalmToServer;
         messages = [];
-        back = subst (λ x. InFlight w.client.decoder w.to_client x) silent f.to_client;
-        asked = All-nil (IsCalmToClient s);
+        back = subst (λ x. InFlight w.client.decoder w.to_client x) silent back.1;
+        asked = All-nil (IsCalmToClient s.settings);
         agrees = mark_agrees s lm w m;
       };
       server = record {
         linemode = refl;
         chars = chars;
-        flags = subst (λ (x : Settings). w.server.terminal.settings.flags ≡ record (x.flags) { echo = w.server.terminal.settings.flags.echo }) m.settings refl;
+        flags = subst (λ (x : Settings). w.server.terminal.settings.flags ≡ record (x.flags) { echo = w.server.terminal.settings.flags.echo }) is_settings refl;
+        limit = is_limit;
       };
-      client = record { linemode = agreed_linemode w m.settled.agreed.linemode; chars = sym m.settled.agreed.chars ∙ chars };
+      client = record { linemode = agreed_linemode w m.settled.agreed.linemode; chars = sym m.settled.agreed.chars ∙ chars; limit = m.sound.limit m.settled.idle.client_failed ∙ is_limit };
       sound = m.sound;
     }

@@ -1,10 +1,8 @@
 -- What the relation says of entries: those that were made are the first of those that the keys give.
 use Rattle.std.proofs.Common.{◌≡◌, ℕ, Bool, true, false, List, [], ◌∷◌, ◌++◌, refl, sym, ap, ◌∙◌, if◌then◌else◌, append-nil, append_assoc}
 use Rattle.tn_discipline.specs.declared.reads.Entry.{Entry}
-use Rattle.tn_discipline.specs.Entries.{entries_of}
+use Rattle.tn_discipline.specs.Canon.{Canon, typed_entries}
 use Rattle.tn_discipline.specs.Steps.{gain_next}
-use Rattle.tn_discipline.specs.Keys.{roles_of}
-use Rattle.tn_discipline.specs.declared.termios.Settings.{Settings}
 use Rattle.tn_world.specs.Machine.{Rules, Item, Server, item_role, read, read_item, read_all, Client}
 use Rattle.tn_world.specs.Headline.{IsPrefixOf}
 use Rattle.tn_world.specs.Relation.{Agrees, at}
@@ -20,11 +18,11 @@ pub prefix_same : (xs ys : List Entry) → xs ≡ ys → IsPrefixOf xs ys
 prefix_same xs ys e = ([], append-nil xs ∙ e)
 
 -- items only add entries
-one_by_test : (s : Settings) (v : Server) (i : Item) (b : Bool) → IsPrefixOf v.waiting (if b then v else read_item s v i).waiting
+one_by_test : (s : Canon) (v : Server) (i : Item) (b : Bool) → IsPrefixOf v.waiting (if b then v else read_item s v i).waiting
 one_by_test s v i true = prefix_same v.waiting v.waiting refl
-one_by_test s v i false = (gain_next v.half (item_role s v.edit i), refl)
+one_by_test s v i false = (gain_next s.limit v.half (item_role s.settings v.edit i), refl)
 
-pub read-more : (s : Settings) (v : Server) (items : List Item) → IsPrefixOf v.waiting (read_all s v items).waiting
+pub read-more : (s : Canon) (v : Server) (items : List Item) → IsPrefixOf v.waiting (read_all s v items).waiting
 read-more s v [] = prefix_same v.waiting v.waiting refl
 read-more s v (i ∷ items) = prefix_trans v.waiting (read s v i).waiting (read_all s (read s v i) items).waiting (one_by_test s v i v.failed) (read-more s (read s v i) items)
 
@@ -32,26 +30,26 @@ read-more s v (i ∷ items) = prefix_trans v.waiting (read s v i).waiting (read_
 abbrev fronted : Entry → Server → Server
 fronted x v = record v { waiting = x ∷ v.waiting }
 
-fronted_by_test : (s : Settings) (x : Entry) (v : Server) (i : Item) (b : Bool) → (if b then fronted x v else read_item s (fronted x v) i) ≡ fronted x (if b then v else read_item s v i)
+fronted_by_test : (s : Canon) (x : Entry) (v : Server) (i : Item) (b : Bool) → (if b then fronted x v else read_item s (fronted x v) i) ≡ fronted x (if b then v else read_item s v i)
 fronted_by_test s x v i true = refl
 fronted_by_test s x v i false = refl
 
-read-fronted : (s : Settings) (x : Entry) (v : Server) (items : List Item) → read_all s (fronted x v) items ≡ fronted x (read_all s v items)
+read-fronted : (s : Canon) (x : Entry) (v : Server) (items : List Item) → read_all s (fronted x v) items ≡ fronted x (read_all s v items)
 read-fronted s x v [] = refl
 read-fronted s x v (i ∷ items) = ap (λ u. read_all s u items) (fronted_by_test s x v i v.failed) ∙ read-fronted s x (read s v i) items
 
-pub agreed : (rules : Rules) (typed : List ℕ) (taken : List Entry) (v : Server) (c : Client) → Agrees rules typed taken v c → taken ++ v.waiting ≡ entries_of (roles_of rules.settings typed)
+pub agreed : (rules : Rules) (typed : List ℕ) (taken : List Entry) (v : Server) (c : Client) → Agrees rules typed taken v c → taken ++ v.waiting ≡ typed_entries rules.canon typed
 agreed rules typed taken v c a = ap (λ (x : Server). taken ++ x.waiting) a.is ∙ sym a.entries
 
 -- an entry is taken
-pub popped : (s : Settings) (v : Server) (items : List Item) (x : Entry) (entries : List Entry) → v.waiting ≡ x ∷ entries → read_all s v items ≡ fronted x (read_all s (record v { waiting = entries }) items)
+pub popped : (s : Canon) (v : Server) (items : List Item) (x : Entry) (entries : List Entry) → v.waiting ≡ x ∷ entries → read_all s v items ≡ fronted x (read_all s (record v { waiting = entries }) items)
 popped s v items x entries is =
     ap (λ l. read_all s (record v { waiting = l }) items) is ∙ read-fronted s x (record v { waiting = entries }) items
 
-pub take-agrees : (rules : Rules) (typed : List ℕ) (taken : List Entry) (v : Server) (c : Client) (items : List Item) (x : Entry) (entries : List Entry) → v.waiting ≡ x ∷ entries → Agrees rules typed taken (read_all rules.settings v items) c → Agrees rules typed (taken ++ x ∷ []) (read_all rules.settings (record v { waiting = entries }) items) c
+pub take-agrees : (rules : Rules) (typed : List ℕ) (taken : List Entry) (v : Server) (c : Client) (items : List Item) (x : Entry) (entries : List Entry) → v.waiting ≡ x ∷ entries → Agrees rules typed taken (read_all rules.canon v items) c → Agrees rules typed (taken ++ x ∷ []) (read_all rules.canon (record v { waiting = entries }) items) c
 take-agrees rules typed taken v c items x entries is a =
-    let later = read_all rules.settings (record v { waiting = entries }) items in
-    let front_is : fronted x later ≡ at c.mask.edit a.half a.waiting = sym (popped rules.settings v items x entries is) ∙ a.is in
+    let later = read_all rules.canon (record v { waiting = entries }) items in
+    let front_is : fronted x later ≡ at c.mask.edit a.half a.waiting = sym (popped rules.canon v items x entries is) ∙ a.is in
     record {
       half = a.half;
       waiting = later.waiting;

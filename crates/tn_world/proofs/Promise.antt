@@ -4,12 +4,12 @@ use Rattle.std.proofs.Math.ListN.{get_or}
 use Rattle.std.proofs.Math.Seq.{drop-cons}
 use Rattle.std.proofs.lemmas.List.{take_more, take_all, take-append-drop, length-take-le}
 use Rattle.tn_discipline.specs.declared.reads.Entry.{Entry}
-use Rattle.tn_discipline.specs.declared.termios.Settings.{Settings}
+use Rattle.tn_discipline.specs.Canon.{Canon}
 use Rattle.tn_world.specs.Headline.{IsPrefixOf, local_entries}
 use Rattle.tn_world.specs.Opened.{anew}
 use Rattle.tn_world.specs.Quiet.{IsBetweenLines, Nowhere, Occurs, Passes, IsQuietEvent, AreQuiet, IsQuiet, IsMark, Follows, NoneFailed, NothingFlies, ComeWhere}
 use Rattle.tn_world.specs.Settled.{IsSettled, IsSound}
-use Rattle.tn_world.specs.Worlds.{World, Does, Refuses, Runs, Ends, made}
+use Rattle.tn_world.specs.Worlds.{World, Does, Refuses, Runs, Ends, made, canon_of}
 use Rattle.tn_nvt.specs.declared.items.Item.{Item}
 use Rattle.tn_option.specs.Options.{Options}
 use Rattle.tn_client.specs.Terms.{heard, mode_at}
@@ -22,27 +22,27 @@ use Rattle.tn_world.proofs.Tied.{tied-prefix, tied-complete}
 use Rattle.tn_world.specs.Relation.{picture, rules_of}
 
 -- the headline
-pub passes_prefix : (s : Settings) (start new : World) (events : List Event) → IsMark s start → Passes (IsBetweenLines s) start events new → NoneFailed new → IsPrefixOf (made new) (local_entries s new.typed)
+pub passes_prefix : (s : Canon) (start new : World) (events : List Event) → IsMark s start → Passes (IsBetweenLines s) start events new → NoneFailed new → IsPrefixOf (made new) (local_entries s new.typed)
 passes_prefix s start new events m p none =
     let h = holds_passes s start new events none p (mark_holds s start m) in
     tied-prefix (rules_of s h.linemode) (picture new h.trapped h.plain) h.tied
 
-pub passes_complete : (s : Settings) (start new : World) (events : List Event) → IsMark s start → Passes (IsBetweenLines s) start events new → NoneFailed new → NothingFlies new → made new ≡ local_entries s new.typed
+pub passes_complete : (s : Canon) (start new : World) (events : List Event) → IsMark s start → Passes (IsBetweenLines s) start events new → NoneFailed new → NothingFlies new → made new ≡ local_entries s new.typed
 passes_complete s start new events m p none nothing =
     let h = holds_passes s start new events none p (mark_holds s start m) in
     tied-complete (rules_of s h.linemode) (picture new h.trapped h.plain) h.tied nothing.0
 
-pub follows_prefix : (s : Settings) (w : World) → Follows s w → NoneFailed w → IsPrefixOf (made w) (local_entries s w.typed)
+pub follows_prefix : (s : Canon) (w : World) → Follows s w → NoneFailed w → IsPrefixOf (made w) (local_entries s w.typed)
 follows_prefix s w f none = passes_prefix s f.start w f.events f.mark f.passes none
 
-pub follows_complete : (s : Settings) (w : World) → Follows s w → NoneFailed w → NothingFlies w → made w ≡ local_entries s w.typed
+pub follows_complete : (s : Canon) (w : World) → Follows s w → NoneFailed w → NothingFlies w → made w ≡ local_entries s w.typed
 follows_complete s w f none nothing = passes_complete s f.start w f.events f.mark f.passes none nothing
 
 passes_on : (may : List ℕ → Type 0) (old mid new : World) (xs ys : List Event) → Passes may old xs mid → Passes may mid ys new → Passes may old (xs ++ ys) new
 passes_on may old mid new [] ys p q = subst (λ w. Passes may w ys new) p q
 passes_on may old mid new (e ∷ xs) ys p q = (p.0, p.1, passes_on may p.0 mid new xs ys p.2 q)
 
-pub follows_on : (s : Settings) (old new : World) (events : List Event) → Follows s old → Passes (IsBetweenLines s) old events new → Follows s new
+pub follows_on : (s : Canon) (old new : World) (events : List Event) → Follows s old → Passes (IsBetweenLines s) old events new → Follows s new
 follows_on s old new events f p = record { start = f.start; mark = f.mark; events = f.events ++ events; passes = passes_on (IsBetweenLines s) f.start old new f.events events f.passes p }
 
 -- a run of quiet events
@@ -59,10 +59,10 @@ ends_pass may old mid new (d ∷ done) left e cause quiet r refused =
     let here = quiet r.0 r.1 in
     (r.0, inl (here.0, r.1), ends_pass may r.0 mid new done left e cause here.1 r.2 refused)
 
-pub follows_runs : (s : Settings) (old new : World) (events : List Event) → Follows s old → IsQuiet s old events → Runs old events new → Follows s new
+pub follows_runs : (s : Canon) (old new : World) (events : List Event) → Follows s old → IsQuiet s old events → Runs old events new → Follows s new
 follows_runs s old new events f quiet r = follows_on s old new events f (runs_pass (IsBetweenLines s) old new events quiet r)
 
-pub follows_ends : (s : Settings) (old new : World) (events : List Event) (at : ℕ) (cause : Cause) → Follows s old → IsQuiet s old events → Ends old events at cause new → Follows s new
+pub follows_ends : (s : Canon) (old new : World) (events : List Event) (at : ℕ) (cause : Cause) → Follows s old → IsQuiet s old events → Ends old events at cause new → Follows s new
 follows_ends s old new events at cause f quiet e =
     follows_on s old new (e.done ++ e.event ∷ []) f
     (ends_pass (IsBetweenLines s) old e.mid new e.done e.left e.event cause (subst (λ l. IsQuiet s old l) e.whole quiet) e.runs e.refuses)
@@ -72,10 +72,10 @@ come_nowhere : (may : Type 0) (o : Options) (mode : ℕ) (items : List Item) →
 come_nowhere may o mode [] h = tt
 come_nowhere may o mode (item ∷ items) h = (λ differs. absurd (h.0 differs), come_nowhere may (heard o item) (mode_at o mode item) items h.1)
 
-quiet_nowhere : (s : Settings) (w : World) (e : Event) → IsQuietEvent Nowhere w e → IsQuietEvent (IsBetweenLines s) w e
+quiet_nowhere : (s : Canon) (w : World) (e : Event) → IsQuietEvent Nowhere w e → IsQuietEvent (IsBetweenLines s) w e
 quiet_nowhere s w (Key key) q = tt
 quiet_nowhere s w (ToServer n) q = tt
-quiet_nowhere s w (ToClient n) q = λ goes items next adds. come_nowhere (IsBetweenLines s w.typed) w.client.options w.client.mode items (q goes items next adds)
+quiet_nowhere s w (ToClient n) q = λ goes on items next adds. come_nowhere (IsBetweenLines s w.typed) w.client.options w.client.mode items (q goes on items next adds)
 quiet_nowhere s w (Write bytes) q = tt
 quiet_nowhere s w (Pull n) q = tt
 quiet_nowhere s w Take q = tt
@@ -87,11 +87,11 @@ quiet_nowhere s w (Echo on) q = tt
 quiet_nowhere s w ServerStops q = tt
 quiet_nowhere s w ClientStops q = tt
 
-occurs_nowhere : (s : Settings) (old new : World) (e : Event) → Occurs Nowhere old e new → Occurs (IsBetweenLines s) old e new
+occurs_nowhere : (s : Canon) (old new : World) (e : Event) → Occurs Nowhere old e new → Occurs (IsBetweenLines s) old e new
 occurs_nowhere s old new e (inl d) = inl (quiet_nowhere s old e d.0, d.1)
 occurs_nowhere s old new e (inr r) = inr r
 
-pub passes_nowhere : (s : Settings) (old new : World) (events : List Event) → Passes Nowhere old events new → Passes (IsBetweenLines s) old events new
+pub passes_nowhere : (s : Canon) (old new : World) (events : List Event) → Passes Nowhere old events new → Passes (IsBetweenLines s) old events new
 passes_nowhere s old new [] p = p
 passes_nowhere s old new (e ∷ events) p = (p.0, occurs_nowhere s old p.0 e p.1, passes_nowhere s p.0 new events p.2)
 
@@ -109,24 +109,27 @@ anew_sound w s =
     record {
       history = s.history;
       server = s.server;
-      client = s.client;
-      flights = λ a b. let f = s.flights a b in record { items = f.items; to_server = f.to_server; messages = f.messages; to_client = f.to_client };
+      asked = s.asked;
+      told = s.told;
+      limit = s.limit;
+      to_server = s.to_server;
+      to_client = s.to_client;
     }
 
-pub mark_follows : (w : World) → IsSound w → IsSettled w → Follows w.server.terminal.settings (anew w)
+pub mark_follows : (w : World) → IsSound w → IsSettled w → Follows (canon_of w) (anew w)
 mark_follows w s m =
     record {
       start = anew w;
-      mark = record { sound = anew_sound w s; settled = anew_settled w m; settings = refl; typed = refl; taken = refl };
+      mark = record { sound = anew_sound w s; settled = anew_settled w m; rules = refl; typed = refl; taken = refl };
       events = [];
       passes = refl;
     }
 
-pub marked : (old w : World) (typed : List ℕ) (taken : List Entry) → w ≡ old → IsSound w → IsSettled old → typed ≡ [] → taken ≡ [] → Follows old.server.terminal.settings (record w { typed = typed; taken = taken })
+pub marked : (old w : World) (typed : List ℕ) (taken : List Entry) → w ≡ old → IsSound w → IsSettled old → typed ≡ [] → taken ≡ [] → Follows (canon_of old) (record w { typed = typed; taken = taken })
 marked old w typed taken is sound settled no_keys no_entries =
-    subst (λ x. Follows old.server.terminal.settings (record w { typed = x; taken = taken })) (sym no_keys)
-    (subst (λ x. Follows old.server.terminal.settings (record w { typed = []; taken = x })) (sym no_entries)
-    (subst (λ x. Follows x.server.terminal.settings (anew w)) is (mark_follows w sound (subst (λ x. IsSettled x) (sym is) settled))))
+    subst (λ x. Follows (canon_of old) (record w { typed = x; taken = taken })) (sym no_keys)
+    (subst (λ x. Follows (canon_of old) (record w { typed = []; taken = x })) (sym no_entries)
+    (subst (λ x. Follows (canon_of x) (anew w)) is (mark_follows w sound (subst (λ x. IsSettled x) (sym is) settled))))
 
 -- the run goes on
 runs_on : (old mid new : World) (xs : List Event) (e : Event) → Runs old xs mid → Does mid e new → Runs old (xs ++ e ∷ []) new
@@ -154,8 +157,8 @@ runs_stop old mid new events n e cause within is r refuses =
     }
 
 -- the promises of a run
-pub run_follows : (old new : World) (events : List Event) → Runs old events new → (s : Settings) → Follows s old → IsQuiet s old events → Follows s new
+pub run_follows : (old new : World) (events : List Event) → Runs old events new → (s : Canon) → Follows s old → IsQuiet s old events → Follows s new
 run_follows old new events r s f quiet = follows_runs s old new events f quiet r
 
-pub end_follows : (old new : World) (events : List Event) (at : ℕ) (cause : Cause) → Ends old events at cause new → (s : Settings) → Follows s old → IsQuiet s old events → Follows s new
+pub end_follows : (old new : World) (events : List Event) (at : ℕ) (cause : Cause) → Ends old events at cause new → (s : Canon) → Follows s old → IsQuiet s old events → Follows s new
 end_follows old new events at cause e s f quiet = follows_ends s old new events at cause f quiet e

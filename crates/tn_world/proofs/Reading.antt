@@ -1,7 +1,8 @@
 -- What the server makes of items.
 use Rattle.std.proofs.Common.{◌≡◌, ◌≤◌, ◌<◌, ℕ, zero, suc, ◌+◌, ◌==◌, Bool, true, false, List, [], ◌∷◌, ◌++◌, length, take, refl, sym, ap, ◌∙◌, if◌then◌else◌, arith, append-nil, append_assoc, length-append}
 use Rattle.tn_discipline.specs.declared.reads.Entry.{Entry}
-use Rattle.tn_discipline.specs.Admitted.{most_counted}
+use Rattle.tn_discipline.specs.Canon.{Canon, typed_entries, typed_half}
+use Rattle.tn_discipline.specs.Limits.{most_counted}
 use Rattle.tn_discipline.specs.Entries.{entries_of, half_of}
 use Rattle.tn_discipline.specs.Steps.{half_next, gain_next}
 use Rattle.tn_discipline.specs.Keys.{role_of_key, literal_role, roles_of, roles_from}
@@ -9,12 +10,12 @@ use Rattle.tn_discipline.specs.Characters.{Characters}
 use Rattle.tn_discipline.specs.declared.termios.Settings.{Settings}
 use Rattle.tn_discipline.specs.declared.keys.Role.{Role}
 use Rattle.tn_discipline.specs.declared.keys.Role.TheVariants as role
-use Rattle.tn_discipline.proofs.Histories.{half-next, entries-next}
-use Rattle.tn_discipline.proofs.KeyRoles.{roles_of-append, roles_of-one}
+use Rattle.tn_discipline.proofs.lemmas.Histories.{half-next, entries-next}
+use Rattle.tn_discipline.proofs.lemmas.KeyRoles.{roles_of-append, roles_of-one}
 use Rattle.tn_world.specs.Machine.{Item, byte, Server, read, read_all, bytes}
 use Rattle.tn_world.specs.Relation.{AreOrdinary, at}
 
-pub read_all-append : (s : Settings) (v : Server) (xs ys : List Item) → read_all s v (xs ++ ys) ≡ read_all s (read_all s v xs) ys
+pub read_all-append : (s : Canon) (v : Server) (xs ys : List Item) → read_all s v (xs ++ ys) ≡ read_all s (read_all s v xs) ys
 read_all-append s v [] ys = refl
 read_all-append s v (x ∷ xs) ys = read_all-append s (read s v x) xs ys
 
@@ -27,17 +28,17 @@ ordinary-take chars zero xs p = tt
 ordinary-take chars (suc n) [] p = tt
 ordinary-take chars (suc n) (x ∷ xs) p = (p.0, ordinary-take chars n xs p.1)
 
-not_full : (n : ℕ) → n < 254 → (n == most_counted) ≡ false
-not_full n h = grind arith
+not_full : (limit n : ℕ) → n < most_counted limit → (n == most_counted limit) ≡ false
+not_full limit n h = grind arith
 
-read-byte : (s : Settings) (h : List ℕ) (w : List Entry) (b : ℕ) → literal_role s.chars b ≡ role.Ordinary b → length h < 254 → read s (at true h w) (byte b) ≡ at true (h ++ b ∷ []) w
+read-byte : (s : Canon) (h : List ℕ) (w : List Entry) (b : ℕ) → literal_role s.settings.chars b ≡ role.Ordinary b → length h < most_counted s.limit → read s (at true h w) (byte b) ≡ at true (h ++ b ∷ []) w
 read-byte s h w b plain fits =
-    ap (λ r. at true (half_next h r) (w ++ gain_next h r)) plain
-    ∙ ap (λ (t : Bool). at true (if t then h else h ++ b ∷ []) (w ++ (if t then [] else []))) (not_full (length h) fits)
+    ap (λ r. at true (half_next s.limit h r) (w ++ gain_next s.limit h r)) plain
+    ∙ ap (λ (t : Bool). at true (if t then h else h ++ b ∷ []) (w ++ (if t then [] else []))) (not_full s.limit (length h) fits)
     ∙ ap (λ x. at true (h ++ b ∷ []) x) (append-nil w)
 
 -- ordinary bytes that fit are all kept
-pub read-bytes : (s : Settings) (h : List ℕ) (w : List Entry) (bs : List ℕ) → AreOrdinary s.chars bs → length h + length bs ≤ 254 → read_all s (at true h w) (bytes bs) ≡ at true (h ++ bs) w
+pub read-bytes : (s : Canon) (h : List ℕ) (w : List Entry) (bs : List ℕ) → AreOrdinary s.settings.chars bs → length h + length bs ≤ most_counted s.limit → read_all s (at true h w) (bytes bs) ≡ at true (h ++ bs) w
 read-bytes s h w [] plain fits = ap (λ x. at true x w) (sym (append-nil h))
 read-bytes s h w (b ∷ bs) plain fits =
     ap (λ v. read_all s v (bytes bs)) (read-byte s h w b plain.0 (omega arith))
@@ -45,36 +46,38 @@ read-bytes s h w (b ∷ bs) plain fits =
     ∙ ap (λ x. at true x w) (append_assoc h (b ∷ []) bs)
 
 -- ordinary bytes, and one more item
-pub read-bytes_then : (s : Settings) (h : List ℕ) (w : List Entry) (bs : List ℕ) (item : Item) → AreOrdinary s.chars bs → length h + length bs ≤ 254 → read_all s (at true h w) (bytes bs ++ item ∷ []) ≡ read s (at true (h ++ bs) w) item
+pub read-bytes_then : (s : Canon) (h : List ℕ) (w : List Entry) (bs : List ℕ) (item : Item) → AreOrdinary s.settings.chars bs → length h + length bs ≤ most_counted s.limit → read_all s (at true h w) (bytes bs ++ item ∷ []) ≡ read s (at true (h ++ bs) w) item
 read-bytes_then s h w bs item plain fits =
     read_all-append s (at true h w) (bytes bs) (item ∷ []) ∙ ap (λ v. read s v item) (read-bytes s h w bs plain fits)
 
 -- one more key at a local terminal
-pub half-role : (h : List Role) (r : Role) → half_of (h ++ roles_from r) ≡ half_next (half_of h) r
-half-role h role.Ignored = ap half_of (append-nil h)
-half-role h role.Nl = half-next h role.Nl
-half-role h (role.Eol b) = half-next h (role.Eol b)
-half-role h role.Eof = half-next h role.Eof
-half-role h (role.Signal sig) = half-next h (role.Signal sig)
-half-role h role.Erase = half-next h role.Erase
-half-role h role.Kill = half-next h role.Kill
-half-role h (role.Ordinary b) = half-next h (role.Ordinary b)
+pub half-role : (limit : ℕ) (h : List Role) (r : Role) → half_of limit (h ++ roles_from r) ≡ half_next limit (half_of limit h) r
+half-role limit h role.Ignored = ap (half_of limit) (append-nil h)
+half-role limit h role.Nl = half-next limit h role.Nl
+half-role limit h (role.Eol b) = half-next limit h (role.Eol b)
+half-role limit h (role.Eol2 b) = half-next limit h (role.Eol2 b)
+half-role limit h role.Eof = half-next limit h role.Eof
+half-role limit h (role.Signal sig) = half-next limit h (role.Signal sig)
+half-role limit h role.Erase = half-next limit h role.Erase
+half-role limit h role.Kill = half-next limit h role.Kill
+half-role limit h (role.Ordinary b) = half-next limit h (role.Ordinary b)
 
-pub entries-role : (h : List Role) (r : Role) → entries_of (h ++ roles_from r) ≡ entries_of h ++ gain_next (half_of h) r
-entries-role h role.Ignored = ap entries_of (append-nil h) ∙ sym (append-nil (entries_of h))
-entries-role h role.Nl = entries-next h role.Nl
-entries-role h (role.Eol b) = entries-next h (role.Eol b)
-entries-role h role.Eof = entries-next h role.Eof
-entries-role h (role.Signal sig) = entries-next h (role.Signal sig)
-entries-role h role.Erase = entries-next h role.Erase
-entries-role h role.Kill = entries-next h role.Kill
-entries-role h (role.Ordinary b) = entries-next h (role.Ordinary b)
+pub entries-role : (limit : ℕ) (h : List Role) (r : Role) → entries_of limit (h ++ roles_from r) ≡ entries_of limit h ++ gain_next limit (half_of limit h) r
+entries-role limit h role.Ignored = ap (entries_of limit) (append-nil h) ∙ sym (append-nil (entries_of limit h))
+entries-role limit h role.Nl = entries-next limit h role.Nl
+entries-role limit h (role.Eol b) = entries-next limit h (role.Eol b)
+entries-role limit h (role.Eol2 b) = entries-next limit h (role.Eol2 b)
+entries-role limit h role.Eof = entries-next limit h role.Eof
+entries-role limit h (role.Signal sig) = entries-next limit h (role.Signal sig)
+entries-role limit h role.Erase = entries-next limit h role.Erase
+entries-role limit h role.Kill = entries-next limit h role.Kill
+entries-role limit h (role.Ordinary b) = entries-next limit h (role.Ordinary b)
 
 typed_more : (s : Settings) (keys : List ℕ) (key : ℕ) → roles_of s (keys ++ key ∷ []) ≡ roles_of s keys ++ roles_from (role_of_key s key)
 typed_more s keys key = roles_of-append s keys (key ∷ []) ∙ ap (λ rs. roles_of s keys ++ rs) (sym (roles_of-one s key))
 
-pub half-typed : (s : Settings) (keys : List ℕ) (key : ℕ) → half_of (roles_of s (keys ++ key ∷ [])) ≡ half_next (half_of (roles_of s keys)) (role_of_key s key)
-half-typed s keys key = ap half_of (typed_more s keys key) ∙ half-role (roles_of s keys) (role_of_key s key)
+pub half-typed : (s : Canon) (keys : List ℕ) (key : ℕ) → typed_half s (keys ++ key ∷ []) ≡ half_next s.limit (typed_half s keys) (role_of_key s.settings key)
+half-typed s keys key = ap (half_of s.limit) (typed_more s.settings keys key) ∙ half-role s.limit (roles_of s.settings keys) (role_of_key s.settings key)
 
-pub entries-typed : (s : Settings) (keys : List ℕ) (key : ℕ) → entries_of (roles_of s (keys ++ key ∷ [])) ≡ entries_of (roles_of s keys) ++ gain_next (half_of (roles_of s keys)) (role_of_key s key)
-entries-typed s keys key = ap entries_of (typed_more s keys key) ∙ entries-role (roles_of s keys) (role_of_key s key)
+pub entries-typed : (s : Canon) (keys : List ℕ) (key : ℕ) → typed_entries s (keys ++ key ∷ []) ≡ typed_entries s keys ++ gain_next s.limit (typed_half s keys) (role_of_key s.settings key)
+entries-typed s keys key = ap (entries_of s.limit) (typed_more s.settings keys key) ∙ entries-role s.limit (roles_of s.settings keys) (role_of_key s.settings key)

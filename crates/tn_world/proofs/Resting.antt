@@ -98,7 +98,7 @@ not_not : (b : Bool) → false ≡ not b → b ≡ true
 not_not true h = refl
 not_not false h = absurd (cc)
 
-pub chars_same : (a b : Characters) → false ≡ not (option_eq nat_eq a.intr b.intr && (option_eq nat_eq a.quit b.quit && (option_eq nat_eq a.eof b.eof && (option_eq nat_eq a.susp b.susp && (option_eq nat_eq a.erase b.erase && (option_eq nat_eq a.kill b.kill && option_eq nat_eq a.eol b.eol)))))) → a ≡ b
+pub chars_same : (a b : Characters) → false ≡ not (option_eq nat_eq a.intr b.intr && (option_eq nat_eq a.quit b.quit && (option_eq nat_eq a.eof b.eof && (option_eq nat_eq a.susp b.susp && (option_eq nat_eq a.erase b.erase && (option_eq nat_eq a.kill b.kill && (option_eq nat_eq a.eol b.eol && option_eq nat_eq a.eol2 b.eol2))))))) → a ≡ b
 chars_same a b h =
     let p = and_both _ _ (not_not _ h) in
     let q = and_both _ _ p.1 in
@@ -106,10 +106,12 @@ chars_same a b h =
     let s = and_both _ _ r.1 in
     let t = and_both _ _ s.1 in
     let u = and_both _ _ t.1 in
-    ap (λ x. record { intr = x; quit = a.quit; eof = a.eof; susp = a.susp; erase = a.erase; kill = a.kill; eol = a.eol }) (same_byte a.intr b.intr p.0)
-    ∙ ap (λ x. record { intr = b.intr; quit = x; eof = a.eof; susp = a.susp; erase = a.erase; kill = a.kill; eol = a.eol }) (same_byte a.quit b.quit q.0)
-    ∙ ap (λ x. record { intr = b.intr; quit = b.quit; eof = x; susp = a.susp; erase = a.erase; kill = a.kill; eol = a.eol }) (same_byte a.eof b.eof r.0)
-    ∙ ap (λ x. record { intr = b.intr; quit = b.quit; eof = b.eof; susp = x; erase = a.erase; kill = a.kill; eol = a.eol }) (same_byte a.susp b.susp s.0)
-    ∙ ap (λ x. record { intr = b.intr; quit = b.quit; eof = b.eof; susp = b.susp; erase = x; kill = a.kill; eol = a.eol }) (same_byte a.erase b.erase t.0)
-    ∙ ap (λ x. record { intr = b.intr; quit = b.quit; eof = b.eof; susp = b.susp; erase = b.erase; kill = x; eol = a.eol }) (same_byte a.kill b.kill u.0)
-    ∙ ap (λ x. record { intr = b.intr; quit = b.quit; eof = b.eof; susp = b.susp; erase = b.erase; kill = b.kill; eol = x }) (same_byte a.eol b.eol u.1)
+    let v = and_both _ _ u.1 in
+    ap (λ x. record { intr = x; quit = a.quit; eof = a.eof; susp = a.susp; erase = a.erase; kill = a.kill; eol = a.eol; eol2 = a.eol2 }) (same_byte a.intr b.intr p.0)
+    ∙ ap (λ x. record { intr = b.intr; quit = x; eof = a.eof; susp = a.susp; erase = a.erase; kill = a.kill; eol = a.eol; eol2 = a.eol2 }) (same_byte a.quit b.quit q.0)
+    ∙ ap (λ x. record { intr = b.intr; quit = b.quit; eof = x; susp = a.susp; erase = a.erase; kill = a.kill; eol = a.eol; eol2 = a.eol2 }) (same_byte a.eof b.eof r.0)
+    ∙ ap (λ x. record { intr = b.intr; quit = b.quit; eof = b.eof; susp = x; erase = a.erase; kill = a.kill; eol = a.eol; eol2 = a.eol2 }) (same_byte a.susp b.susp s.0)
+    ∙ ap (λ x. record { intr = b.intr; quit = b.quit; eof = b.eof; susp = b.susp; erase = x; kill = a.kill; eol = a.eol; eol2 = a.eol2 }) (same_byte a.erase b.erase t.0)
+    ∙ ap (λ x. record { intr = b.intr; quit = b.quit; eof = b.eof; susp = b.susp; erase = b.erase; kill = x; eol = a.eol; eol2 = a.eol2 }) (same_byte a.kill b.kill u.0)
+    ∙ ap (λ x. record { intr = b.intr; quit = b.quit; eof = b.eof; susp = b.susp; erase = b.erase; kill = b.kill; eol = x; eol2 = a.eol2 }) (same_byte a.eol b.eol v.0)
+    ∙ ap (λ x. record { intr = b.intr; quit = b.quit; eof = b.eof; susp = b.susp; erase = b.erase; kill = b.kill; eol = b.eol; eol2 = x }) (same_byte a.eol2 b.eol2 v.1)

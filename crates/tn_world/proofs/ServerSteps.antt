@@ -1,9 +1,8 @@
 -- What a server end does after a mark: with items that are calm, and with its owner's calls.
-use Rattle.std.proofs.Common.{◌≡◌, ◌≢◌, ◌≤◌, inl, inr, ℕ, ◌+◌, ◌==◌, nat_lt, nat_le, Bool, true, false, not, ◌&&◌, Option, Some, None, Result, Ok, Err, option_to_list, List, [], ◌∷◌, ◌++◌, length, take, drop, flat_map, refl, sym, ap, ◌∙◌, if◌then◌else◌, subst, arith, append-nil, append_assoc, length-append}
+use Rattle.std.proofs.Common.{◌≡◌, ◌≢◌, ◌≤◌, inl, inr, ℕ, ◌+◌, ◌==◌, nat_lt, nat_le, Bool, true, false, not, ◌&&◌, Option, Some, None, Result, Ok, Err, option_to_list, List, [], ◌∷◌, ◌++◌, length, take, drop, flat_map, refl, sym, ap, ◌∙◌, if◌then◌else◌, subst, arith, append-nil, append_assoc, length-append, map}
 use Rattle.std.specs.Prelude.{All, MatchOption}
 use Rattle.std.proofs.lemmas.Bool.{eqb-false, ltb-true}
 use Rattle.std.proofs.lemmas.Bool.Decides.{nat_tests}
-use Rattle.std.proofs.lemmas.Grind.{flat_map-append}
 use Rattle.std.proofs.lemmas.List.{append_cancel_left, drop-append-le, drop-drop}
 use Rattle.std.proofs.lemmas.List.Elements.{All-nil, All-cons, All-head, All-tail, All-append}
 use Rattle.std.proofs.lemmas.Nat.{and_assoc}
@@ -12,7 +11,7 @@ use Rattle.tn_codes.specs.declared.codes.Command.TheVariants.{Ga}
 use Rattle.tn_codes.specs.declared.codes.Verb.{Verb}
 use Rattle.tn_codes.specs.declared.payloads.Payload.{Payload}
 use Rattle.tn_codes.specs.declared.payloads.Payload.TheVariants as payload
-use Rattle.tn_codes.proofs.Telling.{says}
+use Rattle.tn_codes.proofs.lemmas.Telling.{says}
 use Rattle.tn_discipline.specs.Characters.{Characters}
 use Rattle.tn_discipline.specs.Steps.{half_next, gain_next}
 use Rattle.tn_discipline.specs.declared.echo.Symbol.{Symbol}
@@ -23,7 +22,7 @@ use Rattle.tn_discipline.specs.declared.reads.Entry.{Entry}
 use Rattle.tn_discipline.specs.declared.termios.Flags.{Flags}
 use Rattle.tn_discipline.specs.declared.termios.Settings.{Settings}
 use Rattle.tn_linemode.specs.Modes.{Modes, mode_of, is_acknowledged, edits}
-use Rattle.tn_nvt.specs.Spelling.{spelling, Fits}
+use Rattle.tn_nvt.specs.Spelling.{Fits}
 use Rattle.tn_nvt.specs.declared.items.Item.{Item}
 use Rattle.tn_nvt.specs.declared.items.Item.TheVariants.{Byte, Newline, Cmd, Neg, Sub}
 use Rattle.tn_option.specs.QMethod.{side_of, cause_of, said, answered, wish_for}
@@ -36,62 +35,42 @@ use Rattle.tn_option.specs.declared.q_method.Cause.{Cause}
 use Rattle.tn_option.specs.declared.q_method.Cause.TheVariants.{HeardOn, HeardOff, WishOn, WishOff}
 use Rattle.tn_option.specs.declared.q_method.Side.{Side}
 use Rattle.tn_option.specs.declared.q_method.Side.TheVariants.{Us, Them}
-use Rattle.tn_option.proofs.OptionLaws.{LeavesOthers-moved}
-use Rattle.tn_server.specs.Events.{Event, History, next, got, took, wrote, pulled, wished, char_set, echo_set, gets}
+use Rattle.tn_option.proofs.lemmas.OptionLaws.{LeavesOthers-moved}
+use Rattle.tn_server.specs.Events.{Event, History, next, got, took, wrote, pulled, wished, char_set, echo_set, gets, limit}
 use Rattle.tn_server.specs.Terms.{Terms, terms, options, flags, chars, settings, mode, linemode, payload_at, heard, wish_in, wished_after, mask_for, mask_or, asked_of, asked_while, mode_sent, told_by, asks_echo, wants_echo, terms_by, differ, mode_after, chars_after}
 use Rattle.tn_server.specs.Lines.{role_at, roles, entries, half, taken, waiting}
 use Rattle.tn_server.specs.Screen.{queue, sends_ga, none_waits, due}
-use Rattle.tn_server.specs.Replies.{word, asked_word, word_back, subnegotiated, table_told, mode_told, echo_told, says_by, list_answered, spelled, adds, sent}
-use Rattle.tn_server.specs.Standing.{End, Stands, Goes, Feeds}
+use Rattle.tn_server.specs.Replies.{word, asked_word, word_back, subnegotiated, table_told, mode_told, echo_told, says_by, list_answered, data_of, replies, sent}
+use Rattle.tn_server.specs.Standing.{End, Stands, Goes, Keeps, Feeds}
 use Rattle.tn_server.specs.declared.wishes.Editing.{Editing}
 use Rattle.tn_server.specs.declared.wishes.Editing.TheVariants.{Remote, Local}
-use Rattle.tn_server.proofs.Settling.{differ_self, told_again, table_again}
-use Rattle.tn_server.proofs.Standings.{line_is}
-use Rattle.tn_server.proofs.Turning.{echo_keeps_linemode}
-use Rattle.tn_server.proofs.Calling.{waits_are}
+use Rattle.tn_server.proofs.lemmas.Ends.{line_is, waits_are}
+use Rattle.tn_server.proofs.lemmas.Terms.{differ_self, told_again, table_again, echo_keeps_linemode}
 use Rattle.tn_world.specs.Calm.{bits, SaysCalmly, IsCalmToServer, IsCalmToClient, seen_payload, seen}
-use Rattle.tn_world.specs.Ends.{spells, seen_all, Replies, Took}
+use Rattle.tn_world.specs.Ends.{seen_all, Replies, Took}
 use Rattle.tn_world.specs.Headline.{IsAskable}
 use Rattle.tn_world.specs.Machine as machine
 use Rattle.tn_world.specs.Machine.{Rules, Server, item_role, edit_after, read, read_all, allows_local, local_mode}
 use Rattle.tn_world.specs.Pictures.{server_core, server_picture, ServerStays}
 use Rattle.tn_world.proofs.Reading.{half-role, entries-role}
+use Rattle.tn_world.proofs.Soundness.{goes_fit, feeds_fit}
 
--- WHOLE ITEMS, of which each is such as is said
-pub record Made (P : Item → Type 0) (out : List ℕ) : Type 0 where
-  pub items : List Item
-  pub spelled : out ≡ spells items
-  pub fit : All Fits items
-  pub each : All P items
+-- ITEMS of which each is such as is said
+nothing : (P : Item → Type 0) → All P []
+nothing P = All-nil P
 
-pub nothing : (P : Item → Type 0) → Made P []
-nothing P = record { items = []; spelled = refl; fit = All-nil Fits; each = All-nil P }
+one : (P : Item → Type 0) (item : Item) → P item → All P (item ∷ [])
+one P item p = All-cons P item [] p (All-nil P)
 
-pub one : (P : Item → Type 0) (item : Item) → Fits item → P item → Made P (spelling item)
-one P item f p = record {
-  items = item ∷ [];
-  spelled = sym (append-nil (spelling item));
-  fit = All-cons Fits item [] f (All-nil Fits);
-  each = All-cons P item [] p (All-nil P);
-}
+both : (P : Item → Type 0) (xs ys : List Item) → All P xs → All P ys → All P (xs ++ ys)
+both P xs ys a b = All-append P xs ys a b
 
-pub both : (P : Item → Type 0) (a b : List ℕ) → Made P a → Made P b → Made P (a ++ b)
-both P a b x y = record {
-  items = x.items ++ y.items;
-  spelled =
-      ap (λ (out : List ℕ). out ++ b) x.spelled
-      ∙ ap (λ (out : List ℕ). spells x.items ++ out) y.spelled
-      ∙ sym (flat_map-append spelling x.items y.items);
-  fit = All-append Fits x.items y.items x.fit y.fit;
-  each = All-append P x.items y.items x.each y.each;
-}
+-- nothing, seen otherwise
+none_made : (P : Item → Type 0) (said : List Item) → said ≡ [] → All P said
+none_made P said e = subst (All P) (sym e) (nothing P)
 
--- no bytes, seen otherwise
-pub none_made : (P : Item → Type 0) (out : List ℕ) → out ≡ [] → Made P out
-none_made P out e = subst (Made P) (sym e) (nothing P)
-
-pub replies_of : (rules : Rules) (out : List ℕ) → Made (IsCalmToClient rules.settings) out → Replies rules out
-replies_of rules out m = record { items = m.items; spelled = m.spelled; fit = m.fit; calm = m.each }
+replies_of : (rules : Rules) (said : List Item) → All Fits said → All (IsCalmToClient rules.canon.settings) said → Replies rules said
+replies_of rules said fit calm = record { fit = fit; calm = calm }
 
 -- OPTION WORDS answer with the option that they were asked about
 abbrev pub Speaks : ℕ → Option (Verb × ℕ) → Type 0
@@ -140,20 +119,20 @@ pub wish_speaks : (o : Options) (side : Side) (option : ℕ) (on : Bool) → Spe
 unfolding answer_to
 wish_speaks o side option on = asked_speaks o side option (wish_for on) (known option)
 
-pub word_made : (P : Item → Type 0) (option : ℕ) (w : Option (Verb × ℕ)) → Speaks option w → ((verb : Verb) → P (Neg verb option)) → Made P (word w)
+pub word_made : (P : Item → Type 0) (option : ℕ) (w : Option (Verb × ℕ)) → Speaks option w → ((verb : Verb) → P (Neg verb option)) → All P (word w)
 word_made P option None s p = nothing P
-word_made P option (Some said) s p = one P (Neg said.0 said.1) tt (subst (λ (c : ℕ). P (Neg said.0 c)) (sym s) (p said.0))
+word_made P option (Some said) s p = one P (Neg said.0 said.1) (subst (λ (c : ℕ). P (Neg said.0 c)) (sym s) (p said.0))
 
-pub asked_made : (P : Item → Type 0) (option : ℕ) (w : Result (Option (Verb × ℕ)) AskFault) → SpeaksAsked option w → ((verb : Verb) → P (Neg verb option)) → Made P (asked_word w)
+pub asked_made : (P : Item → Type 0) (option : ℕ) (w : Result (Option (Verb × ℕ)) AskFault) → SpeaksAsked option w → ((verb : Verb) → P (Neg verb option)) → All P (asked_word w)
 asked_made P option (Ok w) s p = word_made P option w s p
 asked_made P option (Err fault) s p = nothing P
 
-pub echo_made : (P : Item → Type 0) (due wanted : Bool) (o : Options) → ((verb : Verb) → P (Neg verb 1)) → Made P (echo_told due wanted o)
+pub echo_made : (P : Item → Type 0) (due wanted : Bool) (o : Options) → ((verb : Verb) → P (Neg verb 1)) → All P (echo_told due wanted o)
 echo_made P true wanted o p = asked_made P 1 (answer_to o Us 1 wanted) (wish_speaks o Us 1 wanted) p
 echo_made P false wanted o p = nothing P
 
 -- what is said once the options and perhaps a wish are new: the table, the mode, the server's ECHO
-pub settled_made : (P : Item → Type 0) (f : Flags) (c : Characters) (t : Terms) (o : Options) (ed : Option Editing) (set : Bool) → Made P (table_told (linemode t.options) (linemode o) c) → Made P (mode_told (told_by t o (wished_after f t.wish ed))) → ((verb : Verb) → P (Neg verb 1)) → Made P (says_by f c t o ed set)
+pub settled_made : (P : Item → Type 0) (f : Flags) (c : Characters) (t : Terms) (o : Options) (ed : Option Editing) (set : Bool) → All P (table_told (linemode t.options) (linemode o) c) → All P (mode_told (told_by t o (wished_after f t.wish ed))) → ((verb : Verb) → P (Neg verb 1)) → All P (says_by f c t o ed set)
 settled_made P f c t o ed set table told p =
     let wish = wished_after f t.wish ed in
     both P _ _ table (both P _ _ told (echo_made P (asks_echo t.options o (told_by t o wish) set) (wants_echo (asked_of o wish) f) o p))
@@ -170,8 +149,9 @@ words_keep_linemode o verb option e =
 -- WHAT STAYS AS IT WAS AT THE MARK, said of a history
 pub record IsKept (rules : Rules) (h : History) : Type 0 where
   pub on : linemode (options h) ≡ rules.linemode
-  pub characters : chars h ≡ rules.settings.chars
-  pub others : flags h ≡ record (rules.settings.flags) { echo = (flags h).echo }
+  pub characters : chars h ≡ rules.canon.settings.chars
+  pub others : flags h ≡ record (rules.canon.settings.flags) { echo = (flags h).echo }
+  pub line : limit h ≡ rules.canon.limit
   pub fits : taken h ≤ length (entries h)
 
 pub kept_at : (rules : Rules) (h : History) (end : End) → Stands h end → ServerStays rules end → IsKept rules h
@@ -179,8 +159,9 @@ kept_at rules h end s k = record {
   on = ap (λ (t : Terms). linemode t.options) (sym s.terms) ∙ k.linemode;
   characters = sym s.table ∙ k.chars;
   others =
-      let P : Flags → Type 0 = λ f. f ≡ record (rules.settings.flags) { echo = f.echo } in
+      let P : Flags → Type 0 = λ f. f ≡ record (rules.canon.settings.flags) { echo = f.echo } in
       subst P (ap (λ (x : Settings). x.flags) s.settings) k.flags;
+  line = sym s.limit ∙ k.limit;
   fits = let e = ap length s.waits in omega (arith, e, s.count, length-append s.read end.terminal.entries);
 }
 
@@ -189,8 +170,9 @@ stays_at rules h end s k = record {
   linemode = ap (λ (t : Terms). linemode t.options) s.terms ∙ k.on;
   chars = s.table ∙ k.characters;
   flags =
-      let P : Flags → Type 0 = λ f. f ≡ record (rules.settings.flags) { echo = f.echo } in
+      let P : Flags → Type 0 = λ f. f ≡ record (rules.canon.settings.flags) { echo = f.echo } in
       subst P (sym (ap (λ (x : Settings). x.flags) s.settings)) k.others;
+  limit = s.limit ∙ k.line;
 }
 
 -- the server of a history
@@ -258,10 +240,11 @@ kept_got rules h item k c = record {
   on = linemode_got h item c ∙ k.on;
   characters = same_characters (chars h) (payload_at (options h) item) (calm_at (options h) item c) ∙ k.characters;
   others = k.others;
+  line = k.line;
   fits =
       let r = role_at (settings h) (edits (mode h)) item in
-      let more = ap length (entries-role (roles h) r) in
-      let gain = gain_next (half h) r in
+      let more = ap length (entries-role (limit h) (roles h) r) in
+      let gain = gain_next (limit h) (half h) r in
       let fits = k.fits in
       omega (arith, more, fits, length-append (entries h) gain);
 }
@@ -280,11 +263,11 @@ role_seen s echo edit on (Cmd command) = refl
 role_seen s echo edit on (Neg verb option) = refl
 role_seen s echo edit on (Sub option params) = sub_role s edit on (payload_of option params)
 
-pub role_is : (rules : Rules) (h : History) (item : Item) → IsKept rules h → role_at (settings h) (edits (mode h)) item ≡ item_role rules.settings (edits (mode h)) (seen rules.linemode item)
+pub role_is : (rules : Rules) (h : History) (item : Item) → IsKept rules h → role_at (settings h) (edits (mode h)) item ≡ item_role rules.canon.settings (edits (mode h)) (seen rules.linemode item)
 role_is rules h item k =
     ap (λ (f : Flags). role_at (record { flags = f; chars = chars h }) (edits (mode h)) item) k.others
-    ∙ ap (λ (c : Characters). role_at (record { flags = record (rules.settings.flags) { echo = (flags h).echo }; chars = c }) (edits (mode h)) item) k.characters
-    ∙ role_seen rules.settings (flags h).echo (edits (mode h)) rules.linemode item
+    ∙ ap (λ (c : Characters). role_at (record { flags = record (rules.canon.settings.flags) { echo = (flags h).echo }; chars = c }) (edits (mode h)) item) k.characters
+    ∙ role_seen rules.canon.settings (flags h).echo (edits (mode h)) rules.linemode item
 
 -- the mask after it
 abbrev IsNoMode : Payload → Type 0
@@ -349,87 +332,90 @@ edit_got rules h item k f c =
     ∙ item_seen rules.linemode (options h) (mode h) item k.on f c
 
 -- A calm item is read as what it says.
-pub core_got : (rules : Rules) (h : History) (item : Item) → IsKept rules h → Fits item → IsCalmToServer item → core_of (next h (got item)) false ≡ read rules.settings (core_of h false) (seen rules.linemode item)
+pub core_got : (rules : Rules) (h : History) (item : Item) → IsKept rules h → Fits item → IsCalmToServer item → core_of (next h (got item)) false ≡ read rules.canon (core_of h false) (seen rules.linemode item)
 core_got rules h item k f c =
     let r = role_at (settings h) (edits (mode h)) item in
     let same = role_is rules h item k in
     let e = edit_after (edits (mode h)) (seen rules.linemode item) in
-    let i : Role = item_role rules.settings (edits (mode h)) (seen rules.linemode item) in
-    let line : half (next h (got item)) ≡ half_next (half h) i = half-role (roles h) r ∙ ap (λ (x : Role). half_next (half h) x) same in
-    let waits : waiting (next h (got item)) ≡ waiting h ++ gain_next (half h) i =
-    ap (λ (es : List Entry). drop (taken h) es) (entries-role (roles h) r)
-    ∙ drop-append-le (taken h) (entries h) (gain_next (half h) r) k.fits
-    ∙ ap (λ (x : Role). waiting h ++ gain_next (half h) x) same in
+    let i : Role = item_role rules.canon.settings (edits (mode h)) (seen rules.linemode item) in
+    let n = rules.canon.limit in
+    let line : half (next h (got item)) ≡ half_next n (half h) i =
+    half-role (limit h) (roles h) r ∙ ap (λ (x : Role). half_next (limit h) (half h) x) same ∙ ap (λ (m : ℕ). half_next m (half h) i) k.line in
+    let waits : waiting (next h (got item)) ≡ waiting h ++ gain_next n (half h) i =
+    ap (λ (es : List Entry). drop (taken h) es) (entries-role (limit h) (roles h) r)
+    ∙ drop-append-le (taken h) (entries h) (gain_next (limit h) (half h) r) k.fits
+    ∙ ap (λ (x : Role). waiting h ++ gain_next (limit h) (half h) x) same
+    ∙ ap (λ (m : ℕ). waiting h ++ gain_next m (half h) i) k.line in
     ap (λ (b : Bool). record { edit = b; half = half (next h (got item)); waiting = waiting (next h (got item)); failed = false }) (edit_got rules h item k f c)
     ∙ ap (λ (bytes : List ℕ). record { edit = e; half = bytes; waiting = waiting (next h (got item)); failed = false }) line
-    ∙ ap (λ (es : List Entry). record { edit = e; half = half_next (half h) i; waiting = es; failed = false }) waits
+    ∙ ap (λ (es : List Entry). record { edit = e; half = half_next n (half h) i; waiting = es; failed = false }) waits
 
 -- and only an option word is answered
-adds_word : (rules : Rules) (h : History) (item : Item) → IsCalmToServer item → adds h (got item) ≡ word_back (options h) (got item)
-adds_word rules h item c =
+replies_word : (rules : Rules) (h : History) (item : Item) → IsCalmToServer item → replies h (got item) ≡ word_back (options h) (got item)
+replies_word rules h item c =
     let o = options h in
     let back = word_back o (got item) in
     let p = payload_at o item in
     ap (λ (w : Option Editing). (back ++ says_by (flags h) (chars h) (terms h) (heard o (got item)) w false) ++ list_answered (chars h) p) (wish_none p (calm_at o item c))
-    ∙ ap (λ (xs : List ℕ). (back ++ xs) ++ list_answered (chars h) p) (says_quiet (flags h) (chars h) (terms h) (heard o (got item)) (heard_keeps o item c))
-    ∙ ap (λ (xs : List ℕ). (back ++ []) ++ xs) (no_answers (chars h) p (calm_at o item c))
+    ∙ ap (λ (xs : List Item). (back ++ xs) ++ list_answered (chars h) p) (says_quiet (flags h) (chars h) (terms h) (heard o (got item)) (heard_keeps o item c))
+    ∙ ap (λ (xs : List Item). (back ++ []) ++ xs) (no_answers (chars h) p (calm_at o item c))
     ∙ append-nil (back ++ []) ∙ append-nil back
 
-back_calm : (s : Settings) (o : Options) (item : Item) → IsCalmToServer item → Made (IsCalmToClient s) (word_back o (got item))
+back_calm : (s : Settings) (o : Options) (item : Item) → IsCalmToServer item → All (IsCalmToClient s) (word_back o (got item))
 back_calm s o (Byte b) c = nothing (IsCalmToClient s)
 back_calm s o Newline c = nothing (IsCalmToClient s)
 back_calm s o (Cmd command) c = nothing (IsCalmToClient s)
 back_calm s o (Neg verb option) c = word_made (IsCalmToClient s) option (reply_to o verb option) (reply_speaks o verb option) (λ v. c)
 back_calm s o (Sub option params) c = nothing (IsCalmToClient s)
 
-pub calm_got : (rules : Rules) (h : History) (item : Item) → IsCalmToServer item → Made (IsCalmToClient rules.settings) (adds h (got item))
-calm_got rules h item c = subst (Made (IsCalmToClient rules.settings)) (sym (adds_word rules h item c)) (back_calm rules.settings (options h) item c)
+pub calm_got : (rules : Rules) (h : History) (item : Item) → IsCalmToServer item → All (IsCalmToClient rules.canon.settings) (replies h (got item))
+calm_got rules h item c = subst (All (IsCalmToClient rules.canon.settings)) (sym (replies_word rules h item c)) (back_calm rules.canon.settings (options h) item c)
 
 -- CALM ITEMS, one after another
 pub record After (rules : Rules) (h : History) (items : List Item) : Type 0 where
   pub kept : IsKept rules (gets h items)
-  pub core : core_of (gets h items) false ≡ read_all rules.settings (core_of h false) (seen_all rules items)
-  pub bytes : List ℕ
-  pub sends : sent (gets h items) ≡ sent h ++ bytes
-  pub made : Made (IsCalmToClient rules.settings) bytes
+  pub core : core_of (gets h items) false ≡ read_all rules.canon (core_of h false) (seen_all rules items)
+  pub said : List Item
+  pub sends : sent (gets h items) ≡ sent h ++ said
+  pub made : All (IsCalmToClient rules.canon.settings) said
 
 pub goes_on : (rules : Rules) (h : History) (items : List Item) → IsKept rules h → All Fits items → All IsCalmToServer items → After rules h items
 goes_on rules h [] k f c = record {
   kept = k;
   core = refl;
-  bytes = [];
+  said = [];
   sends = sym (append-nil (sent h));
-  made = nothing (IsCalmToClient rules.settings);
+  made = nothing (IsCalmToClient rules.canon.settings);
 }
 goes_on rules h (item ∷ items) k f c =
     let calm = All-head IsCalmToServer item items c in
     let later = goes_on rules (next h (got item)) items (kept_got rules h item k calm) (All-tail Fits item items f) (All-tail IsCalmToServer item items c) in
     record {
       kept = later.kept;
-      core = later.core ∙ ap (λ (v : Server). read_all rules.settings v (seen_all rules items)) (core_got rules h item k (All-head Fits item items f) calm);
-      bytes = adds h (got item) ++ later.bytes;
-      sends = later.sends ∙ append_assoc (sent h) (adds h (got item)) later.bytes;
-      made = both (IsCalmToClient rules.settings) (adds h (got item)) later.bytes (calm_got rules h item calm) later.made;
+      core = later.core ∙ ap (λ (v : Server). read_all rules.canon v (seen_all rules items)) (core_got rules h item k (All-head Fits item items f) calm);
+      said = replies h (got item) ++ later.said;
+      sends = later.sends ∙ append_assoc (sent h) (replies h (got item)) later.said;
+      made = both (IsCalmToClient rules.canon.settings) (replies h (got item)) later.said (calm_got rules h item calm) later.made;
     }
 
 -- THE LEMMAS ON A PIECE of calm items
-pub feeds_core : (rules : Rules) (h : History) (old new : End) (piece before after : List ℕ) → Stands h old → ServerStays rules old → old.failed ≡ false → (f : Feeds old piece before after new) → All Fits f.items → All IsCalmToServer f.items → server_core new ≡ read_all rules.settings (server_core old) (seen_all rules f.items)
+pub feeds_core : (rules : Rules) (h : History) (old new : End) (piece before after : List ℕ) → Stands h old → ServerStays rules old → old.failed ≡ false → (f : Feeds old piece before after new) → All Fits f.items → All IsCalmToServer f.items → server_core new ≡ read_all rules.canon (server_core old) (seen_all rules f.items)
 feeds_core rules h old new piece before after s stays works f fit calm =
     let later = goes_on rules h f.items (kept_at rules h old s stays) fit calm in
     core_at (gets h f.items) new (f.stands h s)
     ∙ ap (core_of (gets h f.items)) (f.failed ∙ works)
     ∙ later.core
-    ∙ ap (λ (v : Server). read_all rules.settings v (seen_all rules f.items)) (sym (core_at h old s ∙ ap (core_of h) works))
+    ∙ ap (λ (v : Server). read_all rules.canon v (seen_all rules f.items)) (sym (core_at h old s ∙ ap (core_of h) works))
 
 pub feeds_stays : (rules : Rules) (h : History) (old new : End) (piece before after : List ℕ) → Stands h old → ServerStays rules old → old.failed ≡ false → (f : Feeds old piece before after new) → All Fits f.items → All IsCalmToServer f.items → ServerStays rules new
 feeds_stays rules h old new piece before after s stays works f fit calm =
     stays_at rules (gets h f.items) new (f.stands h s) (goes_on rules h f.items (kept_at rules h old s stays) fit calm).kept
 
-pub feeds_replies : (rules : Rules) (h : History) (old new : End) (piece before after : List ℕ) → Stands h old → ServerStays rules old → old.failed ≡ false → (f : Feeds old piece before after new) → All Fits f.items → All IsCalmToServer f.items → Replies rules f.bytes
+pub feeds_replies : (rules : Rules) (h : History) (old new : End) (piece before after : List ℕ) → Stands h old → ServerStays rules old → old.failed ≡ false → (f : Feeds old piece before after new) → All Fits f.items → All IsCalmToServer f.items → Replies rules f.said
 feeds_replies rules h old new piece before after s stays works f fit calm =
     let later = goes_on rules h f.items (kept_at rules h old s stays) fit calm in
-    replies_of rules f.bytes
-    (subst (Made (IsCalmToClient rules.settings)) (append_cancel_left (sent h) later.bytes f.bytes (sym later.sends ∙ f.sends h s)) later.made)
+    replies_of rules f.said (feeds_fit h old new piece before after s f)
+    (subst (All (IsCalmToClient rules.canon.settings)) (append_cancel_left (sent h) later.said f.said (sym later.sends ∙ f.sends h s)) later.made)
 
 -- THE OWNER'S CALLS that change no character
 abbrev pub IsCall : Event → Type 0
@@ -464,52 +450,52 @@ mask_by s echo Local mask e = local_mask s (allows_local s) s.flags.isig mask re
 mask_asked : (s : Settings) (f : Flags) (ed : Editing) (mask : ℕ) → f ≡ record (s.flags) { echo = f.echo } → mask_for f ed ≡ Some mask → IsAskedMask s mask
 mask_asked s f ed mask same e = mask_by s f.echo ed mask (ap (λ (g : Flags). mask_for g ed) (sym same) ∙ e)
 
-pub mode_made : (P : Item → Type 0) (mask : ℕ) → P (Sub 34 (1 ∷ mask ∷ [])) → Made P (subnegotiated (payload.Mode mask))
-mode_made P mask p = one P (Sub 34 (1 ∷ mask ∷ [])) (omega arith) p
+pub mode_made : (P : Item → Type 0) (mask : ℕ) → P (Sub 34 (1 ∷ mask ∷ [])) → All P (subnegotiated (payload.Mode mask))
+mode_made P mask p = one P (Sub 34 (1 ∷ mask ∷ [])) p
 
-unless_made : (P : Item → Type 0) (b : Bool) (mask : ℕ) → P (Sub 34 (1 ∷ mask ∷ [])) → Made P (mode_told (if b then None else Some mask))
+unless_made : (P : Item → Type 0) (b : Bool) (mask : ℕ) → P (Sub 34 (1 ∷ mask ∷ [])) → All P (mode_told (if b then None else Some mask))
 unless_made P true mask p = nothing P
 unless_made P false mask p = mode_made P mask p
 
 -- the MODE that is sent for a wish
-told_made : (P : Item → Type 0) (on : Bool) (before : ℕ) (mask : Option ℕ) → ((m : ℕ) → mask ≡ Some m → P (Sub 34 (1 ∷ mode_of m ∷ []))) → Made P (mode_told (mode_sent on (asked_while on before) (mask_or before mask)))
+told_made : (P : Item → Type 0) (on : Bool) (before : ℕ) (mask : Option ℕ) → ((m : ℕ) → mask ≡ Some m → P (Sub 34 (1 ∷ mode_of m ∷ []))) → All P (mode_told (mode_sent on (asked_while on before) (mask_or before mask)))
 told_made P on before None p = none_made P _ (ap mode_told (told_again on before))
 told_made P true before (Some m) p = unless_made P (mode_of m == mode_of before) (mode_of m) (p m refl)
 told_made P false before (Some m) p = nothing P
 
-wish_calm : (rules : Rules) (h : History) (ed : Editing) → IsKept rules h → Made (IsCalmToClient rules.settings) (mode_told (told_by (terms h) (options h) (wished_after (flags h) (terms h).wish (Some ed))))
+wish_calm : (rules : Rules) (h : History) (ed : Editing) → IsKept rules h → All (IsCalmToClient rules.canon.settings) (mode_told (told_by (terms h) (options h) (wished_after (flags h) (terms h).wish (Some ed))))
 wish_calm rules h ed k =
-    told_made (IsCalmToClient rules.settings) (linemode (options h)) (terms h).wish (mask_for (flags h) ed) (λ m e. mask_asked rules.settings (flags h) ed m k.others e)
+    told_made (IsCalmToClient rules.canon.settings) (linemode (options h)) (terms h).wish (mask_for (flags h) ed) (λ m e. mask_asked rules.canon.settings (flags h) ed m k.others e)
 
 -- where no wish is new, no MODE is sent
-unwished_made : (P : Item → Type 0) (t : Terms) → Made P (mode_told (told_by t t.options t.wish))
+unwished_made : (P : Item → Type 0) (t : Terms) → All P (mode_told (told_by t t.options t.wish))
 unwished_made P t = none_made P _ (ap mode_told (told_again (linemode t.options) t.wish))
 
-untold_made : (P : Item → Type 0) (t : Terms) (c : Characters) → Made P (table_told (linemode t.options) (linemode t.options) c)
+untold_made : (P : Item → Type 0) (t : Terms) (c : Characters) → All P (table_told (linemode t.options) (linemode t.options) c)
 untold_made P t c = none_made P _ (table_again (linemode t.options) c)
 
 -- symbols that are pulled
-pub pulled_made : (P : Item → Type 0) → ((b : ℕ) → P (Byte b)) → P Newline → (symbols : List Symbol) → Made P (flat_map spelled symbols)
+pub pulled_made : (P : Item → Type 0) → ((b : ℕ) → P (Byte b)) → P Newline → (symbols : List Symbol) → All P (map data_of symbols)
 pulled_made P byte newline [] = nothing P
-pulled_made P byte newline (symbol.Byte b ∷ symbols) = both P _ _ (one P (Byte b) tt (byte b)) (pulled_made P byte newline symbols)
-pulled_made P byte newline (symbol.Newline ∷ symbols) = both P _ _ (one P Newline tt newline) (pulled_made P byte newline symbols)
+pulled_made P byte newline (symbol.Byte b ∷ symbols) = both P (Byte b ∷ []) (map data_of symbols) (one P (Byte b) (byte b)) (pulled_made P byte newline symbols)
+pulled_made P byte newline (symbol.Newline ∷ symbols) = both P (Newline ∷ []) (map data_of symbols) (one P Newline newline) (pulled_made P byte newline symbols)
 
-pub ga_made : (P : Item → Type 0) → P (Cmd Ga) → (b : Bool) → Made P (if b then spelling (Cmd Ga) else [])
-ga_made P p true = one P (Cmd Ga) tt p
+pub ga_made : (P : Item → Type 0) → P (Cmd Ga) → (b : Bool) → All P (if b then Cmd Ga ∷ [] else [])
+ga_made P p true = one P (Cmd Ga) p
 ga_made P p false = nothing P
 
-pub calm_call : (rules : Rules) (h : History) (e : Event) → IsCall e → IsKept rules h → Made (IsCalmToClient rules.settings) (adds h e)
+pub calm_call : (rules : Rules) (h : History) (e : Event) → IsCall e → IsKept rules h → All (IsCalmToClient rules.canon.settings) (replies h e)
 calm_call rules h (got item) is k = absurd is
 calm_call rules h (char_set func value) is k = absurd is
-calm_call rules h took is k = ga_made (IsCalmToClient rules.settings) tt (sends_ga (none_waits h) (options h) (due h))
-calm_call rules h (wrote bytes) is k = nothing (IsCalmToClient rules.settings)
-calm_call rules h (pulled n) is k = pulled_made (IsCalmToClient rules.settings) (λ b. tt) tt (take n (queue h))
+calm_call rules h took is k = ga_made (IsCalmToClient rules.canon.settings) tt (sends_ga (none_waits h) (options h) (due h))
+calm_call rules h (wrote bytes) is k = nothing (IsCalmToClient rules.canon.settings)
+calm_call rules h (pulled n) is k = pulled_made (IsCalmToClient rules.canon.settings) (λ b. tt) tt (take n (queue h))
 calm_call rules h (wished ed) is k =
-    settled_made (IsCalmToClient rules.settings) (flags h) (chars h) (terms h) (options h) (Some ed) false
-    (untold_made (IsCalmToClient rules.settings) (terms h) (chars h)) (wish_calm rules h ed k) (λ verb. refl)
+    settled_made (IsCalmToClient rules.canon.settings) (flags h) (chars h) (terms h) (options h) (Some ed) false
+    (untold_made (IsCalmToClient rules.canon.settings) (terms h) (chars h)) (wish_calm rules h ed k) (λ verb. refl)
 calm_call rules h (echo_set on) is k =
-    settled_made (IsCalmToClient rules.settings) (flags (next h (echo_set on))) (chars h) (terms h) (options h) None true
-    (untold_made (IsCalmToClient rules.settings) (terms h) (chars h)) (unwished_made (IsCalmToClient rules.settings) (terms h)) (λ verb. refl)
+    settled_made (IsCalmToClient rules.canon.settings) (flags (next h (echo_set on))) (chars h) (terms h) (options h) None true
+    (untold_made (IsCalmToClient rules.canon.settings) (terms h) (chars h)) (unwished_made (IsCalmToClient rules.canon.settings) (terms h)) (λ verb. refl)
 
 -- a wish and the flag ECHO change nothing at LINEMODE
 terms_keep : (f : Flags) (t : Terms) (ed : Option Editing) (set : Bool) → linemode (terms_by f t t.options ed set).options ≡ linemode t.options
@@ -524,19 +510,21 @@ one_more_fits false n m e fits = fits
 pub kept_call : (rules : Rules) (h : History) (e : Event) → IsCall e → IsKept rules h → IsKept rules (next h e)
 kept_call rules h (got item) is k = absurd is
 kept_call rules h (char_set func value) is k = absurd is
-kept_call rules h took is k = record { on = k.on; characters = k.characters; others = k.others; fits = one_more_fits (nat_lt (taken h) (length (entries h))) (taken h) (length (entries h)) refl k.fits }
-kept_call rules h (wrote bytes) is k = record { on = k.on; characters = k.characters; others = k.others; fits = k.fits }
-kept_call rules h (pulled n) is k = record { on = k.on; characters = k.characters; others = k.others; fits = k.fits }
+kept_call rules h took is k = record { on = k.on; characters = k.characters; others = k.others; line = k.line; fits = one_more_fits (nat_lt (taken h) (length (entries h))) (taken h) (length (entries h)) refl k.fits }
+kept_call rules h (wrote bytes) is k = record { on = k.on; characters = k.characters; others = k.others; line = k.line; fits = k.fits }
+kept_call rules h (pulled n) is k = record { on = k.on; characters = k.characters; others = k.others; line = k.line; fits = k.fits }
 kept_call rules h (wished ed) is k = record {
   on = terms_keep (flags h) (terms h) (Some ed) false ∙ k.on;
   characters = k.characters;
   others = k.others;
+  line = k.line;
   fits = k.fits;
 }
 kept_call rules h (echo_set on) is k = record {
   on = terms_keep (flags (next h (echo_set on))) (terms h) None true ∙ k.on;
   characters = k.characters;
   others = ap (λ (f : Flags). record f { echo = on }) k.others;
+  line = k.line;
   fits = k.fits;
 }
 
@@ -550,19 +538,18 @@ core_call h (wished ed) failed is = refl
 core_call h (echo_set on) failed is = refl
 
 -- THE LEMMAS ON A CALL
-pub says_replies : (rules : Rules) (h : History) (old new : End) (e : Event) (before after : List ℕ) → IsCall e → Stands h old → ServerStays rules old → (g : Goes old e before after new) → Replies rules g.bytes
+pub says_replies : (rules : Rules) (h : History) (old new : End) (e : Event) (before after : List ℕ) → IsCall e → Stands h old → ServerStays rules old → (g : Goes old e before after new) → Replies rules g.said
 says_replies rules h old new e before after is s stays g =
-    replies_of rules g.bytes (subst (Made (IsCalmToClient rules.settings)) (g.adds h s) (calm_call rules h e is (kept_at rules h old s stays)))
+    replies_of rules g.said (goes_fit h old new e before after s g) (subst (All (IsCalmToClient rules.canon.settings)) (g.replies h s) (calm_call rules h e is (kept_at rules h old s stays)))
 
 pub says_stays : (rules : Rules) (h : History) (old new : End) (e : Event) (before after : List ℕ) → IsCall e → Stands h old → ServerStays rules old → Goes old e before after new → ServerStays rules new
 says_stays rules h old new e before after is s stays g =
     stays_at rules (next h e) new (g.stands h s) (kept_call rules h e is (kept_at rules h old s stays))
 
--- the decoder stays too, by `Goes.decoder`
-pub says_core : (h : History) (old new : End) (e : Event) (before after : List ℕ) → KeepsEntries e → Stands h old → Goes old e before after new → server_core new ≡ server_core old
-says_core h old new e before after is s g =
+pub says_core : (h : History) (old new : End) (e : Event) (before after : List ℕ) → KeepsEntries e → Stands h old → Goes old e before after new → Keeps old new → server_core new ≡ server_core old
+says_core h old new e before after is s g k =
     core_at (next h e) new (g.stands h s)
-    ∙ ap (core_of (next h e)) g.failed
+    ∙ ap (core_of (next h e)) k.failed
     ∙ core_call h e old.failed is
     ∙ sym (core_at h old s)
 
@@ -575,22 +562,22 @@ still_none false n es e = e
 abbrev pub GivesEntry : History → Option Entry → Type 0
 GivesEntry h entry = MatchOption entry (waiting h ≡ []) (λ e. waiting h ≡ e ∷ waiting (next h took))
 
-took_picture : (h : History) (old new : End) (before after : List ℕ) → Stands h old → Goes old took before after new → server_picture new ≡ record { decoder = old.decoder; core = core_of (next h took) old.failed }
-took_picture h old new before after s g =
-    ap (λ d. record { decoder = d; core = server_core new }) g.decoder
-    ∙ ap (λ (v : Server). record { decoder = old.decoder; core = v }) (core_at (next h took) new (g.stands h s) ∙ ap (core_of (next h took)) g.failed)
+took_picture : (h : History) (old new : End) (before after : List ℕ) → Stands h old → Goes old took before after new → Keeps old new → server_picture new ≡ record { decoder = old.decoder; core = core_of (next h took) old.failed }
+took_picture h old new before after s g k =
+    ap (λ d. record { decoder = d; core = server_core new }) k.decoder
+    ∙ ap (λ (v : Server). record { decoder = old.decoder; core = v }) (core_at (next h took) new (g.stands h s) ∙ ap (core_of (next h took)) k.failed)
 
-pub took_core : (h : History) (old new : End) (before after : List ℕ) (entry : Option Entry) → Stands h old → Goes old took before after new → GivesEntry h entry → Took (server_picture old) (option_to_list entry) (server_picture new)
-took_core h old new before after None s g gives = (
+pub took_core : (h : History) (old new : End) (before after : List ℕ) (entry : Option Entry) → Stands h old → Goes old took before after new → Keeps old new → GivesEntry h entry → Took (server_picture old) (option_to_list entry) (server_picture new)
+took_core h old new before after None s g k gives = (
   sym (waits_are h old s) ∙ gives,
-  took_picture h old new before after s g
+  took_picture h old new before after s g k
       ∙ ap (λ (w : List Entry). record { decoder = old.decoder; core = record (core_of h old.failed) { waiting = w } }) (still_none (nat_lt (taken h) (length (entries h))) (taken h) (entries h) gives ∙ sym gives)
       ∙ ap (λ (v : Server). record { decoder = old.decoder; core = v }) (sym (core_at h old s)),
 )
-took_core h old new before after (Some e) s g gives = (
+took_core h old new before after (Some e) s g k gives = (
   waiting (next h took),
   sym (waits_are h old s) ∙ gives,
   refl,
-  took_picture h old new before after s g
+  took_picture h old new before after s g k
       ∙ ap (λ (v : Server). record { decoder = old.decoder; core = record v { waiting = waiting (next h took) } }) (sym (core_at h old s)),
 )

@@ -1,40 +1,46 @@
 -- What an event adds to Output.
-use Rattle.std.proofs.Common.{◌≡◌, ℕ, Bool, true, false, List, [], ◌∷◌, ◌++◌, take, drop, refl, sym, ap, ◌∙◌, subst, append-nil, append_assoc}
+use Rattle.std.proofs.Common.{◌≡◌, ℕ, Bool, true, false, List, [], ◌∷◌, ◌++◌, map, take, drop, refl, sym, ap, ◌∙◌, subst, append-nil, append_assoc}
 use Rattle.std.specs.Prelude.{All}
 use Rattle.std.specs.List.{flat_map}
 use Rattle.std.proofs.lemmas.Grind.{flat_map-append}
-use Rattle.std.proofs.lemmas.List.{take-append-drop}
-use Rattle.std.proofs.lemmas.List.Elements.{All-nil, All-cons, All-head, All-tail}
+use Rattle.std.proofs.lemmas.List.{take-append-drop, append_cancel_left}
+use Rattle.std.proofs.lemmas.List.Elements.{All-nil}
 use Rattle.tn_discipline.specs.declared.echo.Symbol.{Symbol}
 use Rattle.tn_discipline.specs.declared.echo.Symbol.TheVariants as symbol
-use Rattle.tn_nvt.specs.Spelling.{spelling, Fits}
+use Rattle.tn_nvt.specs.Spelling.{spells, Fits}
 use Rattle.tn_nvt.specs.Standing.{Standing, HasRead}
 use Rattle.tn_nvt.specs.declared.items.Item.{Item}
 use Rattle.tn_nvt.specs.declared.items.Item.TheVariants.{Byte, Newline}
 use Rattle.tn_server.specs.Events as asked
-use Rattle.tn_server.specs.Replies.{opening, spelled}
+use Rattle.tn_server.specs.Faults.{IsOfItem}
+use Rattle.tn_server.specs.Replies.{opening, data_of}
 use Rattle.tn_server.specs.Screen.{queue}
 use Rattle.tn_server.specs.Standing as server
+use Rattle.tn_server.specs.declared.faults.ServerFault.{ServerFault}
+use Rattle.tn_server.specs.declared.faults.ServerFault.TheVariants as refused
+use Rattle.tn_server.proofs.lemmas.Fitting.{opening-fits}
 use Rattle.tn_client.specs.Events as told
-use Rattle.tn_client.specs.Screen.{item_shown}
-use Rattle.tn_world.specs.Ends.{spells}
+use Rattle.tn_client.specs.Screen.{item_shown, shown as shown_of}
+use Rattle.tn_client.specs.Standing as client
 use Rattle.tn_world.specs.Flight.{InFlight}
-use Rattle.tn_world.specs.Output.{symbol_shown, screen, text_of, IsOutput, Queues, IsNoneAt, Grows, GrowsAll, GrowsBefore, Begins}
+use Rattle.tn_world.specs.Output.{symbol_shown, screen, text_of, IsOutput, Queues, IsNoneAt, Grows, GrowsTo, GrowsAll, GrowsBefore, Begins}
 use Rattle.tn_world.specs.Settled.{IsSound}
-use Rattle.tn_world.specs.Worlds.{World, Unless, Types, Tells, Reaches, Returns, Asks, Pulls, Takes, Does, Runs, Ends}
+use Rattle.tn_world.specs.Worlds.{World, Unless, Types, Tells, Reaches, Returns, Asks, Pulls, Takes, Does, Runs, Ends, ServerRefuses, IsDeliveryFault}
 use Rattle.tn_world.specs.declared.events.Event.{Event}
 use Rattle.tn_world.specs.declared.events.Event.TheVariants.{Key, ToServer, ToClient, Write, Pull, Take, Wish, Resize, SetChar, Propose, Echo, ServerStops, ClientStops}
 use Rattle.tn_world.specs.declared.faults.Cause.{Cause}
-use Rattle.tn_world.proofs.ClientWrites.{feeds_text}
-use Rattle.tn_world.proofs.Cut.{start}
-use Rattle.tn_world.proofs.Soundness.{sound_does}
-use Rattle.tn_world.proofs.ServerItems.{IsSilent, IsUnpulled, silent_adds, opening_made, feeds_made, feeds_queue, goes_queue}
-use Rattle.tn_world.proofs.ServerSteps.{Made, nothing}
-use Rattle.tn_world.proofs.Tied.{behind, cut_at}
+use Rattle.tn_world.proofs.Cut.{start, said_behind, cut_at}
+use Rattle.tn_world.proofs.Soundness.{sound_does, opposite, Refusal, unchanged, by_server, by_client, refusal_of, goes_fit, feeds_fit, halts_fit}
+use Rattle.tn_world.proofs.ServerItems.{IsUnpulled, replies_none, opening_none, feeds_none, halts_none, feeds_queue, goes_queue, halts_queue}
 
-silent_text : (items : List Item) → All IsSilent items → text_of items ≡ []
-silent_text [] a = refl
-silent_text (item ∷ items) a = ap (λ (xs : List ℕ). xs ++ text_of items) (All-head IsSilent item items a) ∙ silent_text items (All-tail IsSilent item items a)
+shown-items : (h : told.History) (items : List Item) → shown_of (told.gets h items) ≡ shown_of h ++ flat_map item_shown items
+shown-items h [] = sym (append-nil (shown_of h))
+shown-items h (item ∷ items) = shown-items (told.next h (told.got item)) items ∙ append_assoc (shown_of h) (item_shown item) (flat_map item_shown items)
+
+-- what is shown for a piece is what the server wrote
+feeds_text : (h : told.History) (old new : client.End) (piece before after seen now : List ℕ) → client.Stands h old → (f : client.Feeds old piece before after seen now new) → f.text ≡ flat_map item_shown f.items
+feeds_text h old new piece before after seen now s f =
+    append_cancel_left (shown_of h) f.text (flat_map item_shown f.items) (sym (f.shows h s) ∙ shown-items h f.items)
 
 -- PARTS OF A TEXT
 joined : (text shown flying waiting more : List ℕ) → text ≡ shown ++ (flying ++ waiting) → text ++ more ≡ shown ++ (flying ++ (waiting ++ more))
@@ -45,27 +51,26 @@ parts : (a b c d e f : List ℕ) → a ≡ d → b ≡ e → c ≡ f → a ++ (b
 parts a b c d e f p q r =
     ap (λ (x : List ℕ). x ++ (b ++ c)) p ∙ ap (λ (x : List ℕ). d ++ (x ++ c)) q ∙ ap (λ (x : List ℕ). d ++ (e ++ x)) r
 
--- the server said silent items, and its queue took these symbols
-says_output : (old new : World) (text out : List ℕ) (more : List Symbol) → Made IsSilent out → new.client.decoder ≡ old.client.decoder → new.shown ≡ old.shown → new.to_client ≡ old.to_client ++ out → new.server.terminal.queue ≡ old.server.terminal.queue ++ more → IsOutput old text → IsOutput new (text ++ screen more)
-says_output old new text out more m decoder shown said took o =
+-- the server said what shows nothing, and its queue took these symbols
+says_output : (old new : World) (text : List ℕ) (said : List Item) (more : List Symbol) → All Fits said → text_of said ≡ [] → new.client.decoder ≡ old.client.decoder → new.shown ≡ old.shown → new.to_client ≡ old.to_client ++ spells said → new.server.terminal.queue ≡ old.server.terminal.queue ++ more → IsOutput old text → IsOutput new (text ++ screen more)
+says_output old new text said more fit silent decoder shown appended took o =
     record {
-      items = o.items ++ m.items;
+      items = o.items ++ said;
       flight =
-          subst (λ (d : Standing). InFlight d new.to_client (o.items ++ m.items)) (sym decoder)
-          (subst (λ (x : List ℕ). InFlight old.client.decoder x (o.items ++ m.items)) (sym said)
-          (behind old.client.decoder old.to_client out o.items m.items m.fit m.spelled o.flight));
+          subst (λ (d : Standing). InFlight d new.to_client (o.items ++ said)) (sym decoder)
+          (said_behind old.client.decoder old.to_client new.to_client o.items said appended fit o.flight);
       is =
           joined text old.shown (text_of o.items) (screen old.server.terminal.queue) (screen more) o.is
-          ∙ parts old.shown (text_of o.items) (screen old.server.terminal.queue ++ screen more) new.shown (text_of (o.items ++ m.items)) (screen new.server.terminal.queue)
+          ∙ parts old.shown (text_of o.items) (screen old.server.terminal.queue ++ screen more) new.shown (text_of (o.items ++ said)) (screen new.server.terminal.queue)
           (sym shown)
-          (sym (append-nil (text_of o.items)) ∙ ap (λ (x : List ℕ). text_of o.items ++ x) (sym (silent_text m.items m.each)) ∙ sym (flat_map-append item_shown o.items m.items))
+          (sym (append-nil (text_of o.items)) ∙ ap (λ (x : List ℕ). text_of o.items ++ x) (sym silent) ∙ sym (flat_map-append item_shown o.items said))
           (sym (flat_map-append symbol_shown old.server.terminal.queue more) ∙ ap screen (sym took));
     }
 
 -- nothing was said
 still_output : (old new : World) (text : List ℕ) → new.client.decoder ≡ old.client.decoder → new.shown ≡ old.shown → new.to_client ≡ old.to_client → new.server.terminal.queue ≡ old.server.terminal.queue → IsOutput old text → IsOutput new (text ++ [])
 still_output old new text decoder shown said took o =
-    says_output old new text [] [] (nothing IsSilent) decoder shown (said ∙ sym (append-nil old.to_client)) (took ∙ sym (append-nil old.server.terminal.queue)) o
+    says_output old new text [] [] (All-nil Fits) refl decoder shown (said ∙ sym (append-nil old.to_client)) (took ∙ sym (append-nil old.server.terminal.queue)) o
 
 none_queued : (old new : World) (e : Event) → new.server.terminal.queue ≡ old.server.terminal.queue → Queues old e [] new
 none_queued old new (Pull n) is = refl
@@ -86,11 +91,11 @@ same_grows old new e text is o =
 
 types_grows : (old new : World) (key : ℕ) (text : List ℕ) → Types old key new → IsOutput old text → Grows old (Key key) new text
 types_grows old new key text t o =
-    still_grows old new (Key key) text t.goes.decoder (ap (λ (w : World). w.shown) t.rest) (ap (λ (w : World). w.to_client) t.rest) (ap (λ (w : World). w.server.terminal.queue) t.rest) o
+    still_grows old new (Key key) text t.keeps.decoder (ap (λ (w : World). w.shown) t.rest) (ap (λ (w : World). w.to_client) t.rest) (ap (λ (w : World). w.server.terminal.queue) t.rest) o
 
 tells_grows : (old new : World) (call : told.Event) (e : Event) (text : List ℕ) → Tells old call new → IsOutput old text → Grows old e new text
 tells_grows old new call e text t o =
-    still_grows old new e text t.goes.decoder (ap (λ (w : World). w.shown) t.rest) (ap (λ (w : World). w.to_client) t.rest) (ap (λ (w : World). w.server.terminal.queue) t.rest) o
+    still_grows old new e text t.keeps.decoder (ap (λ (w : World). w.shown) t.rest) (ap (λ (w : World). w.to_client) t.rest) (ap (λ (w : World). w.server.terminal.queue) t.rest) o
 
 -- A CALL OF THE SERVER
 pub record Took (old new : World) (text : List ℕ) : Type 0 where
@@ -101,11 +106,10 @@ pub record Took (old new : World) (text : List ℕ) : Type 0 where
 goes_took : (old new : World) (e : asked.Event) (text : List ℕ) → IsUnpulled e → IsSound old → server.Goes old.server e old.to_client new.to_client new.server → new.client.decoder ≡ old.client.decoder → new.shown ≡ old.shown → IsOutput old text → Took old new text
 goes_took old new e text is s g decoder shown o =
     let more = goes_queue s.history old.server new.server e old.to_client new.to_client is s.server g in
-    let m = subst (Made IsSilent) (g.adds s.history s.server) (silent_adds s.history e is) in
     record {
       symbols = more.0;
       took = more.1;
-      output = says_output old new text g.bytes more.0 m decoder shown g.appended more.1 o;
+      output = says_output old new text g.said more.0 (goes_fit s.history old.server new.server e old.to_client new.to_client s.server g) (ap text_of (sym (g.replies s.history s.server)) ∙ replies_none s.history e is) decoder shown g.appended more.1 o;
     }
 
 asks_took : (old new : World) (e : asked.Event) (text : List ℕ) → IsUnpulled e → IsSound old → Asks old e new → IsOutput old text → Took old new text
@@ -118,32 +122,17 @@ takes_took old new text s a o = goes_took old new asked.took text tt s a.goes (a
 reaches_took : (old new : World) (n : ℕ) (text : List ℕ) → IsSound old → Reaches old n new → IsOutput old text → Took old new text
 reaches_took old new n text s r o =
     let more = feeds_queue s.history old.server new.server (take n old.to_server) old.to_client new.to_client s.server r.feeds in
-    let m = feeds_made s.history old.server new.server (take n old.to_server) old.to_client new.to_client s.server r.feeds in
     record {
       symbols = more.0;
       took = more.1;
-      output = says_output old new text r.feeds.bytes more.0 m (ap (λ (w : World). w.client.decoder) r.rest) (ap (λ (w : World). w.shown) r.rest) r.feeds.appended more.1 o;
+      output = says_output old new text r.feeds.said more.0 (feeds_fit s.history old.server new.server (take n old.to_server) old.to_client new.to_client s.server r.feeds) (feeds_none s.history old.server new.server (take n old.to_server) old.to_client new.to_client s.server r.feeds) (ap (λ (w : World). w.client.decoder) r.rest) (ap (λ (w : World). w.shown) r.rest) r.feeds.appended more.1 o;
     }
 
 -- A PULL: symbols leave the queue as items
-pub record Sent (symbols : List Symbol) : Type 0 where
-  pub items : List Item
-  pub says : flat_map spelled symbols ≡ spells items
-  pub fit : All Fits items
-  pub text : text_of items ≡ screen symbols
-
-sent_one : (item : Item) (x : Symbol) (symbols : List Symbol) → Fits item → spelled x ≡ spelling item → item_shown item ≡ symbol_shown x → Sent symbols → Sent (x ∷ symbols)
-sent_one item x symbols f says text more = record {
-  items = item ∷ more.items;
-  says = ap (λ (b : List ℕ). b ++ flat_map spelled symbols) says ∙ ap (λ (b : List ℕ). spelling item ++ b) more.says;
-  fit = All-cons Fits item more.items f more.fit;
-  text = ap (λ (b : List ℕ). b ++ text_of more.items) text ∙ ap (λ (b : List ℕ). symbol_shown x ++ b) more.text;
-}
-
-sent_items : (symbols : List Symbol) → Sent symbols
-sent_items [] = record { items = []; says = refl; fit = All-nil Fits; text = refl }
-sent_items (symbol.Byte b ∷ symbols) = sent_one (Byte b) (symbol.Byte b) symbols tt refl refl (sent_items symbols)
-sent_items (symbol.Newline ∷ symbols) = sent_one Newline symbol.Newline symbols tt refl refl (sent_items symbols)
+data_text : (symbols : List Symbol) → text_of (map data_of symbols) ≡ screen symbols
+data_text [] = refl
+data_text (symbol.Byte b ∷ symbols) = ap (λ (x : List ℕ). b ∷ x) (data_text symbols)
+data_text (symbol.Newline ∷ symbols) = ap (λ (x : List ℕ). 13 ∷ 10 ∷ x) (data_text symbols)
 
 -- the front of the queue comes behind what is in flight
 moved : (flying waiting front back : List ℕ) → front ++ back ≡ waiting → flying ++ waiting ≡ (flying ++ front) ++ back
@@ -156,24 +145,23 @@ pulls_grows : (old new : World) (n : ℕ) (text : List ℕ) → IsSound old → 
 pulls_grows old new n text s p o =
     let h = s.history in
     let g = p.asks.goes in
-    let m = sent_items (take p.count (queue h)) in
+    let is_text : text_of g.said ≡ screen (take p.count (queue h)) = ap text_of (sym (g.replies h s.server)) ∙ data_text (take p.count (queue h)) in
     let stands = g.stands h s.server in
     record {
       symbols = [];
       took = refl;
       none = refl;
       output = record {
-        items = o.items ++ m.items;
+        items = o.items ++ g.said;
         flight =
-            subst (λ (d : Standing). InFlight d new.to_client (o.items ++ m.items)) (sym (ap (λ (w : World). w.client.decoder) p.asks.rest))
-            (subst (λ (x : List ℕ). InFlight old.client.decoder x (o.items ++ m.items)) (sym g.appended)
-            (behind old.client.decoder old.to_client g.bytes o.items m.items m.fit (sym (g.adds h s.server) ∙ m.says) o.flight));
+            subst (λ (d : Standing). InFlight d new.to_client (o.items ++ g.said)) (sym (ap (λ (w : World). w.client.decoder) p.asks.rest))
+            (said_behind old.client.decoder old.to_client new.to_client o.items g.said g.appended (goes_fit h old.server new.server (asked.pulled p.count) old.to_client new.to_client s.server g) o.flight);
         is =
             append-nil text ∙ o.is
             ∙ ap (λ (x : List ℕ). old.shown ++ x) (moved (text_of o.items) (screen old.server.terminal.queue) (screen (take p.count (queue h))) (screen (drop p.count (queue h))) (cut_screen p.count (queue h) ∙ ap screen (sym s.server.queue)))
-            ∙ parts old.shown (text_of o.items ++ screen (take p.count (queue h))) (screen (drop p.count (queue h))) new.shown (text_of (o.items ++ m.items)) (screen new.server.terminal.queue)
+            ∙ parts old.shown (text_of o.items ++ screen (take p.count (queue h))) (screen (drop p.count (queue h))) new.shown (text_of (o.items ++ g.said)) (screen new.server.terminal.queue)
             (sym (ap (λ (w : World). w.shown) p.asks.rest))
-            (ap (λ (x : List ℕ). text_of o.items ++ x) (sym m.text) ∙ sym (flat_map-append item_shown o.items m.items))
+            (ap (λ (x : List ℕ). text_of o.items ++ x) (sym is_text) ∙ sym (flat_map-append item_shown o.items g.said))
             (ap screen (sym stands.queue));
       };
     }
@@ -185,10 +173,10 @@ shown_more shown got left waiting = ap (λ (x : List ℕ). shown ++ x) (append_a
 returns_grows : (old new : World) (n : ℕ) (text : List ℕ) → IsSound old → old.client.failed ≡ false → Returns old n new → IsOutput old text → Grows old (ToClient n) new text
 returns_grows old new n text s runs r o =
     let f = r.feeds in
-    let before = s.client runs in
-    let d = cut_at old.client.decoder new.client.decoder n old.to_client o.items f.items o.flight (record { items = f.items; appended = refl; adds = f.reads }) in
+    let at = (s.told runs).1 in
+    let d = cut_at old.client.decoder new.client.decoder n old.to_client o.items f.items o.flight f.reads in
     let is_shown : new.shown ≡ old.shown ++ text_of f.items =
-    f.displayed ∙ ap (λ (x : List ℕ). old.shown ++ x) (feeds_text before.0 old.client new.client (take n old.to_client) old.to_server new.to_server old.shown new.shown before.1 f) in
+    f.displayed ∙ ap (λ (x : List ℕ). old.shown ++ x) (feeds_text at.history old.client new.client (take n old.to_client) old.to_server new.to_server old.shown new.shown at.stands f) in
     let queued : new.server.terminal.queue ≡ old.server.terminal.queue = ap (λ (w : World). w.server.terminal.queue) r.rest in
     record {
       symbols = [];
@@ -246,39 +234,87 @@ asks_on : (old new : World) (e : asked.Event) → Asks old e new → KeepsOn old
 asks_on old new e a = ap (λ (w : World). w.client.failed) a.rest
 
 pub goes_on : (old new : World) (e : Event) → Does old e new → KeepsOn old new
-goes_on old new (Key key) d = on_unless old.client_stopped old new (Types old key new) (λ t. t.goes.failed) d
+goes_on old new (Key key) d = on_unless old.client_stopped old new (Types old key new) (λ t. t.keeps.failed) d
 goes_on old new (ToServer n) d = on_unless old.server_stopped old new (Reaches old n new) (λ r. ap (λ (w : World). w.client.failed) r.rest) d
 goes_on old new (ToClient n) d = on_unless old.client_stopped old new (Returns old n new) (λ r. r.feeds.failed) d
 goes_on old new (Write bytes) d = on_unless old.server_stopped old new (Asks old (asked.wrote bytes) new) (asks_on old new (asked.wrote bytes)) d
 goes_on old new (Pull n) d = on_unless old.server_stopped old new (Pulls old n new) (λ p. asks_on old new (asked.pulled p.count) p.asks) d
 goes_on old new Take d = ap (λ (w : World). w.client.failed) d.rest
 goes_on old new (Wish editing) d = on_unless old.server_stopped old new (Asks old (asked.wished editing) new) (asks_on old new (asked.wished editing)) d
-goes_on old new (Resize width height) d = on_unless old.client_stopped old new (Tells old (told.resized width height) new) (λ t. t.goes.failed) d
+goes_on old new (Resize width height) d = on_unless old.client_stopped old new (Tells old (told.resized width height) new) (λ t. t.keeps.failed) d
 goes_on old new (SetChar func value) d = on_unless old.server_stopped old new (Asks old (asked.char_set func value) new) (asks_on old new (asked.char_set func value)) d
-goes_on old new (Propose func value) d = on_unless old.client_stopped old new (Tells old (told.proposed func value) new) (λ t. t.goes.failed) d
+goes_on old new (Propose func value) d = on_unless old.client_stopped old new (Tells old (told.proposed func value) new) (λ t. t.keeps.failed) d
 goes_on old new (Echo on) d = on_unless old.server_stopped old new (Asks old (asked.echo_set on) new) (asks_on old new (asked.echo_set on)) d
 goes_on old new ServerStops d = ap (λ (w : World). w.client.failed) d
 goes_on old new ClientStops d = ap (λ (w : World). w.client.failed) d
 
+-- A REFUSED EVENT adds to it as long as the client does not fail
+halted : (old new : World) (n : ℕ) (fault : ServerFault) (text : List ℕ) → IsSound old → ServerRefuses old n fault new → IsOutput old text → server.Halts old.server (take n old.to_server) fault old.to_client new.to_client new.server → Took old new text
+halted old new n fault text s r o x =
+    let more = halts_queue s.history old.server new.server (take n old.to_server) old.to_client new.to_client fault s.server x in
+    record {
+      symbols = more.0;
+      took = more.1;
+      output = says_output old new text (x.said ++ x.part) more.0 (halts_fit s.history old.server new.server (take n old.to_server) old.to_client new.to_client fault s.server x) (halts_none s.history old.server new.server (take n old.to_server) old.to_client new.to_client fault s.server x) (ap (λ (w : World). w.client.decoder) r.rest) (ap (λ (w : World). w.shown) r.rest) x.appended more.1 o;
+    }
+
+halts_took : (old new : World) (n : ℕ) (fault : ServerFault) (text : List ℕ) → IsSound old → ServerRefuses old n fault new → IsOutput old text → (f : ServerFault) → fault ≡ f → Took old new text
+halts_took old new n fault text s r o refused.Failed e =
+    let same = (r.again e).1 in
+    record {
+      symbols = [];
+      took = ap (λ (w : World). w.server.terminal.queue) same ∙ sym (append-nil old.server.terminal.queue);
+      output = still_output old new text (ap (λ (w : World). w.client.decoder) same) (ap (λ (w : World). w.shown) same) (ap (λ (w : World). w.to_client) same) (ap (λ (w : World). w.server.terminal.queue) same) o;
+    }
+halts_took old new n fault text s r o (refused.Char f) e = absurd (subst IsDeliveryFault e r.is_fault)
+halts_took old new n fault text s r o (refused.Pty f) e = halted old new n fault text s r o (r.halts (subst IsOfItem (sym e) tt))
+halts_took old new n fault text s r o refused.Memory e = halted old new n fault text s r o (r.halts (subst IsOfItem (sym e) tt))
+
+refused_grows : (old new : World) (e : Event) (text : List ℕ) → IsSound old → Refusal old e new → IsOutput old text → new.client.failed ≡ false → Grows old e new text
+refused_grows old new e text s (unchanged is) o runs = same_grows old new e text is o
+refused_grows old new e text s (by_server n fault is r) o runs =
+    let t = halts_took old new n fault text s r o fault refl in
+    subst (λ (x : Event). Grows old x new text) (sym is) (record { symbols = t.symbols; took = t.took; none = tt; output = t.output })
+refused_grows old new e text s (by_client n fault is r) o runs = opposite new.client.failed _ r.failed runs
+
 -- one event after another
 pub runs_grow : (old new : World) (events : List Event) (text : List ℕ) → IsSound old → old.client.failed ≡ false → Runs old events new → IsOutput old text → GrowsAll old events new text
-runs_grow old new [] text s runs r o = r
+runs_grow old new [] text s runs r o = (text, (r, refl))
 runs_grow old new (e ∷ events) text s runs r o =
     let g = output_grows old r.0 e text s runs r.1 o in
-    (r.0, r.1, g, runs_grow r.0 new events (text ++ screen g.symbols) (sound_does old r.0 e r.1 s) (goes_on old r.0 e r.1 ∙ runs) r.2 g.output)
+    let later = runs_grow r.0 new events (text ++ screen g.symbols) (sound_does old r.0 e r.1 s) (goes_on old r.0 e r.1 ∙ runs) r.2 g.output in
+    (later.0, (r.0, r.1, g, later.1))
+
+-- where they lead
+runs_sound : (old new : World) (events : List Event) → Runs old events new → IsSound old → IsSound new
+runs_sound old new [] r s = subst IsSound (sym r) s
+runs_sound old new (e ∷ events) r s = runs_sound r.0 new events r.2 (sound_does old r.0 e r.1 s)
+
+last_output : (old new : World) (events : List Event) (text last : List ℕ) → GrowsTo old events new text last → IsOutput old text → IsOutput new last
+last_output old new [] text last g o = subst (λ (x : List ℕ). IsOutput new x) (sym g.1) (subst (λ (w : World). IsOutput w text) (sym g.0) o)
+last_output old new (e ∷ events) text last g o =
+    let first = g.2 in
+    last_output g.0 new events (text ++ screen first.symbols) last g.3 first.output
 
 pub ends_grow : (old new : World) (events : List Event) (at : ℕ) (cause : Cause) (text : List ℕ) → IsSound old → old.client.failed ≡ false → Ends old events at cause new → IsOutput old text → GrowsBefore old events at cause new text
-ends_grow old new events at cause text s runs e o = record { ends = e; grows = runs_grow old e.mid e.done text s runs e.runs o }
+ends_grow old new events at cause text s runs e o =
+    let g = runs_grow old e.mid e.done text s runs e.runs o in
+    record {
+      ends = e;
+      last = g.0;
+      grows = g.1;
+      refused = λ on. refused_grows e.mid new e.event g.0 (runs_sound old e.mid e.done e.runs s) (refusal_of e.mid new e.event cause e.refuses) (last_output old e.mid e.done text g.0 g.1 o) on;
+    }
 
 -- what is shown comes first
 pub shown_begins : (w : World) (text : List ℕ) → IsOutput w text → Begins w.shown text
 shown_begins w text o = (text_of o.items ++ screen w.server.terminal.queue, sym o.is)
 
 -- a new world shows nothing, and its opening words are silent
-pub opened_output : (w : World) → HasRead w.client.decoder [] [] → w.to_client ≡ opening → w.shown ≡ [] → w.server.terminal.queue ≡ [] → IsOutput w []
+pub opened_output : (w : World) → HasRead w.client.decoder [] [] → w.to_client ≡ spells opening → w.shown ≡ [] → w.server.terminal.queue ≡ [] → IsOutput w []
 opened_output w began said shown none =
     record {
-      items = opening_made.items;
-      flight = behind w.client.decoder [] w.to_client [] opening_made.items opening_made.fit (said ∙ opening_made.spelled) (start w.client.decoder began);
-      is = parts [] [] [] w.shown (text_of opening_made.items) (screen w.server.terminal.queue) (sym shown) (sym (silent_text opening_made.items opening_made.each)) (ap screen (sym none));
+      items = opening;
+      flight = said_behind w.client.decoder [] w.to_client [] opening said opening-fits (start w.client.decoder began);
+      is = parts [] [] [] w.shown (text_of opening) (screen w.server.terminal.queue) (sym shown) (sym opening_none) (ap screen (sym none));
     }

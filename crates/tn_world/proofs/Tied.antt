@@ -2,30 +2,28 @@
 use Rattle.std.proofs.Common.{◌≡◌, ℕ, Bool, true, false, List, [], ◌∷◌, ◌++◌, take, drop, refl, sym, ap, ◌∙◌, if◌then◌else◌, subst, append-nil}
 use Rattle.std.specs.Prelude.{All}
 use Rattle.std.proofs.lemmas.List.Elements.{All-nil, All-cons, All-head, All-tail, All-append}
-use Rattle.std.proofs.lemmas.List.{take-append-drop, map-append, append_cancel_left}
+use Rattle.std.proofs.lemmas.List.{map-append}
 use Rattle.tn_codes.specs.PayloadOf.{payload_of}
 use Rattle.tn_codes.specs.declared.payloads.Payload.{Payload}
 use Rattle.tn_codes.specs.declared.payloads.Payload.TheVariants as payload
 use Rattle.std.specs.Prelude.{Option, Some, None}
 use Rattle.tn_nvt.specs.declared.items.Item.{Item}
 use Rattle.tn_nvt.specs.declared.items.Item.TheVariants.{Byte, Newline, Cmd, Neg, Sub}
-use Rattle.tn_nvt.specs.Spelling.{Fits}
-use Rattle.tn_nvt.specs.Stream.{Reading}
-use Rattle.tn_nvt.specs.Standing.{Standing, Gains}
-use Rattle.tn_nvt.proofs.Unique.{one_reading}
+use Rattle.tn_nvt.specs.Spelling.{spells, Fits}
+use Rattle.tn_nvt.specs.Standing.{Standing}
 use Rattle.tn_discipline.specs.declared.reads.Entry.{Entry}
 use Rattle.tn_discipline.specs.declared.termios.Settings.{Settings}
 use Rattle.tn_world.specs.Calm.{IsCalmToServer, AsksCalmly, IsCalmToClient, seen, heard_payload, heard}
-use Rattle.tn_world.specs.Flight.{InFlight, Delivered}
+use Rattle.tn_world.specs.Flight.{InFlight}
 use Rattle.tn_world.specs.Headline.{IsPrefixOf, IsAskable, local_entries}
 use Rattle.tn_world.specs.Machine as machine
 use Rattle.tn_world.specs.Machine.{Mode, Rules, Message, mode, forward_at, chatter, Server, read_all, Client, keyed, came}
-use Rattle.tn_world.proofs.Cut.{appended, delivered}
+use Rattle.tn_world.proofs.Cut.{behind, cut_at, no_items}
 use Rattle.tn_world.proofs.Reading.{read_all-append}
 use Rattle.tn_world.proofs.Changing as was
 use Rattle.tn_world.proofs.Changing.{key-agrees, message-agrees}
 use Rattle.tn_world.proofs.Prefixes.{take-agrees, agreed, prefix_after, prefix_same, prefix_trans, read-more}
-use Rattle.tn_world.specs.Ends.{ServerEnd, ClientEnd, spells, seen_all, heard_all, Replies, ServerFeeds, without, Took, Writes, ClientKeys, came_all, ClientFeeds, ClientSays, IsCalm, AreBetweenLines, IsQuietEvent, World, Event, key, to_server, to_client, take_entry, server_call, client_call, Happens, made}
+use Rattle.tn_world.specs.Ends.{ServerEnd, ClientEnd, seen_all, heard_all, Replies, ServerFeeds, without, Took, Writes, ClientKeys, came_all, ClientFeeds, ClientSays, IsCalm, AreBetweenLines, IsQuietEvent, World, Event, key, to_server, to_client, take_entry, server_call, client_call, Happens, made}
 use Rattle.tn_world.specs.Relation.{Agrees, Tied, at}
 
 -- both parts
@@ -35,21 +33,12 @@ all_parts P (x ∷ xs) ys h =
     let rest = all_parts P xs ys (All-tail P x (xs ++ ys) h) in
     (All-cons P x xs (All-head P x (xs ++ ys) h) rest.0, rest.1)
 
-pub behind : (d : Standing) (flight out : List ℕ) (items new : List Item) → All Fits new → out ≡ spells new → InFlight d flight items → InFlight d (flight ++ out) (items ++ new)
-behind d flight out items new f is h = subst (λ x. InFlight d (flight ++ x) (items ++ new)) (sym is) (appended d flight items new f h)
-
--- a delivery of some of the bytes in flight
-pub cut_at : (old new : Standing) (n : ℕ) (flight : List ℕ) (items got : List Item) → InFlight old flight items → Gains old (take n flight) [] got new → Delivered new got items (drop n flight)
-cut_at old new n flight items got h g =
-    let d = delivered old new (take n flight) (drop n flight) [] got items (subst (λ x. InFlight old x items) (sym (take-append-drop n flight)) h) g in
-    subst (λ x. Delivered new x items (drop n flight)) (sym d.1) d.2
-
 -- the server after items that the client sends
-sent : (rules : Rules) (v : Server) (items new : List Item) (says : List machine.Item) → ((u : Server) → read_all rules.settings u (seen_all rules new) ≡ read_all rules.settings u says) → read_all rules.settings v (seen_all rules (items ++ new)) ≡ read_all rules.settings (read_all rules.settings v (seen_all rules items)) says
+sent : (rules : Rules) (v : Server) (items new : List Item) (says : List machine.Item) → ((u : Server) → read_all rules.canon u (seen_all rules new) ≡ read_all rules.canon u says) → read_all rules.canon v (seen_all rules (items ++ new)) ≡ read_all rules.canon (read_all rules.canon v (seen_all rules items)) says
 sent rules v items new says is =
-    ap (λ x. read_all rules.settings v x) (map-append (seen rules.linemode) items new)
-    ∙ read_all-append rules.settings v (seen_all rules items) (seen_all rules new)
-    ∙ is (read_all rules.settings v (seen_all rules items))
+    ap (λ x. read_all rules.canon v x) (map-append (seen rules.linemode) items new)
+    ∙ read_all-append rules.canon v (seen_all rules items) (seen_all rules new)
+    ∙ is (read_all rules.canon v (seen_all rules items))
 
 askable_payload : (s : Settings) (linemode : Bool) (p : Option Payload) → AsksCalmly s p → was.IsAskableMessage s (heard_payload linemode p)
 askable_payload s true (Some (payload.Mode mask)) h = h.1
@@ -75,65 +64,65 @@ calm_as rules typed c (forward_at f) h = tt
 calm_as rules typed c chatter h = tt
 
 -- messages that come one after another
-all-agree : (rules : Rules) (typed : List ℕ) (taken : List Entry) (v : Server) (c : Client) (items : List Item) → (rules.resumes ≡ false → AreBetweenLines rules typed c (heard_all rules items)) → Agrees rules typed taken v c → All (IsCalmToClient rules.settings) items → Agrees rules typed taken (read_all rules.settings v (came_all rules c (heard_all rules items)).items) (came_all rules c (heard_all rules items)).client
+all-agree : (rules : Rules) (typed : List ℕ) (taken : List Entry) (v : Server) (c : Client) (items : List Item) → (rules.resumes ≡ false → AreBetweenLines rules typed c (heard_all rules items)) → Agrees rules typed taken v c → All (IsCalmToClient rules.canon.settings) items → Agrees rules typed taken (read_all rules.canon v (came_all rules c (heard_all rules items)).items) (came_all rules c (heard_all rules items)).client
 all-agree rules typed taken v c [] quiet a calm = a
 all-agree rules typed taken v c (item ∷ items) quiet a calm =
     let m = heard rules.linemode item in
     subst (λ x. Agrees rules typed taken x (came_all rules (came rules c m).client (heard_all rules items)).client)
-    (sym (read_all-append rules.settings v (came rules c m).items (came_all rules (came rules c m).client (heard_all rules items)).items))
-    (all-agree rules typed taken (read_all rules.settings v (came rules c m).items) (came rules c m).client items (λ r. (quiet r).1)
-    (message-agrees rules typed taken v c m a (askable_as rules.settings rules.linemode item (All-head (IsCalmToClient rules.settings) item items calm)) (λ r. calm_as rules typed c m (quiet r).0))
-    (All-tail (IsCalmToClient rules.settings) item items calm))
+    (sym (read_all-append rules.canon v (came rules c m).items (came_all rules (came rules c m).client (heard_all rules items)).items))
+    (all-agree rules typed taken (read_all rules.canon v (came rules c m).items) (came rules c m).client items (λ r. (quiet r).1)
+    (message-agrees rules typed taken v c m a (askable_as rules.canon.settings rules.linemode item (All-head (IsCalmToClient rules.canon.settings) item items calm)) (λ r. calm_as rules typed c m (quiet r).0))
+    (All-tail (IsCalmToClient rules.canon.settings) item items calm))
 
 -- the flight to the server, once the client has written
-writes-tied : (rules : Rules) (w : World) (t : Tied rules w) (says : List machine.Item) (out typed : List ℕ) (client : ClientEnd) (messages : List Item) (later : List ℕ) → Writes rules says out → InFlight client.decoder later messages → All (IsCalmToClient rules.settings) messages → Agrees rules typed w.taken (read_all rules.settings (read_all rules.settings w.server.core (seen_all rules t.items)) says) client.core → Tied rules (record w { typed = typed; client = client; to_client = later; to_server = w.to_server ++ out })
-writes-tied rules w t says out typed client messages later h back asked agrees =
+writes-tied : (rules : Rules) (w : World) (t : Tied rules w) (says : List machine.Item) (said : List Item) (typed : List ℕ) (client : ClientEnd) (messages : List Item) (later : List ℕ) → Writes rules says said → InFlight client.decoder later messages → All (IsCalmToClient rules.canon.settings) messages → Agrees rules typed w.taken (read_all rules.canon (read_all rules.canon w.server.core (seen_all rules t.items)) says) client.core → Tied rules (record w { typed = typed; client = client; to_client = later; to_server = w.to_server ++ spells said })
+writes-tied rules w t says said typed client messages later h back asked agrees =
     record {
-      items = t.items ++ h.items;
-      flight = behind w.server.decoder w.to_server out t.items h.items h.fit h.spelled t.flight;
-      calm = All-append IsCalmToServer t.items h.items t.calm h.calm;
+      items = t.items ++ said;
+      flight = behind w.server.decoder w.to_server t.items said h.fit t.flight;
+      calm = All-append IsCalmToServer t.items said t.calm h.calm;
       messages = messages;
       back = back;
       asked = asked;
-      agrees = subst (λ v. Agrees rules typed w.taken v client.core) (sym (sent rules w.server.core t.items h.items says h.says_so)) agrees;
+      agrees = subst (λ v. Agrees rules typed w.taken v client.core) (sym (sent rules w.server.core t.items said says h.says_so)) agrees;
     }
 
-key-tied : (rules : Rules) (w : World) (k : ℕ) (client : ClientEnd) (out : List ℕ) → ClientKeys rules w.client k out client → Tied rules w → Tied rules (record w { typed = w.typed ++ k ∷ []; client = client; to_server = w.to_server ++ out })
-key-tied rules w k client out h t =
-    writes-tied rules w t (keyed rules w.client.core.mask.edit w.client.core k).items out (w.typed ++ k ∷ []) client t.messages w.to_client h.writes (subst (λ d. InFlight d w.to_client t.messages) (sym h.decoder) t.back) t.asked
-    (subst (λ c. Agrees rules (w.typed ++ k ∷ []) w.taken (read_all rules.settings (read_all rules.settings w.server.core (seen_all rules t.items)) (keyed rules w.client.core.mask.edit w.client.core k).items) c) (sym h.core)
-    (key-agrees rules w.typed w.taken (read_all rules.settings w.server.core (seen_all rules t.items)) w.client.core k w.client.core.mask.edit refl t.agrees))
+key-tied : (rules : Rules) (w : World) (k : ℕ) (client : ClientEnd) (said : List Item) → ClientKeys rules w.client k said client → Tied rules w → Tied rules (record w { typed = w.typed ++ k ∷ []; client = client; to_server = w.to_server ++ spells said })
+key-tied rules w k client said h t =
+    writes-tied rules w t (keyed rules w.client.core.mask.edit w.client.core k).items said (w.typed ++ k ∷ []) client t.messages w.to_client h.writes (subst (λ d. InFlight d w.to_client t.messages) (sym h.decoder) t.back) t.asked
+    (subst (λ c. Agrees rules (w.typed ++ k ∷ []) w.taken (read_all rules.canon (read_all rules.canon w.server.core (seen_all rules t.items)) (keyed rules w.client.core.mask.edit w.client.core k).items) c) (sym h.core)
+    (key-agrees rules w.typed w.taken (read_all rules.canon w.server.core (seen_all rules t.items)) w.client.core k w.client.core.mask.edit refl t.agrees))
 
-client-tied : (rules : Rules) (w : World) (n : ℕ) (client : ClientEnd) (out : List ℕ) → (rules.resumes ≡ false → IsQuietEvent rules w (to_client n)) → ClientFeeds rules w.client (take n w.to_client) out client → Tied rules w → Tied rules (record w { client = client; to_client = drop n w.to_client; to_server = w.to_server ++ out })
-client-tied rules w n client out quiet h t =
-    let d = cut_at w.client.decoder client.decoder n w.to_client t.messages h.got t.back h.decodes in
-    let parts = all_parts (IsCalmToClient rules.settings) h.got d.left (subst (λ l. All (IsCalmToClient rules.settings) l) d.all t.asked) in
-    writes-tied rules w t (came_all rules w.client.core (heard_all rules h.got)).items out w.typed client d.left (drop n w.to_client) h.writes d.flight parts.1
-    (subst (λ c. Agrees rules w.typed w.taken (read_all rules.settings (read_all rules.settings w.server.core (seen_all rules t.items)) (came_all rules w.client.core (heard_all rules h.got)).items) c) (sym h.core)
-    (all-agree rules w.typed w.taken (read_all rules.settings w.server.core (seen_all rules t.items)) w.client.core h.got (λ r. quiet r h.got client.decoder h.decodes) t.agrees parts.0))
+client-tied : (rules : Rules) (w : World) (n : ℕ) (client : ClientEnd) (said : List Item) → (rules.resumes ≡ false → IsQuietEvent rules w (to_client n)) → ClientFeeds rules w.client (take n w.to_client) said client → Tied rules w → Tied rules (record w { client = client; to_client = drop n w.to_client; to_server = w.to_server ++ spells said })
+client-tied rules w n client said quiet h t =
+    let d = cut_at w.client.decoder client.decoder n w.to_client t.messages h.got t.back h.reads in
+    let parts = all_parts (IsCalmToClient rules.canon.settings) h.got d.left (subst (λ l. All (IsCalmToClient rules.canon.settings) l) d.all t.asked) in
+    writes-tied rules w t (came_all rules w.client.core (heard_all rules h.got)).items said w.typed client d.left (drop n w.to_client) h.writes d.flight parts.1
+    (subst (λ c. Agrees rules w.typed w.taken (read_all rules.canon (read_all rules.canon w.server.core (seen_all rules t.items)) (came_all rules w.client.core (heard_all rules h.got)).items) c) (sym h.core)
+    (all-agree rules w.typed w.taken (read_all rules.canon w.server.core (seen_all rules t.items)) w.client.core h.got (λ r. quiet r h.got client.decoder h.reads) t.agrees parts.0))
 
-client-says : (rules : Rules) (w : World) (client : ClientEnd) (out : List ℕ) → ClientSays rules w.client out client → Tied rules w → Tied rules (record w { client = client; to_server = w.to_server ++ out })
-client-says rules w client out h t =
-    subst (λ c. Tied rules (record w { client = c; to_server = w.to_server ++ out })) (sym h.same)
-    (writes-tied rules w t [] out w.typed w.client t.messages w.to_client h.writes t.back t.asked t.agrees)
+client-says : (rules : Rules) (w : World) (client : ClientEnd) (said : List Item) → ClientSays rules w.client said client → Tied rules w → Tied rules (record w { client = client; to_server = w.to_server ++ spells said })
+client-says rules w client said h t =
+    subst (λ c. Tied rules (record w { client = c; to_server = w.to_server ++ spells said })) (sym h.same)
+    (writes-tied rules w t [] said w.typed w.client t.messages w.to_client h.writes t.back t.asked t.agrees)
 
 -- the flight to the client, once the server has written
-says-tied : (rules : Rules) (w : World) (out : List ℕ) → Replies rules out → Tied rules w → Tied rules (record w { to_client = w.to_client ++ out })
-says-tied rules w out h t =
+says-tied : (rules : Rules) (w : World) (said : List Item) → Replies rules said → Tied rules w → Tied rules (record w { to_client = w.to_client ++ spells said })
+says-tied rules w said h t =
     record {
       items = t.items;
       flight = t.flight;
       calm = t.calm;
-      messages = t.messages ++ h.items;
-      back = behind w.client.decoder w.to_client out t.messages h.items h.fit h.spelled t.back;
-      asked = All-append (IsCalmToClient rules.settings) t.messages h.items t.asked h.calm;
+      messages = t.messages ++ said;
+      back = behind w.client.decoder w.to_client t.messages said h.fit t.back;
+      asked = All-append (IsCalmToClient rules.canon.settings) t.messages said t.asked h.calm;
       agrees = t.agrees;
     }
 
-server-tied : (rules : Rules) (w : World) (n : ℕ) (server : ServerEnd) (out : List ℕ) → ServerFeeds rules w.server (take n w.to_server) out server → Tied rules w → Tied rules (record w { server = server; to_server = drop n w.to_server; to_client = w.to_client ++ out })
-server-tied rules w n server out h t =
-    let d = cut_at w.server.decoder server.decoder n w.to_server t.items h.got t.flight h.decodes in
-    says-tied rules (record w { server = server; to_server = drop n w.to_server }) out h.replies (record {
+server-tied : (rules : Rules) (w : World) (n : ℕ) (server : ServerEnd) (said : List Item) → ServerFeeds rules w.server (take n w.to_server) said server → Tied rules w → Tied rules (record w { server = server; to_server = drop n w.to_server; to_client = w.to_client ++ spells said })
+server-tied rules w n server said h t =
+    let d = cut_at w.server.decoder server.decoder n w.to_server t.items h.got t.flight h.reads in
+    says-tied rules (record w { server = server; to_server = drop n w.to_server }) said h.replies (record {
       items = d.left;
       flight = d.flight;
       calm = (all_parts IsCalmToServer h.got d.left (subst (λ l. All IsCalmToServer l) d.all t.calm)).1;
@@ -142,9 +131,9 @@ server-tied rules w n server out h t =
       asked = t.asked;
       agrees =
           subst (λ v. Agrees rules w.typed w.taken v w.client.core)
-          (ap (λ x. read_all rules.settings w.server.core x) (ap (seen_all rules) d.all ∙ map-append (seen rules.linemode) h.got d.left)
-          ∙ read_all-append rules.settings w.server.core (seen_all rules h.got) (seen_all rules d.left)
-          ∙ ap (λ v. read_all rules.settings v (seen_all rules d.left)) (sym h.core))
+          (ap (λ x. read_all rules.canon w.server.core x) (ap (seen_all rules) d.all ∙ map-append (seen rules.linemode) h.got d.left)
+          ∙ read_all-append rules.canon w.server.core (seen_all rules h.got) (seen_all rules d.left)
+          ∙ ap (λ v. read_all rules.canon v (seen_all rules d.left)) (sym h.core))
           t.agrees;
     })
 
@@ -174,7 +163,7 @@ happens-tied rules w new (to_client n) quiet h t = subst (λ x. Tied rules x) (s
 happens-tied rules w new take_entry quiet h t =
     subst (λ x. Tied rules x) (sym h.5) (says-tied rules (record w { taken = w.taken ++ h.2; server = h.0 }) h.1 h.4 (took-tied rules w h.2 h.0 h.3 t))
 happens-tied rules w new server_call quiet h t =
-    subst (λ x. Tied rules x) (sym h.3) (subst (λ v. Tied rules (record w { server = v; to_client = w.to_client ++ h.1 })) (sym h.2.same) (says-tied rules w h.1 h.2.replies t))
+    subst (λ x. Tied rules x) (sym h.3) (subst (λ v. Tied rules (record w { server = v; to_client = w.to_client ++ spells h.1 })) (sym h.2.same) (says-tied rules w h.1 h.2.replies t))
 happens-tied rules w new client_call quiet h t = subst (λ x. Tied rules x) (sym h.3) (client-says rules w h.0 h.1 h.2 t)
 
 no_count : (b : Bool) (n : ℕ) → (if b then n else n) ≡ n
@@ -182,7 +171,7 @@ no_count true n = refl
 no_count false n = refl
 
 -- the ends at rest under this mode
-pub rest-agrees : (rules : Rules) (m : Mode) (f : ℕ → Bool) → IsAskable rules.settings m → Agrees rules [] [] (at m.edit [] []) (record { mask = m; held = []; ahead = 0; forward = f; trapped = 0; plain = 0; failed = false })
+pub rest-agrees : (rules : Rules) (m : Mode) (f : ℕ → Bool) → IsAskable rules.canon.settings m → Agrees rules [] [] (at m.edit [] []) (record { mask = m; held = []; ahead = 0; forward = f; trapped = 0; plain = 0; failed = false })
 rest-agrees rules m f askable =
     record {
       half = [];
@@ -194,21 +183,16 @@ rest-agrees rules m f askable =
       ahead = λ e. refl;
       none = λ e. refl;
       plain = tt;
-      count = λ r e allowed. no_count rules.settings.flags.isig 0;
+      count = λ r e allowed. no_count rules.canon.settings.flags.isig 0;
     }
 
-pub tied-prefix : (rules : Rules) (w : World) → Tied rules w → IsPrefixOf (made w) (local_entries rules.settings w.typed)
+pub tied-prefix : (rules : Rules) (w : World) → Tied rules w → IsPrefixOf (made w) (local_entries rules.canon w.typed)
 tied-prefix rules w t =
-    prefix_trans (made w) (w.taken ++ (read_all rules.settings w.server.core (seen_all rules t.items)).waiting) (local_entries rules.settings w.typed)
-    (prefix_after w.taken w.server.core.waiting (read_all rules.settings w.server.core (seen_all rules t.items)).waiting (read-more rules.settings w.server.core (seen_all rules t.items)))
-    (prefix_same _ _ (agreed rules w.typed w.taken (read_all rules.settings w.server.core (seen_all rules t.items)) w.client.core t.agrees))
+    prefix_trans (made w) (w.taken ++ (read_all rules.canon w.server.core (seen_all rules t.items)).waiting) (local_entries rules.canon w.typed)
+    (prefix_after w.taken w.server.core.waiting (read_all rules.canon w.server.core (seen_all rules t.items)).waiting (read-more rules.canon w.server.core (seen_all rules t.items)))
+    (prefix_same _ _ (agreed rules w.typed w.taken (read_all rules.canon w.server.core (seen_all rules t.items)) w.client.core t.agrees))
 
--- no bytes are no items
-pub no_items : (d : Standing) (items : List Item) → InFlight d [] items → items ≡ []
-no_items d items h =
-    append_cancel_left h.had items [] ((one_reading (h.stream ++ []) [] h.has_read.rest (h.had ++ items) h.had h.reads (subst (λ x. Reading x h.had h.has_read.rest) (sym (append-nil h.stream)) h.has_read.reading)).0 ∙ sym (append-nil h.had))
-
-pub tied-complete : (rules : Rules) (w : World) → Tied rules w → w.to_server ≡ [] → made w ≡ local_entries rules.settings w.typed
+pub tied-complete : (rules : Rules) (w : World) → Tied rules w → w.to_server ≡ [] → made w ≡ local_entries rules.canon w.typed
 tied-complete rules w t nothing =
     let none : t.items ≡ [] = no_items w.server.decoder t.items (subst (λ x. InFlight w.server.decoder x t.items) nothing t.flight) in
-    ap (λ l. w.taken ++ (read_all rules.settings w.server.core (seen_all rules l)).waiting) (sym none) ∙ agreed rules w.typed w.taken (read_all rules.settings w.server.core (seen_all rules t.items)) w.client.core t.agrees
+    ap (λ l. w.taken ++ (read_all rules.canon w.server.core (seen_all rules l)).waiting) (sym none) ∙ agreed rules w.typed w.taken (read_all rules.canon w.server.core (seen_all rules t.items)) w.client.core t.agrees

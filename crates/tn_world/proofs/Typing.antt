@@ -2,7 +2,8 @@
 use Rattle.std.proofs.Common.{◌≡◌, ◌≤◌, ◌<◌, ℕ, ◌+◌, ◌-◌, ◌==◌, nat_lt, Bool, true, false, Option, Some, None, List, [], ◌∷◌, ◌++◌, length, take, refl, sym, ap, ◌∙◌, if◌then◌else◌, arith, append-nil, append_assoc, length-append, length-take}
 use Rattle.std.proofs.Math.Seq.{take-append-add}
 use Rattle.tn_discipline.specs.declared.reads.Entry.{Entry}
-use Rattle.tn_discipline.specs.Admitted.{most_counted}
+use Rattle.tn_discipline.specs.Canon.{Canon}
+use Rattle.tn_discipline.specs.Limits.{most_counted}
 use Rattle.tn_discipline.specs.Steps.{front, half_next, gain_next}
 use Rattle.tn_discipline.specs.Characters.{is_set_to}
 use Rattle.tn_discipline.specs.Keys.{mapped_key, signal_of, role_by_signal, role_or_ignored, role_of_key, literal_role}
@@ -22,6 +23,7 @@ use Rattle.tn_world.specs.Relation.{AreOrdinary, at}
 abbrev pub IsLiteral : Characters → Role → Type 0
 IsLiteral chars (role.Ordinary b) = literal_role chars b ≡ role.Ordinary b
 IsLiteral chars (role.Eol b) = literal_role chars b ≡ role.Eol b
+IsLiteral chars (role.Eol2 b) = literal_role chars b ≡ role.Eol2 b
 IsLiteral chars role.Ignored = Unit
 IsLiteral chars role.Nl = Unit
 IsLiteral chars role.Eof = Unit
@@ -34,32 +36,41 @@ by_signal chars b true (Some sig) h = tt
 by_signal chars b true None h = h
 by_signal chars b false sig h = h
 
-by_tests : (chars : Characters) (b : ℕ) (isig : Bool) (sig : Option Sig) (t u v w x : Bool) → (b == 10) ≡ t → is_set_to chars.eol b ≡ u → IsLiteral chars (if t then role.Nl else (if u then role.Eol b else (if v then role.Eof else (if w then role.Erase else (if x then role.Kill else role_by_signal isig sig b)))))
-by_tests chars b isig sig true u v w x p q = tt
-by_tests chars b isig sig false true v w x p q =
-    ap (λ (t : Bool). if t then role.Nl else (if is_set_to chars.eol b then role.Eol b else role.Ordinary b)) p ∙ ap (λ (u : Bool). if u then role.Eol b else role.Ordinary b) q
-by_tests chars b isig sig false false true w x p q = tt
-by_tests chars b isig sig false false false true x p q = tt
-by_tests chars b isig sig false false false false true p q = tt
-by_tests chars b isig sig false false false false false p q =
-    by_signal chars b isig sig (ap (λ (t : Bool). if t then role.Nl else (if is_set_to chars.eol b then role.Eol b else role.Ordinary b)) p ∙ ap (λ (u : Bool). if u then role.Eol b else role.Ordinary b) q)
+-- the byte as it is, by the tests for a line feed, EOL and EOL2
+abbrev as_it_is : ℕ → Bool → Bool → Bool → Role
+as_it_is b t u x = if t then role.Nl else (if u then role.Eol b else (if x then role.Eol2 b else role.Ordinary b))
+
+as_tested : (chars : Characters) (b : ℕ) (t u x : Bool) → (b == 10) ≡ t → is_set_to chars.eol b ≡ u → is_set_to chars.eol2 b ≡ x → literal_role chars b ≡ as_it_is b t u x
+as_tested chars b t u x p q r =
+    ap (λ (t : Bool). as_it_is b t (is_set_to chars.eol b) (is_set_to chars.eol2 b)) p
+    ∙ ap (λ (u : Bool). as_it_is b t u (is_set_to chars.eol2 b)) q ∙ ap (as_it_is b t u) r
+
+by_tests : (chars : Characters) (b : ℕ) (isig : Bool) (sig : Option Sig) (t u x v w k : Bool) → literal_role chars b ≡ as_it_is b t u x → IsLiteral chars (if t then role.Nl else (if u then role.Eol b else (if x then role.Eol2 b else (if v then role.Eof else (if w then role.Erase else (if k then role.Kill else role_by_signal isig sig b))))))
+by_tests chars b isig sig true u x v w k is = tt
+by_tests chars b isig sig false true x v w k is = is
+by_tests chars b isig sig false false true v w k is = is
+by_tests chars b isig sig false false false true w k is = tt
+by_tests chars b isig sig false false false false true k is = tt
+by_tests chars b isig sig false false false false false true is = tt
+by_tests chars b isig sig false false false false false false is = by_signal chars b isig sig is
 
 by_mapped : (s : Settings) (mapped : Option ℕ) → IsLiteral s.chars (role_or_ignored s mapped)
 by_mapped s None = tt
 by_mapped s (Some b) =
-    by_tests s.chars b s.flags.isig (signal_of s.chars b) (b == 10) (is_set_to s.chars.eol b) (is_set_to s.chars.eof b) (is_set_to s.chars.erase b) (is_set_to s.chars.kill b) refl refl
+    by_tests s.chars b s.flags.isig (signal_of s.chars b) (b == 10) (is_set_to s.chars.eol b) (is_set_to s.chars.eol2 b) (is_set_to s.chars.eof b) (is_set_to s.chars.erase b) (is_set_to s.chars.kill b)
+    (as_tested s.chars b (b == 10) (is_set_to s.chars.eol b) (is_set_to s.chars.eol2 b) refl refl refl)
 
 pub literal_key : (s : Settings) (key : ℕ) → IsLiteral s.chars (role_of_key s key)
 literal_key s key = by_mapped s (mapped_key s.flags key)
 
 -- After a key with this role the server's half line, once it has read what is sent, is that of a local terminal up
 -- to what the client holds, and the client knows its length.
-pub record Follows (s : Settings) (h : List ℕ) (w : List Entry) (held : List ℕ) (r : Role) (p : Part) : Type 0 where
+pub record Follows (s : Canon) (h : List ℕ) (w : List Entry) (held : List ℕ) (r : Role) (p : Part) : Type 0 where
   pub half : List ℕ
-  pub reads : read_all s (at true h w) p.items ≡ at true half (w ++ gain_next (h ++ held) r)
-  pub line : half_next (h ++ held) r ≡ half ++ p.held
+  pub reads : read_all s (at true h w) p.items ≡ at true half (w ++ gain_next s.limit (h ++ held) r)
+  pub line : half_next s.limit (h ++ held) r ≡ half ++ p.held
   pub ahead : length half ≡ p.ahead
-  pub plain : AreOrdinary s.chars p.held
+  pub plain : AreOrdinary s.settings.chars p.held
 
 command-role : (sig : Sig) → command_role (command_of sig) ≡ role.Signal sig
 command-role Int = refl
@@ -70,18 +81,18 @@ empty_of : (xs : List ℕ) → length xs ≡ 0 → xs ≡ []
 empty_of [] h = refl
 empty_of (x ∷ xs) h = absurd (omega arith)
 
-full : (h held : List ℕ) (ahead : ℕ) (t : Bool) → length h ≡ ahead → (ahead + length held == most_counted) ≡ t → (length (h ++ held) == most_counted) ≡ t
-full h held ahead t count test = ap (λ n. n == most_counted) (length-append h held ∙ ap (λ n. n + length held) count) ∙ test
+full : (limit : ℕ) (h held : List ℕ) (ahead : ℕ) (t : Bool) → length h ≡ ahead → (ahead + length held == most_counted limit) ≡ t → (length (h ++ held) == most_counted limit) ≡ t
+full limit h held ahead t count test = ap (λ n. n == most_counted limit) (length-append h held ∙ ap (λ n. n + length held) count) ∙ test
 
-not_254 : (n : ℕ) → n ≤ 254 → (n == most_counted) ≡ false → n < 254
-not_254 n h e = grind arith
+below : (most n : ℕ) → n ≤ most → (n == most) ≡ false → n < most
+below most n h e = grind arith
 
-room : (h held : List ℕ) (b : ℕ) → length (h ++ held) ≤ 254 → (length (h ++ held) == most_counted) ≡ false → length h + length (held ++ b ∷ []) ≤ 254
-room h held b fits test = omega (arith, not_254 (length (h ++ held)) fits test, length-append h held, length-append held (b ∷ []))
+room : (most : ℕ) (h held : List ℕ) (b : ℕ) → length (h ++ held) ≤ most → (length (h ++ held) == most) ≡ false → length h + length (held ++ b ∷ []) ≤ most
+room most h held b fits test = omega (arith, below most (length (h ++ held)) fits test, length-append h held, length-append held (b ∷ []))
 
-ordinary-follows : (s : Settings) (h : List ℕ) (w : List Entry) (c : Client) (b : ℕ) (t f : Bool) → (c.ahead + length c.held == most_counted) ≡ t → literal_role s.chars b ≡ role.Ordinary b → AreOrdinary s.chars c.held → length h ≡ c.ahead → length (h ++ c.held) ≤ 254 → Follows s h w c.held (role.Ordinary b) (ordinary_key t f c b)
+ordinary-follows : (s : Canon) (h : List ℕ) (w : List Entry) (c : Client) (b : ℕ) (t f : Bool) → (c.ahead + length c.held == most_counted s.limit) ≡ t → literal_role s.settings.chars b ≡ role.Ordinary b → AreOrdinary s.settings.chars c.held → length h ≡ c.ahead → length (h ++ c.held) ≤ most_counted s.limit → Follows s h w c.held (role.Ordinary b) (ordinary_key t f c b)
 ordinary-follows s h w c b true f test literal plain count fits =
-    let is_full = full h c.held c.ahead true count test in
+    let is_full = full s.limit h c.held c.ahead true count test in
     record {
       half = h;
       reads = ap (λ x. at true h x) (sym (ap (λ (t : Bool). w ++ (if t then [] else [])) is_full ∙ append-nil w));
@@ -90,25 +101,25 @@ ordinary-follows s h w c b true f test literal plain count fits =
       plain = plain;
     }
 ordinary-follows s h w c b false true test literal plain count fits =
-    let is_full = full h c.held c.ahead false count test in
-    let more : AreOrdinary s.chars (c.held ++ b ∷ []) = ordinary-append s.chars c.held (b ∷ []) plain (literal, tt) in
+    let is_full = full s.limit h c.held c.ahead false count test in
+    let more : AreOrdinary s.settings.chars (c.held ++ b ∷ []) = ordinary-append s.settings.chars c.held (b ∷ []) plain (literal, tt) in
     record {
       half = h ++ (c.held ++ b ∷ []);
       reads =
-          read-bytes s h w (c.held ++ b ∷ []) more (room h c.held b fits is_full)
+          read-bytes s h w (c.held ++ b ∷ []) more (room (most_counted s.limit) h c.held b fits is_full)
           ∙ ap (λ x. at true (h ++ (c.held ++ b ∷ [])) x) (sym (ap (λ (t : Bool). w ++ (if t then [] else [])) is_full ∙ append-nil w));
       line = ap (λ (t : Bool). if t then h ++ c.held else (h ++ c.held) ++ b ∷ []) is_full ∙ append_assoc h c.held (b ∷ []) ∙ sym (append-nil (h ++ (c.held ++ b ∷ [])));
       ahead = length-append h (c.held ++ b ∷ []) ∙ ap (λ n. n + length (c.held ++ b ∷ [])) count;
       plain = tt;
     }
 ordinary-follows s h w c b false false test literal plain count fits =
-    let is_full = full h c.held c.ahead false count test in
+    let is_full = full s.limit h c.held c.ahead false count test in
     record {
       half = h;
       reads = ap (λ x. at true h x) (sym (ap (λ (t : Bool). w ++ (if t then [] else [])) is_full ∙ append-nil w));
       line = ap (λ (t : Bool). if t then h ++ c.held else (h ++ c.held) ++ b ∷ []) is_full ∙ append_assoc h c.held (b ∷ []);
       ahead = count;
-      plain = ordinary-append s.chars c.held (b ∷ []) plain (literal, tt);
+      plain = ordinary-append s.settings.chars c.held (b ∷ []) plain (literal, tt);
     }
 
 front-append : (h held : List ℕ) → 0 < length held → front (h ++ held) ≡ h ++ front held
@@ -122,14 +133,14 @@ some_of n h = grind arith
 none_of : (n : ℕ) → nat_lt 0 n ≡ false → n ≡ 0
 none_of n h = grind arith
 
-erase-follows : (s : Settings) (h : List ℕ) (w : List Entry) (c : Client) (t f : Bool) → nat_lt 0 (length c.held) ≡ t → nat_lt 0 c.ahead ≡ f → AreOrdinary s.chars c.held → length h ≡ c.ahead → Follows s h w c.held role.Erase (erase_key t f c)
+erase-follows : (s : Canon) (h : List ℕ) (w : List Entry) (c : Client) (t f : Bool) → nat_lt 0 (length c.held) ≡ t → nat_lt 0 c.ahead ≡ f → AreOrdinary s.settings.chars c.held → length h ≡ c.ahead → Follows s h w c.held role.Erase (erase_key t f c)
 erase-follows s h w c true f some further plain count =
     record {
       half = h;
       reads = ap (λ x. at true h x) (sym (append-nil w));
       line = front-append h c.held (some_of (length c.held) some);
       ahead = count;
-      plain = ordinary-take s.chars (length c.held - 1) c.held plain;
+      plain = ordinary-take s.settings.chars (length c.held - 1) c.held plain;
     }
 erase-follows s h w c false true none further plain count =
     let nothing : c.held ≡ [] = empty_of c.held (none_of (length c.held) none) in
@@ -152,7 +163,7 @@ erase-follows s h w c false false none nowhere plain count =
       plain = plain;
     }
 
-kill-follows : (s : Settings) (h : List ℕ) (w : List Entry) (c : Client) (t : Bool) → nat_lt 0 c.ahead ≡ t → length h ≡ c.ahead → Follows s h w c.held role.Kill (kill_key t)
+kill-follows : (s : Canon) (h : List ℕ) (w : List Entry) (c : Client) (t : Bool) → nat_lt 0 c.ahead ≡ t → length h ≡ c.ahead → Follows s h w c.held role.Kill (kill_key t)
 kill-follows s h w c true some count = record { half = []; reads = refl; line = refl; ahead = refl; plain = tt }
 kill-follows s h w c false nowhere count =
     record {
@@ -163,9 +174,9 @@ kill-follows s h w c false nowhere count =
       plain = tt;
     }
 
-pub key-follows : (s : Settings) (h : List ℕ) (w : List Entry) (c : Client) (r : Role) → IsLiteral s.chars r → AreOrdinary s.chars c.held → length h ≡ c.ahead → length (h ++ c.held) ≤ 254 → Follows s h w c.held r (edit_key c r)
+pub key-follows : (s : Canon) (h : List ℕ) (w : List Entry) (c : Client) (r : Role) → IsLiteral s.settings.chars r → AreOrdinary s.settings.chars c.held → length h ≡ c.ahead → length (h ++ c.held) ≤ most_counted s.limit → Follows s h w c.held r (edit_key s.limit c r)
 key-follows s h w c (role.Ordinary b) literal plain count fits =
-    ordinary-follows s h w c b (c.ahead + length c.held == most_counted) (c.forward b) refl literal plain count fits
+    ordinary-follows s h w c b (c.ahead + length c.held == most_counted s.limit) (c.forward b) refl literal plain count fits
 key-follows s h w c role.Nl literal plain count fits =
     record { half = []; reads = read-bytes_then s h w c.held newline plain (omega (arith, length-append h c.held)); line = refl; ahead = refl; plain = tt }
 key-follows s h w c (role.Eol b) literal plain count fits =
@@ -173,7 +184,17 @@ key-follows s h w c (role.Eol b) literal plain count fits =
       half = [];
       reads =
           read-bytes_then s h w c.held (byte b) plain (omega (arith, length-append h c.held))
-          ∙ ap (λ r. at true (half_next (h ++ c.held) r) (w ++ gain_next (h ++ c.held) r)) literal;
+          ∙ ap (λ r. at true (half_next s.limit (h ++ c.held) r) (w ++ gain_next s.limit (h ++ c.held) r)) literal;
+      line = refl;
+      ahead = refl;
+      plain = tt;
+    }
+key-follows s h w c (role.Eol2 b) literal plain count fits =
+    record {
+      half = [];
+      reads =
+          read-bytes_then s h w c.held (byte b) plain (omega (arith, length-append h c.held))
+          ∙ ap (λ r. at true (half_next s.limit (h ++ c.held) r) (w ++ gain_next s.limit (h ++ c.held) r)) literal;
       line = refl;
       ahead = refl;
       plain = tt;
@@ -181,7 +202,7 @@ key-follows s h w c (role.Eol b) literal plain count fits =
 key-follows s h w c role.Eof literal plain count fits =
     record { half = []; reads = read-bytes_then s h w c.held (command Eof) plain (omega (arith, length-append h c.held)); line = refl; ahead = refl; plain = tt }
 key-follows s h w c (role.Signal sig) literal plain count fits =
-    record { half = h; reads = ap (λ r. at true (half_next h r) (w ++ gain_next h r)) (command-role sig); line = refl; ahead = count; plain = plain }
+    record { half = h; reads = ap (λ r. at true (half_next s.limit h r) (w ++ gain_next s.limit h r)) (command-role sig); line = refl; ahead = count; plain = plain }
 key-follows s h w c role.Erase literal plain count fits =
     erase-follows s h w c (nat_lt 0 (length c.held)) (nat_lt 0 c.ahead) refl refl plain count
 key-follows s h w c role.Kill literal plain count fits = kill-follows s h w c (nat_lt 0 c.ahead) refl count

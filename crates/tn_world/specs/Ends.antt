@@ -1,11 +1,10 @@
 -- Both ends as the relation between them sees them, and the two flights between them as bytes.
-use Rattle.std.specs.Prelude.{◌≡◌, ℕ, false, List, [], ◌∷◌, ◌++◌, map, take, drop, flat_map, All}
+use Rattle.std.specs.Prelude.{◌≡◌, ℕ, false, List, [], ◌∷◌, ◌++◌, map, take, drop, All}
 use Rattle.tn_nvt.specs.declared.items.Item.{Item}
-use Rattle.tn_nvt.specs.Spelling.{spelling, Fits}
-use Rattle.tn_nvt.specs.Standing.{Standing, Gains}
+use Rattle.tn_nvt.specs.Spelling.{spells, Fits}
+use Rattle.tn_nvt.specs.Standing.{Standing, Adds}
 use Rattle.tn_discipline.specs.declared.reads.Entry.{Entry}
-use Rattle.tn_discipline.specs.Entries.{half_of}
-use Rattle.tn_discipline.specs.Keys.{roles_of}
+use Rattle.tn_discipline.specs.Canon.{typed_half}
 use Rattle.tn_world.specs.Machine as machine
 use Rattle.tn_world.specs.Machine.{Rules, Message, mode, forward_at, chatter, Server, read_all, Client, Sent, keyed, is_same, came}
 use Rattle.tn_world.specs.Calm.{IsCalmToServer, IsCalmToClient, seen, heard}
@@ -18,9 +17,6 @@ pub record ClientEnd : Type 0 where
   pub decoder : Standing
   pub core : Client
 
-abbrev pub spells : List Item → List ℕ
-spells items = flat_map spelling items
-
 -- what these items say to the server, and to the client
 abbrev pub seen_all : Rules → List Item → List machine.Item
 seen_all rules items = map (seen rules.linemode) items
@@ -28,23 +24,21 @@ seen_all rules items = map (seen rules.linemode) items
 abbrev pub heard_all : Rules → List Item → List Message
 heard_all rules items = map (heard rules.linemode) items
 
--- what the server appends: whole items, which are calm
-pub record Replies (rules : Rules) (out : List ℕ) : Type 0 where
-  pub items : List Item
-  pub spelled : out ≡ spells items
-  pub fit : All Fits items
-  pub calm : All (IsCalmToClient rules.settings) items
+-- what the server says: items that fit a stream and are calm
+pub record Replies (rules : Rules) (said : List Item) : Type 0 where
+  pub fit : All Fits said
+  pub calm : All (IsCalmToClient rules.canon.settings) said
 
-pub record ServerFeeds (rules : Rules) (old : ServerEnd) (piece : List ℕ) (out : List ℕ) (new : ServerEnd) : Type 0 where
+pub record ServerFeeds (rules : Rules) (old : ServerEnd) (piece : List ℕ) (said : List Item) (new : ServerEnd) : Type 0 where
   pub got : List Item
-  pub decodes : Gains old.decoder piece [] got new.decoder
-  pub core : new.core ≡ read_all rules.settings old.core (seen_all rules got)
-  pub replies : Replies rules out
+  pub reads : Adds old.decoder piece got new.decoder
+  pub core : new.core ≡ read_all rules.canon old.core (seen_all rules got)
+  pub replies : Replies rules said
 
 -- any other call of the server that gives no entry
-pub record ServerSays (rules : Rules) (old : ServerEnd) (out : List ℕ) (new : ServerEnd) : Type 0 where
+pub record ServerSays (rules : Rules) (old : ServerEnd) (said : List Item) (new : ServerEnd) : Type 0 where
   pub same : new ≡ old
-  pub replies : Replies rules out
+  pub replies : Replies rules said
 
 abbrev pub without : Server → List Entry → Server
 without v entries = record v { waiting = entries }
@@ -53,18 +47,16 @@ abbrev pub Took : ServerEnd → List Entry → ServerEnd → Type 0
 Took old [] new = (old.core.waiting ≡ []) × (new ≡ old)
 Took old (x ∷ none) new = (entries : List Entry) × (old.core.waiting ≡ x ∷ entries) × (none ≡ []) × (new ≡ record old { core = without old.core entries })
 
--- what the client appends: whole items, which are calm, and say this to any server
-pub record Writes (rules : Rules) (says : List machine.Item) (out : List ℕ) : Type 0 where
-  pub items : List Item
-  pub spelled : out ≡ spells items
-  pub fit : All Fits items
-  pub calm : All IsCalmToServer items
-  pub says_so : (v : Server) → read_all rules.settings v (seen_all rules items) ≡ read_all rules.settings v says
+-- what the client says: items that fit a stream and are calm, and say this to any server
+pub record Writes (rules : Rules) (says : List machine.Item) (said : List Item) : Type 0 where
+  pub fit : All Fits said
+  pub calm : All IsCalmToServer said
+  pub says_so : (v : Server) → read_all rules.canon v (seen_all rules said) ≡ read_all rules.canon v says
 
-pub record ClientKeys (rules : Rules) (old : ClientEnd) (key : ℕ) (out : List ℕ) (new : ClientEnd) : Type 0 where
+pub record ClientKeys (rules : Rules) (old : ClientEnd) (key : ℕ) (said : List Item) (new : ClientEnd) : Type 0 where
   pub decoder : new.decoder ≡ old.decoder
   pub core : new.core ≡ (keyed rules old.core.mask.edit old.core key).client
-  pub writes : Writes rules (keyed rules old.core.mask.edit old.core key).items out
+  pub writes : Writes rules (keyed rules old.core.mask.edit old.core key).items said
 
 -- the client after these messages
 abbrev pub came_all : Rules → Client → List Message → Sent
@@ -75,16 +67,16 @@ came_all rules c (m ∷ messages) =
       items = (came rules c m).items ++ (came_all rules (came rules c m).client messages).items;
     }
 
-pub record ClientFeeds (rules : Rules) (old : ClientEnd) (piece : List ℕ) (out : List ℕ) (new : ClientEnd) : Type 0 where
+pub record ClientFeeds (rules : Rules) (old : ClientEnd) (piece : List ℕ) (said : List Item) (new : ClientEnd) : Type 0 where
   pub got : List Item
-  pub decodes : Gains old.decoder piece [] got new.decoder
+  pub reads : Adds old.decoder piece got new.decoder
   pub core : new.core ≡ (came_all rules old.core (heard_all rules got)).client
-  pub writes : Writes rules (came_all rules old.core (heard_all rules got)).items out
+  pub writes : Writes rules (came_all rules old.core (heard_all rules got)).items said
 
 -- any other call of the client says nothing that counts
-pub record ClientSays (rules : Rules) (old : ClientEnd) (out : List ℕ) (new : ClientEnd) : Type 0 where
+pub record ClientSays (rules : Rules) (old : ClientEnd) (said : List Item) (new : ClientEnd) : Type 0 where
   pub same : new ≡ old
-  pub writes : Writes rules [] out
+  pub writes : Writes rules [] said
 
 pub record World : Type 0 where
   pub typed : List ℕ
@@ -105,20 +97,20 @@ pub data Event : Type 0 where
 -- what an event may do, where no end fails
 abbrev pub Happens : Rules → World → Event → World → Type 0
 Happens rules w (key k) new =
-    (client : ClientEnd) × (out : List ℕ) × ClientKeys rules w.client k out client × (new ≡ record w { typed = w.typed ++ k ∷ []; client = client; to_server = w.to_server ++ out })
+    (client : ClientEnd) × (said : List Item) × ClientKeys rules w.client k said client × (new ≡ record w { typed = w.typed ++ k ∷ []; client = client; to_server = w.to_server ++ spells said })
 Happens rules w (to_server n) new =
-    (server : ServerEnd) × (out : List ℕ) × ServerFeeds rules w.server (take n w.to_server) out server × (new ≡ record w { server = server; to_server = drop n w.to_server; to_client = w.to_client ++ out })
+    (server : ServerEnd) × (said : List Item) × ServerFeeds rules w.server (take n w.to_server) said server × (new ≡ record w { server = server; to_server = drop n w.to_server; to_client = w.to_client ++ spells said })
 Happens rules w (to_client n) new =
-    (client : ClientEnd) × (out : List ℕ) × ClientFeeds rules w.client (take n w.to_client) out client × (new ≡ record w { client = client; to_client = drop n w.to_client; to_server = w.to_server ++ out })
+    (client : ClientEnd) × (said : List Item) × ClientFeeds rules w.client (take n w.to_client) said client × (new ≡ record w { client = client; to_client = drop n w.to_client; to_server = w.to_server ++ spells said })
 Happens rules w take_entry new =
-    (server : ServerEnd) × (out : List ℕ) × (entry : List Entry) × Took w.server entry server × Replies rules out × (new ≡ record w { taken = w.taken ++ entry; server = server; to_client = w.to_client ++ out })
+    (server : ServerEnd) × (said : List Item) × (entry : List Entry) × Took w.server entry server × Replies rules said × (new ≡ record w { taken = w.taken ++ entry; server = server; to_client = w.to_client ++ spells said })
 Happens rules w server_call new =
-    (server : ServerEnd) × (out : List ℕ) × ServerSays rules w.server out server × (new ≡ record w { server = server; to_client = w.to_client ++ out })
+    (server : ServerEnd) × (said : List Item) × ServerSays rules w.server said server × (new ≡ record w { server = server; to_client = w.to_client ++ spells said })
 Happens rules w client_call new =
-    (client : ClientEnd) × (out : List ℕ) × ClientSays rules w.client out client × (new ≡ record w { client = client; to_server = w.to_server ++ out })
+    (client : ClientEnd) × (said : List Item) × ClientSays rules w.client said client × (new ≡ record w { client = client; to_server = w.to_server ++ spells said })
 
 abbrev pub IsCalm : Rules → List ℕ → Client → Message → Type 0
-IsCalm rules typed c (mode m) = is_same c.mask m ≡ false → half_of (roles_of rules.settings typed) ≡ []
+IsCalm rules typed c (mode m) = is_same c.mask m ≡ false → typed_half rules.canon typed ≡ []
 IsCalm rules typed c (forward_at f) = Unit {0}
 IsCalm rules typed c chatter = Unit {0}
 
@@ -129,7 +121,7 @@ AreBetweenLines rules typed c (m ∷ messages) = IsCalm rules typed c m × AreBe
 
 abbrev pub IsQuietEvent : Rules → World → Event → Type 0
 IsQuietEvent rules w (to_client n) =
-    (got : List Item) (next : Standing) → Gains w.client.decoder (take n w.to_client) [] got next → AreBetweenLines rules w.typed w.client.core (heard_all rules got)
+    (got : List Item) (next : Standing) → Adds w.client.decoder (take n w.to_client) got next → AreBetweenLines rules w.typed w.client.core (heard_all rules got)
 IsQuietEvent rules w (key k) = Unit {0}
 IsQuietEvent rules w (to_server n) = Unit {0}
 IsQuietEvent rules w take_entry = Unit {0}

@@ -1,4 +1,5 @@
-use Rattle.std.specs.Prelude.{◌≡◌, ℕ, List, [], ◌++◌}
+-- Bytes in flight.
+use Rattle.std.specs.Prelude.{ℕ, List, [], ◌++◌}
 use Rattle.tn_nvt.specs.declared.items.Item.{Item}
 use Rattle.tn_nvt.specs.Stream.{Reading}
 use Rattle.tn_nvt.specs.Standing.{Standing, HasRead}
@@ -9,9 +10,3 @@ pub record InFlight (decoder : Standing) (flight : List ℕ) (items : List Item)
   pub had : List Item
   pub has_read : HasRead decoder stream had
   pub reads : Reading (stream ++ flight) (had ++ items) []
-
--- what a delivery leaves in flight
-pub record Delivered (decoder : Standing) (got : List Item) (items : List Item) (later : List ℕ) : Type 0 where
-  pub left : List Item
-  pub all : items ≡ got ++ left
-  pub flight : InFlight decoder later left

@@ -3,7 +3,9 @@ use Rattle.std.specs.Prelude.{ℕ, ◌+◌, ◌-◌, ◌==◌, nat_lt, Bool, tru
 use Rattle.tn_codes.specs.declared.codes.Command.{Command}
 use Rattle.tn_codes.specs.declared.codes.Command.TheVariants.{Eof, Susp, Abort, Ip, Ec, El}
 use Rattle.tn_discipline.specs.declared.reads.Entry.{Entry}
-use Rattle.tn_discipline.specs.Admitted.{most_counted, is_dropped, counted}
+use Rattle.tn_discipline.specs.Admitted.{is_dropped, counted}
+use Rattle.tn_discipline.specs.Canon.{Canon}
+use Rattle.tn_discipline.specs.Limits.{most_counted}
 use Rattle.tn_discipline.specs.Steps.{front, half_next, gain_next}
 use Rattle.tn_discipline.specs.Keys.{standard_flags, role_of_key, role_of_mapped}
 use Rattle.tn_discipline.specs.declared.termios.Settings.{Settings}
@@ -21,7 +23,7 @@ pub record Mode : Type 0 where
 
 -- what the keys mean, whether LINEMODE is on, and whether the client counts the half line while the server edits
 pub record Rules : Type 0 where
-  pub settings : Settings
+  pub canon : Canon
   pub linemode : Bool
   pub resumes : Bool
 
@@ -66,23 +68,23 @@ edit_after edit newline = edit
 edit_after edit (command c) = edit
 edit_after edit other = edit
 
-abbrev pub read_item : Settings → Server → Item → Server
-read_item s v item =
+abbrev pub read_item : Canon → Server → Item → Server
+read_item canon v item =
     record {
       edit = edit_after v.edit item;
-      half = half_next v.half (item_role s v.edit item);
-      waiting = v.waiting ++ gain_next v.half (item_role s v.edit item);
+      half = half_next canon.limit v.half (item_role canon.settings v.edit item);
+      waiting = v.waiting ++ gain_next canon.limit v.half (item_role canon.settings v.edit item);
       failed = false;
     }
 
 -- the server after one item
-abbrev pub read : Settings → Server → Item → Server
-read s v item = if v.failed then v else read_item s v item
+abbrev pub read : Canon → Server → Item → Server
+read canon v item = if v.failed then v else read_item canon v item
 
 -- the server after these items
-abbrev pub read_all : Settings → Server → List Item → Server
-read_all s v [] = v
-read_all s v (item ∷ items) = read_all s (read s v item) items
+abbrev pub read_all : Canon → Server → List Item → Server
+read_all canon v [] = v
+read_all canon v (item ∷ items) = read_all canon (read canon v item) items
 
 pub record Client : Type 0 where
   pub mask : Mode
@@ -128,15 +130,16 @@ kill_key true = record { held = []; ahead = 0; items = command El ∷ [] }
 kill_key false = record { held = []; ahead = 0; items = [] }
 
 -- a key with EDIT
-abbrev pub edit_key : Client → Role → Part
-edit_key c (role.Ordinary b) = ordinary_key (c.ahead + length c.held == most_counted) (c.forward b) c b
-edit_key c role.Nl = record { held = []; ahead = 0; items = bytes c.held ++ newline ∷ [] }
-edit_key c (role.Eol b) = record { held = []; ahead = 0; items = bytes c.held ++ byte b ∷ [] }
-edit_key c role.Eof = record { held = []; ahead = 0; items = bytes c.held ++ command Eof ∷ [] }
-edit_key c (role.Signal sig) = record { held = c.held; ahead = c.ahead; items = command (command_of sig) ∷ [] }
-edit_key c role.Erase = erase_key (nat_lt 0 (length c.held)) (nat_lt 0 c.ahead) c
-edit_key c role.Kill = kill_key (nat_lt 0 c.ahead)
-edit_key c role.Ignored = record { held = c.held; ahead = c.ahead; items = [] }
+abbrev pub edit_key : ℕ → Client → Role → Part
+edit_key limit c (role.Ordinary b) = ordinary_key (c.ahead + length c.held == most_counted limit) (c.forward b) c b
+edit_key limit c role.Nl = record { held = []; ahead = 0; items = bytes c.held ++ newline ∷ [] }
+edit_key limit c (role.Eol b) = record { held = []; ahead = 0; items = bytes c.held ++ byte b ∷ [] }
+edit_key limit c (role.Eol2 b) = record { held = []; ahead = 0; items = bytes c.held ++ byte b ∷ [] }
+edit_key limit c role.Eof = record { held = []; ahead = 0; items = bytes c.held ++ command Eof ∷ [] }
+edit_key limit c (role.Signal sig) = record { held = c.held; ahead = c.ahead; items = command (command_of sig) ∷ [] }
+edit_key limit c role.Erase = erase_key (nat_lt 0 (length c.held)) (nat_lt 0 c.ahead) c
+edit_key limit c role.Kill = kill_key (nat_lt 0 c.ahead)
+edit_key limit c role.Ignored = record { held = c.held; ahead = c.ahead; items = [] }
 
 -- a key without EDIT: with TRAPSIG a signal character is sent as its command
 abbrev pub remote_item : Bool → Role → ℕ → Item
@@ -145,21 +148,21 @@ remote_item true (role.Signal sig) key = command (command_of sig)
 remote_item true r key = byte key
 
 -- a count of the half line, after one more key
-abbrev pub count_next : ℕ → Role → ℕ
-count_next n r = if is_dropped n r then n else counted n r
+abbrev pub count_next : ℕ → ℕ → Role → ℕ
+count_next limit n r = if is_dropped limit n r then n else counted n r
 
 -- a key, by whether EDIT is set
 abbrev pub keyed : Rules → Bool → Client → ℕ → Sent
 keyed rules true c key =
-    let part = edit_key c (role_of_key (as_client rules.settings c.mask.trapsig) key) in
+    let part = edit_key rules.canon.limit c (role_of_key (as_client rules.canon.settings c.mask.trapsig) key) in
     record { client = record c { held = part.held; ahead = part.ahead }; items = part.items }
 keyed rules false c key =
     record {
       client = record c {
-        trapped = count_next c.trapped (role_of_key (as_client rules.settings true) key);
-        plain = count_next c.plain (role_of_key (as_client rules.settings false) key);
+        trapped = count_next rules.canon.limit c.trapped (role_of_key (as_client rules.canon.settings true) key);
+        plain = count_next rules.canon.limit c.plain (role_of_key (as_client rules.canon.settings false) key);
       };
-      items = remote_item c.mask.trapsig (role_of_mapped (as_client rules.settings c.mask.trapsig) key) key ∷ [];
+      items = remote_item c.mask.trapsig (role_of_mapped (as_client rules.canon.settings c.mask.trapsig) key) key ∷ [];
     }
 
 abbrev pub bits_same : Bool → Bool → Bool

@@ -1,24 +1,25 @@
 -- A world that was just opened, and a world whose lists begin anew.
 use Rattle.std.specs.Prelude.{◌≡◌, ◌⊎◌, ℕ, false, []}
-use Rattle.tn_discipline.specs.declared.termios.Settings.{Settings}
-use Rattle.tn_server.specs.Events as asked
+use Rattle.tn_discipline.specs.Canon.{Canon}
+use Rattle.tn_nvt.specs.Spelling.{spells}
+use Rattle.tn_server.specs.Course as asked
 use Rattle.tn_server.specs.Replies.{opening}
-use Rattle.tn_server.specs.Standing as server
 use Rattle.tn_server.specs.declared.faults.ServerFault.TheVariants as refused
-use Rattle.tn_client.specs.Events as told
-use Rattle.tn_client.specs.Standing as client
+use Rattle.tn_client.specs.Course as told
 use Rattle.tn_client.specs.declared.faults.ClientFault.TheVariants as broken
 use Rattle.tn_world.specs.Worlds.{World}
 use Rattle.tn_world.specs.declared.faults.Cause.TheVariants as cause
 use Rattle.tn_world.specs.declared.faults.WorldFault.{WorldFault}
 
--- Both ends are where they start, and the opening words are in flight.
-pub record IsOpened (s : Settings) (width height : ℕ) (w : World) : Type 0 where
-  pub server : server.Stands (asked.begun s) w.server
-  pub client : client.Stands (told.begun width height) w.client
+-- Both ends are where they start, with lines of the same limit, and have read nothing; the terminal takes keys, and the
+-- opening words are in flight.
+pub record IsOpened (canon : Canon) (width height : ℕ) (w : World) : Type 0 where
+  pub server : asked.IsAt (asked.started canon) w.server
+  pub client : told.IsAt (told.started width height canon.limit) w.client
+  pub takes_keys : w.server.terminal.closed ≡ false
   pub server_runs : w.server.failed ≡ false
   pub client_runs : w.client.failed ≡ false
-  pub rest : w ≡ record { server = w.server; client = w.client; server_stopped = false; client_stopped = false; to_server = []; to_client = opening; typed = []; taken = []; shown = []; echoed = [] }
+  pub rest : w ≡ record { server = w.server; client = w.client; server_stopped = false; client_stopped = false; to_server = []; to_client = spells opening; typed = []; taken = []; shown = []; echoed = [] }
 
 -- want of memory alone, before any event
 abbrev pub IsOpenFault : WorldFault → Type 0

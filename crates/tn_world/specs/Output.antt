@@ -1,5 +1,5 @@
 -- Output: all that the client's screen will have shown once the terminal's queue was sent and all in flight arrived.
-use Rattle.std.specs.Prelude.{◌≡◌, ℕ, List, [], ◌∷◌, ◌++◌}
+use Rattle.std.specs.Prelude.{◌≡◌, ℕ, false, List, [], ◌∷◌, ◌++◌}
 use Rattle.std.specs.List.{flat_map}
 use Rattle.tn_discipline.specs.declared.echo.Symbol.{Symbol}
 use Rattle.tn_discipline.specs.declared.echo.Symbol.TheVariants as symbol
@@ -47,16 +47,21 @@ pub record Grows (old : World) (e : Event) (new : World) (text : List ℕ) : Typ
   pub none : IsNoneAt e symbols
   pub output : IsOutput new (text ++ screen symbols)
 
--- each of these events does so
-abbrev pub GrowsAll : World → List Event → World → List ℕ → Type 0
-GrowsAll old [] new text = new ≡ old
-GrowsAll old (e ∷ events) new text =
-    (mid : World) × Does old e mid × (grows : Grows old e mid text) × GrowsAll mid events new (text ++ screen grows.symbols)
+-- each of these events does so, and this Output is the last
+abbrev pub GrowsTo : World → List Event → World → List ℕ → List ℕ → Type 0
+GrowsTo old [] new text last = (new ≡ old) × (last ≡ text)
+GrowsTo old (e ∷ events) new text last =
+    (mid : World) × Does old e mid × (grows : Grows old e mid text) × GrowsTo mid events new (text ++ screen grows.symbols) last
 
--- The event at this place is refused, and each of those before it does so.
+abbrev pub GrowsAll : World → List Event → World → List ℕ → Type 0
+GrowsAll old events new text = (last : List ℕ) × GrowsTo old events new text last
+
+-- The event at this place is refused, and each of those before it does so; and so does this one, unless the client fails.
 pub record GrowsBefore (old : World) (events : List Event) (at : ℕ) (cause : Cause) (new : World) (text : List ℕ) : Type 0 where
   pub ends : Ends old events at cause new
-  pub grows : GrowsAll old ends.done ends.mid text
+  pub last : List ℕ
+  pub grows : GrowsTo old ends.done ends.mid text last
+  pub refused : new.client.failed ≡ false → Grows ends.mid ends.event new last
 
 -- the list begins so
 abbrev pub Begins : List ℕ → List ℕ → Type 0

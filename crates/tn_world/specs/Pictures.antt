@@ -34,9 +34,11 @@ client_picture end trapped plain = record { decoder = end.decoder; core = client
 -- LINEMODE, the special characters and every flag but ECHO are as they were
 pub record ServerStays (rules : Rules) (end : server.End) : Type 0 where
   pub linemode : server_terms.linemode end.terms.options ≡ rules.linemode
-  pub chars : end.table ≡ rules.settings.chars
-  pub flags : end.terminal.settings.flags ≡ record (rules.settings.flags) { echo = end.terminal.settings.flags.echo }
+  pub chars : end.table ≡ rules.canon.settings.chars
+  pub flags : end.terminal.settings.flags ≡ record (rules.canon.settings.flags) { echo = end.terminal.settings.flags.echo }
+  pub limit : end.terminal.line.limit ≡ rules.canon.limit
 
 pub record ClientStays (rules : Rules) (end : client.End) : Type 0 where
   pub linemode : client_terms.linemode end.options ≡ rules.linemode
-  pub chars : end.table ≡ rules.settings.chars
+  pub chars : end.table ≡ rules.canon.settings.chars
+  pub limit : end.line.limit ≡ rules.canon.limit

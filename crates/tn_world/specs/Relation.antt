@@ -1,11 +1,10 @@
 -- The relation between both ends that every quiet event keeps, while no end has failed.
 use Rattle.std.specs.Prelude.{◌≡◌, ℕ, Bool, true, false, All, List, [], ◌∷◌, ◌++◌, length, if◌then◌else◌}
 use Rattle.tn_discipline.specs.Characters.{Characters}
-use Rattle.tn_discipline.specs.Entries.{entries_of, half_of}
-use Rattle.tn_discipline.specs.Keys.{literal_role, roles_of}
+use Rattle.tn_discipline.specs.Canon.{Canon, typed_entries, typed_half}
+use Rattle.tn_discipline.specs.Keys.{literal_role}
 use Rattle.tn_discipline.specs.declared.keys.Role.TheVariants as role
 use Rattle.tn_discipline.specs.declared.reads.Entry.{Entry}
-use Rattle.tn_discipline.specs.declared.termios.Settings.{Settings}
 use Rattle.tn_nvt.specs.declared.items.Item.{Item}
 use Rattle.tn_world.specs.Calm.{IsCalmToServer, IsCalmToClient}
 use Rattle.tn_world.specs.Ends as ends
@@ -34,13 +33,13 @@ pub record Agrees (rules : Rules) (typed : List ℕ) (taken : List Entry) (v : S
   pub half : List ℕ
   pub waiting : List Entry
   pub is : v ≡ at c.mask.edit half waiting
-  pub entries : entries_of (roles_of rules.settings typed) ≡ taken ++ waiting
-  pub line : half_of (roles_of rules.settings typed) ≡ half ++ c.held
-  pub askable : IsAskable rules.settings c.mask
+  pub entries : typed_entries rules.canon typed ≡ taken ++ waiting
+  pub line : typed_half rules.canon typed ≡ half ++ c.held
+  pub askable : IsAskable rules.canon.settings c.mask
   pub ahead : c.mask.edit ≡ true → length half ≡ c.ahead
   pub none : c.mask.edit ≡ false → c.held ≡ []
-  pub plain : AreOrdinary rules.settings.chars c.held
-  pub count : rules.resumes ≡ true → c.mask.edit ≡ false → allows_local rules.settings ≡ true → (if rules.settings.flags.isig then c.trapped else c.plain) ≡ length half
+  pub plain : AreOrdinary rules.canon.settings.chars c.held
+  pub count : rules.resumes ≡ true → c.mask.edit ≡ false → allows_local rules.canon.settings ≡ true → (if rules.canon.settings.flags.isig then c.trapped else c.plain) ≡ length half
 
 -- The same of both ends and the bytes between them, which are whole items and calm.
 pub record Tied (rules : Rules) (w : ends.World) : Type 0 where
@@ -49,12 +48,12 @@ pub record Tied (rules : Rules) (w : ends.World) : Type 0 where
   pub calm : All IsCalmToServer items
   pub messages : List Item
   pub back : InFlight w.client.decoder w.to_client messages
-  pub asked : All (IsCalmToClient rules.settings) messages
-  pub agrees : Agrees rules w.typed w.taken (read_all rules.settings w.server.core (seen_all rules items)) w.client.core
+  pub asked : All (IsCalmToClient rules.canon.settings) messages
+  pub agrees : Agrees rules w.typed w.taken (read_all rules.canon w.server.core (seen_all rules items)) w.client.core
 
 -- Until the client counts the half line, a mode may change between lines alone.
-abbrev pub rules_of : Settings → Bool → Rules
-rules_of s linemode = record { settings = s; linemode = linemode; resumes = false }
+abbrev pub rules_of : Canon → Bool → Rules
+rules_of canon linemode = record { canon = canon; linemode = linemode; resumes = false }
 
 abbrev pub picture : World → ℕ → ℕ → ends.World
 picture w trapped plain =
@@ -67,12 +66,12 @@ picture w trapped plain =
       to_client = w.to_client;
     }
 
--- The same of a world, with the server's settings at its mark.
-pub record Holds (s : Settings) (w : World) : Type 0 where
+-- The same of a world, with the server's settings and line limit at its mark.
+pub record Holds (canon : Canon) (w : World) : Type 0 where
   pub linemode : Bool
   pub trapped : ℕ
   pub plain : ℕ
-  pub tied : Tied (rules_of s linemode) (picture w trapped plain)
-  pub server : ServerStays (rules_of s linemode) w.server
-  pub client : ClientStays (rules_of s linemode) w.client
+  pub tied : Tied (rules_of canon linemode) (picture w trapped plain)
+  pub server : ServerStays (rules_of canon linemode) w.server
+  pub client : ClientStays (rules_of canon linemode) w.client
   pub sound : IsSound w

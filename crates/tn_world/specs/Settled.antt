@@ -6,10 +6,10 @@ use Rattle.tn_option.specs.declared.q_method.Side.{Side}
 use Rattle.tn_option.specs.declared.q_method.Side.TheVariants.{Us, Them}
 use Rattle.tn_option.specs.declared.q_method.QState.{QState}
 use Rattle.tn_option.specs.declared.q_method.QState.TheVariants.{No, Yes, WantNoEmpty, WantNoOpposite, WantYesEmpty, WantYesOpposite}
+use Rattle.tn_server.specs.Course as asked_course
 use Rattle.tn_server.specs.Events as asked
 use Rattle.tn_server.specs.Standing as server
-use Rattle.tn_client.specs.Events as told
-use Rattle.tn_client.specs.Standing as client
+use Rattle.tn_client.specs.Course as told_course
 use Rattle.tn_world.specs.Flight.{InFlight}
 use Rattle.tn_world.specs.Worlds.{World}
 
@@ -63,17 +63,13 @@ pub record IsSettled (w : World) : Type 0 where
   pub agreed : IsAgreed w
   pub empty : IsEmpty w
 
--- What is in flight are whole items.
-pub record AreInFlight (w : World) : Type 0 where
-  pub items : List Item
-  pub to_server : InFlight w.server.decoder w.to_server items
-  pub messages : List Item
-  pub to_client : InFlight w.client.decoder w.to_client messages
-
--- Whatever happened since the world was opened: each end stands where some history leads, and what is in flight are whole
--- items for who reads them, while no end has failed.
+-- Whatever happened since the world was opened: the server stands where some history leads; as long as an end has not
+-- failed, it is where some pieces and calls lead, and what flies to it are whole items; both ends have lines of one limit.
 pub record IsSound (w : World) : Type 0 where
   pub history : asked.History
   pub server : server.Stands history w.server
-  pub client : w.client.failed ≡ false → (h : told.History) × client.Stands h w.client
-  pub flights : w.server.failed ≡ false → w.client.failed ≡ false → AreInFlight w
+  pub asked : w.server.failed ≡ false → (course : asked_course.Course) × asked_course.IsAt course w.server
+  pub told : w.client.failed ≡ false → (course : told_course.Course) × told_course.IsAt course w.client
+  pub limit : w.client.failed ≡ false → w.client.line.limit ≡ w.server.terminal.line.limit
+  pub to_server : w.server.failed ≡ false → (items : List Item) × InFlight w.server.decoder w.to_server items
+  pub to_client : w.client.failed ≡ false → (items : List Item) × InFlight w.client.decoder w.to_client items

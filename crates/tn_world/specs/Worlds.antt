@@ -1,19 +1,17 @@
 -- Both ends and the two streams between them, and what an event does to them.
-use Rattle.std.specs.Prelude.{◌≡◌, ℕ, Bool, true, false, min, Option, None, List, [], ◌∷◌, ◌++◌, length, take, drop, MatchOption, option_to_list}
-use Rattle.tn_discipline.specs.Characters.{char_fault}
+use Rattle.std.specs.Prelude.{◌≡◌, ℕ, ◌<◌, Bool, true, false, min, Option, None, List, [], ◌∷◌, ◌++◌, length, take, drop, MatchOption, option_to_list}
+use Rattle.tn_discipline.specs.Canon.{Canon}
 use Rattle.tn_discipline.specs.declared.reads.Entry.{Entry}
 use Rattle.tn_server.specs.Events as asked
 use Rattle.tn_server.specs.Faults as faults
-use Rattle.tn_server.specs.Faults.{IsOfItem, char_refusal}
+use Rattle.tn_server.specs.Faults.{IsOfItem, SaysSomething}
 use Rattle.tn_server.specs.Lines.{waiting}
 use Rattle.tn_server.specs.Screen.{queue}
 use Rattle.tn_server.specs.Standing as server
-use Rattle.tn_server.specs.Terms.{chars}
 use Rattle.tn_server.specs.declared.faults.ServerFault.{ServerFault}
 use Rattle.tn_server.specs.declared.faults.ServerFault.TheVariants as refused
 use Rattle.tn_client.specs.Events as told
 use Rattle.tn_client.specs.Standing as client
-use Rattle.tn_client.specs.Standing.{call_fault, propose_fault, IsFault}
 use Rattle.tn_client.specs.declared.faults.ClientFault.{ClientFault}
 use Rattle.tn_client.specs.declared.faults.ClientFault.TheVariants as broken
 use Rattle.tn_world.specs.declared.events.Event.{Event}
@@ -36,6 +34,21 @@ pub record World : Type 0 where
   pub shown : List ℕ
   pub echoed : List ℕ
 
+-- what the keys mean at the server's terminal now
+abbrev pub canon_of : World → Canon
+canon_of w = record { settings = w.server.terminal.settings; limit = w.server.terminal.line.limit }
+
+-- why a call of an end is refused whatever memory there is, if it is
+abbrev pub server_fault : server.End → asked.Event → Option ServerFault
+server_fault end (asked.wished editing) = server.call_fault end
+server_fault end (asked.echo_set on) = server.call_fault end
+server_fault end (asked.char_set func value) = server.char_fault_at end func value
+server_fault end _ = None
+
+abbrev pub client_fault : client.End → told.Event → Option ClientFault
+client_fault end (told.proposed func value) = client.propose_fault end func value
+client_fault end _ = client.call_fault end
+
 -- an end that was stopped does nothing
 abbrev pub Unless : Bool → World → World → Type 0 → Type 0
 Unless true old new happens = new ≡ old
@@ -43,30 +56,38 @@ Unless false old new happens = happens
 
 -- A key is typed: what the client says joins the flight.
 pub record Types (old : World) (key : ℕ) (new : World) : Type 0 where
+  pub accepted : client_fault old.client (told.typed key) ≡ None
   pub goes : client.Goes old.client (told.typed key) new.client
+  pub keeps : client.Keeps old.client new.client
   pub sends : client.Sends old.client (told.typed key) old.to_server new.to_server
   pub shows : client.Shows old.client (told.typed key) old.echoed new.echoed
   pub rest : new ≡ record old { client = new.client; to_server = new.to_server; echoed = new.echoed; typed = old.typed ++ key ∷ [] }
 
 -- Any other call of the client.
 pub record Tells (old : World) (e : told.Event) (new : World) : Type 0 where
+  pub accepted : client_fault old.client e ≡ None
   pub goes : client.Goes old.client e new.client
+  pub keeps : client.Keeps old.client new.client
   pub sends : client.Sends old.client e old.to_server new.to_server
   pub rest : new ≡ record old { client = new.client; to_server = new.to_server }
 
 -- The first bytes in flight arrive at the server, and its replies join the other flight.
 pub record Reaches (old : World) (n : ℕ) (new : World) : Type 0 where
+  pub accepted : server.call_fault old.server ≡ None
   pub feeds : server.Feeds old.server (take n old.to_server) old.to_client new.to_client new.server
   pub rest : new ≡ record old { server = new.server; to_server = drop n old.to_server; to_client = new.to_client }
 
 -- The first bytes in flight arrive at the client.
 pub record Returns (old : World) (n : ℕ) (new : World) : Type 0 where
+  pub accepted : client.call_fault old.client ≡ None
   pub feeds : client.Feeds old.client (take n old.to_client) old.to_server new.to_server old.shown new.shown new.client
   pub rest : new ≡ record old { client = new.client; to_client = drop n old.to_client; to_server = new.to_server; shown = new.shown }
 
 -- Any other call of the server: what it says joins the flight.
 pub record Asks (old : World) (e : asked.Event) (new : World) : Type 0 where
+  pub accepted : server_fault old.server e ≡ None
   pub goes : server.Goes old.server e old.to_client new.to_client new.server
+  pub keeps : server.Keeps old.server new.server
   pub rest : new ≡ record old { server = new.server; to_client = new.to_client }
 
 -- Symbols are sent: as many as there are, and no more than were asked for.
@@ -78,8 +99,10 @@ pub record Pulls (old : World) (n : ℕ) (new : World) : Type 0 where
 -- The job takes the first entry that waits, if one does.
 pub record Takes (old : World) (new : World) : Type 0 where
   pub entry : Option Entry
-  pub is_first : (h : asked.History) → server.Stands h old.server → MatchOption entry (waiting h ≡ []) (λ e. waiting h ≡ e ∷ waiting (asked.next h asked.took))
+  pub is_first : (h : asked.History) → server.Stands h old.server
+      → MatchOption entry (waiting h ≡ []) (λ e. waiting h ≡ e ∷ waiting (asked.next h asked.took))
   pub goes : server.Goes old.server asked.took old.to_client new.to_client new.server
+  pub keeps : server.Keeps old.server new.server
   pub rest : new ≡ record old { server = new.server; to_client = new.to_client; taken = old.taken ++ option_to_list entry }
 
 -- the event is done
@@ -109,50 +132,50 @@ pub record ServerRefuses (old : World) (n : ℕ) (fault : ServerFault) (new : Wo
   pub first : (old.server.failed ≡ true) → fault ≡ refused.Failed
   pub is_fault : IsDeliveryFault fault
   pub again : (fault ≡ refused.Failed) → (old.server.failed ≡ true) × (new ≡ record old { to_server = drop n old.to_server })
-  pub halts : IsOfItem fault → server.Halts old.server (take n old.to_server) old.to_client new.to_client new.server
+  pub halts : IsOfItem fault → server.Halts old.server (take n old.to_server) fault old.to_client new.to_client new.server
   pub failed : new.server.failed ≡ true
   pub rest : new ≡ record old { server = new.server; to_server = drop n old.to_server; to_client = new.to_client }
 
 -- The same at the client.
 pub record ClientRefuses (old : World) (n : ℕ) (fault : ClientFault) (new : World) : Type 0 where
   pub goes_on : old.client_stopped ≡ false
-  pub is_fault : IsFault (call_fault old.client) fault
+  pub is_fault : client.IsFault (client.call_fault old.client) fault
   pub again : (fault ≡ broken.Failed) → new ≡ record old { to_client = drop n old.to_client }
   pub breaks : (fault ≡ broken.Memory) → client.Breaks old.client (take n old.to_client) old.to_server new.to_server old.shown new.shown
   pub failed : new.client.failed ≡ true
   pub rest : new ≡ record old { client = new.client; to_client = drop n old.to_client; to_server = new.to_server; shown = new.shown }
 
--- why a call of the server other than a delivery may be refused
-abbrev pub IsServerFault : server.End → Event → ServerFault → Type 0
-IsServerFault end (Wish editing) fault = faults.IsFault (char_refusal end.failed None) fault
-IsServerFault end (Echo on) fault = faults.IsFault (char_refusal end.failed None) fault
-IsServerFault end (SetChar func value) fault = (h : asked.History) → server.Stands h end → faults.IsFault (char_refusal end.failed (char_fault (chars h) func value)) fault
-IsServerFault end e fault = fault ≡ refused.Memory
+-- A call of the server is refused for its cause, or for want of memory for what it says.
+pub record ServerFaults (end : server.End) (e : asked.Event) (fault : ServerFault) : Type 0 where
+  pub cause : faults.IsFault (server_fault end e) fault
+  pub grows : (fault ≡ refused.Memory) → (h : asked.History) → server.Stands h end → SaysSomething h e
 
-abbrev pub IsClientFault : client.End → Event → ClientFault → Type 0
-IsClientFault end (Propose func value) fault = IsFault (propose_fault end func value) fault
-IsClientFault end e fault = IsFault (call_fault end) fault
+-- The same of the client.
+pub record ClientFaults (end : client.End) (e : told.Event) (fault : ClientFault) : Type 0 where
+  pub cause : client.IsFault (client_fault end e) fault
+  pub grows : (fault ≡ broken.Memory) → (h : told.History) → client.Stands h end → client.Grows h e
 
--- the event calls an end, other than by a delivery: entries are taken from a server that was stopped, too
-abbrev pub CallsServer : World → Event → Type 0
-CallsServer w (Pull n) = w.server_stopped ≡ false
-CallsServer w Take = Unit {0}
-CallsServer w (Wish editing) = w.server_stopped ≡ false
-CallsServer w (SetChar func value) = w.server_stopped ≡ false
-CallsServer w (Echo on) = w.server_stopped ≡ false
-CallsServer w e = ⊥
+-- the event calls an end, other than by a delivery, and the call is refused for this fault: entries are taken from a
+-- server that was stopped, too
+abbrev pub RefusesAsked : World → Event → ServerFault → Type 0
+RefusesAsked w (Pull n) fault = (w.server_stopped ≡ false) × ServerFaults w.server (asked.pulled n) fault
+RefusesAsked w Take fault = ServerFaults w.server asked.took fault
+RefusesAsked w (Wish editing) fault = (w.server_stopped ≡ false) × ServerFaults w.server (asked.wished editing) fault
+RefusesAsked w (SetChar func value) fault = (w.server_stopped ≡ false) × ServerFaults w.server (asked.char_set func value) fault
+RefusesAsked w (Echo on) fault = (w.server_stopped ≡ false) × ServerFaults w.server (asked.echo_set on) fault
+RefusesAsked w e fault = ⊥
 
-abbrev pub CallsClient : World → Event → Type 0
-CallsClient w (Key key) = w.client_stopped ≡ false
-CallsClient w (Resize width height) = w.client_stopped ≡ false
-CallsClient w (Propose func value) = w.client_stopped ≡ false
-CallsClient w e = ⊥
+abbrev pub RefusesTold : World → Event → ClientFault → Type 0
+RefusesTold w (Key key) fault = (w.client_stopped ≡ false) × ClientFaults w.client (told.typed key) fault
+RefusesTold w (Resize width height) fault = (w.client_stopped ≡ false) × ClientFaults w.client (told.resized width height) fault
+RefusesTold w (Propose func value) fault = (w.client_stopped ≡ false) × ClientFaults w.client (told.proposed func value) fault
+RefusesTold w e fault = ⊥
 
 -- the world wants memory of its own: for a typed key, for the rest of a flight that is cut, for a taken entry
 abbrev pub WantsMemory : World → Event → Type 0
 WantsMemory w (Key key) = w.client_stopped ≡ false
-WantsMemory w (ToServer n) = w.server_stopped ≡ false
-WantsMemory w (ToClient n) = w.client_stopped ≡ false
+WantsMemory w (ToServer n) = (w.server_stopped ≡ false) × (n < length w.to_server)
+WantsMemory w (ToClient n) = (w.client_stopped ≡ false) × (n < length w.to_client)
 WantsMemory w Take = Unit {0}
 WantsMemory w e = ⊥
 
@@ -161,8 +184,8 @@ abbrev pub Refuses : World → Event → Cause → World → Type 0
 Refuses old e cause.Memory new = WantsMemory old e × (new ≡ old)
 Refuses old (ToServer n) (cause.Server fault) new = ServerRefuses old n fault new
 Refuses old (ToClient n) (cause.Client fault) new = ClientRefuses old n fault new
-Refuses old e (cause.Server fault) new = CallsServer old e × IsServerFault old.server e fault × (new ≡ old)
-Refuses old e (cause.Client fault) new = CallsClient old e × IsClientFault old.client e fault × (new ≡ old)
+Refuses old e (cause.Server fault) new = RefusesAsked old e fault × (new ≡ old)
+Refuses old e (cause.Client fault) new = RefusesTold old e fault × (new ≡ old)
 
 -- each of these events is done
 abbrev pub Runs : World → List Event → World → Type 0

@@ -3,7 +3,7 @@
 //! wait are compared with those of the typed keys at a local terminal.
 
 ghost use Rattle.std.specs.Prelude.{◌≡◌, ℕ, false, List};
-ghost use Rattle.tn_discipline.specs.declared.termios.Settings.{Settings};
+ghost use Rattle.tn_discipline.specs.Canon.{Canon};
 ghost use Rattle.tn_world.specs.Headline.{IsPrefixOf, local_entries};
 ghost use Rattle.tn_world.specs.Output.{IsOutput, Grows, Begins};
 ghost use Rattle.tn_world.specs.Quiet.{IsMark, Passes, Nowhere, IsBetweenLines, NoneFailed, NothingFlies};
@@ -13,18 +13,18 @@ ghost use Rattle.tn_world.specs.declared.events.Event.{Event};
 
 /// Under a mode that stays, what was made is a prefix of what the keys give.
 pub fn headline_prefix()
-    ensures { (s : Settings) (start end : World) (events : List Event) → IsMark s start → Passes Nowhere start events end → NoneFailed end → IsPrefixOf (made end) (local_entries s end.typed) }
+    ensures { (s : Canon) (start end : World) (events : List Event) → IsMark s start → Passes Nowhere start events end → NoneFailed end → IsPrefixOf (made end) (local_entries s end.typed) }
 {}
 
 /// Under a mode that stays, it is all of it where nothing is in flight.
 pub fn headline_complete()
-    ensures { (s : Settings) (start end : World) (events : List Event) → IsMark s start → Passes Nowhere start events end → NoneFailed end → NothingFlies end → made end ≡ local_entries s end.typed }
+    ensures { (s : Canon) (start end : World) (events : List Event) → IsMark s start → Passes Nowhere start events end → NoneFailed end → NothingFlies end → made end ≡ local_entries s end.typed }
 {}
 
 /// The same where the mode changes between lines.
 pub fn headline_mode_changes()
-    ensures prefix { (s : Settings) (start end : World) (events : List Event) → IsMark s start → Passes (IsBetweenLines s) start events end → NoneFailed end → IsPrefixOf (made end) (local_entries s end.typed) }
-    ensures complete { (s : Settings) (start end : World) (events : List Event) → IsMark s start → Passes (IsBetweenLines s) start events end → NoneFailed end → NothingFlies end → made end ≡ local_entries s end.typed }
+    ensures prefix { (s : Canon) (start end : World) (events : List Event) → IsMark s start → Passes (IsBetweenLines s) start events end → NoneFailed end → IsPrefixOf (made end) (local_entries s end.typed) }
+    ensures complete { (s : Canon) (start end : World) (events : List Event) → IsMark s start → Passes (IsBetweenLines s) start events end → NoneFailed end → NothingFlies end → made end ≡ local_entries s end.typed }
 {}
 
 /// While the client has not failed, an event adds to Output the symbols that the terminal's queue took in

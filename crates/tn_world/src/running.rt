@@ -1,7 +1,7 @@
 //! What each event does.
 
-ghost use Rattle.std.specs.Prelude.{◌≡◌, ℕ, false, List, take, drop, IfOk, IfErr, OnOk, OnErr};
-ghost use Rattle.tn_discipline.specs.declared.termios.Settings.{Settings};
+ghost use Rattle.std.specs.Prelude.{◌≡◌, ◌<◌, ℕ, false, List, length, take, drop, IfOk, IfErr, OnOk, OnErr};
+ghost use Rattle.tn_discipline.specs.Canon.{Canon};
 ghost use Rattle.tn_world.specs.Headline.{IsPrefixOf, local_entries};
 ghost use Rattle.tn_world.specs.Output.{IsOutput, GrowsAll, GrowsBefore};
 ghost use Rattle.tn_world.specs.Quiet.{Follows, IsQuiet, NoneFailed, NothingFlies};
@@ -11,7 +11,7 @@ ghost use Rattle.tn_world.specs.declared.events.Event.TheVariants as event;
 use crate::events::Event;
 use crate::faults::{Cause, WorldFault};
 use crate::world::World;
-use std::alloc::AllocError;
+use std::alloc::{AllocError, Global};
 use std::mem;
 use tn_codes::Func;
 use tn_discipline::Text;
@@ -22,11 +22,17 @@ impl World {
     pub fn run(&mut self, events: &[Event]) -> Result<(), WorldFault>
         ensures runs { OnOk result (Runs self.old events.now self.new) }
         ensures ends { IfErr result (λ fault. Ends self.old events.now fault.at fault.cause self.new) }
-        ensures follows { (s : Settings) → Follows s self.old → IsQuiet s self.old events.now → Follows s self.new }
-        ensures prefix { (s : Settings) → Follows s self.old → IsQuiet s self.old events.now → NoneFailed self.new → IsPrefixOf (made self.new) (local_entries s self.new.typed) }
-        ensures complete { (s : Settings) → Follows s self.old → IsQuiet s self.old events.now → NoneFailed self.new → NothingFlies self.new → made self.new ≡ local_entries s self.new.typed }
-        ensures output { OnOk result ((text : List ℕ) → IsOutput self.old text → self.old.client.failed ≡ false → GrowsAll self.old events.now self.new text) }
-        ensures output_before { IfErr result (λ fault. (text : List ℕ) → IsOutput self.old text → self.old.client.failed ≡ false → GrowsBefore self.old events.now fault.at fault.cause self.new text) }
+        ensures follows { (canon : Canon) → Follows canon self.old → IsQuiet canon self.old events.now →
+            Follows canon self.new }
+        ensures prefix { (canon : Canon) → Follows canon self.old → IsQuiet canon self.old events.now →
+            NoneFailed self.new → IsPrefixOf (made self.new) (local_entries canon self.new.typed) }
+        ensures complete { (canon : Canon) → Follows canon self.old → IsQuiet canon self.old events.now →
+            NoneFailed self.new → NothingFlies self.new → made self.new ≡ local_entries canon self.new.typed }
+        ensures output { OnOk result ((text : List ℕ) → IsOutput self.old text →
+            self.old.client.failed ≡ false → GrowsAll self.old events.now self.new text) }
+        ensures output_before { IfErr result (λ fault. (text : List ℕ) → IsOutput self.old text →
+            self.old.client.failed ≡ false →
+            GrowsBefore self.old events.now fault.at fault.cause self.new text) }
     {
         // Nothing is done here; the proof of Output begins with what every world keeps.
         let _ = &self.shown;
@@ -96,7 +102,7 @@ impl World {
         if self.server_stopped {
             return Ok(());
         }
-        let piece = match take_front(&mut self.to_server, count) {
+        let piece = match take_front(self.alloc, &mut self.to_server, count) {
             Ok(piece) => piece,
             Err(_) => return Err(Cause::Memory),
         };
@@ -113,7 +119,7 @@ impl World {
         if self.client_stopped {
             return Ok(());
         }
-        let piece = match take_front(&mut self.to_client, count) {
+        let piece = match take_front(self.alloc, &mut self.to_client, count) {
             Ok(piece) => piece,
             Err(_) => return Err(Cause::Memory),
         };
@@ -214,9 +220,10 @@ impl World {
             return Ok(());
         }
         match self.client.resize(width, height, &mut self.to_server) {
-            Ok(()) => Ok(()),
-            Err(fault) => Err(Cause::Client(fault)),
+            Ok(()) => {},
+            Err(fault) => return Err(Cause::Client(fault)),
         }
+        Ok(())
     }
 
     fn propose(&mut self, func: Func, value: Option<u8>) -> Result<(), Cause>
@@ -234,12 +241,15 @@ impl World {
 }
 
 // Takes the first bytes out of a flight, or all where there are fewer.
-fn take_front(flight: &mut Vec<u8>, count: usize) -> Result<Vec<u8>, AllocError>
+fn take_front(alloc: Global, flight: &mut Vec<u8>, count: usize) -> Result<Vec<u8>, AllocError>
     ensures piece { IfOk result (λ piece. piece.items ≡ take count flight.old.items) }
     ensures left { OnOk result (flight.new.items ≡ drop count flight.old.items) }
     ensures err { OnErr result (flight.new.items ≡ flight.old.items) }
+    ensures some { OnErr result (count < length flight.old.items) }
 {
-    let at = count.min(flight.len());
-    let left = flight.split_off(at)?;
+    if count >= flight.len() {
+        return Ok(mem::replace(flight, Vec::new(alloc)));
+    }
+    let left = flight.split_off(count)?;
     Ok(mem::replace(flight, left))
 }

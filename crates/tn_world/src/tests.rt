@@ -6,7 +6,7 @@ use std::process::Abort;
 use std::test::Fail;
 use tn_client::ClientFault;
 use tn_codes::Func;
-use tn_discipline::{CharFault, Effect, Entry, Line, Settings, Sig, Text};
+use tn_discipline::{CharFault, Effect, Entry, Limit, Line, Settings, Sig, Text};
 use tn_server::{Editing, ServerFault};
 
 /// The most bytes of a delivery.
@@ -84,7 +84,7 @@ fn walk(world: &mut World, steps: &[Step]) -> Result<(), WorldFault> {
 }
 
 fn opened(alloc: Global) -> Result<World, WorldFault> {
-    World::open(alloc, Settings::standard(), 80, 24)
+    World::open(alloc, Settings::standard(), 80, 24, Limit::standard())
 }
 
 // At rest, with editing at this side.
@@ -168,8 +168,8 @@ fn changes_a_character(rt: HostRuntime) -> Result<(), Fail> {
         &[Step::ToClient(15), Step::ToServer(24), proposed],
     )?;
     let table = [
-        255, 250, 34, 3, 3, 2, 3, 7, 2, 28, 8, 2, 4, 9, 2, 26, 10, 2, 127, 11, 2, 21, 17, 0, 0,
-        255, 240,
+        255, 250, 34, 3, 3, 2, 3, 7, 2, 28, 8, 2, 4, 9, 2, 26, 10, 2, 127, 11, 2, 21, 17, 0, 0, 18,
+        0, 0, 255, 240,
     ];
     let list = [255, 250, 34, 3, 10, 2, 8, 255, 240];
     flies(&rt, &world, &list, &table);
@@ -180,6 +180,56 @@ fn changes_a_character(rt: HostRuntime) -> Result<(), Fail> {
         &[Step::Keys(b"a\x08\r"), Step::Settle, Step::Take],
     )?;
     assert!(rt; is_text(world.taken().first(), b"\n"));
+    Ok(())
+}
+
+// A line is full at this limit, wherever it is edited.
+fn fills_a_line(rt: &impl Abort, alloc: Global, editing: Editing) -> Result<(), WorldFault> {
+    let Some(limit) = Limit::new(300) else {
+        return Ok(());
+    };
+    let mut world = World::open(alloc, Settings::standard(), 80, 24, limit)?;
+    walk(
+        &mut world,
+        &[Step::Settle, Step::Wish(editing), Step::Settle],
+    )?;
+    for _ in 0..299 {
+        walk(&mut world, &[Step::Key(b'a')])?;
+    }
+    walk(
+        &mut world,
+        &[Step::Keys(b"b\x7f\r"), Step::Settle, Step::Take],
+    )?;
+    match world.taken().first() {
+        Some(Entry::Text(text)) => {
+            assert_eq!(rt; text.as_slice().len(), 299);
+            assert_eq!(rt; text.as_slice().last(), Some(&10));
+            assert_eq!(rt; text.as_slice().get(297), Some(&b'a'));
+        },
+        _ => assert!(rt; false),
+    }
+    assert!(rt; world.mark());
+    Ok(())
+}
+
+#[test]
+fn a_line_is_full_at_either_end(rt: HostRuntime) -> Result<(), Fail> {
+    fills_a_line(&rt, rt.alloc(), Editing::Remote)?;
+    fills_a_line(&rt, rt.alloc(), Editing::Local)?;
+    Ok(())
+}
+
+// The second character that ends a line does so at either end, and stays in it.
+#[test]
+fn a_second_character_ends_a_line(rt: HostRuntime) -> Result<(), Fail> {
+    let mut world = rested(&rt, rt.alloc(), Editing::Local)?;
+    walk(
+        &mut world,
+        &[Step::SetChar(Func::Forw2, Some(b'x')), Step::Settle],
+    )?;
+    assert!(rt; world.mark());
+    walk(&mut world, &[Step::Keys(b"ax"), Step::Settle, Step::Take])?;
+    assert!(rt; is_text(world.taken().first(), b"ax"));
     Ok(())
 }
 
@@ -310,7 +360,7 @@ impl Dice {
 // The entries of these keys at one line.
 fn at_a_terminal(alloc: Global, keys: &[u8]) -> Result<Vec<Entry>, AllocError> {
     let settings = Settings::standard();
-    let mut line = Line::new(alloc)?;
+    let mut line = Line::new(alloc, Limit::standard())?;
     let mut entries = Vec::new(alloc);
     for key in keys {
         if let Effect::Gives(entry) = line.key(&settings, *key)? {

@@ -5,6 +5,7 @@ ghost use Rattle.tn_world.specs.Settled.{IsSettled};
 ghost use Rattle.tn_world.specs.Opened.{IsOpened, IsOpenFault, anew};
 ghost use Rattle.tn_world.specs.Output.{IsOutput};
 ghost use Rattle.tn_world.specs.Quiet.{Follows};
+ghost use Rattle.tn_world.specs.Worlds.{canon_of};
 ghost use Rattle.tn_world.specs.declared.events.ToWhom.TheVariants as to;
 
 use crate::events::ToWhom;
@@ -12,7 +13,7 @@ use crate::faults::{Cause, WorldFault};
 use std::alloc::Global;
 use std::marker::Model;
 use tn_client::ClientEnd;
-use tn_discipline::{Entry, Settings};
+use tn_discipline::{Entry, Limit, Settings};
 use tn_server::ServerEnd;
 
 /// A server end, a client end, and the bytes on their way between them. Each event is one call of an
@@ -45,23 +46,26 @@ impl Model for World {
 
 impl World {
     /// Opens a world: both ends are started, the client's window with this width and height in
-    /// characters, and the server's opening words are in flight.
+    /// characters, lines at both with at most `limit` bytes, and the server's opening words are in
+    /// flight.
     pub fn open(
         alloc: Global,
         settings: Settings,
         width: u16,
         height: u16,
+        limit: Limit,
     ) -> Result<World, WorldFault>
-        ensures opened { IfOk result (λ world. IsOpened settings width height world) }
+        ensures opened { IfOk result (λ world.
+            IsOpened (record { settings = settings; limit = limit }) width height world) }
         ensures fault { IfErr result (λ fault. IsOpenFault fault) }
         ensures output { IfOk result (λ world. IsOutput world []) }
     {
         let mut to_client = Vec::new(alloc);
-        let server = match ServerEnd::start(alloc, settings, &mut to_client) {
+        let server = match ServerEnd::start(alloc, settings, limit, &mut to_client) {
             Ok(server) => server,
             Err(fault) => return Err(refused(Cause::Server(fault))),
         };
-        let client = match ClientEnd::start(alloc, width, height) {
+        let client = match ClientEnd::start(alloc, width, height, limit) {
             Ok(client) => client,
             Err(fault) => return Err(refused(Cause::Client(fault))),
         };
@@ -86,7 +90,7 @@ impl World {
         ensures settled { result ≡ true ↔ IsSettled self.old }
         ensures anew { result ≡ true → self.new ≡ anew self.old }
         ensures else_same { result ≡ false → self.new ≡ self.old }
-        ensures follows { result ≡ true → Follows self.old.server.terminal.settings self.new }
+        ensures follows { result ≡ true → Follows (canon_of self.old) self.new }
     {
         if !self.is_settled() {
             return false;

@@ -50,8 +50,20 @@ fn a_proposal_crosses_the_table(rt: HostRuntime) {
         b"to-client 15\nto-server 24\npropose ec 08\nflight\nsettle\nmark\nkey 61080d\nsettle\ntake\n",
         Ok(()),
         b"to-server fffa22030a0208fff0\n\
-          to-client fffa220303020307021c08020409021a0a027f0b0215110000fff0\n\
+          to-client fffa220303020307021c08020409021a0a027f0b0215110000120000fff0\n\
           mark true\ntext 0a\n",
+    );
+}
+
+#[test]
+fn a_second_character_closes_a_line(rt: HostRuntime) {
+    plays(
+        &rt,
+        rt.alloc(),
+        b"settle\nset forw2 3b\nsettle\nwish local\nsettle\nmark\nkey 613b62043b\nflight\nsettle\n\
+          take\ntake\ntake\n",
+        Ok(()),
+        b"mark true\nto-server 613b62ffec3b\nto-client -\ntext 613b\ntext 62\ntext 3b\n",
     );
 }
 
@@ -174,8 +186,9 @@ fn each_event_of_the_client_has_its_line(rt: HostRuntime) {
               to-client -\n",
         ),
         (
-            b"settle\npropose ec 01\npropose el 01\npropose forw1 ff\nflight\n",
-            b"to-server fffa22030a0201fff0fffa22030b0201fff0fffa2203110000fff0\nto-client -\n",
+            b"settle\npropose ec 01\npropose el 01\npropose forw1 ff\npropose forw2 3b\nflight\n",
+            b"to-server fffa22030a0201fff0fffa22030b0201fff0fffa2203110000fff0fffa220312023bfff0\n\
+              to-client -\n",
         ),
         (
             b"settle\nwrite 61\npull 9\nclient-stops\nkey 61\nsettle\nflight\n",
@@ -195,7 +208,7 @@ fn other_lines_are_no_commands(rt: HostRuntime) {
                  to-client 99999999999999999999|pull 1 2|pull 0x1|\
                  wish|wish both|echo|echo 1|mask off|mask 00|\
                  resize 80|resize 80 65536|resize 65536 24|resize 80  24|resize 80 24 |resize 8 2 1|\
-                 set ip|set synch 03|set ip 0304|set ip 3|propose ip 3 4|propose forw2 03";
+                 set ip|set synch 03|set ip 0304|set ip 3|propose ip 3 4|propose forw3 03";
     for line in lines.split('|') {
         stops_there(&rt, alloc, line.as_bytes());
     }

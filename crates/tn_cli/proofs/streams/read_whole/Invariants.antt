@@ -1,12 +1,8 @@
-use Rattle.std.proofs.Common.{◌≤◌, length}
-use Rattle.std.specs.Io.KnownBytes.{Consumes}
+use Rattle.std.proofs.Common.{◌≤◌}
+use Rattle.tn_cli.proofs.Inputs.{HasKept}
 use Rattle.tn_cli.proofs.streams.read_whole.Given as goal
 
--- what was read is what the reader no longer has
 abbrev pub invariant-loop-read : goal.invariant-loop-read
 invariant-loop-read g l =
     let remaining = g.R.Read.remaining in
-    record {
-      consumed : Consumes (remaining l.fn.reader) (remaining l.reader) l.input.items;
-      short : length l.input.items ≤ 1048576;
-    }
+    record { kept : HasKept l.total (remaining l.fn.reader) (remaining l.reader) l.input.items; short : l.total ≤ 1048576 }

@@ -1,12 +1,14 @@
-use Rattle.std.proofs.Common.{◌≡◌, [], refl, sym, ap₂, append-nil}
+use Rattle.std.proofs.Common.{◌≡◌, [], refl, sym, ap₂, subst₂, append-nil}
+use Rattle.tn_world.specs.Opened.{IsOpened}
 use Rattle.tn_cli.specs.Typing.{standard}
 use Rattle.tn_cli.proofs.Played.{lent_played_more, lent_bad, lent_refused}
 use Rattle.tn_cli.proofs.world.play_lines.Goals as goal
 
 pub loop-index-init : goal.loop-index-init
 loop-index-init c =
-    let same : c.standard.result ≡ standard = ap₂ (λ f k. record { flags = f; chars = k }) c.standard.ensures.flags c.standard.ensures.chars in
-    ([], record { start = c.in-Ok.world; opened = rw same at c.in-Ok.ensures.opened; plays = (refl, refl) }, sym (append-nil c.args.printed.now.items))
+    let settings : c.standard.result ≡ standard.settings = ap₂ (λ f k. record { flags = f; chars = k }) c.standard.ensures.flags c.standard.ensures.chars in
+    let opened = subst₂ (λ s n. IsOpened (record { settings = s; limit = n }) 80 24 c.in-Ok.world) settings c.standard-2.ensures c.in-Ok.ensures.opened in
+    ([], record { start = c.in-Ok.world; opened = opened; plays = (refl, refl) }, sym (append-nil c.args.printed.now.items))
 
 pub returns-in-Err-Bad : goal.returns-in-Err-Bad
 returns-in-Err-Bad c =

@@ -1,4 +1,4 @@
-use Rattle.tn_client.proofs.Histories.{items-gets, keys-gets}
+use Rattle.tn_client.proofs.lemmas.Histories.{items-gets, keys-gets}
 use Rattle.tn_client.proofs.laws.items_come.Goals as goal
 
 pub returns-clause-items : goal.returns-clause-items

@@ -1,4 +1,4 @@
-use Rattle.tn_client.proofs.Histories.{ahead-none, held-all}
+use Rattle.tn_client.proofs.lemmas.Histories.{ahead-none, held-all}
 use Rattle.tn_client.proofs.laws.nothing_is_ahead.Goals as goal
 
 pub returns-clause-ahead : goal.returns-clause-ahead

@@ -1,4 +1,4 @@
-use Rattle.tn_client.proofs.Histories.{unedited_half, mode-off}
+use Rattle.tn_client.proofs.lemmas.Histories.{unedited_half, mode-off}
 use Rattle.tn_client.proofs.laws.nothing_without_edit.Goals as goal
 
 pub returns-clause-line : goal.returns-clause-line

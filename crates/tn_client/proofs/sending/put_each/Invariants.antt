@@ -1,8 +1,10 @@
 use Rattle.std.proofs.Common.{◌≡◌, ◌++◌, take}
-use Rattle.tn_client.specs.Replies.{spelled}
+use Rattle.std.specs.List.{flat_map}
+use Rattle.tn_nvt.specs.Spelling.{spelling}
+use Rattle.tn_nvt.specs.declared.items.Item.TheVariants.{Byte}
 use Rattle.tn_client.proofs.sending.put_each.Given as goal
 
 abbrev pub invariant-loop-byte : goal.invariant-loop-byte
 invariant-loop-byte l = record {
-  items : l.out.items ≡ l.fn.out.items ++ spelled (take l.byte-index l.bytes);
+  items : l.out.items ≡ l.fn.out.items ++ flat_map (λ byte. spelling (Byte byte)) (take l.byte-index l.bytes);
 }

@@ -2,7 +2,7 @@ use Rattle.std.proofs.Common.{◌++◌, ◌∷◌, ap, ◌∙◌, List, ℕ}
 use Rattle.std.specs.List.{flat_map}
 use Rattle.tn_codes.specs.Payloads.{octets_of}
 use Rattle.tn_codes.specs.declared.triples.Triple.{Triple}
-use Rattle.tn_client.proofs.Listing.{list_fits}
+use Rattle.tn_client.proofs.lemmas.Listing.{list_fits}
 use Rattle.tn_client.proofs.sending.put_list.Goals as goal
 
 pub put_sub-requires : goal.put_sub-requires

@@ -1,5 +1,6 @@
-use Rattle.tn_discipline.proofs.Theorems as law
+use Rattle.std.proofs.Common.{sym}
+use Rattle.tn_discipline.proofs.lemmas.Histories as histories
 use Rattle.tn_discipline.proofs.laws.count_is_length.Goals as goal
 
 pub returns : goal.returns
-returns c = record { count = law.count_of-half_of; fits = law.half_of-fits }
+returns c = record { count = λ limit history. sym (histories.length-half_of limit history); fits = histories.half_of-fits }

@@ -1,6 +1,6 @@
 use Rattle.std.proofs.Common.{refl}
 use Rattle.tn_linemode.specs.Exchange.{server_next, server_answer, client_next, client_answer, server_answers, client_answers, announcement}
-use Rattle.tn_linemode.proofs.Answering.{length-answers_along}
+use Rattle.tn_linemode.proofs.lemmas.Answering.{length-answers_along}
 use Rattle.tn_linemode.proofs.laws.answers_bounded.Goals as goal
 
 pub returns-clause-server : goal.returns-clause-server

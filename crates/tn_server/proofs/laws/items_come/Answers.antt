@@ -1,4 +1,4 @@
-use Rattle.tn_server.proofs.Histories.{items-gets, opening-gets}
+use Rattle.tn_server.proofs.lemmas.Histories.{items-gets, opening-gets}
 use Rattle.tn_server.proofs.laws.items_come.Goals as goal
 
 pub returns-clause-items : goal.returns-clause-items

@@ -1,22 +1,60 @@
-use Rattle.std.proofs.Common.{refl}
+use Rattle.std.proofs.Common.{ℕ, List, ◌++◌, refl}
+use Rattle.tn_codes.specs.declared.codes.Verb.{Verb}
 use Rattle.std.proofs.lemmas.Result.{err_from_is_err_and}
 use Rattle.tn_linemode.specs.Modes.{edits}
+use Rattle.tn_nvt.specs.declared.items.Item.{Item}
 use Rattle.tn_nvt.specs.declared.items.Item.TheVariants.{Neg}
-use Rattle.tn_option.specs.Options.{reply_to, after_word}
+use Rattle.tn_option.specs.Options.{Options, reply_to, after_word}
 use Rattle.tn_client.specs.Terms.{mode_at, tells_size}
 use Rattle.tn_client.specs.Replies.{word, ending, size_told_on}
 use Rattle.tn_client.proofs.Cutting.{cut_after_two}
+use Rattle.tn_client.proofs.Growing.{front_some, back_some}
 use Rattle.tn_client.proofs.end.ClientEnd.word.Goals as goal
+
+-- what is held, the answer, and the size
+abbrev first : Options → ℕ → List ℕ → Item → List Item
+first o m held item = ending (edits m) (edits (mode_at o m item)) held
+
+abbrev second : Options → Verb → ℕ → List Item
+second o verb option = word (reply_to o verb option)
+
+abbrev third : Options → Verb → ℕ → ℕ × ℕ → List Item
+third o verb option z = size_told_on (tells_size o) (tells_size (after_word o verb option)) z
+
+pub returns-in_err-put_held-clause-grows : goal.returns-in_err-put_held-clause-grows
+returns-in_err-put_held-clause-grows c =
+    let p = err_from_is_err_and c.from_residual.result c.from_residual.ensures.1 in
+    let old = c.self.inside in
+    let b = second old.options c.args.verb c.args.option in
+    let d = third old.options c.args.verb c.args.option (old.width, old.height) in
+    rw (p.1, ← c.self.view_is) (front_some (first old.options old.mode old.line.held (Neg c.args.verb c.args.option)) (b ++ d)
+    (rw (c.mode_with-mode.ensures, c.got-said.ensures.engine, ← c.self.view_is) at c.in_err-put_held.ensures.grows))
+
+pub returns-in_err-put_word-clause-grows : goal.returns-in_err-put_word-clause-grows
+returns-in_err-put_word-clause-grows c =
+    let p = err_from_is_err_and c.from_residual-in_err-put_word.result c.from_residual-in_err-put_word.ensures.1 in
+    let old = c.self.inside in
+    let b = second old.options c.args.verb c.args.option in
+    let d = third old.options c.args.verb c.args.option (old.width, old.height) in
+    rw (p.1, ← c.self.view_is) (back_some (first old.options old.mode old.line.held (Neg c.args.verb c.args.option)) (b ++ d)
+    (front_some b d (rw c.got-said.ensures.word at c.in_err-put_word.ensures.grows)))
 
 pub returns-in_err-put_size_on-clause-cut : goal.returns-in_err-put_size_on-clause-cut
 returns-in_err-put_size_on-clause-cut c =
     let p = err_from_is_err_and c.from_residual-in_err-put_size_on.result c.from_residual-in_err-put_size_on.ensures.1 in
     let old = c.self.inside in
-    let o = old.options in
-    rw (p.1, ← c.self.view_is) (cut_after_two _
-    (ending (edits old.mode) (edits (mode_at o old.mode (Neg c.args.verb c.args.option))) old.line.held)
-    (word (reply_to o c.args.verb c.args.option))
-    (size_told_on (tells_size o) (tells_size (after_word o c.args.verb c.args.option)) (old.width, old.height))
+    let b = second old.options c.args.verb c.args.option in
+    let d = third old.options c.args.verb c.args.option (old.width, old.height) in
+    rw (p.1, ← c.self.view_is) (cut_after_two _ (first old.options old.mode old.line.held (Neg c.args.verb c.args.option)) b d
     c.args.out.now.items c.put_held.new.out.items c.put_word.new.out.items c.put_size_on.new.out.items refl
     (rw (c.mode_with-mode.ensures, c.got-said.ensures.engine, ← c.self.view_is) at c.in_ok-put_held.ensures.ok)
     (rw c.got-said.ensures.word at c.in_ok-put_word.ensures.ok) c.in_err-put_size_on.ensures.err)
+
+pub returns-in_err-put_size_on-clause-grows : goal.returns-in_err-put_size_on-clause-grows
+returns-in_err-put_size_on-clause-grows c =
+    let p = err_from_is_err_and c.from_residual-in_err-put_size_on.result c.from_residual-in_err-put_size_on.ensures.1 in
+    let old = c.self.inside in
+    let b = second old.options c.args.verb c.args.option in
+    let d = third old.options c.args.verb c.args.option (old.width, old.height) in
+    rw (p.1, ← c.self.view_is) (back_some (first old.options old.mode old.line.held (Neg c.args.verb c.args.option)) (b ++ d)
+    (back_some b d (rw (c.is_on.ensures, c.got-said.ensures.engine, ← c.self.view_is) at c.in_err-put_size_on.ensures.grows)))

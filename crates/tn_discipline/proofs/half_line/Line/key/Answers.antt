@@ -1,5 +1,5 @@
 use Rattle.tn_discipline.proofs.Acting.{advances_or, drops_or}
-use Rattle.tn_discipline.proofs.KeyRoles.{roles_of-one}
+use Rattle.tn_discipline.proofs.lemmas.KeyRoles.{roles_of-one}
 use Rattle.tn_discipline.proofs.half_line.Line.key.Goals as goal
 
 pub returns-clause-advances : goal.returns-clause-advances

@@ -1,4 +1,5 @@
-use Rattle.tn_discipline.proofs.Acting.{advances_or, drops_or, literal_roles}
+use Rattle.tn_discipline.proofs.Acting.{advances_or, drops_or}
+use Rattle.tn_discipline.proofs.lemmas.KeyRoles.{literal_roles}
 use Rattle.tn_discipline.proofs.half_line.Line.literal.Goals as goal
 
 pub returns-clause-advances : goal.returns-clause-advances

@@ -1,21 +1,50 @@
-use Rattle.std.proofs.Common.{ap, true}
+use Rattle.std.proofs.Common.{refl, sym, ap, ◌∙◌, true}
 use Rattle.tn_server.specs.Standing.{End}
-use Rattle.tn_server.proofs.Halting.{read_front, halts_after, halts_at}
-use Rattle.tn_server.proofs.Passing.{feeds_of}
+use Rattle.tn_server.proofs.Loans.{same_loan, feeds_of, halts_of, is_refusal, true_is_not_false}
 use Rattle.tn_server.proofs.end.ServerEnd.feed.Goals as goal
 
-pub returns-in-Ok-decoded-clause-ok : goal.returns-in-Ok-decoded-clause-ok
-returns-in-Ok-decoded-clause-ok c =
-    rw (← c.self.view_is) (feeds_of _ c.items.new.self c.feed-decoded.new.self c.args.piece.now c.args.out.now.items c.items.new.out.items c.new-items.result.items c.feed-decoded.new.out.items c.new-items.ensures.items c.in-Ok-decoded.ensures.ok c.in-Ok.ensures.ok)
-
-pub returns-in-Err-decoded-clause-halts : goal.returns-in-Err-decoded-clause-halts
-returns-in-Err-decoded-clause-halts c = λ of.
-    let d = c.feed-decoded.ensures in
-    let fronts = read_front c.feed-decoded.result c.self.inside.decoder c.feed-decoded.new.self c.args.piece.now c.new-items.result.items c.feed-decoded.new.out.items _ c.new-items.ensures.items d.ok d.memory d.failed_appends in
-    rw (← c.self.view_is) (halts_after _ c.items.new.self _ c.feed-decoded.new.self c.args.piece.now c.args.out.now.items c.items.new.out.items c.feed-decoded.new.out.items fronts c.in-Ok.ensures.ok (ap (λ (e : End). record e { failed = true }) c.self-2.view_is))
+pub returns-in-Ok-clause-ok : goal.returns-in-Ok-clause-ok
+returns-in-Ok-clause-ok c =
+    let f = c.feed_to-fed.ensures in
+    let same = same_loan c.feed_to-fed.result _ _ _ _ _ f.ok f.refused f.memory f.failed_hands in
+    let here = c.self-2.view_is ∙ c.self-1.given.1 (sym same.end) in
+    let out = c.out-1.given.1 (sym same.out) in
+    rw (← c.self.view_is) (feeds_of _ _ _ _ _ _ _ c.feed_to-fed.new.sink refl (rw c.replace-decoder.ensures.value at c.in-Ok.ensures.ok) (ap (λ (e : End). record e { decoder = c.feed_to-fed.new.self }) here) (ap (λ o. o.items) out))
 
 pub returns-in-Err-clause-halts : goal.returns-in-Err-clause-halts
-returns-in-Err-clause-halts c = λ of.
-    let d = c.feed-decoded.ensures in
-    let fronts = read_front c.feed-decoded.result c.self.inside.decoder c.feed-decoded.new.self c.args.piece.now c.new-items.result.items c.feed-decoded.new.out.items _ c.new-items.ensures.items d.ok d.memory d.failed_appends in
-    rw (← c.self.view_is) (halts_at _ c.items.new.self _ c.feed-decoded.new.self c.args.piece.now c.args.out.now.items c.items.new.out.items c.feed-decoded.new.out.items fronts c.in-Err.ensures.err (ap (λ (e : End). record e { failed = true }) c.self-2.view_is))
+returns-in-Err-clause-halts c = λ _.
+    let f = c.feed_to-fed.ensures in
+    let same = same_loan c.feed_to-fed.result _ _ _ _ _ f.ok f.refused f.memory f.failed_hands in
+    let here = c.self-2.view_is ∙ c.self-1.given.1 (sym same.end) in
+    let out = c.out-1.given.1 (sym same.out) in
+    rw (← c.self.view_is) (halts_of c.feed_to-fed.result _ c.in-Err.is _ _ _ _ _ _ _ c.feed_to-fed.new.sink refl refl (rw c.replace-decoder.ensures.value at f.refused) (rw c.replace-decoder.ensures.value at f.memory) (rw c.replace-decoder.ensures.value at f.failed) f.failed_hands (ap (λ (e : End). record e { decoder = c.feed_to-fed.new.self; failed = true }) here) (ap (λ o. o.items) out))
+
+pub returns-in-Err-clause-failed : goal.returns-in-Err-clause-failed
+returns-in-Err-clause-failed c =
+    let f = c.feed_to-fed.ensures in
+    let r = is_refusal c.feed_to-fed.result _ c.in-Err.is _ _ _ c.feed_to-fed.new.sink refl f.refused f.memory f.failed_hands in
+    rw (← c.self.view_is) (λ e. absurd (r.runs e), λ e. absurd (true_is_not_false (sym e ∙ c.if-self.false)))
+
+pub returns-in-Err-clause-failed_stays : goal.returns-in-Err-clause-failed_stays
+returns-in-Err-clause-failed_stays c =
+    let f = c.feed_to-fed.ensures in
+    let r = is_refusal c.feed_to-fed.result _ c.in-Err.is _ _ _ c.feed_to-fed.new.sink refl f.refused f.memory f.failed_hands in
+    λ e. absurd (r.runs e)
+
+pub returns-in-Err-clause-failed_appends : goal.returns-in-Err-clause-failed_appends
+returns-in-Err-clause-failed_appends c =
+    let f = c.feed_to-fed.ensures in
+    let r = is_refusal c.feed_to-fed.result _ c.in-Err.is _ _ _ c.feed_to-fed.new.sink refl f.refused f.memory f.failed_hands in
+    λ e. absurd (r.runs e)
+
+pub returns-in-Err-clause-no_char : goal.returns-in-Err-clause-no_char
+returns-in-Err-clause-no_char c =
+    let f = c.feed_to-fed.ensures in
+    let r = is_refusal c.feed_to-fed.result _ c.in-Err.is _ _ _ c.feed_to-fed.new.sink refl f.refused f.memory f.failed_hands in
+    r.no_char
+
+pub returns-in-Err-clause-shut : goal.returns-in-Err-clause-shut
+returns-in-Err-clause-shut c =
+    let f = c.feed_to-fed.ensures in
+    let r = is_refusal c.feed_to-fed.result _ c.in-Err.is _ _ _ c.feed_to-fed.new.sink refl f.refused f.memory f.failed_hands in
+    rw (← c.self.view_is) r.shut

@@ -1,7 +1,8 @@
-use Rattle.std.proofs.Common.{sym, ◌∙◌, ap, false, ◌∷◌, append-nil, List}
+use Rattle.std.proofs.Common.{sym, ◌∙◌, ap, true, false, ◌∷◌, append-nil, List}
 use Rattle.tn_discipline.specs.declared.reads.Entry.{Entry}
 use Rattle.tn_server.specs.Standing.{End}
-use Rattle.tn_server.proofs.Calling.{goes_took, goes_idle, waits_are}
+use Rattle.tn_server.proofs.Calling.{goes_took, goes_idle}
+use Rattle.tn_server.proofs.lemmas.Ends.{waits_are}
 use Rattle.tn_server.proofs.end.ServerEnd.take.Goals as goal
 
 pub returns-in-Some-clause-ok : goal.returns-in-Some-clause-ok
@@ -18,3 +19,7 @@ returns-in-Some-clause-entry c = λ h s.
 pub returns-then-not-owes_ga-clause-ok : goal.returns-then-not-owes_ga-clause-ok
 returns-then-not-owes_ga-clause-ok c =
     rw (← c.self.view_is, c.in_default.ensures.none.1) (goes_idle _ false c.args.out.now.items c.args.out.now.items c.in_default.ensures.none.0 (sym c.if-not-owes_ga.true ∙ c.owes_ga.ensures) (sym (append-nil c.args.out.now.items)))
+
+pub returns-in-Ok-clause-ok : goal.returns-in-Ok-clause-ok
+returns-in-Ok-clause-ok c =
+    rw (← c.self.view_is, c.in_default.ensures.none.1) (goes_idle _ true c.args.out.now.items c.put_cmd.new.out.items c.in_default.ensures.none.0 (sym c.if-not-owes_ga.false ∙ c.owes_ga.ensures) c.in-Ok.ensures.ok)

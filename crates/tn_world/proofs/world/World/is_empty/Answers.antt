@@ -1,6 +1,6 @@
 use Rattle.std.proofs.Common.{ap, sym, subst, ◌∙◌}
 use Rattle.std.specs.Prelude.{slice_get}
-use Rattle.tn_server.proofs.Calling.{waits_are}
+use Rattle.tn_server.proofs.lemmas.Ends.{waits_are}
 use Rattle.tn_world.specs.Machine.{Server}
 use Rattle.tn_world.specs.Settled.{IsEmpty}
 use Rattle.tn_world.specs.Worlds.{World}

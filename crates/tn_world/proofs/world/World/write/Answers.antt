@@ -3,4 +3,4 @@ use Rattle.tn_world.proofs.Bodies.{asks_sound}
 use Rattle.tn_world.proofs.world.World.write.Goals as goal
 
 pub invariant_of-self : goal.invariant_of-self
-invariant_of-self c = asks_sound _ _ (asked.wrote c.as_slice.result.now) _ (c.write-count.ensures.goes _) c.self.invariant
+invariant_of-self c = asks_sound _ _ (asked.wrote c.as_slice.result.now) _ tt (c.write-count.ensures.goes _) c.write-count.ensures.keeps c.self.invariant

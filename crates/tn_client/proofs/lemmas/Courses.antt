@@ -1,0 +1,142 @@
+-- Courses and their histories.
+use Rattle.std.proofs.Common.{◌≡◌, ℕ, List, [], ◌∷◌, ◌++◌, refl, sym, ap, ◌∙◌, subst, append-nil, append_assoc}
+use Rattle.std.proofs.lemmas.List.{append_cancel_left}
+use Rattle.tn_nvt.specs.Standing.{Standing, HasRead}
+use Rattle.tn_nvt.specs.Stream.{Reading}
+use Rattle.tn_nvt.specs.declared.items.Item.{Item}
+use Rattle.tn_nvt.proofs.lemmas.Reading.{one_reading, one_standing, reads_on, reads_none}
+use Rattle.tn_client.specs.Events.{Event, typed, got, resized, proposed, History, next, items, gets}
+use Rattle.tn_client.specs.Replies.{sent}
+use Rattle.tn_client.specs.Screen.{shown}
+use Rattle.tn_client.specs.Standing.{End, Stands, Keeps, Goes, Feeds, GivesUp, Breaks}
+use Rattle.tn_client.specs.Course.{Course, started, fed, called, stream, IsCall, IsRead, Leads, IsAt}
+use Rattle.tn_client.proofs.lemmas.Histories.{items-gets, gets-append}
+use Rattle.tn_client.proofs.Growing.{cons_some, back_some}
+
+-- a call brings no item
+items-call : (h : History) (e : Event) → IsCall e → items (next h e) ≡ items h
+items-call h (typed key) call = refl
+items-call h (got item) call = absurd call
+items-call h (resized width height) call = refl
+items-call h (proposed func value) call = refl
+
+-- the items of a course are those of its stream
+pub leads-read : (c : Course) (h : History) → Leads c h → IsRead (stream c) (items h)
+leads-read (started width height limit) h is = subst (λ (k : History). IsRead [] (items k)) (sym is) ([], reads_none)
+leads-read (fed c piece) h l =
+    subst (λ (xs : List Item). IsRead (stream c ++ piece) xs) (sym (ap items l.4 ∙ items-gets l.0 l.1)) l.3
+leads-read (called c e) h l =
+    subst (λ (xs : List Item). IsRead (stream c) xs) (sym (ap items l.3 ∙ items-call l.0 e l.2)) (leads-read c l.0 l.1)
+
+-- what a piece brings follows from the stream
+same_more : (bytes : List ℕ) (a b more others : List Item) → a ≡ b → IsRead bytes (a ++ more) → IsRead bytes (b ++ others) → more ≡ others
+same_more bytes a b more others e r s =
+    append_cancel_left b more others (ap (λ (xs : List Item). xs ++ more) (sym e) ∙ (one_reading bytes r.0 s.0 (a ++ more) (b ++ others) r.1 s.1).0)
+
+-- A course has one history.
+pub one_history : (c : Course) (h k : History) → Leads c h → Leads c k → h ≡ k
+one_history (started width height limit) h k a b = a ∙ sym b
+one_history (fed c piece) h k a b =
+    let old = one_history c a.0 b.0 a.2 b.2 in
+    let more = same_more (stream c ++ piece) (items a.0) (items b.0) a.1 b.1 (ap items old) a.3 b.3 in
+    a.4 ∙ ap (λ (x : History). gets x a.1) old ∙ ap (gets b.0) more ∙ sym b.4
+one_history (called c e) h k a b = a.3 ∙ ap (λ (x : History). next x e) (one_history c a.0 b.0 a.1 b.1) ∙ sym b.3
+
+-- one piece more
+leads_fed : (c : Course) (old new : End) (piece before after seen now : List ℕ) → (a : IsAt c old) → (f : Feeds old piece before after seen now new) → Leads (fed c piece) (gets a.history f.items)
+leads_fed c old new piece before after seen now a f =
+    let read = f.reads (stream c) (items a.history) a.reads in (a.history, f.items, a.leads, (read.rest, read.reading), refl)
+
+pub fed_at : (c : Course) (old new : End) (piece before after seen now : List ℕ) → IsAt c old → Feeds old piece before after seen now new → IsAt (fed c piece) new
+fed_at c old new piece before after seen now a f =
+    let read = f.reads (stream c) (items a.history) a.reads in
+    record {
+      history = gets a.history f.items;
+      leads = leads_fed c old new piece before after seen now a f;
+      stands = f.stands a.history a.stands;
+      reads = subst (λ (xs : List Item). HasRead new.decoder (stream c ++ piece) xs) (sym (items-gets a.history f.items)) read;
+    }
+
+pub fed_said : (c : Course) (old new : End) (piece before after seen now : List ℕ) (h k : History) → IsAt c old → (f : Feeds old piece before after seen now new) → Leads c h → Leads (fed c piece) k → sent k ≡ sent h ++ f.said
+fed_said c old new piece before after seen now h k a f l m =
+    let there = leads_fed c old new piece before after seen now a f in
+    ap sent (one_history (fed c piece) k (gets a.history f.items) m there) ∙ f.sends a.history a.stands
+    ∙ ap (λ (x : History). sent x ++ f.said) (one_history c a.history h a.leads l)
+
+pub fed_shown : (c : Course) (old new : End) (piece before after seen now : List ℕ) (h k : History) → IsAt c old → (f : Feeds old piece before after seen now new) → Leads c h → Leads (fed c piece) k → shown k ≡ shown h ++ f.text
+fed_shown c old new piece before after seen now h k a f l m =
+    let there = leads_fed c old new piece before after seen now a f in
+    ap shown (one_history (fed c piece) k (gets a.history f.items) m there) ∙ f.shows a.history a.stands
+    ∙ ap (λ (x : History). shown x ++ f.text) (one_history c a.history h a.leads l)
+
+-- one call more
+pub called_at : (c : Course) (old new : End) (e : Event) → IsAt c old → IsCall e → Goes old e new → Keeps old new → IsAt (called c e) new
+called_at c old new e a call goes keeps = record {
+  history = next a.history e;
+  leads = (a.history, a.leads, call, refl);
+  stands = goes.stands a.history a.stands;
+  reads =
+      let P : Standing → Type 0 = λ d. HasRead d (stream c) (items (next a.history e)) in
+      subst P (sym keeps.decoder) (subst (λ (xs : List Item). HasRead old.decoder (stream c) xs) (sym (items-call a.history e call)) a.reads);
+}
+
+-- two pieces are one
+pub joined : (c : Course) (p q : List ℕ) (h : History) → Leads (fed (fed c p) q) h → Leads (fed c (p ++ q)) h
+joined c p q h l =
+    let first = l.2 in
+    let old = first.0 in
+    let same : items l.0 ++ l.1 ≡ items old ++ (first.1 ++ l.1) =
+    ap (λ (xs : List Item). xs ++ l.1) (ap items first.4 ∙ items-gets old first.1) ∙ append_assoc (items old) first.1 l.1 in (
+      old,
+      first.1 ++ l.1,
+      first.2,
+      subst (λ (bytes : List ℕ). IsRead bytes (items old ++ (first.1 ++ l.1))) (append_assoc (stream c) p q)
+          (subst (λ (xs : List Item). IsRead ((stream c ++ p) ++ q) xs) same l.3),
+      l.4 ∙ ap (λ (k : History). gets k l.1) first.4 ∙ sym (gets-append old first.1 l.1),
+    )
+
+-- and one is two, where its front has a reading
+pub parted : (c : Course) (p q : List ℕ) (h : History) → (read : List Item) × (rest : List ℕ) × Reading (stream c ++ p) read rest → Leads (fed c (p ++ q)) h → Leads (fed (fed c p) q) h
+parted c p q h r l =
+    let old = l.0 in
+    let whole : IsRead ((stream c ++ p) ++ q) (items old ++ l.1) =
+    subst (λ (bytes : List ℕ). IsRead bytes (items old ++ l.1)) (sym (append_assoc (stream c) p q)) l.3 in
+    let start = leads-read c old l.2 in
+    let one = reads_on (stream c) p start.0 r.1 (items old) r.0 start.1 r.2 in
+    let two = reads_on (stream c ++ p) q r.1 whole.0 r.0 (items old ++ l.1) r.2 whole.1 in
+    let more : l.1 ≡ one.0 ++ two.0 =
+    append_cancel_left (items old) l.1 (one.0 ++ two.0) (two.1 ∙ ap (λ (xs : List Item). xs ++ two.0) one.1 ∙ append_assoc (items old) one.0 two.0) in
+    let here : items (gets old one.0) ≡ r.0 = items-gets old one.0 ∙ sym one.1 in (
+      gets old one.0,
+      two.0,
+      (old, one.0, l.2, (r.1, subst (λ (xs : List Item). Reading (stream c ++ p) xs r.1) one.1 r.2), refl),
+      subst (λ (xs : List Item). IsRead ((stream c ++ p) ++ q) xs) (two.1 ∙ ap (λ (xs : List Item). xs ++ two.0) (sym here)) whole,
+      l.4 ∙ ap (gets old) more ∙ gets-append old one.0 two.0,
+    )
+
+-- nothing is left where nothing was fed
+none_left : (xs done left : List Item) → xs ≡ xs ++ (done ++ left) → left ≡ []
+none_left xs done left e = go left (append_cancel_left xs (done ++ left) [] (sym e ∙ sym (append-nil xs)))
+  where
+    go : (ys : List Item) → done ++ ys ≡ [] → ys ≡ []
+    go [] f = refl
+    go (y ∷ ys) f = absurd (back_some done (y ∷ ys) (cons_some y ys) f)
+
+never : (h : History) (left part : List Item) (here : Standing) → left ≡ [] → GivesUp h left part here [] → ⊥
+never h [] part here e g = g.1
+never h (x ∷ xs) part here e g = cons_some x xs e
+
+pub never_refused : (c : Course) (old : End) (before after seen now : List ℕ) → IsAt c old → Breaks old [] before after seen now → ⊥
+never_refused c old before after seen now a b = go b.front b.back b.whole b.reads b.why
+  where
+    go : (front back : List ℕ) → [] ≡ front ++ back
+        → ((bytes : List ℕ) (had : List Item) → HasRead old.decoder bytes had → HasRead b.here (bytes ++ front) (had ++ (b.done ++ b.left)))
+        → ((h : History) (bytes : List ℕ) (had : List Item) → Stands h old → HasRead old.decoder bytes had → GivesUp (gets h b.done) b.left b.part b.here back) → ⊥
+    go [] [] e reads why =
+        let had = items a.history in
+        let then : HasRead b.here (stream c) (had ++ (b.done ++ b.left)) =
+        subst (λ (bytes : List ℕ). HasRead b.here bytes (had ++ (b.done ++ b.left))) (append-nil (stream c)) (reads (stream c) had a.reads) in
+        let same = (one_standing old.decoder b.here (stream c) had (had ++ (b.done ++ b.left)) a.reads then).1 in
+        never (gets a.history b.done) b.left b.part b.here (none_left had b.done b.left same) (why a.history (stream c) had a.stands a.reads)
+    go [] (x ∷ xs) e reads why = cons_some x xs (sym e)
+    go (x ∷ xs) back e reads why = cons_some x (xs ++ back) (sym e)

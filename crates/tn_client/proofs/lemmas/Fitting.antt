@@ -1,0 +1,153 @@
+-- Each item that a client end says fits a stream.
+use Rattle.std.proofs.Common.{◌≡◌, ◌≤◌, ℕ, Bool, true, false, not, ◌==◌, ◌&&◌, Option, Some, None, List, [], ◌∷◌, ◌++◌, length, nat_le, if◌then◌else◌, refl, arith}
+use Rattle.std.specs.Prelude.{All}
+use Rattle.std.proofs.lemmas.List.Elements.{All-nil, All-cons, All-append}
+use Rattle.tn_codes.specs.Payloads.{written, IsShort}
+use Rattle.tn_codes.specs.PayloadOf.{payload_of}
+use Rattle.tn_codes.specs.declared.codes.Command.{Command}
+use Rattle.tn_codes.specs.declared.codes.Verb.{Verb}
+use Rattle.tn_codes.specs.declared.payloads.Payload.{Payload}
+use Rattle.tn_codes.specs.declared.payloads.Payload.TheVariants as payload
+use Rattle.tn_codes.specs.declared.triples.Triple.{Triple}
+use Rattle.tn_codes.proofs.lemmas.Telling.{says}
+use Rattle.tn_discipline.specs.Characters.{Characters}
+use Rattle.tn_discipline.specs.HalfLine.{HalfLine, has_held, has_ahead}
+use Rattle.tn_discipline.specs.declared.keys.Role.{Role}
+use Rattle.tn_discipline.specs.declared.keys.Role.TheVariants as role
+use Rattle.tn_linemode.specs.Modes.{edits, mode_answer}
+use Rattle.tn_linemode.specs.Exchange.{client_answers}
+use Rattle.tn_linemode.specs.Triples.{triple_of}
+use Rattle.tn_nvt.specs.Spelling.{Fits}
+use Rattle.tn_nvt.specs.declared.items.Item.{Item}
+use Rattle.tn_nvt.specs.declared.items.Item.TheVariants.{Byte, Newline, Cmd, Neg, Sub}
+use Rattle.tn_option.specs.Options.{Options, reply_to}
+use Rattle.tn_client.specs.Events.{History, Event, typed, got, resized, proposed, begun, next}
+use Rattle.tn_client.specs.Terms.{options, mode, chars, size, linemode, tells_size, heard, payload_at, mode_at}
+use Rattle.tn_client.specs.Lines.{role_at, line}
+use Rattle.tn_client.specs.Replies.{spelled, command_of, commanded, sent_raw, sent_edited, key_sent, word, size_told, mode_told, listed, size_told_on, payload_answered, answered, ending, is_same_size, replies, sent}
+use Rattle.tn_client.proofs.lemmas.Listing.{list_fits, short_list, answers_fit}
+
+-- these items fit
+abbrev Fit : List Item → Type 0
+Fit = All Fits
+
+none : Fit []
+none = All-nil Fits
+
+one : (item : Item) → Fits item → Fit (item ∷ [])
+one item fits = All-cons Fits item [] fits none
+
+both : (xs ys : List Item) → Fit xs → Fit ys → Fit (xs ++ ys)
+both = All-append Fits
+
+unless : (b : Bool) (xs : List Item) → Fit xs → Fit (if b then xs else [])
+unless true xs h = h
+unless false xs h = none
+
+bytes-fit : (bs : List ℕ) → Fit (spelled bs)
+bytes-fit [] = none
+bytes-fit (b ∷ bs) = All-cons Fits (Byte b) (spelled bs) tt (bytes-fit bs)
+
+command-fits : (c : Option Command) → Fit (commanded c)
+command-fits None = none
+command-fits (Some c) = one (Cmd c) tt
+
+raw-fits : (r : Role) (key : ℕ) → Fit (sent_raw r key)
+raw-fits (role.Signal sig) key = command-fits (command_of (role.Signal sig))
+raw-fits role.Ignored key = one (Byte key) tt
+raw-fits role.Nl key = one (Byte key) tt
+raw-fits (role.Eol b) key = one (Byte key) tt
+raw-fits (role.Eol2 b) key = one (Byte key) tt
+raw-fits role.Eof key = one (Byte key) tt
+raw-fits role.Erase key = one (Byte key) tt
+raw-fits role.Kill key = one (Byte key) tt
+raw-fits (role.Ordinary b) key = one (Byte key) tt
+
+edited-fits : (r : Role) (l : HalfLine) → Fit (sent_edited r l)
+edited-fits role.Nl l = both (spelled l.held) (Newline ∷ []) (bytes-fit l.held) (one Newline tt)
+edited-fits (role.Eol b) l = both (spelled l.held) (Byte b ∷ []) (bytes-fit l.held) (one (Byte b) tt)
+edited-fits (role.Eol2 b) l = both (spelled l.held) (Byte b ∷ []) (bytes-fit l.held) (one (Byte b) tt)
+edited-fits role.Eof l = both (spelled l.held) (commanded (command_of role.Eof)) (bytes-fit l.held) (command-fits (command_of role.Eof))
+edited-fits (role.Signal sig) l = command-fits (command_of (role.Signal sig))
+edited-fits role.Erase l = unless (not (has_held l) && has_ahead l) (commanded (command_of role.Erase)) (command-fits (command_of role.Erase))
+edited-fits role.Kill l = unless (has_ahead l) (commanded (command_of role.Kill)) (command-fits (command_of role.Kill))
+edited-fits role.Ignored l = none
+edited-fits (role.Ordinary b) l = none
+
+key-fits : (edit : Bool) (r : Role) (l : HalfLine) (key : ℕ) → Fit (key_sent edit r l key)
+key-fits true r l key = edited-fits r l
+key-fits false r l key = raw-fits r key
+
+word-fits : (w : Option (Verb × ℕ)) → Fit (word w)
+word-fits None = none
+word-fits (Some w) = one (Neg w.0 w.1) tt
+
+size-fits : (z : ℕ × ℕ) → Fit (size_told z)
+size-fits (width, height) = one (Sub 31 (written (payload.Naws width height))) (omega arith)
+
+mode-fits : (m : Option ℕ) → Fit (mode_told m)
+mode-fits None = none
+mode-fits (Some mask) = one (Sub 34 (written (payload.Mode mask))) (omega arith)
+
+list-fits : (ts : List Triple) → length ts ≤ 170 → Fit (listed ts)
+list-fits [] h = none
+list-fits (t ∷ ts) h = one (Sub 34 (written (payload.Slc (t ∷ ts)))) (list_fits (t ∷ ts) (written (payload.Slc (t ∷ ts))) h refl)
+
+-- a payload that is said, if one is, is short
+abbrev IsShortOrNone : Option Payload → Type 0
+IsShortOrNone None = Unit {0}
+IsShortOrNone (Some p) = IsShort p
+
+fits_by : (n : ℕ) → nat_le n 512 ≡ true → n ≤ 512
+fits_by n h = grind arith
+
+short_told : (option : ℕ) (params : List ℕ) (p : Option Payload) → payload_of option params ≡ p → length params ≤ 512 → IsShortOrNone p
+short_told option params None e h = tt
+short_told option params (Some p) e h = short_list option params p h (says option params p e)
+
+short_by_tests : (option : ℕ) (params : List ℕ) (a b c : Bool) → nat_le (length params) 512 ≡ c → IsShortOrNone (if a && (b && c) then payload_of option params else None)
+short_by_tests option params true true true e = short_told option params (payload_of option params) refl (fits_by (length params) e)
+short_by_tests option params true true false e = tt
+short_by_tests option params true false c e = tt
+short_by_tests option params false b c e = tt
+
+short_at : (o : Options) (option : ℕ) (params : List ℕ) → IsShortOrNone (payload_at o (Sub option params))
+short_at o option params = short_by_tests option params (option == 34) (linemode o) (nat_le (length params) 512) refl
+
+payload-fits : (m : ℕ) (c : Characters) (p : Option Payload) → IsShortOrNone p → Fit (payload_answered m c p)
+payload-fits m c None h = none
+payload-fits m c (Some (payload.Naws width height)) h = none
+payload-fits m c (Some (payload.Mode mask)) h = mode-fits (mode_answer m mask)
+payload-fits m c (Some (payload.ForwardOn mask)) h = one (Sub 34 (written payload.ForwardNo)) (omega arith)
+payload-fits m c (Some payload.ForwardOff) h = one (Sub 34 (written payload.ForwardNo)) (omega arith)
+payload-fits m c (Some payload.ForwardYes) h = none
+payload-fits m c (Some payload.ForwardNo) h = none
+payload-fits m c (Some (payload.Slc triples)) h = list-fits (client_answers c triples) (omega (arith, answers_fit c triples, h))
+
+answer-fits : (o : Options) (m : ℕ) (c : Characters) (z : ℕ × ℕ) (item : Item) → Fit (answered o m c z item)
+answer-fits o m c z (Byte b) = none
+answer-fits o m c z Newline = none
+answer-fits o m c z (Cmd command) = none
+answer-fits o m c z (Neg verb option) =
+    both (word (reply_to o verb option)) (size_told_on (tells_size o) (tells_size (heard o (Neg verb option))) z)
+    (word-fits (reply_to o verb option)) (unless (tells_size (heard o (Neg verb option)) && not (tells_size o)) (size_told z) (size-fits z))
+answer-fits o m c z (Sub option params) = payload-fits m c (payload_at o (Sub option params)) (short_at o option params)
+
+ending-fits : (before after : Bool) (bs : List ℕ) → Fit (ending before after bs)
+ending-fits true false bs = bytes-fit bs
+ending-fits true true bs = none
+ending-fits false after bs = none
+
+-- What is said at an event fits.
+pub replies-fit : (h : History) (e : Event) → All Fits (replies h e)
+replies-fit h (typed key) = key-fits (edits (mode h)) (role_at h key) (line h) key
+replies-fit h (got item) =
+    both (ending (edits (mode h)) (edits (mode_at (options h) (mode h) item)) (line h).held) (answered (options h) (mode h) (chars h) (size h) item)
+    (ending-fits (edits (mode h)) (edits (mode_at (options h) (mode h) item)) (line h).held) (answer-fits (options h) (mode h) (chars h) (size h) item)
+replies-fit h (resized width height) = unless (tells_size (options h) && not (is_same_size (size h) (width, height))) (size_told (width, height)) (size-fits (width, height))
+replies-fit h (proposed func value) = list-fits (triple_of func value ∷ []) (omega arith)
+
+-- So does everything that was said.
+pub sent-fits : (h : History) → All Fits (sent h)
+sent-fits (begun width height limit) = none
+sent-fits (next h e) = both (sent h) (replies h e) (sent-fits h) (replies-fit h e)

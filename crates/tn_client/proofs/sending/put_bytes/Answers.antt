@@ -1,0 +1,6 @@
+use Rattle.std.proofs.Common.{◌++◌, ap, ◌∙◌, ℕ, List}
+use Rattle.tn_client.proofs.Growing.{spells_bytes}
+use Rattle.tn_client.proofs.sending.put_bytes.Goals as goal
+
+pub returns-in-Ok-clause-ok : goal.returns-in-Ok-clause-ok
+returns-in-Ok-clause-ok c = c.in-Ok.ensures.ok ∙ ap (λ (xs : List ℕ). c.args.out.now.items ++ xs) (spells_bytes c.args.bytes.now)

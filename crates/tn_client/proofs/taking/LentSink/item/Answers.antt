@@ -1,0 +1,11 @@
+use Rattle.std.proofs.Common.{refl}
+use Rattle.tn_client.proofs.Loans.{took_item, refused_item}
+use Rattle.tn_client.proofs.taking.LentSink.item.Goals as goal
+
+pub returns-in-Ok-clause-ok : goal.returns-in-Ok-clause-ok
+returns-in-Ok-clause-ok c =
+    took_item c.args.self.now _ c.args.item (record { end = refl; out = refl; screen = refl }) c.in-Ok.ensures.ok c.in-Ok.ensures.out c.in-Ok.ensures.screen
+
+pub returns-in-Err-clause-err : goal.returns-in-Err-clause-err
+returns-in-Err-clause-err c =
+    refused_item c.args.self.now _ c.args.item (record { end = refl; out = refl; screen = refl }) c.in-Err.ensures.cut c.in-Err.ensures.err c.in-Err.ensures.grows

@@ -1,0 +1,45 @@
+-- A client end from outside: the pieces of its stream, cut anywhere, and the calls between them.
+use Rattle.std.specs.Prelude.{◌≡◌, ℕ, List, [], ◌++◌}
+use Rattle.tn_nvt.specs.Standing.{HasRead}
+use Rattle.tn_nvt.specs.Stream.{Reading}
+use Rattle.tn_nvt.specs.declared.items.Item.{Item}
+use Rattle.tn_client.specs.Events.{Event, typed, got, resized, proposed, History, begun, next, items, gets}
+use Rattle.tn_client.specs.Standing.{End, Stands}
+
+pub data Course : Type 0 where
+  -- with a window of this width and height, and lines of at most so many bytes
+  started : ℕ → ℕ → ℕ → Course
+  fed : Course → List ℕ → Course
+  called : Course → Event → Course
+
+-- the bytes that came
+abbrev pub stream : Course → List ℕ
+stream (started width height limit) = []
+stream (fed c piece) = stream c ++ piece
+stream (called c e) = stream c
+
+-- no item comes by a call
+abbrev pub IsCall : Event → Type 0
+IsCall (typed key) = Unit {0}
+IsCall (got item) = ⊥
+IsCall (resized width height) = Unit {0}
+IsCall (proposed func value) = Unit {0}
+
+-- these are the items of these bytes
+abbrev pub IsRead : List ℕ → List Item → Type 0
+IsRead bytes read = (rest : List ℕ) × Reading bytes read rest
+
+-- this is the history of the course: a piece brings the items that the longer stream has more
+abbrev pub Leads : Course → History → Type 0
+Leads (started width height limit) h = h ≡ begun width height limit
+Leads (fed c piece) h =
+    (old : History) × (more : List Item) × Leads c old
+    × IsRead (stream c ++ piece) (items old ++ more) × (h ≡ gets old more)
+Leads (called c e) h = (old : History) × Leads c old × IsCall e × (h ≡ next old e)
+
+-- the course leads to this end
+pub record IsAt (c : Course) (end : End) : Type 0 where
+  pub history : History
+  pub leads : Leads c history
+  pub stands : Stands history end
+  pub reads : HasRead end.decoder (stream c) (items history)

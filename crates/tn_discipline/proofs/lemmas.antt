@@ -1,0 +1,6 @@
+pub mod Functions
+pub mod KeyRoles
+pub mod Histories
+pub mod Reached
+pub mod Forwards
+pub mod Lines

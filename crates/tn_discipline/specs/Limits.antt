@@ -1,0 +1,18 @@
+-- How many bytes a line of a terminal has at most, with its closing byte (MAX_CANON; XBD 11.1.6).
+use Rattle.std.specs.Prelude.{ℕ, ◌-◌, Bool, ◌&&◌, nat_le}
+
+-- what every terminal has (_POSIX_MAX_CANON), and one that nobody has changed
+abbrev pub standard_limit : ℕ
+standard_limit = 255
+
+-- what none has more of here
+abbrev pub greatest_limit : ℕ
+greatest_limit = 4095
+
+-- a line can have this limit
+abbrev pub is_limit : ℕ → Bool
+is_limit limit = nat_le standard_limit limit && nat_le limit greatest_limit
+
+-- how many bytes a line counts at most before its closing byte
+abbrev pub most_counted : ℕ → ℕ
+most_counted limit = limit - 1

@@ -1,0 +1,59 @@
+ghost use Rattle.std.specs.Prelude.{◌≡◌, Some, None, true, if◌then◌else◌};
+ghost use Rattle.tn_discipline.specs.Limits.{standard_limit, is_limit};
+
+use std::marker::Model;
+
+/// The limit of a terminal that nobody has changed, which every terminal has at least.
+const STANDARD_BYTES: u16 = 255;
+
+const GREATEST_BYTES: u16 = 4095;
+
+/// How many bytes a line of a terminal has at most, with its closing byte: MAX_CANON of
+/// POSIX.1-2017, XBD 11.1.6, from 255 to 4,095.
+#[derive(Clone, Copy, Debug, PartialEq, Eq)]
+pub struct Limit {
+    bytes: u16,
+}
+
+impl Model for Limit {
+    ghost use Rattle.std.specs.Prelude.{ℕ, ◌≡◌, true};
+    ghost use Rattle.tn_discipline.specs.Limits.{is_limit};
+
+    ghost Value = { ℕ };
+
+    ghost view = { λ limit. limit.bytes };
+
+    ghost invariant = { λ limit. is_limit limit.bytes ≡ true };
+
+    ghost inverse = { λ bytes. record { bytes = bytes } };
+}
+
+impl Limit {
+    /// A limit of so many bytes; `None` of fewer than 255 and of more than 4,095.
+    pub fn new(bytes: u16) -> Option<Limit>
+        ensures { result ≡ (if is_limit bytes then Some bytes else None) }
+    {
+        if (STANDARD_BYTES..=GREATEST_BYTES).contains(&bytes) {
+            Some(Limit { bytes })
+        } else {
+            None
+        }
+    }
+
+    /// 255 bytes, which POSIX.1-2017 asks of every terminal (_POSIX_MAX_CANON).
+    pub fn standard() -> Limit
+        ensures { result ≡ standard_limit }
+    {
+        Limit {
+            bytes: STANDARD_BYTES,
+        }
+    }
+
+    /// The number of bytes.
+    pub fn bytes(self) -> u16
+        ensures value { result ≡ self }
+        ensures within { is_limit self ≡ true }
+    {
+        self.bytes
+    }
+}

@@ -1,0 +1,42 @@
+-- A list cut at an index: the rest of a piece, a front of that, and its first byte.
+use Rattle.std.proofs.Common.{◌≡◌, ℕ, suc, ◌-◌, ◌+◌, ◌≤◌, All, List, ◌++◌, take, drop, get_or, length, sym, ap, ◌∙◌, arith, ◌∷◌, ◌<◌, length-drop, length-take-le, take-append-drop, drop-drop, drop-cons}
+use Rattle.std.proofs.lemmas.List.{take_all, get_or-drop}
+use Rattle.std.proofs.Math.Seq.{take-add}
+use Rattle.tn_nvt.specs.Sinks.{IsPlain, IsRun}
+
+pub rest_is : (xs : List ℕ) (i : ℕ) → take (length xs - i) (drop i xs) ≡ drop i xs
+rest_is xs i = take_all (length xs - i) (drop i xs) (omega (arith, length-drop i xs))
+
+pub front_is : (xs : List ℕ) (i n : ℕ) → take (i + n) xs ≡ take i xs ++ take n (take (length xs - i) (drop i xs))
+front_is xs i n = rw (rest_is xs i) (take-add i n xs)
+
+pub back_is : (xs : List ℕ) (i n : ℕ) → drop (i + n) xs ≡ drop n (take (length xs - i) (drop i xs))
+back_is xs i n = rw (rest_is xs i) (sym (drop-drop n i xs))
+
+pub whole_is : (xs : List ℕ) (i n : ℕ) → xs ≡ (take i xs ++ take n (take (length xs - i) (drop i xs))) ++ drop n (take (length xs - i) (drop i xs))
+whole_is xs i n = rw (← front_is xs i n, ← back_is xs i n) (sym (take-append-drop (i + n) xs))
+
+pub within_is : (xs : List ℕ) (i n : ℕ) → i ≤ length xs → n ≤ length (take (length xs - i) (drop i xs)) → i + n ≤ length xs
+within_is xs i n low high =
+    let h = rw (rest_is xs i) at high in
+    omega (arith, length-drop i xs)
+
+pub parts_is : (xs : List ℕ) (i n : ℕ) → drop i xs ≡ take n (take (length xs - i) (drop i xs)) ++ drop n (take (length xs - i) (drop i xs))
+parts_is xs i n = sym (rest_is xs i) ∙ sym (take-append-drop n (take (length xs - i) (drop i xs)))
+
+pub first_of : (xs : List ℕ) (i : ℕ) → i < length xs → drop i xs ≡ get_or xs i 0 ∷ drop (i + 1) xs
+first_of xs i lt =
+    let next : suc i ≡ i + 1 = omega arith in
+    drop-cons xs i 0 lt ∙ ap (λ (k : ℕ). get_or xs i 0 ∷ drop k xs) next
+
+pub run_is : (rest : List ℕ) (n : ℕ) → 0 < n → n ≤ length rest → All IsPlain (take n rest) → IsRun (take n rest)
+run_is rest n some within plain = record { some = omega (arith, length-take-le n rest within); plain = plain }
+
+-- a byte of the rest is one of the piece
+pub byte_is : (xs : List ℕ) (i k : ℕ) → get_or (take (length xs - i) (drop i xs)) k 0 ≡ get_or xs (i + k) 0
+byte_is xs i k = rw (rest_is xs i) (get_or-drop i xs k 0)
+
+pub index_is : (xs : List ℕ) (i k : ℕ) → i < length xs → k < length (take (length xs - i) (drop i xs)) → i + k < length xs
+index_is xs i k lt within =
+    let h = rw (rest_is xs i) at within in
+    omega (arith, length-drop i xs)

@@ -1,0 +1,207 @@
+-- From what a sink took of each byte and each run to what it took of a piece.
+use Rattle.std.proofs.Common.{◌≡◌, ℕ, ◌+◌, ◌-◌, ◌<◌, inl, inr, length, take, drop, get_or, List, [], ◌∷◌, ◌++◌, map, Result, Ok, Err, OnErr, IsErrOf, refl, sym, ◌∙◌, ap, subst, append-nil, append_assoc}
+use Rattle.std.proofs.lemmas.Grind.{flat_map-append}
+use Rattle.tn_nvt.specs.declared.decoding.NvtFault.{NvtFault}
+use Rattle.tn_nvt.specs.declared.items.Item.{Item}
+use Rattle.tn_nvt.specs.declared.items.Item.TheVariants.{Byte}
+use Rattle.tn_nvt.specs.declared.places.Place.{Place}
+use Rattle.tn_nvt.specs.declared.places.Place.TheVariants as place
+use Rattle.tn_nvt.specs.Machine.{Progress, Outside, standing, Advances, Keeps}
+use Rattle.tn_nvt.specs.Sinks.{IsRun, EndsRun, AreSpecial, Part, run, said, bytes_of, part_bytes, calls_of, part_calls, all_of, AreLongest, TakesEach, Hands, Refuses, Wants}
+use Rattle.tn_nvt.specs.Runs.{pending, singles, RefusesEach, Handed, HandedPart}
+use Rattle.tn_nvt.specs.Standing.{Standing, IsLetGo}
+use Rattle.tn_nvt.proofs.Cuts.{front_is, back_is, parts_is, first_of}
+use Rattle.tn_nvt.proofs.LettingGo.{wants_none}
+use Rattle.tn_nvt.proofs.Steps.{Advances-none, Advances-append}
+use Rattle.tn_nvt.proofs.Feeding.{Adds-from_advances, kept}
+
+-- what holds anyway holds at a refusal
+pub on_err : {T E : Type 0} (r : Result T E) (P : Type 0) → P → OnErr r P
+on_err (Ok x) P p = tt
+on_err (Err e) P p = p
+
+err_is : {T : Type 0} (x y : NvtFault) → IsErrOf {T = T} (Err x) y → x ≡ y
+err_is x y h = cc
+
+pub same_fault : {T U : Type 0} (x y : NvtFault) → IsErrOf {T = T} (Err x) y → IsErrOf {T = U} (Err x) y
+same_fault x y h = ap (λ z. Err z) (err_is x y h)
+
+-- PARTS
+
+all_singles : (items : List Item) → all_of (singles items) ≡ items
+all_singles [] = refl
+all_singles (item ∷ items) = ap (λ xs. item ∷ xs) (all_singles items)
+
+all_more : (calls more : List (List Item)) → all_of (calls ++ more) ≡ all_of calls ++ all_of more
+all_more = flat_map-append (λ call. call)
+
+bytes_more : (ps qs : List Part) → bytes_of (ps ++ qs) ≡ bytes_of ps ++ bytes_of qs
+bytes_more = flat_map-append part_bytes
+
+calls_more : (ps qs : List Part) → calls_of (ps ++ qs) ≡ calls_of ps ++ calls_of qs
+calls_more = flat_map-append part_calls
+
+longest_more : (ps qs : List Part) (last : List ℕ) → AreLongest ps (bytes_of qs ++ last) → AreLongest qs last → AreLongest (ps ++ qs) last
+longest_more [] qs last p q = q
+longest_more (run bytes ∷ ps) qs last p q =
+    let whole : bytes_of ps ++ (bytes_of qs ++ last) ≡ bytes_of (ps ++ qs) ++ last = sym (append_assoc (bytes_of ps) (bytes_of qs) last) ∙ ap (λ x. x ++ last) (sym (bytes_more ps qs)) in
+    (p.0, subst EndsRun whole p.1, longest_more ps qs last p.2 q)
+longest_more (said bytes items ∷ ps) qs last p q = (p.0, longest_more ps qs last p.1 q)
+
+pending_special : (here : Place) → AreSpecial (pending here)
+pending_special place.Outside = tt
+pending_special place.AfterCr = (inl refl, tt)
+pending_special place.AfterIac = tt
+pending_special (place.AfterVerb verb) = tt
+pending_special place.Inside = tt
+pending_special place.InsideIac = tt
+pending_special place.Failed = tt
+
+run_items : (items : List Item) (bytes : List ℕ) → items ++ map Byte bytes ≡ all_of (singles items ++ map Byte bytes ∷ [])
+run_items items bytes = ap (λ x. x ++ map Byte bytes) (sym (all_singles items)) ∙ ap (λ x. all_of (singles items) ++ x) (sym (append-nil (map Byte bytes))) ∙ sym (all_more (singles items) (map Byte bytes ∷ []))
+
+module _ {S : Type 0} (takes gives_up : S → List Item → S → Type 0) where
+  -- CALLS
+
+  pub TakesEach-append : (cs ds : List (List Item)) (a b c : S) → TakesEach takes a cs b → TakesEach takes b ds c → TakesEach takes a (cs ++ ds) c
+  TakesEach-append [] ds a b c p q = subst (λ x. TakesEach takes x ds c) (sym p) q
+  TakesEach-append (d ∷ cs) ds a b c p q = (p.0, p.1, TakesEach-append cs ds p.0 b c p.2 q)
+
+  pub takes_one : (a b : S) (call : List Item) → takes a call b → TakesEach takes a (call ∷ []) b
+  takes_one a b call t = (b, t, refl)
+
+  pub takes_two : (a b c : S) (call next : List Item) → takes a call b → takes b next c → TakesEach takes a (call ∷ next ∷ []) c
+  takes_two a b c call next t u = (b, t, (c, u, refl))
+
+  pub refuses_first : (left : List Item) (unseen : List (List Item)) (a b : S) → gives_up a left b → RefusesEach takes gives_up a (left ∷ unseen) b
+  refuses_first left unseen a b u = record { done = []; left = left; unseen = unseen; all = refl; middle = a; taken = refl; given_up = u }
+
+  pub refuses_second : (first left : List Item) (a b c : S) → takes a first b → gives_up b left c → RefusesEach takes gives_up a (first ∷ left ∷ []) c
+  refuses_second first left a b c t u = record { done = first ∷ []; left = left; unseen = []; all = refl; middle = b; taken = takes_one a b first t; given_up = u }
+
+  -- A PIECE
+
+  -- the sink took what the front of a piece completes, before these last bytes of the piece
+  pub record HandedFront (here : Progress) (front last : List ℕ) (before after : S) (next : Progress) : Type 0 where
+    pub parts : List Part
+    pub bytes : front ≡ bytes_of parts
+    pub longest : AreLongest parts last
+    pub taken : TakesEach takes before (calls_of parts) after
+    pub advances : Advances here front (all_of (calls_of parts)) next
+
+  pub handed_none : (here : Progress) (last : List ℕ) (a : S) → HandedFront here [] last a a here
+  handed_none here last a = record { parts = []; bytes = refl; longest = tt; taken = refl; advances = Advances-none here }
+
+  -- some parts more
+  joined : (here middle next : Progress) (front more last : List ℕ) (a b c : S) (h : HandedFront here front (more ++ last) a b middle) (qs : List Part) → more ≡ bytes_of qs → AreLongest qs last
+      → TakesEach takes b (calls_of qs) c → Advances middle more (all_of (calls_of qs)) next → HandedFront here (front ++ more) last a c next
+  joined here middle next front more last a b c h qs bytes longest taken advances = record {
+    parts = h.parts ++ qs;
+    bytes = ap (λ x. x ++ more) h.bytes ∙ ap (λ x. bytes_of h.parts ++ x) bytes ∙ sym (bytes_more h.parts qs);
+    longest = longest_more h.parts qs last (subst (λ x. AreLongest h.parts (x ++ last)) bytes h.longest) longest;
+    taken = subst (λ x. TakesEach takes a x c) (sym (calls_more h.parts qs)) (TakesEach-append (calls_of h.parts) (calls_of qs) a b c h.taken taken);
+    advances =
+        subst (λ x. Advances here (front ++ more) x next) (sym (all_more (calls_of h.parts) (calls_of qs)) ∙ ap all_of (sym (calls_more h.parts qs)))
+        (Advances-append here middle next front more (all_of (calls_of h.parts)) (all_of (calls_of qs)) h.advances advances);
+  }
+
+  said_calls : (byte : ℕ) (items : List Item) → singles items ≡ calls_of (said (byte ∷ []) items ∷ [])
+  said_calls byte items = sym (append-nil (singles items))
+
+  said_items : (byte : ℕ) (items : List Item) → items ≡ all_of (calls_of (said (byte ∷ []) items ∷ []))
+  said_items byte items = sym (all_singles items) ∙ ap all_of (said_calls byte items)
+
+  pub handed_byte : (here middle next : Progress) (front last : List ℕ) (byte : ℕ) (a b c : S) → HandedFront here front (byte ∷ last) a b middle → Handed takes middle byte b c next → HandedFront here (front ++ byte ∷ []) last a c next
+  handed_byte here middle next front last byte a b c h k =
+      joined here middle next front (byte ∷ []) last a b c h (said (byte ∷ []) k.items ∷ []) refl (k.special, tt)
+      (subst (λ x. TakesEach takes b x c) (said_calls byte k.items) k.taken)
+      (subst (λ x. Advances middle (byte ∷ []) x next) (said_items byte k.items) k.advances)
+
+  run_parts : Place → List ℕ → List Part
+  run_parts here bytes = said [] (pending here) ∷ run bytes ∷ []
+
+  pub handed_run : (here middle : Progress) (at : Place) (front bytes last : List ℕ) (a b c : S) → HandedFront here front (bytes ++ last) a b middle → IsRun bytes → EndsRun last
+      → Advances middle bytes (pending at ++ map Byte bytes) Outside → TakesEach takes b (singles (pending at) ++ map Byte bytes ∷ []) c → HandedFront here (front ++ bytes) last a c Outside
+  handed_run here middle at front bytes last a b c h is ends advances taken =
+      joined here middle Outside front bytes last a b c h (said [] (pending at) ∷ run bytes ∷ []) (sym (append-nil bytes)) (pending_special at, (is, ends, tt))
+      taken
+      (subst (λ x. Advances middle bytes x Outside) (run_items (pending at) bytes) advances)
+
+  pub Hands-from_front : (here next : Progress) (piece : List ℕ) (a b : S) → HandedFront here piece [] a b next → Hands takes (standing here) piece a b (standing next)
+  Hands-from_front here next piece a b h =
+      record { parts = h.parts; whole = h.bytes; longest = h.longest; taken = h.taken; adds = Adds-from_advances here next piece (all_of (calls_of h.parts)) h.advances }
+
+  -- the calls of further parts were refused
+  refused_in : (here middle next : Progress) (piece front more last : List ℕ) (a b c : S) (h : HandedFront here front (more ++ last) a b middle) (qs : List Part) → piece ≡ (front ++ more) ++ last → more ≡ bytes_of qs → AreLongest qs last
+      → RefusesEach takes gives_up b (calls_of qs) c → Advances middle more (all_of (calls_of qs)) next → Refuses takes gives_up (standing here) piece a c
+  refused_in here middle next piece front more last a b c h qs whole bytes longest refused advances =
+      let both : front ++ more ≡ bytes_of (h.parts ++ qs) = ap (λ x. x ++ more) h.bytes ∙ ap (λ x. bytes_of h.parts ++ x) bytes ∙ sym (bytes_more h.parts qs) in
+      let on = Advances-append here middle next front more (all_of (calls_of h.parts)) (all_of (calls_of qs)) h.advances advances in
+      let items : all_of (calls_of h.parts) ++ all_of (calls_of qs) ≡ all_of (calls_of (h.parts ++ qs)) = sym (all_more (calls_of h.parts) (calls_of qs)) ∙ ap all_of (sym (calls_more h.parts qs)) in
+      record {
+        parts = h.parts ++ qs;
+        back = last;
+        whole = whole ∙ ap (λ x. x ++ last) both;
+        longest = longest_more h.parts qs last (subst (λ x. AreLongest h.parts (x ++ last)) bytes h.longest) longest;
+        done = calls_of h.parts ++ refused.done;
+        left = refused.left;
+        unseen = refused.unseen;
+        calls = calls_more h.parts qs ∙ ap (λ x. calls_of h.parts ++ x) refused.all ∙ sym (append_assoc (calls_of h.parts) refused.done (refused.left ∷ refused.unseen));
+        here = standing next;
+        adds = Adds-from_advances here next (bytes_of (h.parts ++ qs)) (all_of (calls_of (h.parts ++ qs))) (subst (λ x. Advances here x (all_of (calls_of (h.parts ++ qs))) next) both (subst (λ x. Advances here (front ++ more) x next) items on));
+        middle = refused.middle;
+        taken = TakesEach-append (calls_of h.parts) refused.done a b refused.middle h.taken refused.taken;
+        given_up = refused.given_up;
+      }
+
+  pub Refuses-from_byte : (here middle : Progress) (piece front last : List ℕ) (byte : ℕ) (a b c : S) → HandedFront here front (byte ∷ last) a b middle → piece ≡ (front ++ byte ∷ []) ++ last → HandedPart takes gives_up middle byte b c → Refuses takes gives_up (standing here) piece a c
+  Refuses-from_byte here middle piece front last byte a b c h whole p =
+      refused_in here middle p.next piece front (byte ∷ []) last a b c h (said (byte ∷ []) p.items ∷ []) whole refl (p.special, tt)
+      (subst (λ x. RefusesEach takes gives_up b x c) (said_calls byte p.items) p.refused)
+      (subst (λ x. Advances middle (byte ∷ []) x p.next) (said_items byte p.items) p.advances)
+
+  pub Refuses-from_run : (here middle : Progress) (at : Place) (piece front bytes last : List ℕ) (a b c : S) → HandedFront here front (bytes ++ last) a b middle → piece ≡ (front ++ bytes) ++ last → IsRun bytes → EndsRun last
+      → Advances middle bytes (pending at ++ map Byte bytes) Outside → RefusesEach takes gives_up b (singles (pending at) ++ map Byte bytes ∷ []) c → Refuses takes gives_up (standing here) piece a c
+  Refuses-from_run here middle at piece front bytes last a b c h whole is ends advances refused =
+      refused_in here middle Outside piece front bytes last a b c h (said [] (pending at) ∷ run bytes ∷ []) whole (sym (append-nil bytes)) (pending_special at, (is, ends, tt))
+      refused
+      (subst (λ x. Advances middle bytes x Outside) (run_items (pending at) bytes) advances)
+
+  pub Wants-from_front : (here next : Progress) (piece front last : List ℕ) (byte : ℕ) (a b : S) → piece ≡ front ++ byte ∷ last → HandedFront here front (byte ∷ last) a b next → Keeps next byte → Wants takes (standing here) piece a b
+  Wants-from_front here next piece front last byte a b whole h k = record {
+    parts = h.parts;
+    byte = byte;
+    back = last;
+    whole = whole ∙ ap (λ x. x ++ byte ∷ last) h.bytes;
+    longest = h.longest;
+    taken = h.taken;
+    here = standing next;
+    adds = Adds-from_advances here next (bytes_of h.parts) (all_of (calls_of h.parts)) (subst (λ x. Advances here x (all_of (calls_of h.parts)) next) h.bytes h.advances);
+    wanted = kept next byte k;
+  }
+
+  -- no byte of a subnegotiation that is let go wanted memory
+  pub wants_nothing : (old : Standing) (piece : List ℕ) (a b : S) → IsLetGo old piece → Wants takes old piece a b → ⊥
+  wants_nothing old piece a b lets_go w =
+      wants_none old piece [] (all_of (calls_of w.parts)) 0 lets_go
+      (record { front = bytes_of w.parts; byte = w.byte; back = w.back; whole = w.whole; items = all_of (calls_of w.parts); appended = refl; here = w.here; adds = w.adds; wanted = inr w.wanted })
+
+  -- AT AN INDEX OF THE PIECE
+
+  -- a front of what is left, and the others
+  pub at_front : (here middle : Progress) (xs : List ℕ) (i n : ℕ) (a b : S) → HandedFront here (take i xs) (drop i xs) a b middle
+      → HandedFront here (take i xs) (take n (take (length xs - i) (drop i xs)) ++ drop n (take (length xs - i) (drop i xs))) a b middle
+  at_front here middle xs i n a b h = subst (λ x. HandedFront here (take i xs) x a b middle) (parts_is xs i n) h
+
+  -- its first byte, and the others
+  pub at_byte : (here middle : Progress) (xs : List ℕ) (i : ℕ) (a b : S) → i < length xs → HandedFront here (take i xs) (drop i xs) a b middle
+      → HandedFront here (take i xs) (get_or xs i 0 ∷ drop (i + 1) xs) a b middle
+  at_byte here middle xs i a b lt h = subst (λ x. HandedFront here (take i xs) x a b middle) (first_of xs i lt) h
+
+  -- after bytes that complete nothing
+  pub handed_skip : (here middle next : Progress) (xs : List ℕ) (i k : ℕ) (a b : S) → HandedFront here (take i xs) (drop i xs) a b middle
+      → Advances middle (take k (take (length xs - i) (drop i xs))) [] next → HandedFront here (take (i + k) xs) (drop (i + k) xs) a b next
+  handed_skip here middle next xs i k a b h advances =
+      let rest = take (length xs - i) (drop i xs) in
+      rw (front_is xs i k, back_is xs i k)
+      (joined here middle next (take i xs) (take k rest) (drop k rest) a b b (at_front here middle xs i k a b h) (said (take k rest) [] ∷ []) (sym (append-nil (take k rest))) (tt, tt) refl advances)

@@ -1,0 +1,5 @@
+pub mod Histories
+pub mod Ends
+pub mod Terms
+pub mod Fitting
+pub mod Courses

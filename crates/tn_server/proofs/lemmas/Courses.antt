@@ -1,0 +1,155 @@
+-- Where a course leads.
+use Rattle.std.proofs.Common.{◌≡◌, ◌<◌, ℕ, List, [], ◌∷◌, ◌++◌, length, map, take, drop, refl, sym, ap, ◌∙◌, subst, append-nil, append_assoc, arith, min, ◌≤◌}
+use Rattle.std.proofs.Math.Seq.{take-length}
+use Rattle.std.specs.Prelude.{All}
+use Rattle.std.proofs.lemmas.List.Elements.{All-head, All-tail}
+use Rattle.tn_discipline.specs.declared.echo.Symbol.{Symbol}
+use Rattle.tn_pty.specs.Terminal.{output, outputs, fits}
+use Rattle.tn_discipline.specs.declared.termios.Flags.{Flags}
+use Rattle.std.specs.List.{flat_map}
+use Rattle.std.proofs.lemmas.List.{append_cancel_left}
+use Rattle.tn_discipline.specs.Canon.{Canon}
+use Rattle.tn_nvt.specs.Standing.{HasRead}
+use Rattle.tn_nvt.specs.Stream.{Reading}
+use Rattle.tn_nvt.specs.declared.items.Item.{Item}
+use Rattle.tn_nvt.proofs.lemmas.Reading.{one_reading, reads_on, reads_none, has_reading}
+use Rattle.tn_server.specs.Course.{Course, started, fed, called, stream, IsCall, IsRead, Leads, IsAt, in_parts}
+use Rattle.tn_server.specs.Events.{Event, History, begun, next, got, took, wrote, pulled, wished, char_set, echo_set, items, gets}
+use Rattle.tn_server.specs.Replies.{data_of, sent}
+use Rattle.tn_server.specs.Screen.{queue}
+use Rattle.tn_server.specs.Terms.{settings}
+use Rattle.tn_server.specs.Standing.{End, Stands, Goes, Keeps, Feeds}
+use Rattle.tn_server.proofs.lemmas.Histories.{items-gets, gets-append}
+
+same_more : (old other : History) (xs ys : List Item) → old ≡ other → items old ++ xs ≡ items other ++ ys → xs ≡ ys
+same_more old other xs ys is same = append_cancel_left (items old) xs ys (same ∙ ap (λ (h : History). items h ++ ys) (sym is))
+
+pub one_history : (c : Course) (h k : History) → Leads c h → Leads c k → h ≡ k
+one_history (started canon) h k a b = a ∙ sym b
+one_history (fed c piece) h k (old, more, leads, read, is) (other, others, also, reads, same) =
+    let one = one_history c old other leads also in
+    let all = one_reading (stream c ++ piece) read.0 reads.0 (items old ++ more) (items other ++ others) read.1 reads.1 in
+    is ∙ ap (λ (h : History). gets h more) one ∙ ap (gets other) (same_more old other more others one all.0) ∙ sym same
+one_history (called c e) h k (old, leads, call, is) (other, also, calls, same) =
+    is ∙ ap (λ (h : History). next h e) (one_history c old other leads also) ∙ sym same
+
+pub begins : (canon : Canon) (end : End) → Stands (begun canon) end → HasRead end.decoder [] [] → IsAt (started canon) end
+begins canon end stands reads = record { history = begun canon; leads = refl; stands = stands; reads = reads }
+
+pub fed_on : (c : Course) (old new : End) (piece before after : List ℕ) → IsAt c old → Feeds old piece before after new → IsAt (fed c piece) new
+fed_on c old new piece before after a f =
+    let read = f.reads (stream c) (items a.history) a.reads in
+    record {
+      history = gets a.history f.items;
+      leads = (a.history, f.items, a.leads, (read.rest, read.reading), refl);
+      stands = f.stands a.history a.stands;
+      reads = subst (HasRead new.decoder (stream c ++ piece)) (sym (items-gets a.history f.items)) read;
+    }
+
+pub fed_says : (c : Course) (old new : End) (piece before after : List ℕ) (h k : History) → IsAt c old → (f : Feeds old piece before after new) → Leads c h → Leads (fed c piece) k → sent k ≡ sent h ++ f.said
+fed_says c old new piece before after h k a f leads also =
+    let read = f.reads (stream c) (items a.history) a.reads in
+    ap sent (one_history (fed c piece) k (gets a.history f.items) also (a.history, f.items, a.leads, (read.rest, read.reading), refl))
+    ∙ f.sends a.history a.stands
+    ∙ ap (λ (x : History). sent x ++ f.said) (one_history c a.history h a.leads leads)
+
+pub called_on : (c : Course) (old new : End) (e : Event) (before after : List ℕ) → IsAt c old → IsCall e → Goes old e before after new → Keeps old new → IsAt (called c e) new
+called_on c old new e before after a call g keeps = record {
+  history = next a.history e;
+  leads = (a.history, a.leads, call, refl);
+  stands = g.stands a.history a.stands;
+  reads = subst (λ d. HasRead d (stream c) (items (next a.history e))) (sym keeps.decoder) (subst (HasRead old.decoder (stream c)) (sym (calls_read e call)) a.reads);
+}
+  where
+    calls_read : (e : Event) → IsCall e → items (next a.history e) ≡ items a.history
+    calls_read (got item) is = absurd is
+    calls_read took is = refl
+    calls_read (wrote bytes) is = refl
+    calls_read (pulled n) is = refl
+    calls_read (wished editing) is = refl
+    calls_read (char_set func value) is = refl
+    calls_read (echo_set on) is = refl
+
+-- the items of a history are those of the stream
+pub reads_all : (c : Course) (h : History) → Leads c h → IsRead (stream c) (items h)
+reads_all (started canon) h is = ([], subst (λ xs. Reading [] xs []) (sym (ap items is)) reads_none)
+reads_all (fed c piece) h (old, more, leads, read, is) =
+    (read.0, subst (λ xs. Reading (stream c ++ piece) xs read.0) (sym (ap items is ∙ items-gets old more)) read.1)
+reads_all (called c e) h (old, leads, call, is) =
+    let read = reads_all c old leads in
+    (read.0, subst (λ xs. Reading (stream c) xs read.0) (sym (ap items is ∙ calls_read old e call)) read.1)
+  where
+    calls_read : (old : History) (e : Event) → IsCall e → items (next old e) ≡ items old
+    calls_read old (got item) is = absurd is
+    calls_read old took is = refl
+    calls_read old (wrote bytes) is = refl
+    calls_read old (pulled n) is = refl
+    calls_read old (wished editing) is = refl
+    calls_read old (char_set func value) is = refl
+    calls_read old (echo_set on) is = refl
+
+pub joined : (c : Course) (p q : List ℕ) (h : History) → Leads (fed (fed c p) q) h → Leads (fed c (p ++ q)) h
+joined c p q h (mid, last, (old, more, leads, read, is_mid), reads, is) = (
+  old,
+  more ++ last,
+  leads,
+  (
+    reads.0,
+    subst (λ xs. Reading xs (items old ++ (more ++ last)) reads.0) (append_assoc (stream c) p q)
+        (subst (λ xs. Reading ((stream c ++ p) ++ q) xs reads.0) (ap (λ xs. xs ++ last) (ap items is_mid ∙ items-gets old more) ∙ append_assoc (items old) more last) reads.1),
+  ),
+  is ∙ ap (λ (x : History). gets x last) is_mid ∙ sym (gets-append old more last),
+)
+
+pub parted : (c : Course) (p q : List ℕ) (h : History) → All (λ b. b < 256) (stream c ++ p) → Leads (fed c (p ++ q)) h → Leads (fed (fed c p) q) h
+parted c p q h bytes (old, all, leads, reads, is) =
+    let before = reads_all c old leads in
+    let here = has_reading (stream c ++ p) bytes in
+    let first = reads_on (stream c) p before.0 here.1 (items old) here.0 before.1 here.2 in
+    let whole = subst (λ xs. Reading xs (items old ++ all) reads.0) (sym (append_assoc (stream c) p q)) reads.1 in
+    let second = reads_on (stream c ++ p) q here.1 reads.0 here.0 (items old ++ all) here.2 whole in
+    let split : all ≡ first.0 ++ second.0 =
+    append_cancel_left (items old) all (first.0 ++ second.0) (second.1 ∙ ap (λ xs. xs ++ second.0) first.1 ∙ append_assoc (items old) first.0 second.0) in
+    let mid = gets old first.0 in (
+      mid,
+      second.0,
+      (old, first.0, leads, (here.1, subst (λ xs. Reading (stream c ++ p) xs here.1) first.1 here.2), refl),
+      (reads.0, subst (λ xs. Reading ((stream c ++ p) ++ q) xs reads.0) (second.1 ∙ ap (λ xs. xs ++ second.0) (first.1 ∙ sym (items-gets old first.0))) whole),
+      is ∙ ap (gets old) split ∙ gets-append old first.0 second.0,
+    )
+
+-- a text that was written in parts, while no symbol waited
+take_all : (n : ℕ) (xs : List ℕ) → length xs ≤ n → take (min (length xs) n) xs ≡ xs
+take_all n xs few = ap (λ (m : ℕ). take m xs) (let e : min (length xs) n ≡ length xs = omega arith in e) ∙ take-length xs
+
+-- one part
+part_waits : (h : History) (part : List ℕ) → queue h ≡ [] → length part ≤ 4096 → queue (next h (wrote part)) ≡ outputs (settings h).flags part
+part_waits h part none few =
+    ap (λ (q : List Symbol). q ++ outputs (settings h).flags (take (fits q part) part)) none
+    ∙ ap (outputs (settings h).flags) (take_all 4096 part few)
+
+pub parts_say : (h : History) (parts : List (List ℕ)) → queue h ≡ [] → All (λ part. length part ≤ 4096) parts → (sent (in_parts h parts) ≡ sent h ++ map data_of (outputs (settings h).flags (flat_map (λ part. part) parts))) × (queue (in_parts h parts) ≡ [])
+parts_say h [] none few = (sym (append-nil (sent h)), none)
+parts_say h (part ∷ parts) none few =
+    let f = (settings h).flags in
+    let here = next h (wrote part) in
+    let q = queue here in
+    let there = next here (pulled (length q)) in
+    let waits = part_waits h part none (All-head (λ p. length p ≤ 4096) part parts few) in
+    let on = parts_say there parts (drop_all q) (All-tail (λ p. length p ≤ 4096) part parts few) in
+    let more = map data_of (outputs f (flat_map (λ p. p) parts)) in
+    let said : sent there ≡ sent h ++ map data_of (outputs f part) =
+    ap (λ xs. xs ++ map data_of (take (length q) q)) (append-nil (sent h))
+    ∙ ap (λ (xs : List Symbol). sent h ++ map data_of xs) (take-length q ∙ waits) in (
+      on.0 ∙ ap (λ xs. xs ++ more) said ∙ append_assoc (sent h) (map data_of (outputs f part)) more
+          ∙ ap (λ xs. sent h ++ xs) (both_shown f part (flat_map (λ p. p) parts)),
+      on.1,
+    )
+  where
+    drop_all : (xs : List Symbol) → drop (length xs) xs ≡ []
+    drop_all [] = refl
+    drop_all (x ∷ xs) = drop_all xs
+
+    both_shown : (f : Flags) (xs ys : List ℕ) → map data_of (outputs f xs) ++ map data_of (outputs f ys) ≡ map data_of (outputs f (xs ++ ys))
+    both_shown f [] ys = refl
+    both_shown f (x ∷ xs) ys = ap (λ zs. data_of (output f x) ∷ zs) (both_shown f xs ys)

@@ -1,0 +1,166 @@
+-- Each item that a server end sends fits a stream.
+use Rattle.std.proofs.Common.{◌≡◌, ◌≤◌, ℕ, Bool, true, false, not, ◌&&◌, nat_le, Option, Some, None, Result, Ok, Err, List, [], ◌∷◌, ◌++◌, map, length, take, if◌then◌else◌, refl, arith, lit≤}
+use Rattle.std.specs.Prelude.{All}
+use Rattle.std.proofs.lemmas.Bool.{leb-true}
+use Rattle.std.proofs.lemmas.List.Elements.{All-nil, All-cons, All-append}
+use Rattle.tn_codes.specs.Payloads.{written, IsShort}
+use Rattle.tn_codes.specs.PayloadOf.{payload_of}
+use Rattle.tn_codes.specs.declared.codes.Command.TheVariants.{Ga}
+use Rattle.tn_codes.specs.declared.codes.Func.{Func}
+use Rattle.tn_codes.specs.declared.codes.Verb.{Verb}
+use Rattle.tn_codes.specs.declared.codes.Verb.TheVariants as verb
+use Rattle.tn_codes.specs.declared.payloads.Payload.{Payload}
+use Rattle.tn_codes.specs.declared.payloads.Payload.TheVariants.{Naws, Mode, ForwardOn, ForwardOff, ForwardYes, ForwardNo, Slc}
+use Rattle.tn_codes.specs.declared.triples.Triple.{Triple}
+use Rattle.tn_codes.proofs.lemmas.Telling.{says as is_said}
+use Rattle.tn_discipline.specs.Characters.{Characters, slot}
+use Rattle.tn_discipline.specs.declared.echo.Symbol.{Symbol}
+use Rattle.tn_discipline.specs.declared.echo.Symbol.TheVariants as symbol
+use Rattle.tn_discipline.specs.declared.termios.Flags.{Flags}
+use Rattle.tn_linemode.specs.Exchange.{announcement, server_answers, is_same_value}
+use Rattle.tn_linemode.specs.Triples.{triple_of}
+use Rattle.tn_nvt.specs.Spelling.{Fits}
+use Rattle.tn_nvt.specs.declared.items.Item.{Item}
+use Rattle.tn_nvt.specs.declared.items.Item.TheVariants.{Byte, Newline, Cmd, Neg, Sub}
+use Rattle.tn_option.specs.Options.{Options, reply_to, answer_to, state_of, is_yes}
+use Rattle.tn_option.specs.declared.q_method.AskFault.{AskFault}
+use Rattle.tn_option.specs.declared.q_method.Side.TheVariants.{Us, Them}
+use Rattle.tn_server.specs.Events.{History, Event, begun, next, got, took, wrote, pulled, wished, char_set, echo_set}
+use Rattle.tn_server.specs.Terms.{Terms, terms, options, flags, chars, linemode, payload_at, heard, wish_at, is_echo_set, wished_after, told_by, asks_echo, asked_of, wants_echo, chars_after}
+use Rattle.tn_server.specs.Screen.{queue, sends_ga, none_waits, due}
+use Rattle.tn_server.specs.Replies.{word, asked_word, word_back, listed, table_asked, table_told, mode_told, echo_told, says_by, says, list_answered, triple_told, data_of, opening, replies, sent}
+use Rattle.tn_server.specs.declared.wishes.Editing.{Editing}
+use Rattle.tn_server.proofs.Listing.{list_fits, length-announcement, says_short, answers_fit}
+
+word_fits : (said : Option (Verb × ℕ)) → All Fits (word said)
+word_fits None = All-nil Fits
+word_fits (Some said) = All-cons Fits (Neg said.0 said.1) [] tt (All-nil Fits)
+
+asked_fits : (r : Result (Option (Verb × ℕ)) AskFault) → All Fits (asked_word r)
+asked_fits (Ok said) = word_fits said
+asked_fits (Err fault) = All-nil Fits
+
+listed_fits : (triples : List Triple) → length triples ≤ 170 → All Fits (listed triples)
+listed_fits [] few = All-nil Fits
+listed_fits (t ∷ ts) few = All-cons Fits (Sub 34 (written (Slc (t ∷ ts)))) [] (list_fits (t ∷ ts) (written (Slc (t ∷ ts))) few refl) (All-nil Fits)
+
+table_fits : (asked : Bool) (c : Characters) → All Fits (table_asked asked c)
+table_fits true c = listed_fits (announcement c) (omega (arith, length-announcement c))
+table_fits false c = All-nil Fits
+
+mode_fits : (mask : Option ℕ) → All Fits (mode_told mask)
+mode_fits None = All-nil Fits
+mode_fits (Some mask) = All-cons Fits (Sub 34 (written (Mode mask))) [] (lit≤ tt) (All-nil Fits)
+
+echo_fits : (due wanted : Bool) (o : Options) → All Fits (echo_told due wanted o)
+echo_fits true wanted o = asked_fits (answer_to o Us 1 wanted)
+echo_fits false wanted o = All-nil Fits
+
+says_by_fits : (f : Flags) (c : Characters) (t : Terms) (o : Options) (editing : Option Editing) (set : Bool) → All Fits (says_by f c t o editing set)
+says_by_fits f c t o editing set =
+    let wish = wished_after f t.wish editing in
+    let echo = echo_told (asks_echo t.options o (told_by t o wish) set) (wants_echo (asked_of o wish) f) o in
+    All-append Fits (table_told (linemode t.options) (linemode o) c) (mode_told (told_by t o wish) ++ echo)
+    (table_fits (linemode o && not (linemode t.options)) c)
+    (All-append Fits (mode_told (told_by t o wish)) echo (mode_fits (told_by t o wish)) (echo_fits (asks_echo t.options o (told_by t o wish) set) (wants_echo (asked_of o wish) f) o))
+
+back_fits : (o : Options) (e : Event) → All Fits (word_back o e)
+back_fits o (got (Neg v option)) = word_fits (reply_to o v option)
+back_fits o (got (Byte b)) = All-nil Fits
+back_fits o (got Newline) = All-nil Fits
+back_fits o (got (Cmd command)) = All-nil Fits
+back_fits o (got (Sub option params)) = All-nil Fits
+back_fits o took = All-nil Fits
+back_fits o (wrote bytes) = All-nil Fits
+back_fits o (pulled n) = All-nil Fits
+back_fits o (wished editing) = All-nil Fits
+back_fits o (char_set func value) = All-nil Fits
+back_fits o (echo_set on) = All-nil Fits
+
+says_fits : (f : Flags) (c : Characters) (t : Terms) (e : Event) → All Fits (says f c t e)
+says_fits f c t e =
+    All-append Fits (word_back t.options e) (says_by f c t (heard t.options e) (wish_at t.options e) (is_echo_set e)) (back_fits t.options e)
+    (says_by_fits f c t (heard t.options e) (wish_at t.options e) (is_echo_set e))
+
+-- a list that counts is short
+abbrev FewTriples : Option Payload → Type 0
+FewTriples (Some (Slc triples)) = length triples ≤ 170
+FewTriples _ = Unit {0}
+
+short_few : (p : Payload) → IsShort p → FewTriples (Some p)
+short_few (Naws width height) s = tt
+short_few (Mode mask) s = tt
+short_few (ForwardOn mask) s = tt
+short_few ForwardOff s = tt
+short_few ForwardYes s = tt
+short_few ForwardNo s = tt
+short_few (Slc triples) s = s
+
+few_of : (option : ℕ) (params : List ℕ) (p : Option Payload) → payload_of option params ≡ p → length params ≤ 512 → FewTriples p
+few_of option params None e few = tt
+few_of option params (Some p) e few = short_few p (says_short option params p (is_said option params p e) few)
+
+few_if : (on : Bool) (option : ℕ) (params : List ℕ) (short : Bool) → nat_le (length params) 512 ≡ short → FewTriples (if on && short then payload_of option params else None)
+few_if true option params true e = few_of option params (payload_of option params) refl (leb-true (length params) 512 e)
+few_if true option params false e = tt
+few_if false option params true e = tt
+few_if false option params false e = tt
+
+few_at : (o : Options) (item : Item) → FewTriples (payload_at o item)
+few_at o (Byte b) = tt
+few_at o Newline = tt
+few_at o (Cmd command) = tt
+few_at o (Neg v option) = tt
+few_at o (Sub option params) = few_if (is_yes (state_of o Them option)) option params (nat_le (length params) 512) refl
+
+answered_fits : (c : Characters) (p : Option Payload) → FewTriples p → All Fits (list_answered c p)
+answered_fits c None few = All-nil Fits
+answered_fits c (Some (Slc triples)) few =
+    All-append Fits (listed (server_answers c triples)) _ (listed_fits (server_answers c triples) (omega (arith, answers_fit c triples, few)))
+    (table_fits _ (chars_after c (Some (Slc triples))))
+answered_fits c (Some (Naws width height)) few = All-nil Fits
+answered_fits c (Some (Mode mask)) few = All-nil Fits
+answered_fits c (Some (ForwardOn mask)) few = All-nil Fits
+answered_fits c (Some ForwardOff) few = All-nil Fits
+answered_fits c (Some ForwardYes) few = All-nil Fits
+answered_fits c (Some ForwardNo) few = All-nil Fits
+
+triple_fits : (told : Bool) (func : Func) (value : Option ℕ) → All Fits (triple_told told func value)
+triple_fits true func value = listed_fits (triple_of func value ∷ []) (lit≤ tt)
+triple_fits false func value = All-nil Fits
+
+data_fits : (symbols : List Symbol) → All Fits (map data_of symbols)
+data_fits [] = All-nil Fits
+data_fits (symbol.Byte b ∷ symbols) = All-cons Fits (Byte b) (map data_of symbols) tt (data_fits symbols)
+data_fits (symbol.Newline ∷ symbols) = All-cons Fits Newline (map data_of symbols) tt (data_fits symbols)
+
+ga_fits : (b : Bool) → All Fits (if b then Cmd Ga ∷ [] else [])
+ga_fits true = All-cons Fits (Cmd Ga) [] tt (All-nil Fits)
+ga_fits false = All-nil Fits
+
+pub replies-fit : (h : History) (e : Event) → All Fits (replies h e)
+replies-fit h (got item) =
+    All-append Fits (says (flags h) (chars h) (terms h) (got item)) (list_answered (chars h) (payload_at (options h) item))
+    (says_fits (flags h) (chars h) (terms h) (got item)) (answered_fits (chars h) (payload_at (options h) item) (few_at (options h) item))
+replies-fit h took = ga_fits (sends_ga (none_waits h) (options h) (due h))
+replies-fit h (wrote bytes) = All-nil Fits
+replies-fit h (pulled n) = data_fits (take n (queue h))
+replies-fit h (wished editing) = says_fits (flags h) (chars h) (terms h) (wished editing)
+replies-fit h (char_set func value) =
+    triple_fits (linemode (options h) && not (is_same_value (slot (chars h) func) value)) func value
+replies-fit h (echo_set on) = says_fits (flags (next h (echo_set on))) (chars h) (terms h) (echo_set on)
+
+neg_fits : (v : Verb) (option : ℕ) (rest : List Item) → All Fits rest → All Fits (Neg v option ∷ rest)
+neg_fits v option rest fit = All-cons Fits (Neg v option) rest tt fit
+
+words_fit : (words : List (Verb × ℕ)) → All Fits (map (λ w. Neg w.0 w.1) words)
+words_fit [] = All-nil Fits
+words_fit (w ∷ words) = neg_fits w.0 w.1 (map (λ w. Neg w.0 w.1) words) (words_fit words)
+
+pub opening-fits : All Fits opening
+opening-fits =
+    words_fit ((verb.DoIt, 34) ∷ (verb.DoIt, 31) ∷ (verb.Will, 3) ∷ (verb.DoIt, 3) ∷ (verb.Will, 1) ∷ [])
+
+pub sent-fit : (h : History) → All Fits (sent h)
+sent-fit (begun canon) = opening-fits
+sent-fit (next h e) = All-append Fits (sent h) (replies h e) (sent-fit h) (replies-fit h e)

@@ -1,0 +1,39 @@
+-- What stays where nothing new is agreed on.
+use Rattle.std.proofs.Common.{◌≡◌, ℕ, ◌==◌, Bool, true, false, Option, None, [], refl, rules}
+use Rattle.tn_discipline.specs.Characters.{Characters}
+use Rattle.tn_discipline.specs.declared.termios.Flags.{Flags}
+use Rattle.tn_linemode.specs.Modes.{mode_of}
+use Rattle.tn_option.specs.Options.{Options, after_wish, state_of}
+use Rattle.tn_server.specs.Terms.{Terms, linemode, asked_while, mode_sent, differ, terms_by, wished_after, echo_asked}
+use Rattle.tn_server.specs.Replies.{says_by, table_told}
+use Rattle.tn_server.specs.declared.wishes.Editing.{Editing}
+
+-- where nothing is new, nothing is said and all stays
+pub differ_self : (b : Bool) → differ b b ≡ false
+differ_self true = refl
+differ_self false = refl
+
+same_number : (n : ℕ) → (n == n) ≡ true
+same_number n = search rules
+
+pub told_again : (on : Bool) (wish : ℕ) → mode_sent on (asked_while on wish) wish ≡ None
+told_again true wish = rw (same_number (mode_of wish)) refl
+told_again false wish = refl
+
+pub table_again : (on : Bool) (c : Characters) → table_told on on c ≡ []
+table_again true c = refl
+table_again false c = refl
+
+pub terms_stay : (f : Flags) (t : Terms) (editing : Option Editing) → wished_after f t.wish editing ≡ t.wish → terms_by f t t.options editing false ≡ t
+terms_stay f t editing e =
+    rw (e, told_again (linemode t.options) t.wish, differ_self (linemode t.options)) refl
+
+pub says_nothing : (f : Flags) (c : Characters) (t : Terms) (editing : Option Editing) → wished_after f t.wish editing ≡ t.wish → says_by f c t t.options editing false ≡ []
+says_nothing f c t editing e =
+    rw (e, told_again (linemode t.options) t.wish, differ_self (linemode t.options), table_again (linemode t.options) c) refl
+
+-- the server's word for ECHO changes nothing at LINEMODE
+pub echo_keeps_linemode : (due wanted : Bool) (o : Options) → linemode (echo_asked due wanted o) ≡ linemode o
+unfolding after_wish state_of
+echo_keeps_linemode true wanted o = refl
+echo_keeps_linemode false wanted o = refl

@@ -1,0 +1,50 @@
+-- What was done to a server end from outside: pieces of the stream, cut anywhere, and the calls of its owner.
+use Rattle.std.specs.Prelude.{◌≡◌, List, ℕ, [], ◌∷◌, ◌++◌, length}
+use Rattle.tn_discipline.specs.Canon.{Canon}
+use Rattle.tn_nvt.specs.Standing.{HasRead}
+use Rattle.tn_nvt.specs.Stream.{Reading}
+use Rattle.tn_nvt.specs.declared.items.Item.{Item}
+use Rattle.tn_server.specs.Events.{Event, got, wrote, pulled, History, begun, next, items, gets}
+use Rattle.tn_server.specs.Screen.{queue}
+use Rattle.tn_server.specs.Standing.{End, Stands}
+
+pub data Course : Type 0 where
+  started : Canon → Course
+  fed : Course → List ℕ → Course
+  called : Course → Event → Course
+
+-- the bytes that came
+abbrev pub stream : Course → List ℕ
+stream (started canon) = []
+stream (fed course piece) = stream course ++ piece
+stream (called course call) = stream course
+
+-- an event that is a call of the owner, and no item
+abbrev pub IsCall : Event → Type 0
+IsCall (got item) = ⊥
+IsCall _ = Unit {0}
+
+-- these are the items of the stream
+abbrev pub IsRead : List ℕ → List Item → Type 0
+IsRead bytes xs = (rest : List ℕ) × Reading bytes xs rest
+
+-- The course leads to this history: each piece brings the items that it adds to those of the stream before it.
+abbrev pub Leads : Course → History → Type 0
+Leads (started canon) h = h ≡ begun canon
+Leads (fed course piece) h =
+    (old : History) × (more : List Item)
+    × Leads course old × IsRead (stream course ++ piece) (items old ++ more) × (h ≡ gets old more)
+Leads (called course call) h = (old : History) × Leads course old × IsCall call × (h ≡ next old call)
+
+-- The end is where the course leads.
+pub record IsAt (course : Course) (end : End) : Type 0 where
+  pub history : History
+  pub leads : Leads course history
+  pub stands : Stands history end
+  pub reads : HasRead end.decoder (stream course) (items history)
+
+-- a text is written in these parts, and after each all symbols that wait are pulled
+abbrev pub in_parts : History → List (List ℕ) → History
+in_parts h [] = h
+in_parts h (part ∷ parts) =
+    in_parts (next (next h (wrote part)) (pulled (length (queue (next h (wrote part)))))) parts
