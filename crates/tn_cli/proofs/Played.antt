@@ -1,7 +1,7 @@
 -- Lines that are done one after another.
 use Rattle.std.proofs.Common.{◌≡◌, ℕ, suc, ◌+◌, ◌<◌, List, [], ◌∷◌, ◌++◌, length, take, drop, get_or, refl, sym, ap, ◌∙◌, subst, subst₂, Some, append_assoc, append-nil, add-one, arith, take-append-drop, drop-cons, length-take, map, Bor}
 use Rattle.std.proofs.lemmas.List.{take_more, map-append, take-map, get_or-map, length-map}
-use Rattle.tn_world.specs.Quiet.{NothingFlies}
+use Rattle.tn_world.specs.Headline.{NothingFlies}
 use Rattle.tn_world.specs.Worlds.{World}
 use Rattle.tn_cli.specs.Playing.{Delivers, Rounds, Plays, PlaysAll, HasPlayed, StopsAt, EndsWith, IsBad, RefusesLine, Adds, Prints}
 use Rattle.tn_cli.specs.declared.fault.CliFault.TheVariants as fault

@@ -3,9 +3,8 @@ use Rattle.std.specs.Prelude.{◌≡◌, ◌≢◌, ◌⊎◌, ℕ, zero, suc, �
 use Rattle.std.specs.Io.KnownBytes.{Appends}
 use Rattle.hex.specs.Hex.{encode_lower}
 use Rattle.tn_discipline.specs.declared.reads.Entry.{Entry}
+use Rattle.tn_world.specs.Headline.{NothingFlies, IsSettled}
 use Rattle.tn_world.specs.Opened.{IsOpened, anew}
-use Rattle.tn_world.specs.Quiet.{NothingFlies}
-use Rattle.tn_world.specs.Settled.{IsSettled}
 use Rattle.tn_world.specs.Worlds.{World, Runs, Ends}
 use Rattle.tn_world.specs.declared.events.Event.{Event}
 use Rattle.tn_world.specs.declared.events.Event.TheVariants as event

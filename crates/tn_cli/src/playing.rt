@@ -1,7 +1,7 @@
 //! The commands of a script, done in a world.
 
 ghost use Rattle.std.specs.Prelude.{◌≡◌, ◌≢◌, ◌++◌, [], ◌∷◌, ◌↔◌, IfOk, OnOk, OnErr, IsErrOf, Err, map, IsTrue};
-ghost use Rattle.tn_world.specs.Quiet.{NothingFlies};
+ghost use Rattle.tn_world.specs.Headline.{NothingFlies};
 ghost use Rattle.tn_world.specs.declared.events.Event.TheVariants as event;
 ghost use Rattle.tn_cli.specs.Playing as play;
 ghost use Rattle.tn_cli.specs.declared.playing.Stop.TheVariants.{Bad, Refused, Memory};

@@ -1,6 +1,6 @@
 -- The invariant of a world after each event, in the words of the calls that it makes.
-use Rattle.std.proofs.Common.{◌≡◌, ◌≢◌, inl, ℕ, Bool, true, false, if◌then◌else◌, Option, Some, None, List, [], ◌∷◌, ◌++◌, take, drop, refl, sym, ap, ◌∙◌, subst}
-use Rattle.std.specs.Prelude.{option_to_list, Result, Ok, Err, OnOk, OnErr}
+use Rattle.std.proofs.Common.{◌≡◌, ◌≢◌, inl, ℕ, Bool, true, false, if◌then◌else◌, Some, None, List, [], take, drop, refl, sym, ap, ◌∙◌, subst}
+use Rattle.std.specs.Prelude.{Result, Ok, Err, OnOk, OnErr}
 use Rattle.tn_discipline.specs.Canon.{Canon}
 use Rattle.tn_discipline.specs.declared.reads.Entry.{Entry}
 use Rattle.tn_nvt.specs.Spelling.{spells}
@@ -16,9 +16,9 @@ use Rattle.tn_client.specs.Standing as client
 use Rattle.tn_client.specs.Replies as client_says
 use Rattle.tn_client.specs.declared.faults.ClientFault.{ClientFault}
 use Rattle.tn_client.specs.declared.faults.ClientFault.TheVariants as broken
+use Rattle.tn_world.specs.Past.{IsSound}
 use Rattle.tn_world.specs.Flight.{InFlight}
 use Rattle.tn_world.specs.Opened.{IsOpened}
-use Rattle.tn_world.specs.Settled.{IsSound}
 use Rattle.tn_world.specs.Worlds.{World, client_fault, RefusesTold}
 use Rattle.tn_world.specs.declared.events.Event.TheVariants.{Key, Resize}
 use Rattle.tn_world.proofs.Cut.{said_behind, start}

@@ -9,11 +9,10 @@ use Rattle.tn_discipline.specs.Steps.{half_after, half_next, gain_next}
 use Rattle.tn_discipline.specs.Keys.{role_of_mapped, role_of_key, roles_of}
 use Rattle.tn_discipline.specs.declared.termios.Settings.{Settings}
 use Rattle.tn_discipline.proofs.lemmas.Histories.{half_of-fits, length_by_test}
-use Rattle.tn_world.specs.Machine.{Mode, Rules, Item, byte, mode_ack, other, Server, Client, Message, mode, forward_at, chatter, read, read_all, bytes, as_client, edit_key, remote_item, count_next, keyed, is_same, mode_taken, mode_came, came, allows_local, remote_mode, local_mode}
-use Rattle.tn_world.specs.Headline.{IsAskable}
+use Rattle.tn_world.specs.relation.Machine.{Mode, Rules, Item, byte, mode_ack, other, Server, Client, Message, mode, forward_at, chatter, read, read_all, bytes, as_client, edit_key, remote_item, count_next, keyed, is_same, mode_taken, mode_came, came, allows_local, remote_mode, local_mode, IsAskable}
 use Rattle.tn_world.proofs.Reading.{read-bytes_then, half-typed, entries-typed}
 use Rattle.tn_world.proofs.Typing.{Follows, literal_key, key-follows}
-use Rattle.tn_world.specs.Relation.{Agrees, at}
+use Rattle.tn_world.specs.relation.Relation.{Agrees, at}
 
 pub local_of : (s : Settings) (m : Mode) → IsAskable s m → m.edit ≡ true → (allows_local s ≡ true) × (m ≡ local_mode s)
 local_of s m (inl p) e = absurd (let q : m.edit ≡ false = ap (λ (n : Mode). n.edit) p in cc)

@@ -23,11 +23,10 @@ use Rattle.tn_discipline.specs.declared.reads.Sig.TheVariants.{Int, Quit, Tstp}
 use Rattle.tn_discipline.specs.declared.termios.Settings.{Settings}
 use Rattle.tn_linemode.specs.Modes.{edits, mode_of, is_acknowledged, mode_after, mode_answer}
 use Rattle.tn_nvt.specs.Spelling.{Fits}
-use Rattle.tn_nvt.specs.Standing.{Standing}
 use Rattle.tn_nvt.specs.declared.items.Item.{Item}
 use Rattle.tn_nvt.specs.declared.items.Item.TheVariants.{Byte, Newline, Cmd, Neg, Sub}
-use Rattle.tn_option.specs.Options.{Options, after_word}
-use Rattle.tn_client.specs.Events.{typed, got, resized, proposed, History, begun, next, gets}
+use Rattle.tn_option.specs.Options.{Options}
+use Rattle.tn_client.specs.Events.{typed, got, resized, History, next, gets}
 use Rattle.tn_client.specs.Terms as terms
 use Rattle.tn_client.specs.Terms.{linemode, tells_size, payload_at, options, changes, mode_by, mode_at, chars_by, chars, size}
 use Rattle.tn_client.specs.Lines.{traps, role_of_typed, role_at, line_limit, line}
@@ -36,13 +35,12 @@ use Rattle.tn_client.specs.Standing.{End, Stands, Goes, Keeps, Sends, Feeds}
 use Rattle.tn_client.proofs.lemmas.Ends.{line_is}
 use Rattle.tn_client.proofs.lemmas.Histories.{ahead-none, unedited-held, unedited-line, mode-small}
 use Rattle.tn_client.proofs.lemmas.Lines.{line_after_key, line_beside_key, line_where_edit_stays, line_where_edit_ends, line_where_edit_begins}
-use Rattle.tn_world.specs.Machine as machine
-use Rattle.tn_world.specs.Machine.{Mode, Rules, Message, chatter, Client, Part, Sent, byte, newline, mode_ack, other, bytes, as_client, ordinary_key, erase_key, kill_key, edit_key, remote_item, count_next, keyed, is_same, mode_taken, mode_came, came}
-use Rattle.tn_world.specs.Headline.{IsAskable}
-use Rattle.tn_world.specs.Calm.{bits, IsCalmToServer, IsCalmToClient, seen_payload, seen, heard_payload, heard}
-use Rattle.tn_world.specs.Ends.{heard_all, Writes, ClientKeys, came_all, ClientSays, IsCalm, AreBetweenLines}
-use Rattle.tn_world.specs.Pictures.{client_core, client_picture, ClientStays}
-use Rattle.tn_world.specs.Quiet.{ComeBetweenLines}
+use Rattle.tn_world.specs.Headline.{ComeBetweenLines}
+use Rattle.tn_world.specs.relation.Machine as machine
+use Rattle.tn_world.specs.relation.Machine.{Mode, Rules, Message, chatter, Client, Part, Sent, byte, newline, mode_ack, other, bytes, as_client, ordinary_key, erase_key, kill_key, edit_key, remote_item, count_next, keyed, is_same, mode_taken, mode_came, came, IsAskable}
+use Rattle.tn_world.specs.relation.Calm.{bits, IsCalmToServer, IsCalmToClient, seen_payload, seen, heard_payload, heard}
+use Rattle.tn_world.specs.relation.Ends.{heard_all, Writes, ClientKeys, came_all, ClientSays, IsCalm, AreBetweenLines}
+use Rattle.tn_world.specs.relation.Pictures.{client_core, client_picture, ClientStays}
 use Rattle.tn_world.proofs.Changing.{remote_of}
 use Rattle.tn_world.proofs.ClientWrites.{writes-none, writes-one, writes-append, writes-bytes, writes-other, writes-if, word-keeps, size-writes, word-answered, word-mode, IsChatter, chatter-mode, chatter-chars, chatter-heard, chatter-answered, chatter-if, Asks, calm-kinds, said-mode}
 

@@ -4,18 +4,18 @@ use Rattle.std.specs.Prelude.{All, option_to_list}
 use Rattle.std.proofs.lemmas.List.Elements.{All-nil, All-cons}
 use Rattle.tn_discipline.specs.Canon.{Canon}
 use Rattle.tn_nvt.specs.Spelling.{Fits}
-use Rattle.tn_nvt.specs.Standing.{Standing, Adds}
+use Rattle.tn_nvt.specs.Standing.{Standing}
 use Rattle.tn_nvt.specs.Stream.{Segment, spelled, lone_cr, escaped, unread, cut, Splits, gives, Reading}
 use Rattle.tn_nvt.specs.declared.items.Item.{Item}
 use Rattle.tn_server.specs.Events as asked
 use Rattle.tn_client.specs.Events as told
-use Rattle.tn_world.specs.Calm.{IsCalmToServer, IsCalmToClient}
-use Rattle.tn_world.specs.Ends as ends
-use Rattle.tn_world.specs.Ends.{Replies, ServerFeeds, ServerSays, Took, Writes, ClientKeys, came_all, ClientFeeds, ClientSays, AreBetweenLines, seen_all, heard_all, Happens}
+use Rattle.tn_world.specs.Past.{IsSound}
+use Rattle.tn_world.specs.Headline.{IsBetweenLines, Occurs, DeliversWhere, IsQuietEvent, Passes, NoneFailed}
+use Rattle.tn_world.specs.relation.Calm.{IsCalmToServer, IsCalmToClient}
+use Rattle.tn_world.specs.relation.Ends as ends
+use Rattle.tn_world.specs.relation.Ends.{Replies, ServerFeeds, ServerSays, Took, Writes, ClientKeys, came_all, ClientFeeds, ClientSays, AreBetweenLines, seen_all, heard_all, Happens}
 use Rattle.tn_world.specs.Flight.{InFlight}
-use Rattle.tn_world.specs.Pictures.{server_core, server_picture, client_picture, ServerStays, ClientStays}
-use Rattle.tn_world.specs.Quiet.{IsBetweenLines, Occurs, DeliversWhere, IsQuietEvent, Passes, NoneFailed}
-use Rattle.tn_world.specs.Settled.{IsSound}
+use Rattle.tn_world.specs.relation.Pictures.{server_core, server_picture, client_picture, ServerStays, ClientStays}
 use Rattle.tn_world.specs.Worlds.{World, Unless, Types, Tells, Reaches, Returns, Asks, Pulls, Takes, Does, Refuses}
 use Rattle.tn_world.specs.declared.events.Event.{Event}
 use Rattle.tn_world.specs.declared.events.Event.TheVariants.{Key, ToServer, ToClient, Write, Pull, Take, Wish, Resize, SetChar, Propose, Echo, ServerStops, ClientStops}
@@ -26,7 +26,7 @@ use Rattle.tn_world.proofs.ServerSteps.{KeepsEntries, IsCall}
 use Rattle.tn_world.proofs.Soundness.{opposite, Refusal, unchanged, by_server, by_client, refusal_of, sound_does}
 use Rattle.tn_world.proofs.Cut.{cut_at}
 use Rattle.tn_world.proofs.Tied.{all_parts, happens-tied}
-use Rattle.tn_world.specs.Relation.{Holds, Tied, picture, rules_of}
+use Rattle.tn_world.specs.relation.Relation.{Holds, Tied, picture, rules_of}
 
 -- a call that makes no entry and takes none changes no character either
 calls : (e : asked.Event) → KeepsEntries e → IsCall e

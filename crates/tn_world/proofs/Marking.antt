@@ -13,17 +13,15 @@ use Rattle.tn_server.specs.Terms.{mask_for, wished_after, asked_while}
 use Rattle.tn_server.specs.declared.wishes.Editing.{Editing}
 use Rattle.tn_server.specs.declared.wishes.Editing.TheVariants.{Remote, Local}
 use Rattle.tn_client.specs.Terms as client_terms
-use Rattle.tn_world.specs.Calm.{bits, IsCalmToServer, IsCalmToClient}
+use Rattle.tn_world.specs.Headline.{IsMark, AgreeOnLinemode}
+use Rattle.tn_world.specs.relation.Calm.{bits, IsCalmToServer, IsCalmToClient}
 use Rattle.tn_world.specs.Flight.{InFlight}
-use Rattle.tn_world.specs.Headline.{IsAskable}
-use Rattle.tn_world.specs.Machine.{allows_local}
-use Rattle.tn_world.specs.Pictures.{server_core}
-use Rattle.tn_world.specs.Quiet.{IsMark}
-use Rattle.tn_world.specs.Settled.{AgreeOnLinemode}
+use Rattle.tn_world.specs.relation.Machine.{allows_local, IsAskable}
+use Rattle.tn_world.specs.relation.Pictures.{server_core}
 use Rattle.tn_world.specs.Worlds.{World}
 use Rattle.tn_world.proofs.Cut.{no_items}
 use Rattle.tn_world.proofs.Tied.{rest-agrees}
-use Rattle.tn_world.specs.Relation.{Agrees, Holds, at, picture, rules_of}
+use Rattle.tn_world.specs.relation.Relation.{Agrees, Holds, at, picture, rules_of}
 
 -- a wish that was allowed
 abbrev IsAllowed : Flags → ℕ → Type 0

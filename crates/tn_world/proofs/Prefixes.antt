@@ -3,9 +3,9 @@ use Rattle.std.proofs.Common.{◌≡◌, ℕ, Bool, true, false, List, [], ◌�
 use Rattle.tn_discipline.specs.declared.reads.Entry.{Entry}
 use Rattle.tn_discipline.specs.Canon.{Canon, typed_entries}
 use Rattle.tn_discipline.specs.Steps.{gain_next}
-use Rattle.tn_world.specs.Machine.{Rules, Item, Server, item_role, read, read_item, read_all, Client}
+use Rattle.tn_world.specs.relation.Machine.{Rules, Item, Server, item_role, read, read_item, read_all, Client}
 use Rattle.tn_world.specs.Headline.{IsPrefixOf}
-use Rattle.tn_world.specs.Relation.{Agrees, at}
+use Rattle.tn_world.specs.relation.Relation.{Agrees, at}
 
 -- prefixes
 pub prefix_trans : (xs ys zs : List Entry) → IsPrefixOf xs ys → IsPrefixOf ys zs → IsPrefixOf xs zs

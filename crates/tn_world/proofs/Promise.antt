@@ -5,11 +5,10 @@ use Rattle.std.proofs.Math.Seq.{drop-cons}
 use Rattle.std.proofs.lemmas.List.{take_more, take_all, take-append-drop, length-take-le}
 use Rattle.tn_discipline.specs.declared.reads.Entry.{Entry}
 use Rattle.tn_discipline.specs.Canon.{Canon}
-use Rattle.tn_world.specs.Headline.{IsPrefixOf, local_entries}
+use Rattle.tn_world.specs.Past.{IsSound}
+use Rattle.tn_world.specs.Headline.{IsPrefixOf, local_entries, IsBetweenLines, Nowhere, Occurs, Passes, IsQuietEvent, AreQuiet, IsQuiet, IsMark, Follows, NoneFailed, NothingFlies, ComeWhere, IsSettled, made, Headline}
 use Rattle.tn_world.specs.Opened.{anew}
-use Rattle.tn_world.specs.Quiet.{IsBetweenLines, Nowhere, Occurs, Passes, IsQuietEvent, AreQuiet, IsQuiet, IsMark, Follows, NoneFailed, NothingFlies, ComeWhere}
-use Rattle.tn_world.specs.Settled.{IsSettled, IsSound}
-use Rattle.tn_world.specs.Worlds.{World, Does, Refuses, Runs, Ends, made, canon_of}
+use Rattle.tn_world.specs.Worlds.{World, Does, Refuses, Runs, Ends, canon_of}
 use Rattle.tn_nvt.specs.declared.items.Item.{Item}
 use Rattle.tn_option.specs.Options.{Options}
 use Rattle.tn_client.specs.Terms.{heard, mode_at}
@@ -19,7 +18,7 @@ use Rattle.tn_world.specs.declared.faults.Cause.{Cause}
 use Rattle.tn_world.proofs.Following.{holds_passes}
 use Rattle.tn_world.proofs.Marking.{mark_holds}
 use Rattle.tn_world.proofs.Tied.{tied-prefix, tied-complete}
-use Rattle.tn_world.specs.Relation.{picture, rules_of}
+use Rattle.tn_world.specs.relation.Relation.{picture, rules_of}
 
 -- the headline
 pub passes_prefix : (s : Canon) (start new : World) (events : List Event) → IsMark s start → Passes (IsBetweenLines s) start events new → NoneFailed new → IsPrefixOf (made new) (local_entries s new.typed)
@@ -32,11 +31,11 @@ passes_complete s start new events m p none nothing =
     let h = holds_passes s start new events none p (mark_holds s start m) in
     tied-complete (rules_of s h.linemode) (picture new h.trapped h.plain) h.tied nothing.0
 
-pub follows_prefix : (s : Canon) (w : World) → Follows s w → NoneFailed w → IsPrefixOf (made w) (local_entries s w.typed)
-follows_prefix s w f none = passes_prefix s f.start w f.events f.mark f.passes none
-
-pub follows_complete : (s : Canon) (w : World) → Follows s w → NoneFailed w → NothingFlies w → made w ≡ local_entries s w.typed
-follows_complete s w f none nothing = passes_complete s f.start w f.events f.mark f.passes none nothing
+pub headline : (s : Canon) (w : World) → Follows s w → Headline s w
+headline s w f = record {
+  prefix = λ none. passes_prefix s f.start w f.events f.mark f.passes none;
+  complete = λ none nothing. passes_complete s f.start w f.events f.mark f.passes none nothing;
+}
 
 passes_on : (may : List ℕ → Type 0) (old mid new : World) (xs ys : List Event) → Passes may old xs mid → Passes may mid ys new → Passes may old (xs ++ ys) new
 passes_on may old mid new [] ys p q = subst (λ w. Passes may w ys new) p q

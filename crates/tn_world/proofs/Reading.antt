@@ -12,8 +12,8 @@ use Rattle.tn_discipline.specs.declared.keys.Role.{Role}
 use Rattle.tn_discipline.specs.declared.keys.Role.TheVariants as role
 use Rattle.tn_discipline.proofs.lemmas.Histories.{half-next, entries-next}
 use Rattle.tn_discipline.proofs.lemmas.KeyRoles.{roles_of-append, roles_of-one}
-use Rattle.tn_world.specs.Machine.{Item, byte, Server, read, read_all, bytes}
-use Rattle.tn_world.specs.Relation.{AreOrdinary, at}
+use Rattle.tn_world.specs.relation.Machine.{Item, byte, Server, read, read_all, bytes}
+use Rattle.tn_world.specs.relation.Relation.{AreOrdinary, at}
 
 pub read_all-append : (s : Canon) (v : Server) (xs ys : List Item) → read_all s v (xs ++ ys) ≡ read_all s (read_all s v xs) ys
 read_all-append s v [] ys = refl

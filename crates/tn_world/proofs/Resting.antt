@@ -11,7 +11,7 @@ use Rattle.tn_option.specs.declared.known.Known.TheVariants.{Echo, SuppressGoAhe
 use Rattle.tn_option.specs.declared.q_method.QState.{QState}
 use Rattle.tn_option.specs.declared.q_method.Side.{Side}
 use Rattle.tn_option.specs.declared.q_method.Side.TheVariants.{Us, Them}
-use Rattle.tn_world.specs.Settled.{in_order, IsSteady}
+use Rattle.tn_world.specs.Headline.{in_order, IsSteady}
 
 abbrev pub states : Options → List QState
 states o =

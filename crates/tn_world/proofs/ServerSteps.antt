@@ -1,5 +1,5 @@
 -- What a server end does after a mark: with items that are calm, and with its owner's calls.
-use Rattle.std.proofs.Common.{◌≡◌, ◌≢◌, ◌≤◌, inl, inr, ℕ, ◌+◌, ◌==◌, nat_lt, nat_le, Bool, true, false, not, ◌&&◌, Option, Some, None, Result, Ok, Err, option_to_list, List, [], ◌∷◌, ◌++◌, length, take, drop, flat_map, refl, sym, ap, ◌∙◌, if◌then◌else◌, subst, arith, append-nil, append_assoc, length-append, map}
+use Rattle.std.proofs.Common.{◌≡◌, ◌≢◌, ◌≤◌, inl, inr, ℕ, ◌+◌, ◌==◌, nat_lt, nat_le, Bool, true, false, not, ◌&&◌, Option, Some, None, Result, Ok, Err, option_to_list, List, [], ◌∷◌, ◌++◌, length, take, drop, refl, sym, ap, ◌∙◌, if◌then◌else◌, subst, arith, append-nil, append_assoc, length-append, map}
 use Rattle.std.specs.Prelude.{All, MatchOption}
 use Rattle.std.proofs.lemmas.Bool.{eqb-false, ltb-true}
 use Rattle.std.proofs.lemmas.Bool.Decides.{nat_tests}
@@ -46,12 +46,11 @@ use Rattle.tn_server.specs.declared.wishes.Editing.{Editing}
 use Rattle.tn_server.specs.declared.wishes.Editing.TheVariants.{Remote, Local}
 use Rattle.tn_server.proofs.lemmas.Ends.{line_is, waits_are}
 use Rattle.tn_server.proofs.lemmas.Terms.{differ_self, told_again, table_again, echo_keeps_linemode}
-use Rattle.tn_world.specs.Calm.{bits, SaysCalmly, IsCalmToServer, IsCalmToClient, seen_payload, seen}
-use Rattle.tn_world.specs.Ends.{seen_all, Replies, Took}
-use Rattle.tn_world.specs.Headline.{IsAskable}
-use Rattle.tn_world.specs.Machine as machine
-use Rattle.tn_world.specs.Machine.{Rules, Server, item_role, edit_after, read, read_all, allows_local, local_mode}
-use Rattle.tn_world.specs.Pictures.{server_core, server_picture, ServerStays}
+use Rattle.tn_world.specs.relation.Calm.{bits, SaysCalmly, IsCalmToServer, IsCalmToClient, seen_payload, seen}
+use Rattle.tn_world.specs.relation.Ends.{seen_all, Replies, Took}
+use Rattle.tn_world.specs.relation.Machine as machine
+use Rattle.tn_world.specs.relation.Machine.{Rules, Server, item_role, edit_after, read, read_all, allows_local, local_mode, IsAskable}
+use Rattle.tn_world.specs.relation.Pictures.{server_core, server_picture, ServerStays}
 use Rattle.tn_world.proofs.Reading.{half-role, entries-role}
 use Rattle.tn_world.proofs.Soundness.{goes_fit, feeds_fit}
 

@@ -10,7 +10,6 @@ use Rattle.tn_discipline.specs.declared.echo.Symbol.TheVariants as symbol
 use Rattle.tn_nvt.specs.Spelling.{spells, Fits}
 use Rattle.tn_nvt.specs.Standing.{Standing, HasRead}
 use Rattle.tn_nvt.specs.declared.items.Item.{Item}
-use Rattle.tn_nvt.specs.declared.items.Item.TheVariants.{Byte, Newline}
 use Rattle.tn_server.specs.Events as asked
 use Rattle.tn_server.specs.Faults.{IsOfItem}
 use Rattle.tn_server.specs.Replies.{opening, data_of}
@@ -22,9 +21,10 @@ use Rattle.tn_server.proofs.lemmas.Fitting.{opening-fits}
 use Rattle.tn_client.specs.Events as told
 use Rattle.tn_client.specs.Screen.{item_shown, shown as shown_of}
 use Rattle.tn_client.specs.Standing as client
+use Rattle.tn_world.specs.Past.{IsSound}
+use Rattle.tn_world.specs.Headline.{IsPrefixOf}
 use Rattle.tn_world.specs.Flight.{InFlight}
-use Rattle.tn_world.specs.Output.{symbol_shown, screen, text_of, IsOutput, Queues, IsNoneAt, Grows, GrowsTo, GrowsAll, GrowsBefore, Begins}
-use Rattle.tn_world.specs.Settled.{IsSound}
+use Rattle.tn_world.specs.Output.{symbol_shown, screen, text_of, IsOutput, Queues, IsNoneAt, Grows, GrowsTo, GrowsAll, GrowsBefore}
 use Rattle.tn_world.specs.Worlds.{World, Unless, Types, Tells, Reaches, Returns, Asks, Pulls, Takes, Does, Runs, Ends, ServerRefuses, IsDeliveryFault}
 use Rattle.tn_world.specs.declared.events.Event.{Event}
 use Rattle.tn_world.specs.declared.events.Event.TheVariants.{Key, ToServer, ToClient, Write, Pull, Take, Wish, Resize, SetChar, Propose, Echo, ServerStops, ClientStops}
@@ -307,7 +307,7 @@ ends_grow old new events at cause text s runs e o =
     }
 
 -- what is shown comes first
-pub shown_begins : (w : World) (text : List ℕ) → IsOutput w text → Begins w.shown text
+pub shown_begins : (w : World) (text : List ℕ) → IsOutput w text → IsPrefixOf w.shown text
 shown_begins w text o = (text_of o.items ++ screen w.server.terminal.queue, sym o.is)
 
 -- a new world shows nothing, and its opening words are silent

@@ -9,22 +9,21 @@ use Rattle.tn_codes.specs.declared.payloads.Payload.TheVariants as payload
 use Rattle.std.specs.Prelude.{Option, Some, None}
 use Rattle.tn_nvt.specs.declared.items.Item.{Item}
 use Rattle.tn_nvt.specs.declared.items.Item.TheVariants.{Byte, Newline, Cmd, Neg, Sub}
-use Rattle.tn_nvt.specs.Spelling.{spells, Fits}
-use Rattle.tn_nvt.specs.Standing.{Standing}
+use Rattle.tn_nvt.specs.Spelling.{spells}
 use Rattle.tn_discipline.specs.declared.reads.Entry.{Entry}
 use Rattle.tn_discipline.specs.declared.termios.Settings.{Settings}
-use Rattle.tn_world.specs.Calm.{IsCalmToServer, AsksCalmly, IsCalmToClient, seen, heard_payload, heard}
+use Rattle.tn_world.specs.relation.Calm.{IsCalmToServer, AsksCalmly, IsCalmToClient, seen, heard_payload, heard}
 use Rattle.tn_world.specs.Flight.{InFlight}
-use Rattle.tn_world.specs.Headline.{IsPrefixOf, IsAskable, local_entries}
-use Rattle.tn_world.specs.Machine as machine
-use Rattle.tn_world.specs.Machine.{Mode, Rules, Message, mode, forward_at, chatter, Server, read_all, Client, keyed, came}
+use Rattle.tn_world.specs.Headline.{IsPrefixOf, local_entries}
+use Rattle.tn_world.specs.relation.Machine as machine
+use Rattle.tn_world.specs.relation.Machine.{Mode, Rules, Message, mode, forward_at, chatter, Server, read_all, Client, keyed, came, IsAskable}
 use Rattle.tn_world.proofs.Cut.{behind, cut_at, no_items}
 use Rattle.tn_world.proofs.Reading.{read_all-append}
 use Rattle.tn_world.proofs.Changing as was
 use Rattle.tn_world.proofs.Changing.{key-agrees, message-agrees}
 use Rattle.tn_world.proofs.Prefixes.{take-agrees, agreed, prefix_after, prefix_same, prefix_trans, read-more}
-use Rattle.tn_world.specs.Ends.{ServerEnd, ClientEnd, seen_all, heard_all, Replies, ServerFeeds, without, Took, Writes, ClientKeys, came_all, ClientFeeds, ClientSays, IsCalm, AreBetweenLines, IsQuietEvent, World, Event, key, to_server, to_client, take_entry, server_call, client_call, Happens, made}
-use Rattle.tn_world.specs.Relation.{Agrees, Tied, at}
+use Rattle.tn_world.specs.relation.Ends.{ServerEnd, ClientEnd, seen_all, heard_all, Replies, ServerFeeds, without, Took, Writes, ClientKeys, came_all, ClientFeeds, ClientSays, IsCalm, AreBetweenLines, IsQuietEvent, World, Event, key, to_server, to_client, take_entry, server_call, client_call, Happens, made}
+use Rattle.tn_world.specs.relation.Relation.{Agrees, Tied, at}
 
 -- both parts
 pub all_parts : {X : Type 0} (P : X → Type 0) (xs ys : List X) → All P (xs ++ ys) → All P xs × All P ys

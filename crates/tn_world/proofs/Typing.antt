@@ -15,9 +15,9 @@ use Rattle.tn_discipline.specs.declared.keys.Role.{Role}
 use Rattle.tn_discipline.specs.declared.keys.Role.TheVariants as role
 use Rattle.tn_codes.specs.declared.codes.Command.TheVariants.{Eof}
 use Rattle.tn_pty.specs.Typing.{command_role}
-use Rattle.tn_world.specs.Machine.{byte, newline, command, Client, Part, read_all, command_of, ordinary_key, erase_key, kill_key, edit_key}
+use Rattle.tn_world.specs.relation.Machine.{byte, newline, command, Client, Part, read_all, command_of, ordinary_key, erase_key, kill_key, edit_key}
 use Rattle.tn_world.proofs.Reading.{ordinary-append, ordinary-take, read-bytes, read-bytes_then}
-use Rattle.tn_world.specs.Relation.{AreOrdinary, at}
+use Rattle.tn_world.specs.relation.Relation.{AreOrdinary, at}
 
 -- a role of a byte that would close or be kept is that of the byte as it is
 abbrev pub IsLiteral : Characters → Role → Type 0

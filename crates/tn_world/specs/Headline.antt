@@ -1,17 +1,170 @@
--- The headline.
-use Rattle.std.specs.Prelude.{◌≡◌, ◌⊎◌, ℕ, true, List, ◌++◌}
+-- The headline: from a settled moment at rest, after every quiet list of events, the entries that jobs took, followed by
+-- those that wait, are a prefix of the entries that the typed keys give at a local terminal, and are all of them where
+-- nothing is in flight. Read `Headline` at the end first, and then the words that it is made of.
+use Rattle.std.specs.Prelude.{◌≡◌, ◌≢◌, ◌⊎◌, ℕ, Bool, true, false, List, [], ◌∷◌, ◌++◌, take}
+use Rattle.tn_discipline.specs.Canon.{Canon, typed_entries, typed_half}
 use Rattle.tn_discipline.specs.declared.reads.Entry.{Entry}
-use Rattle.tn_discipline.specs.Canon.{Canon, typed_entries}
-use Rattle.tn_discipline.specs.declared.termios.Settings.{Settings}
-use Rattle.tn_world.specs.Machine.{Mode, allows_local, remote_mode, local_mode}
+use Rattle.tn_nvt.specs.Standing.{Standing, Adds}
+use Rattle.tn_nvt.specs.declared.items.Item.{Item}
+use Rattle.tn_option.specs.Options.{Options, state_of}
+use Rattle.tn_option.specs.declared.q_method.Side.{Side}
+use Rattle.tn_option.specs.declared.q_method.Side.TheVariants.{Us, Them}
+use Rattle.tn_option.specs.declared.q_method.QState.{QState}
+use Rattle.tn_option.specs.declared.q_method.QState.TheVariants.{No, Yes, WantNoEmpty, WantNoOpposite, WantYesEmpty, WantYesOpposite}
+use Rattle.tn_client.specs.Terms.{heard, mode_at}
+use Rattle.tn_world.specs.Past.{IsSound}
+use Rattle.tn_world.specs.Worlds.{World, Does, Refuses, canon_of}
+use Rattle.tn_world.specs.declared.events.Event.{Event}
+use Rattle.tn_world.specs.declared.events.Event.TheVariants.{ToClient, Wish, SetChar, Propose}
+use Rattle.tn_world.specs.declared.faults.Cause.{Cause}
 
--- a mode that a server asks for
-abbrev pub IsAskable : Settings → Mode → Type 0
-IsAskable s m = (m ≡ remote_mode) ⊎ ((allows_local s ≡ true) × (m ≡ local_mode s))
+-- A SETTLED MOMENT AT REST: what `mark` finds.
 
-abbrev pub IsPrefixOf : List Entry → List Entry → Type 0
-IsPrefixOf xs ys = (rest : List Entry) × (xs ++ rest ≡ ys)
+-- RFC 1143: no wish waits behind another
+abbrev pub in_order : QState → Bool
+in_order WantNoOpposite = false
+in_order WantYesOpposite = false
+in_order No = true
+in_order Yes = true
+in_order WantNoEmpty = true
+in_order WantYesEmpty = true
+
+abbrev pub IsSteady : Options → Type 0
+IsSteady o = (side : Side) (option : ℕ) → in_order (state_of o side option) ≡ true
+
+-- LINEMODE is on at both ends, or off at both
+abbrev pub AgreeOnLinemode : Options → Options → Type 0
+AgreeOnLinemode server client =
+    ((state_of server Them 34 ≡ Yes) × (state_of client Us 34 ≡ Yes)) ⊎ ((state_of server Them 34 ≡ No) × (state_of client Us 34 ≡ No))
+
+-- Nothing is in flight, and nobody has stopped or failed.
+pub record IsIdle (w : World) : Type 0 where
+  pub to_server : w.to_server ≡ []
+  pub to_client : w.to_client ≡ []
+  pub server_stopped : w.server_stopped ≡ false
+  pub server_failed : w.server.failed ≡ false
+  pub client_stopped : w.client_stopped ≡ false
+  pub client_failed : w.client.failed ≡ false
+
+-- the mask that was asked for is in force at the server, and at the client
+abbrev pub AgreeOnMask : World → Type 0
+AgreeOnMask w = (w.server.modes.asked ≡ w.server.modes.current) × (w.server.modes.current ≡ w.client.mode)
+
+-- The ends agree: on LINEMODE, on the mask, which is acknowledged, and on the special characters.
+pub record IsAgreed (w : World) : Type 0 where
+  pub linemode : AgreeOnLinemode w.server.terms.options w.client.options
+  pub mask : AgreeOnMask w
+  pub chars : w.server.table ≡ w.client.table
+  pub server_steady : IsSteady w.server.terms.options
+  pub client_steady : IsSteady w.client.options
+
+-- No line is half typed, and no entry waits.
+pub record IsEmpty (w : World) : Type 0 where
+  pub half : w.server.terminal.line.held ≡ []
+  pub held : w.client.line.held ≡ []
+  pub ahead : w.client.line.ahead ≡ 0
+  pub waiting : w.server.terminal.entries ≡ []
+
+pub record IsSettled (w : World) : Type 0 where
+  pub idle : IsIdle w
+  pub agreed : IsAgreed w
+  pub empty : IsEmpty w
+
+-- A settled moment, from which lists begin anew.
+pub record IsMark (canon : Canon) (w : World) : Type 0 where
+  pub sound : IsSound w
+  pub settled : IsSettled w
+  pub rules : canon_of w ≡ canon
+  pub typed : w.typed ≡ []
+  pub taken : w.taken ≡ []
+
+-- QUIET LISTS OF EVENTS: no special character changes, and the mode changes between lines alone.
+
+-- Each of these items that gives a client of these options another mask comes where that may be.
+abbrev pub ComeWhere : Type 0 → Options → ℕ → List Item → Type 0
+ComeWhere may o mode [] = Unit {0}
+ComeWhere may o mode (item ∷ items) = (mode_at o mode item ≢ mode → may) × ComeWhere may (heard o item) (mode_at o mode item) items
+
+-- the typed keys leave no half line
+abbrev pub IsBetweenLines : Canon → List ℕ → Type 0
+IsBetweenLines canon typed = typed_half canon typed ≡ []
+
+abbrev pub ComeBetweenLines : Canon → List ℕ → Options → ℕ → List Item → Type 0
+ComeBetweenLines canon typed o mode items = ComeWhere (IsBetweenLines canon typed) o mode items
+
+-- the first bytes in flight change the client's mask only where that may be
+abbrev pub DeliversWhere : (List ℕ → Type 0) → World → ℕ → Type 0
+DeliversWhere may w n =
+    (items : List Item) (next : Standing) → Adds w.client.decoder (take n w.to_client) items next → ComeWhere (may w.typed) w.client.options w.client.mode items
+
+-- no special character is set or proposed, and a client that goes on gets another mask only where that may be
+abbrev pub IsQuietEvent : (List ℕ → Type 0) → World → Event → Type 0
+IsQuietEvent may w (ToClient n) = w.client_stopped ≡ false → w.client.failed ≡ false → DeliversWhere may w n
+IsQuietEvent may w (SetChar func value) = ⊥
+IsQuietEvent may w (Propose func value) = ⊥
+IsQuietEvent may w e = Unit {0}
+
+-- the event is done, and quiet, or it is refused
+abbrev pub Occurs : (List ℕ → Type 0) → World → Event → World → Type 0
+Occurs may old e new = (IsQuietEvent may old e × Does old e new) ⊎ ((cause : Cause) × Refuses old e cause new)
+
+-- these events, each quiet where it is done, lead from one world to the other
+abbrev pub Passes : (List ℕ → Type 0) → World → List Event → World → Type 0
+Passes may old [] new = new ≡ old
+Passes may old (e ∷ events) new = (mid : World) × Occurs may old e mid × Passes may mid events new
+
+-- the list is quiet, as far as its events are done
+abbrev pub AreQuiet : (List ℕ → Type 0) → World → List Event → Type 0
+AreQuiet may w [] = Unit {0}
+AreQuiet may w (e ∷ events) = (mid : World) → Does w e mid → IsQuietEvent may w e × AreQuiet may mid events
+
+-- the mode changes between lines alone
+abbrev pub IsQuiet : Canon → World → List Event → Type 0
+IsQuiet canon w events = AreQuiet (IsBetweenLines canon) w events
+
+-- nowhere
+abbrev pub Nowhere : List ℕ → Type 0
+Nowhere typed = ⊥
+
+-- This world came from a settled moment at rest, at which the server had these settings and this limit, by a quiet list
+-- of events.
+pub record Follows (canon : Canon) (w : World) : Type 0 where
+  pub start : World
+  pub mark : IsMark canon start
+  pub events : List Event
+  pub passes : Passes (IsBetweenLines canon) start events w
+
+-- The owner neither wishes for another mode nor changes a special character.
+abbrev pub KeepsTheMode : Event → Type 0
+KeepsTheMode (Wish editing) = ⊥
+KeepsTheMode (SetChar func value) = ⊥
+KeepsTheMode (Propose func value) = ⊥
+KeepsTheMode e = Unit {0}
+
+abbrev pub EachKeepsTheMode : List Event → Type 0
+EachKeepsTheMode [] = Unit {0}
+EachKeepsTheMode (e ∷ events) = KeepsTheMode e × EachKeepsTheMode events
+
+-- THE SENTENCE
+
+abbrev pub NoneFailed : World → Type 0
+NoneFailed w = (w.server.failed ≡ false) × (w.client.failed ≡ false)
+
+abbrev pub NothingFlies : World → Type 0
+NothingFlies w = (w.to_server ≡ []) × (w.to_client ≡ [])
+
+-- what jobs took, and what waits for them
+abbrev pub made : World → List Entry
+made w = w.taken ++ w.server.terminal.entries
 
 -- the entries of these keys at a local terminal
 abbrev pub local_entries : Canon → List ℕ → List Entry
 local_entries canon typed = typed_entries canon typed
+
+abbrev pub IsPrefixOf : {A : Type 0} → List A → List A → Type 0
+IsPrefixOf {A} xs ys = (rest : List A) × (xs ++ rest ≡ ys)
+
+-- What holds of a world that follows a mark, at which the server had these settings and this limit.
+pub record Headline (canon : Canon) (w : World) : Type 0 where
+  pub prefix : NoneFailed w → IsPrefixOf (made w) (local_entries canon w.typed)
+  pub complete : NoneFailed w → NothingFlies w → made w ≡ local_entries canon w.typed

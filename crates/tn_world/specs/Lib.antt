@@ -1,12 +1,7 @@
 pub mod Worlds
-pub mod Settled
-pub mod Opened
-pub mod Quiet
-pub mod Headline
 pub mod Flight
-pub mod Machine
-pub mod Calm
-pub mod Ends
-pub mod Pictures
-pub mod Relation
+pub mod Past
+pub mod Opened
+pub mod Headline
 pub mod Output
+pub mod relation

@@ -62,7 +62,3 @@ pub record GrowsBefore (old : World) (events : List Event) (at : ℕ) (cause : C
   pub last : List ℕ
   pub grows : GrowsTo old ends.done ends.mid text last
   pub refused : new.client.failed ≡ false → Grows ends.mid ends.event new last
-
--- the list begins so
-abbrev pub Begins : List ℕ → List ℕ → Type 0
-Begins front whole = (rest : List ℕ) × (front ++ rest ≡ whole)

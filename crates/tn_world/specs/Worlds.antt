@@ -202,7 +202,3 @@ pub record Ends (old : World) (events : List Event) (at : ℕ) (cause : Cause) (
   pub mid : World
   pub runs : Runs old done mid
   pub refuses : Refuses mid event cause new
-
--- what jobs took, and what waits for them
-abbrev pub made : World → List Entry
-made w = w.taken ++ w.server.terminal.entries

@@ -4,11 +4,10 @@
 
 ghost use Rattle.std.specs.Prelude.{◌≡◌, ℕ, false, List};
 ghost use Rattle.tn_discipline.specs.Canon.{Canon};
-ghost use Rattle.tn_world.specs.Headline.{IsPrefixOf, local_entries};
-ghost use Rattle.tn_world.specs.Output.{IsOutput, Grows, Begins};
-ghost use Rattle.tn_world.specs.Quiet.{IsMark, Passes, Nowhere, IsBetweenLines, NoneFailed, NothingFlies};
-ghost use Rattle.tn_world.specs.Settled.{IsSound};
-ghost use Rattle.tn_world.specs.Worlds.{World, Does, made};
+ghost use Rattle.tn_world.specs.Past.{IsSound};
+ghost use Rattle.tn_world.specs.Headline.{IsPrefixOf, local_entries, IsMark, Passes, Nowhere, IsBetweenLines, NoneFailed, NothingFlies, made};
+ghost use Rattle.tn_world.specs.Output.{IsOutput, Grows};
+ghost use Rattle.tn_world.specs.Worlds.{World, Does};
 ghost use Rattle.tn_world.specs.declared.events.Event.{Event};
 
 /// Under a mode that stays, what was made is a prefix of what the keys give.
@@ -35,5 +34,5 @@ pub fn output()
 
 /// What is shown on the client's screen comes first in Output.
 pub fn shown_first()
-    ensures { (w : World) (text : List ℕ) → IsOutput w text → Begins w.shown text }
+    ensures { (w : World) (text : List ℕ) → IsOutput w text → IsPrefixOf w.shown text }
 {}

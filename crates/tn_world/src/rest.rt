@@ -2,7 +2,7 @@
 
 ghost use Rattle.std.specs.Prelude.{◌≡◌, ◌↔◌, true};
 ghost use Rattle.std.specs.List.{list_all};
-ghost use Rattle.tn_world.specs.Settled.{IsSettled, IsSteady, in_order, AgreeOnLinemode, AgreeOnMask, IsIdle, IsAgreed, IsEmpty};
+ghost use Rattle.tn_world.specs.Headline.{IsSettled, IsSteady, in_order, AgreeOnLinemode, AgreeOnMask, IsIdle, IsAgreed, IsEmpty};
 
 use crate::world::World;
 use tn_option::{ECHO, LINEMODE, NAWS, QState, SUPPRESS_GO_AHEAD, Side};

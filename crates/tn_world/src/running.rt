@@ -2,10 +2,9 @@
 
 ghost use Rattle.std.specs.Prelude.{◌≡◌, ◌<◌, ℕ, false, List, length, take, drop, IfOk, IfErr, OnOk, OnErr};
 ghost use Rattle.tn_discipline.specs.Canon.{Canon};
-ghost use Rattle.tn_world.specs.Headline.{IsPrefixOf, local_entries};
+ghost use Rattle.tn_world.specs.Headline.{Headline, Follows, IsQuiet};
 ghost use Rattle.tn_world.specs.Output.{IsOutput, GrowsAll, GrowsBefore};
-ghost use Rattle.tn_world.specs.Quiet.{Follows, IsQuiet, NoneFailed, NothingFlies};
-ghost use Rattle.tn_world.specs.Worlds.{Does, Refuses, Runs, Ends, made};
+ghost use Rattle.tn_world.specs.Worlds.{Does, Refuses, Runs, Ends};
 ghost use Rattle.tn_world.specs.declared.events.Event.TheVariants as event;
 
 use crate::events::Event;
@@ -24,10 +23,8 @@ impl World {
         ensures ends { IfErr result (λ fault. Ends self.old events.now fault.at fault.cause self.new) }
         ensures follows { (canon : Canon) → Follows canon self.old → IsQuiet canon self.old events.now →
             Follows canon self.new }
-        ensures prefix { (canon : Canon) → Follows canon self.old → IsQuiet canon self.old events.now →
-            NoneFailed self.new → IsPrefixOf (made self.new) (local_entries canon self.new.typed) }
-        ensures complete { (canon : Canon) → Follows canon self.old → IsQuiet canon self.old events.now →
-            NoneFailed self.new → NothingFlies self.new → made self.new ≡ local_entries canon self.new.typed }
+        ensures headline { (canon : Canon) → Follows canon self.old → IsQuiet canon self.old events.now →
+            Headline canon self.new }
         ensures output { OnOk result ((text : List ℕ) → IsOutput self.old text →
             self.old.client.failed ≡ false → GrowsAll self.old events.now self.new text) }
         ensures output_before { IfErr result (λ fault. (text : List ℕ) → IsOutput self.old text →

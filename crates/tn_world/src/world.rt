@@ -1,10 +1,9 @@
 //! Both ends and the two streams between them.
 
 ghost use Rattle.std.specs.Prelude.{◌≡◌, ◌↔◌, true, false, [], ◌++◌, IfOk, IfErr, OnOk, OnErr, option_copied, slice_get};
-ghost use Rattle.tn_world.specs.Settled.{IsSettled};
+ghost use Rattle.tn_world.specs.Headline.{IsSettled, Follows};
 ghost use Rattle.tn_world.specs.Opened.{IsOpened, IsOpenFault, anew};
 ghost use Rattle.tn_world.specs.Output.{IsOutput};
-ghost use Rattle.tn_world.specs.Quiet.{Follows};
 ghost use Rattle.tn_world.specs.Worlds.{canon_of};
 ghost use Rattle.tn_world.specs.declared.events.ToWhom.TheVariants as to;
 
@@ -35,8 +34,8 @@ pub struct World {
 
 impl Model for World {
     ghost use Rattle.tn_world.specs.Worlds as worlds;
-    ghost use Rattle.tn_world.specs.Settled.{IsSound};
-
+    ghost use Rattle.tn_world.specs.Past.{IsSound};
+    
     ghost Value = { worlds.World };
 
     ghost view = { λ w. record { server = w.server; client = w.client; server_stopped = w.server_stopped; client_stopped = w.client_stopped; to_server = w.to_server.items; to_client = w.to_client.items; typed = w.typed.items; taken = w.taken.items; shown = w.shown.items; echoed = w.echoed.items } };

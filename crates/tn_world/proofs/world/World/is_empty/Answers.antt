@@ -1,8 +1,8 @@
 use Rattle.std.proofs.Common.{ap, sym, subst, ◌∙◌}
 use Rattle.std.specs.Prelude.{slice_get}
 use Rattle.tn_server.proofs.lemmas.Ends.{waits_are}
-use Rattle.tn_world.specs.Machine.{Server}
-use Rattle.tn_world.specs.Settled.{IsEmpty}
+use Rattle.tn_world.specs.Headline.{IsEmpty}
+use Rattle.tn_world.specs.relation.Machine.{Server}
 use Rattle.tn_world.specs.Worlds.{World}
 use Rattle.tn_world.proofs.Resting.{empty_where, none_waits}
 use Rattle.tn_world.proofs.ServerSteps.{core_at}

@@ -1,7 +1,7 @@
 use Rattle.std.proofs.Common.{refl, subst}
-use Rattle.tn_world.proofs.Promise.{runs_more, runs_whole, runs_stop, run_follows, end_follows, follows_prefix, follows_complete}
+use Rattle.tn_world.proofs.Promise.{runs_more, runs_whole, runs_stop, run_follows, end_follows, headline}
 use Rattle.tn_world.proofs.Showing.{runs_grow, ends_grow}
-use Rattle.tn_world.specs.Settled.{IsSound}
+use Rattle.tn_world.specs.Past.{IsSound}
 use Rattle.tn_world.specs.Worlds.{World}
 use Rattle.tn_world.proofs.world.World.run.Goals as goal
 
@@ -17,11 +17,8 @@ returns-in-Err-clause-ends c = runs_stop c.args.self.now c.loop-at.self c.happen
 pub returns-in-Err-clause-follows : goal.returns-in-Err-clause-follows
 returns-in-Err-clause-follows c = end_follows c.args.self.now c.happen.new.self c.args.events.now c.loop-at.at c.in-Err.cause (returns-in-Err-clause-ends c)
 
-pub returns-in-Err-clause-prefix : goal.returns-in-Err-clause-prefix
-returns-in-Err-clause-prefix c = λ s f quiet none. follows_prefix s c.happen.new.self (returns-in-Err-clause-follows c s f quiet) none
-
-pub returns-in-Err-clause-complete : goal.returns-in-Err-clause-complete
-returns-in-Err-clause-complete c = λ s f quiet none nothing. follows_complete s c.happen.new.self (returns-in-Err-clause-follows c s f quiet) none nothing
+pub returns-in-Err-clause-headline : goal.returns-in-Err-clause-headline
+returns-in-Err-clause-headline c = λ s f quiet. headline s c.happen.new.self (returns-in-Err-clause-follows c s f quiet)
 
 pub returns-clause-runs : goal.returns-clause-runs
 returns-clause-runs c = runs_whole c.args.self.now c.loop-at.self c.args.events.now c.loop-at.at c.loop-at-test.false c.loop-at.invariant.runs
@@ -29,11 +26,8 @@ returns-clause-runs c = runs_whole c.args.self.now c.loop-at.self c.args.events.
 pub returns-clause-follows : goal.returns-clause-follows
 returns-clause-follows c = run_follows c.args.self.now c.loop-at.self c.args.events.now (returns-clause-runs c)
 
-pub returns-clause-prefix : goal.returns-clause-prefix
-returns-clause-prefix c = λ s f quiet none. follows_prefix s c.loop-at.self (returns-clause-follows c s f quiet) none
-
-pub returns-clause-complete : goal.returns-clause-complete
-returns-clause-complete c = λ s f quiet none nothing. follows_complete s c.loop-at.self (returns-clause-follows c s f quiet) none nothing
+pub returns-clause-headline : goal.returns-clause-headline
+returns-clause-headline c = λ s f quiet. headline s c.loop-at.self (returns-clause-follows c s f quiet)
 
 pub returns-in-Err-clause-output_before : goal.returns-in-Err-clause-output_before
 returns-in-Err-clause-output_before c = λ text output runs.

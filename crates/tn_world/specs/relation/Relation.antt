@@ -6,14 +6,13 @@ use Rattle.tn_discipline.specs.Keys.{literal_role}
 use Rattle.tn_discipline.specs.declared.keys.Role.TheVariants as role
 use Rattle.tn_discipline.specs.declared.reads.Entry.{Entry}
 use Rattle.tn_nvt.specs.declared.items.Item.{Item}
-use Rattle.tn_world.specs.Calm.{IsCalmToServer, IsCalmToClient}
-use Rattle.tn_world.specs.Ends as ends
-use Rattle.tn_world.specs.Ends.{seen_all}
+use Rattle.tn_world.specs.Past.{IsSound}
+use Rattle.tn_world.specs.relation.Calm.{IsCalmToServer, IsCalmToClient}
+use Rattle.tn_world.specs.relation.Ends as ends
+use Rattle.tn_world.specs.relation.Ends.{seen_all}
 use Rattle.tn_world.specs.Flight.{InFlight}
-use Rattle.tn_world.specs.Headline.{IsAskable}
-use Rattle.tn_world.specs.Machine.{Rules, Server, read_all, Client, allows_local}
-use Rattle.tn_world.specs.Pictures.{server_picture, client_picture, ServerStays, ClientStays}
-use Rattle.tn_world.specs.Settled.{IsSound}
+use Rattle.tn_world.specs.relation.Machine.{Rules, Server, read_all, Client, allows_local, IsAskable}
+use Rattle.tn_world.specs.relation.Pictures.{server_picture, client_picture, ServerStays, ClientStays}
 use Rattle.tn_world.specs.Worlds.{World}
 
 -- a server that goes on

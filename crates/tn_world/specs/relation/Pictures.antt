@@ -5,9 +5,9 @@ use Rattle.tn_server.specs.Standing as server
 use Rattle.tn_server.specs.Terms as server_terms
 use Rattle.tn_client.specs.Standing as client
 use Rattle.tn_client.specs.Terms as client_terms
-use Rattle.tn_world.specs.Machine.{Rules, Server, Client}
-use Rattle.tn_world.specs.Calm.{bits}
-use Rattle.tn_world.specs.Ends.{ServerEnd, ClientEnd}
+use Rattle.tn_world.specs.relation.Machine.{Rules, Server, Client}
+use Rattle.tn_world.specs.relation.Calm.{bits}
+use Rattle.tn_world.specs.relation.Ends.{ServerEnd, ClientEnd}
 
 abbrev pub server_core : server.End → Server
 server_core end = record { edit = edits end.modes.current; half = end.terminal.line.held; waiting = end.terminal.entries; failed = end.failed }

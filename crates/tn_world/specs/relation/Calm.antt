@@ -8,9 +8,8 @@ use Rattle.tn_linemode.specs.Modes.{edits, is_acknowledged}
 use Rattle.tn_nvt.specs.declared.items.Item.{Item}
 use Rattle.tn_nvt.specs.declared.items.Item.TheVariants.{Byte, Newline, Cmd, Neg, Sub}
 use Rattle.tn_client.specs.Lines.{traps}
-use Rattle.tn_world.specs.Machine as machine
-use Rattle.tn_world.specs.Machine.{Mode, Message, mode, chatter, byte, newline, command, mode_ack, other}
-use Rattle.tn_world.specs.Headline.{IsAskable}
+use Rattle.tn_world.specs.relation.Machine as machine
+use Rattle.tn_world.specs.relation.Machine.{Mode, Message, mode, chatter, byte, newline, command, mode_ack, other, IsAskable}
 
 -- RFC 1184, section 2.2: the two bits of a mask that both ends keep
 abbrev pub bits : ℕ → Mode

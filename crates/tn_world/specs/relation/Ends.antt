@@ -5,9 +5,9 @@ use Rattle.tn_nvt.specs.Spelling.{spells, Fits}
 use Rattle.tn_nvt.specs.Standing.{Standing, Adds}
 use Rattle.tn_discipline.specs.declared.reads.Entry.{Entry}
 use Rattle.tn_discipline.specs.Canon.{typed_half}
-use Rattle.tn_world.specs.Machine as machine
-use Rattle.tn_world.specs.Machine.{Rules, Message, mode, forward_at, chatter, Server, read_all, Client, Sent, keyed, is_same, came}
-use Rattle.tn_world.specs.Calm.{IsCalmToServer, IsCalmToClient, seen, heard}
+use Rattle.tn_world.specs.relation.Machine as machine
+use Rattle.tn_world.specs.relation.Machine.{Rules, Message, mode, forward_at, chatter, Server, read_all, Client, Sent, keyed, is_same, came}
+use Rattle.tn_world.specs.relation.Calm.{IsCalmToServer, IsCalmToClient, seen, heard}
 
 pub record ServerEnd : Type 0 where
   pub decoder : Standing

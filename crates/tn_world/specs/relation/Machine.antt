@@ -1,5 +1,5 @@
 -- Both ends as far as lines go: what the server makes of what comes, and what the client does with keys and modes.
-use Rattle.std.specs.Prelude.{ℕ, ◌+◌, ◌-◌, ◌==◌, nat_lt, Bool, true, false, not, ◌&&◌, List, [], ◌∷◌, ◌++◌, length, map, if◌then◌else◌}
+use Rattle.std.specs.Prelude.{◌≡◌, ◌⊎◌, ℕ, ◌+◌, ◌-◌, ◌==◌, nat_lt, Bool, true, false, not, ◌&&◌, List, [], ◌∷◌, ◌++◌, length, map, if◌then◌else◌}
 use Rattle.tn_codes.specs.declared.codes.Command.{Command}
 use Rattle.tn_codes.specs.declared.codes.Command.TheVariants.{Eof, Susp, Abort, Ip, Ec, El}
 use Rattle.tn_discipline.specs.declared.reads.Entry.{Entry}
@@ -201,3 +201,7 @@ remote_mode = record { edit = false; trapsig = false }
 
 abbrev pub local_mode : Settings → Mode
 local_mode s = record { edit = true; trapsig = s.flags.isig }
+
+-- a mode that a server asks for
+abbrev pub IsAskable : Settings → Mode → Type 0
+IsAskable s m = (m ≡ remote_mode) ⊎ ((allows_local s ≡ true) × (m ≡ local_mode s))

@@ -1,0 +1,5 @@
+pub mod Machine
+pub mod Calm
+pub mod Ends
+pub mod Pictures
+pub mod Relation
