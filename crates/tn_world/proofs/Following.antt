@@ -225,7 +225,7 @@ holds_stops s old new a b is sound h =
     }
 
 -- an event that is done
-holds_does : (s : Canon) (old new : World) (e : Event) → NoneFailed old → IsSound new → IsQuietEvent (IsBetweenLines s) old e → Does old e new → Holds s old → Holds s new
+pub holds_does : (s : Canon) (old new : World) (e : Event) → NoneFailed old → IsSound new → IsQuietEvent (IsBetweenLines s) old e → Does old e new → Holds s old → Holds s new
 holds_does s old new (Key key) none sound quiet d h = unless s old.client_stopped old new (Types old key new) (holds_types s old new key none sound) d h
 holds_does s old new (ToServer n) none sound quiet d h = unless s old.server_stopped old new (Reaches old n new) (holds_reaches s old new n none sound) d h
 holds_does s old new (ToClient n) none sound quiet d h = holds_delivered s old new n old.client_stopped refl none sound quiet d h
@@ -242,37 +242,40 @@ holds_does s old new (Echo on) none sound quiet d h = unless s old.server_stoppe
 holds_does s old new ServerStops none sound quiet d h = holds_stops s old new true old.client_stopped d sound h
 holds_does s old new ClientStops none sound quiet d h = holds_stops s old new old.server_stopped true d sound h
 
--- What fails an end fails it for good, so that no end had failed before where none has now.
-both_ran : (old new : World) → new.server.failed ≡ old.server.failed → new.client.failed ≡ old.client.failed → NoneFailed new → NoneFailed old
-both_ran old new a b none = (sym a ∙ none.0, sym b ∙ none.1)
+-- An event that is done fails no end, so that no end had failed before where none has now.
+abbrev pub FailsNone : World → World → Type 0
+FailsNone old new = (new.server.failed ≡ old.server.failed) × (new.client.failed ≡ old.client.failed)
 
-as_before : (old new : World) → new ≡ old → NoneFailed new → NoneFailed old
-as_before old new is none = subst (λ w. NoneFailed w) is none
+as_before : (old new : World) → new ≡ old → FailsNone old new
+as_before old new is = (ap (λ (w : World). w.server.failed) is, ap (λ (w : World). w.client.failed) is)
 
-unless_ran : (stopped : Bool) (old new : World) (happens : Type 0) → (happens → NoneFailed new → NoneFailed old) → Unless stopped old new happens → NoneFailed new → NoneFailed old
-unless_ran true old new happens done is none = as_before old new is none
-unless_ran false old new happens done is none = done is none
+unless_keeps : (stopped : Bool) (old new : World) (happens : Type 0) → (happens → FailsNone old new) → Unless stopped old new happens → FailsNone old new
+unless_keeps true old new happens done is = as_before old new is
+unless_keeps false old new happens done is = done is
 
-asks_ran : (old new : World) (e : asked.Event) → Asks old e new → NoneFailed new → NoneFailed old
-asks_ran old new e t none = both_ran old new t.keeps.failed (ap (λ (w : World). w.client.failed) t.rest) none
+asks_keeps : (old new : World) (e : asked.Event) → Asks old e new → FailsNone old new
+asks_keeps old new e t = (t.keeps.failed, ap (λ (w : World). w.client.failed) t.rest)
 
-tells_ran : (old new : World) (e : told.Event) → Tells old e new → NoneFailed new → NoneFailed old
-tells_ran old new e t none = both_ran old new (ap (λ (w : World). w.server.failed) t.rest) t.keeps.failed none
+tells_keeps : (old new : World) (e : told.Event) → Tells old e new → FailsNone old new
+tells_keeps old new e t = (ap (λ (w : World). w.server.failed) t.rest, t.keeps.failed)
 
-does_ran : (old new : World) (e : Event) → Does old e new → NoneFailed new → NoneFailed old
-does_ran old new (Key key) d none = unless_ran old.client_stopped old new (Types old key new) (λ t. both_ran old new (ap (λ (w : World). w.server.failed) t.rest) t.keeps.failed) d none
-does_ran old new (ToServer n) d none = unless_ran old.server_stopped old new (Reaches old n new) (λ t. both_ran old new t.feeds.failed (ap (λ (w : World). w.client.failed) t.rest)) d none
-does_ran old new (ToClient n) d none = unless_ran old.client_stopped old new (Returns old n new) (λ t. both_ran old new (ap (λ (w : World). w.server.failed) t.rest) t.feeds.failed) d none
-does_ran old new (Write bytes) d none = unless_ran old.server_stopped old new (Asks old (asked.wrote bytes) new) (asks_ran old new (asked.wrote bytes)) d none
-does_ran old new (Pull n) d none = unless_ran old.server_stopped old new (Pulls old n new) (λ p. asks_ran old new (asked.pulled p.count) p.asks) d none
-does_ran old new Take d none = both_ran old new d.keeps.failed (ap (λ (w : World). w.client.failed) d.rest) none
-does_ran old new (Wish editing) d none = unless_ran old.server_stopped old new (Asks old (asked.wished editing) new) (asks_ran old new (asked.wished editing)) d none
-does_ran old new (Resize width height) d none = unless_ran old.client_stopped old new (Tells old (told.resized width height) new) (tells_ran old new (told.resized width height)) d none
-does_ran old new (SetChar func value) d none = unless_ran old.server_stopped old new (Asks old (asked.char_set func value) new) (asks_ran old new (asked.char_set func value)) d none
-does_ran old new (Propose func value) d none = unless_ran old.client_stopped old new (Tells old (told.proposed func value) new) (tells_ran old new (told.proposed func value)) d none
-does_ran old new (Echo on) d none = unless_ran old.server_stopped old new (Asks old (asked.echo_set on) new) (asks_ran old new (asked.echo_set on)) d none
-does_ran old new ServerStops d none = both_ran old new (ap (λ (w : World). w.server.failed) d) (ap (λ (w : World). w.client.failed) d) none
-does_ran old new ClientStops d none = both_ran old new (ap (λ (w : World). w.server.failed) d) (ap (λ (w : World). w.client.failed) d) none
+pub does_keeps : (old new : World) (e : Event) → Does old e new → FailsNone old new
+does_keeps old new (Key key) d = unless_keeps old.client_stopped old new (Types old key new) (λ t. (ap (λ (w : World). w.server.failed) t.rest, t.keeps.failed)) d
+does_keeps old new (ToServer n) d = unless_keeps old.server_stopped old new (Reaches old n new) (λ t. (t.feeds.failed, ap (λ (w : World). w.client.failed) t.rest)) d
+does_keeps old new (ToClient n) d = unless_keeps old.client_stopped old new (Returns old n new) (λ t. (ap (λ (w : World). w.server.failed) t.rest, t.feeds.failed)) d
+does_keeps old new (Write bytes) d = unless_keeps old.server_stopped old new (Asks old (asked.wrote bytes) new) (asks_keeps old new (asked.wrote bytes)) d
+does_keeps old new (Pull n) d = unless_keeps old.server_stopped old new (Pulls old n new) (λ p. asks_keeps old new (asked.pulled p.count) p.asks) d
+does_keeps old new Take d = (d.keeps.failed, ap (λ (w : World). w.client.failed) d.rest)
+does_keeps old new (Wish editing) d = unless_keeps old.server_stopped old new (Asks old (asked.wished editing) new) (asks_keeps old new (asked.wished editing)) d
+does_keeps old new (Resize width height) d = unless_keeps old.client_stopped old new (Tells old (told.resized width height) new) (tells_keeps old new (told.resized width height)) d
+does_keeps old new (SetChar func value) d = unless_keeps old.server_stopped old new (Asks old (asked.char_set func value) new) (asks_keeps old new (asked.char_set func value)) d
+does_keeps old new (Propose func value) d = unless_keeps old.client_stopped old new (Tells old (told.proposed func value) new) (tells_keeps old new (told.proposed func value)) d
+does_keeps old new (Echo on) d = unless_keeps old.server_stopped old new (Asks old (asked.echo_set on) new) (asks_keeps old new (asked.echo_set on)) d
+does_keeps old new ServerStops d = (ap (λ (w : World). w.server.failed) d, ap (λ (w : World). w.client.failed) d)
+does_keeps old new ClientStops d = (ap (λ (w : World). w.server.failed) d, ap (λ (w : World). w.client.failed) d)
+
+both_ran : (old new : World) → FailsNone old new → NoneFailed new → NoneFailed old
+both_ran old new same none = (sym same.0 ∙ none.0, sym same.1 ∙ none.1)
 
 -- a refusal at which no end failed changed nothing
 unrefused : (old new : World) (e : Event) → Refusal old e new → NoneFailed new → new ≡ old
@@ -284,15 +287,15 @@ refused_same : (old new : World) (e : Event) (c : Cause) → Refuses old e c new
 refused_same old new e c r none = unrefused old new e (refusal_of old new e c r) none
 
 occurs_ran : (may : List ℕ → Type 0) (old new : World) (e : Event) → Occurs may old e new → NoneFailed new → NoneFailed old
-occurs_ran may old new e (inl d) none = does_ran old new e d.1 none
-occurs_ran may old new e (inr r) none = as_before old new (refused_same old new e r.0 r.1 none) none
+occurs_ran may old new e (inl d) none = both_ran old new (does_keeps old new e d.1) none
+occurs_ran may old new e (inr r) none = both_ran old new (as_before old new (refused_same old new e r.0 r.1 none)) none
 
 pub passes_ran : (may : List ℕ → Type 0) (old new : World) (events : List Event) → Passes may old events new → NoneFailed new → NoneFailed old
-passes_ran may old new [] p none = as_before old new p none
+passes_ran may old new [] p none = both_ran old new (as_before old new p) none
 passes_ran may old new (e ∷ events) p none = occurs_ran may old p.0 e p.1 (passes_ran may p.0 new events p.2 none)
 
 holds_occurs : (s : Canon) (old new : World) (e : Event) → NoneFailed new → Occurs (IsBetweenLines s) old e new → Holds s old → Holds s new
-holds_occurs s old new e none (inl d) h = holds_does s old new e (does_ran old new e d.1 none) (sound_does old new e d.1 h.sound) d.0 d.1 h
+holds_occurs s old new e none (inl d) h = holds_does s old new e (both_ran old new (does_keeps old new e d.1) none) (sound_does old new e d.1 h.sound) d.0 d.1 h
 holds_occurs s old new e none (inr r) h = holds_as s old new (refused_same old new e r.0 r.1 none) h
 
 pub holds_passes : (s : Canon) (old new : World) (events : List Event) → NoneFailed new → Passes (IsBetweenLines s) old events new → Holds s old → Holds s new

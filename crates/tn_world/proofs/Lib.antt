@@ -13,5 +13,6 @@ pub mod ServerItems
 pub mod ServerSteps
 pub mod Showing
 pub mod Soundness
+pub mod Staying
 pub mod Tied
 pub mod Typing

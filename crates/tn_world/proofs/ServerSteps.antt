@@ -350,8 +350,8 @@ core_got rules h item k f c =
     ∙ ap (λ (es : List Entry). record { edit = e; half = half_next n (half h) i; waiting = es; failed = false }) waits
 
 -- and only an option word is answered
-replies_word : (rules : Rules) (h : History) (item : Item) → IsCalmToServer item → replies h (got item) ≡ word_back (options h) (got item)
-replies_word rules h item c =
+pub replies_word : (h : History) (item : Item) → IsCalmToServer item → replies h (got item) ≡ word_back (options h) (got item)
+replies_word h item c =
     let o = options h in
     let back = word_back o (got item) in
     let p = payload_at o item in
@@ -368,7 +368,7 @@ back_calm s o (Neg verb option) c = word_made (IsCalmToClient s) option (reply_t
 back_calm s o (Sub option params) c = nothing (IsCalmToClient s)
 
 pub calm_got : (rules : Rules) (h : History) (item : Item) → IsCalmToServer item → All (IsCalmToClient rules.canon.settings) (replies h (got item))
-calm_got rules h item c = subst (All (IsCalmToClient rules.canon.settings)) (sym (replies_word rules h item c)) (back_calm rules.canon.settings (options h) item c)
+calm_got rules h item c = subst (All (IsCalmToClient rules.canon.settings)) (sym (replies_word h item c)) (back_calm rules.canon.settings (options h) item c)
 
 -- CALM ITEMS, one after another
 pub record After (rules : Rules) (h : History) (items : List Item) : Type 0 where
@@ -467,10 +467,10 @@ wish_calm rules h ed k =
     told_made (IsCalmToClient rules.canon.settings) (linemode (options h)) (terms h).wish (mask_for (flags h) ed) (λ m e. mask_asked rules.canon.settings (flags h) ed m k.others e)
 
 -- where no wish is new, no MODE is sent
-unwished_made : (P : Item → Type 0) (t : Terms) → All P (mode_told (told_by t t.options t.wish))
+pub unwished_made : (P : Item → Type 0) (t : Terms) → All P (mode_told (told_by t t.options t.wish))
 unwished_made P t = none_made P _ (ap mode_told (told_again (linemode t.options) t.wish))
 
-untold_made : (P : Item → Type 0) (t : Terms) (c : Characters) → All P (table_told (linemode t.options) (linemode t.options) c)
+pub untold_made : (P : Item → Type 0) (t : Terms) (c : Characters) → All P (table_told (linemode t.options) (linemode t.options) c)
 untold_made P t c = none_made P _ (table_again (linemode t.options) c)
 
 -- symbols that are pulled

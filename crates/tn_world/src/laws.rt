@@ -5,7 +5,7 @@
 ghost use Rattle.std.specs.Prelude.{◌≡◌, ℕ, false, List};
 ghost use Rattle.tn_discipline.specs.Canon.{Canon};
 ghost use Rattle.tn_world.specs.Past.{IsSound};
-ghost use Rattle.tn_world.specs.Headline.{IsPrefixOf, local_entries, IsMark, Passes, Nowhere, IsBetweenLines, NoneFailed, NothingFlies, made};
+ghost use Rattle.tn_world.specs.Headline.{IsPrefixOf, local_entries, IsMark, IsQuiet, EachKeepsTheMode, Passes, Nowhere, IsBetweenLines, NoneFailed, NothingFlies, made};
 ghost use Rattle.tn_world.specs.Output.{IsOutput, Grows};
 ghost use Rattle.tn_world.specs.Worlds.{World, Does};
 ghost use Rattle.tn_world.specs.declared.events.Event.{Event};
@@ -24,6 +24,13 @@ pub fn headline_complete()
 pub fn headline_mode_changes()
     ensures prefix { (s : Canon) (start end : World) (events : List Event) → IsMark s start → Passes (IsBetweenLines s) start events end → NoneFailed end → IsPrefixOf (made end) (local_entries s end.typed) }
     ensures complete { (s : Canon) (start end : World) (events : List Event) → IsMark s start → Passes (IsBetweenLines s) start events end → NoneFailed end → NothingFlies end → made end ≡ local_entries s end.typed }
+{}
+
+/// After a mark every list of keys, deliveries, writes, pulls, takes, sizes, settings of ECHO and stops is
+/// quiet: the owner alone breaks the headline's premise, by wishing or setting a character in mid-line.
+pub fn quiet_lists()
+    ensures { (canon : Canon) (start : World) (events : List Event) → IsMark canon start →
+        EachKeepsTheMode events → IsQuiet canon start events }
 {}
 
 /// While the client has not failed, an event adds to Output the symbols that the terminal's queue took in
