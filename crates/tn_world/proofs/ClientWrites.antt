@@ -1,39 +1,28 @@
 -- What a client end writes, and what that says to a server.
-use Rattle.std.proofs.Common.{◌≡◌, ◌≢◌, ◌⊎◌, inl, inr, ◌≤◌, ℕ, ◌==◌, nat_le, Bool, true, false, not, ◌&&◌, Option, Some, None, List, [], ◌∷◌, ◌++◌, length, refl, sym, ap, ◌∙◌, if◌then◌else◌, subst, arith, append-nil, append_assoc}
-use Rattle.std.proofs.lemmas.List.{append_cancel_left, map-append}
+use Rattle.std.proofs.Common.{◌≡◌, ◌≢◌, ◌⊎◌, inl, inr, ℕ, ◌==◌, Bool, true, false, not, ◌&&◌, Option, Some, None, List, [], ◌∷◌, ◌++◌, refl, sym, ap, ◌∙◌, if◌then◌else◌, subst, arith, append-nil}
+use Rattle.std.proofs.lemmas.List.{map-append}
 use Rattle.std.proofs.lemmas.List.Elements.{All-nil, All-cons, All-append}
-use Rattle.tn_codes.specs.Payloads.{written, IsShort}
+use Rattle.tn_codes.specs.Payloads.{written}
 use Rattle.tn_codes.specs.PayloadOf.{payload_of}
-use Rattle.tn_codes.specs.declared.codes.Command.TheVariants as command
 use Rattle.tn_codes.specs.declared.codes.Verb.{Verb}
 use Rattle.tn_codes.specs.declared.payloads.Payload.{Payload}
 use Rattle.tn_codes.specs.declared.payloads.Payload.TheVariants as payload
-use Rattle.tn_codes.specs.declared.triples.Triple.{Triple}
 use Rattle.tn_codes.proofs.lemmas.Telling.{says}
 use Rattle.tn_discipline.specs.Canon.{Canon}
 use Rattle.tn_discipline.specs.Characters.{Characters}
-use Rattle.tn_discipline.specs.HalfLine.{HalfLine, has_held, has_ahead}
-use Rattle.tn_discipline.specs.declared.keys.Role.{Role}
-use Rattle.tn_discipline.specs.declared.keys.Role.TheVariants as role
 use Rattle.tn_discipline.specs.declared.reads.Entry.{Entry}
-use Rattle.tn_discipline.specs.declared.reads.Sig.{Sig}
-use Rattle.tn_discipline.specs.declared.reads.Sig.TheVariants.{Int, Quit, Tstp}
 use Rattle.tn_discipline.specs.declared.termios.Settings.{Settings}
-use Rattle.tn_linemode.specs.Exchange.{client_answers}
-use Rattle.tn_linemode.specs.Modes.{edits, is_acknowledged, mode_answer}
-use Rattle.tn_linemode.specs.Triples.{triple_of}
+use Rattle.tn_linemode.specs.Modes.{is_acknowledged}
 use Rattle.tn_nvt.specs.Spelling.{Fits}
 use Rattle.tn_nvt.specs.declared.items.Item.{Item}
-use Rattle.tn_nvt.specs.declared.items.Item.TheVariants.{Byte, Newline, Cmd, Neg, Sub}
+use Rattle.tn_nvt.specs.declared.items.Item.TheVariants.{Byte, Neg, Sub}
 use Rattle.tn_option.specs.Options.{Options, after_word, reply_to, is_yes}
 use Rattle.tn_option.specs.QMethod.{side_of, cause_of}
 use Rattle.tn_option.specs.declared.q_method.Side.TheVariants.{Us}
 use Rattle.tn_option.proofs.lemmas.OptionLaws.{LeavesOthers-moved}
-use Rattle.tn_client.specs.Events.{Event, typed, got, resized, proposed, History, next, gets}
-use Rattle.tn_client.specs.Terms as terms
-use Rattle.tn_client.specs.Terms.{linemode, tells_size, payload_at, options, differ, mode_by, mode_at, chars_by, chars, size}
-use Rattle.tn_client.specs.Lines.{role_at, line}
-use Rattle.tn_client.specs.Replies.{spelled, word, subnegotiated, size_told, size_told_on, payload_answered, answered}
+use Rattle.tn_client.specs.Terms.{linemode, tells_size, payload_at, mode_by, mode_at, chars_by}
+use Rattle.tn_wire.specs.Words.{differ, word, subnegotiated}
+use Rattle.tn_client.specs.Replies.{spelled, size_told, size_told_on, payload_answered, answered}
 use Rattle.tn_world.specs.Machine as machine
 use Rattle.tn_world.specs.Machine.{Mode, Rules, chatter, Server, read, read_item, read_all, byte, other, bytes}
 use Rattle.tn_world.specs.Headline.{IsAskable}

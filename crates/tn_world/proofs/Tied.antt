@@ -9,8 +9,7 @@ use Rattle.tn_codes.specs.declared.payloads.Payload.TheVariants as payload
 use Rattle.std.specs.Prelude.{Option, Some, None}
 use Rattle.tn_nvt.specs.declared.items.Item.{Item}
 use Rattle.tn_nvt.specs.declared.items.Item.TheVariants.{Byte, Newline, Cmd, Neg, Sub}
-use Rattle.tn_nvt.specs.Spelling.{spells, Fits}
-use Rattle.tn_nvt.specs.Standing.{Standing}
+use Rattle.tn_nvt.specs.Spelling.{spells}
 use Rattle.tn_discipline.specs.declared.reads.Entry.{Entry}
 use Rattle.tn_discipline.specs.declared.termios.Settings.{Settings}
 use Rattle.tn_world.specs.Calm.{IsCalmToServer, AsksCalmly, IsCalmToClient, seen, heard_payload, heard}
