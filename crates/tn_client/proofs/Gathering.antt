@@ -13,7 +13,7 @@ use Rattle.tn_client.specs.Screen.{shown, item_shown}
 use Rattle.tn_client.specs.Standing.{End, Stands, Keeps, Gets}
 use Rattle.tn_client.specs.Steps.{line_left, after_got, says_got}
 use Rattle.tn_client.proofs.lemmas.Histories.{gets-append}
-use Rattle.tn_client.proofs.Cutting.{said_after}
+use Rattle.tn_wire.proofs.lemmas.Cutting.{spelled_on}
 use Rattle.tn_client.proofs.Standings.{stands_got, replies_got}
 
 pub keeps_same : (old : End) → Keeps old old
@@ -50,7 +50,7 @@ pub gets_both : (old mid new : End) (xs ys : List Item) (before between after se
 gets_both old mid new xs ys before between after seen then now g k = record {
   said = g.said ++ k.said;
   text = g.text ++ k.text;
-  appended = said_after g.said k.said before between after g.appended k.appended;
+  appended = spelled_on g.said k.said before between after g.appended k.appended;
   displayed = k.displayed ∙ ap (λ (zs : List ℕ). zs ++ k.text) g.displayed ∙ append_assoc seen g.text k.text;
   sends = λ h s.
       ap sent (gets-append h xs ys)

@@ -13,12 +13,12 @@ use Rattle.tn_client.specs.Terms.{payload_at}
 use Rattle.tn_client.specs.Replies.{sent}
 use Rattle.tn_client.specs.Screen.{shown, item_shown}
 use Rattle.tn_client.specs.Standing.{End, Stands, Keeps, Gets, Feeds, GivesUp, Breaks, ReadsList}
-use Rattle.tn_client.specs.Steps.{after_got, says_got, says_sub, Cuts, MayGrowNow}
+use Rattle.tn_client.specs.Steps.{after_got, says_got, says_sub, MayGrowNow}
+use Rattle.tn_wire.specs.Fronts.{Cuts}
 use Rattle.tn_client.specs.Lending.{IsSameLoan, Takes, RefusesFirst}
 use Rattle.tn_client.specs.declared.taking.Lent.{Lent}
-use Rattle.tn_client.proofs.Cutting.{said_after}
+use Rattle.tn_wire.proofs.lemmas.Cutting.{spelled_on, cons_some}
 use Rattle.tn_client.proofs.Gathering.{keeps_same, keeps_both, gets_none, gets_one, gets_both, gets_plain}
-use Rattle.tn_client.proofs.Growing.{cons_some}
 use Rattle.tn_client.proofs.Standings.{refuses_got}
 
 -- ONE CALL
@@ -126,7 +126,7 @@ breaks_at old held piece after now a b began r outs screens =
       said = g.said;
       part = f.refused.part;
       text = g.text;
-      appended = outs ∙ said_after g.said f.refused.part a.out.now.items r.middle.out.now.items b.out.now.items g.appended f.refused.appended;
+      appended = outs ∙ spelled_on g.said f.refused.part a.out.now.items r.middle.out.now.items b.out.now.items g.appended f.refused.appended;
       displayed = screens ∙ f.refused.displayed ∙ g.displayed;
       sends = λ h s. g.sends h (lends h old held a began s);
       shows = λ h s. g.shows h (lends h old held a began s);

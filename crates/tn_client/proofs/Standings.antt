@@ -16,7 +16,8 @@ use Rattle.tn_client.specs.Lines.{settings, role_of_typed, role_at, edited, line
 use Rattle.tn_client.specs.Replies.{replies, key_sent, item_sent}
 use Rattle.tn_client.specs.Screen.{shows, key_shown}
 use Rattle.tn_client.specs.Standing.{End, Stands, Keeps, Goes, Sends, Shows, Grows, ReadsList, MayGrow, Refuses}
-use Rattle.tn_client.specs.Steps.{role_now, line_typed, after_key, says_key, shows_key, line_left, after_got, says_got, Cuts, MayGrowNow}
+use Rattle.tn_client.specs.Steps.{role_now, line_typed, after_key, says_key, shows_key, line_left, after_got, says_got, MayGrowNow}
+use Rattle.tn_wire.specs.Fronts.{Cuts}
 use Rattle.tn_client.proofs.lemmas.Histories.{ahead-none, unedited}
 use Rattle.tn_client.proofs.lemmas.Ends.{none_ahead, line_is}
 

@@ -1,6 +1,5 @@
 pub mod Histories
 pub mod Ends
 pub mod Lines
-pub mod Listing
 pub mod Fitting
 pub mod Courses

@@ -1,8 +1,8 @@
 -- A client end from outside: the pieces of its stream, cut anywhere, and the calls between them.
 use Rattle.std.specs.Prelude.{◌≡◌, ℕ, List, [], ◌++◌}
 use Rattle.tn_nvt.specs.Standing.{HasRead}
-use Rattle.tn_nvt.specs.Stream.{Reading}
 use Rattle.tn_nvt.specs.declared.items.Item.{Item}
+use Rattle.tn_wire.specs.Fronts.{IsRead}
 use Rattle.tn_client.specs.Events.{Event, typed, got, resized, proposed, History, begun, next, items, gets}
 use Rattle.tn_client.specs.Standing.{End, Stands}
 
@@ -24,10 +24,6 @@ IsCall (typed key) = Unit {0}
 IsCall (got item) = ⊥
 IsCall (resized width height) = Unit {0}
 IsCall (proposed func value) = Unit {0}
-
--- these are the items of these bytes
-abbrev pub IsRead : List ℕ → List Item → Type 0
-IsRead bytes read = (rest : List ℕ) × Reading bytes read rest
 
 -- this is the history of the course: a piece brings the items that the longer stream has more
 abbrev pub Leads : Course → History → Type 0

@@ -1,14 +1,11 @@
 -- What a client end says: items, one after another.
 use Rattle.std.specs.Prelude.{ℕ, Bool, true, false, not, ◌&&◌, ◌==◌, Option, Some, None, List, [], ◌∷◌, ◌++◌, map, if◌then◌else◌}
-use Rattle.tn_codes.specs.Payloads.{written}
 use Rattle.tn_codes.specs.declared.codes.Command.{Command}
 use Rattle.tn_codes.specs.declared.codes.Command.TheVariants as command
 use Rattle.tn_codes.specs.declared.codes.Func.{Func}
 use Rattle.tn_codes.specs.declared.codes.Func.TheVariants as func
-use Rattle.tn_codes.specs.declared.codes.Verb.{Verb}
 use Rattle.tn_codes.specs.declared.payloads.Payload.{Payload}
 use Rattle.tn_codes.specs.declared.payloads.Payload.TheVariants.{Naws, Mode, ForwardOn, ForwardOff, ForwardNo, Slc}
-use Rattle.tn_codes.specs.declared.triples.Triple.{Triple}
 use Rattle.tn_discipline.specs.Characters.{Characters}
 use Rattle.tn_discipline.specs.HalfLine.{HalfLine, has_held, has_ahead}
 use Rattle.tn_discipline.specs.declared.keys.Role.{Role}
@@ -20,6 +17,7 @@ use Rattle.tn_linemode.specs.Triples.{triple_of}
 use Rattle.tn_nvt.specs.declared.items.Item.{Item}
 use Rattle.tn_nvt.specs.declared.items.Item.TheVariants.{Byte, Newline, Cmd, Neg, Sub}
 use Rattle.tn_option.specs.Options.{Options, reply_to}
+use Rattle.tn_wire.specs.Words.{word, subnegotiated, mode_told, listed}
 use Rattle.tn_client.specs.Events.{Event, typed, got, resized, proposed, History, begun, next}
 use Rattle.tn_client.specs.Terms.{options, mode, chars, size, payload_at, heard, mode_at, tells_size}
 use Rattle.tn_client.specs.Lines.{role_at, line}
@@ -78,26 +76,9 @@ abbrev pub key_sent : Bool → Role → HalfLine → ℕ → List Item
 key_sent true r l key = sent_edited r l
 key_sent false r l key = sent_raw r key
 
--- an option word (RFC 855)
-abbrev pub word : Option (Verb × ℕ) → List Item
-word None = []
-word (Some said) = Neg said.0 said.1 ∷ []
-
-abbrev pub subnegotiated : Payload → List Item
-subnegotiated payload = Sub 34 (written payload) ∷ []
-
 -- RFC 1073: the window's size
 abbrev pub size_told : ℕ × ℕ → List Item
-size_told (width, height) = Sub 31 (written (Naws width height)) ∷ []
-
-abbrev pub mode_told : Option ℕ → List Item
-mode_told None = []
-mode_told (Some mask) = subnegotiated (Mode mask)
-
--- an empty list is not sent
-abbrev pub listed : List Triple → List Item
-listed [] = []
-listed (triple ∷ triples) = subnegotiated (Slc (triple ∷ triples))
+size_told (width, height) = subnegotiated (Naws width height)
 
 -- the size, where NAWS came on
 abbrev pub size_told_on : Bool → Bool → ℕ × ℕ → List Item

@@ -1,15 +1,15 @@
 -- Where a history leads a client end, and what a call adds to it, whatever the history was.
 use Rattle.std.specs.Prelude.{◌≡◌, ◌≢◌, ◌⊎◌, ℕ, Bool, Option, Some, None, option_map, if◌then◌else◌, List, [], ◌∷◌, ◌++◌}
 use Rattle.tn_codes.specs.declared.codes.Func.{Func}
-use Rattle.tn_codes.specs.declared.payloads.Payload.TheVariants.{Slc}
-use Rattle.tn_codes.specs.declared.triples.Triple.{Triple}
 use Rattle.tn_discipline.specs.Characters.{Characters, char_fault}
 use Rattle.tn_discipline.specs.HalfLine.{HalfLine}
 use Rattle.tn_discipline.specs.Leaves.{Leaves}
 use Rattle.tn_nvt.specs.Spelling.{spells}
-use Rattle.tn_nvt.specs.Standing.{Standing, HasRead, Adds, KeepsParameter}
+use Rattle.tn_nvt.specs.Standing.{Standing, HasRead, Adds}
 use Rattle.tn_nvt.specs.declared.items.Item.{Item}
 use Rattle.tn_option.specs.Options.{Options}
+use Rattle.tn_wire.specs.Fronts.{WantsMemory}
+use Rattle.tn_wire.specs.Words.{IsList}
 use Rattle.tn_client.specs.Events.{History, Event, got, next, gets}
 use Rattle.tn_client.specs.Terms.{options, mode, chars, size, linemode, payload_at}
 use Rattle.tn_client.specs.Lines.{line_limit, edited, ahead}
@@ -66,8 +66,7 @@ Grows h e = (replies h e ≢ []) ⊎ (shows h e ≢ [])
 
 -- a list of local characters that is not empty is read
 abbrev pub ReadsList : Options → Item → Type 0
-ReadsList o item =
-    (triple : Triple) × (triples : List Triple) × (payload_at o item ≡ Some (Slc (triple ∷ triples)))
+ReadsList o item = IsList (payload_at o item)
 
 -- an item wants memory: to say or to show something, or to read a list
 abbrev pub MayGrow : History → Item → Type 0
@@ -109,11 +108,6 @@ pub record Feeds (old : End) (piece before after seen now : List ℕ) (new : End
   pub stands : (h : History) → Stands h old → Stands (gets h items) new
   pub reads : Adds old.decoder piece items new.decoder
   pub failed : new.failed ≡ old.failed
-
--- the decoder wants memory for the next byte of the stream, a parameter
-abbrev pub WantsMemory : Standing → List ℕ → Type 0
-WantsMemory here [] = ⊥
-WantsMemory here (byte ∷ bytes) = KeepsParameter here byte
 
 -- The first of the items that are left was refused; where none is left, the decoder wanted memory.
 abbrev pub GivesUp : History → List Item → List Item → Standing → List ℕ → Type 0

@@ -4,7 +4,6 @@ use Rattle.tn_codes.specs.declared.payloads.Payload.{Payload}
 use Rattle.tn_discipline.specs.HalfLine.{HalfLine, empty_line, line_after}
 use Rattle.tn_discipline.specs.declared.keys.Role.{Role}
 use Rattle.tn_linemode.specs.Modes.{edits}
-use Rattle.tn_nvt.specs.Spelling.{spells}
 use Rattle.tn_nvt.specs.declared.items.Item.{Item}
 use Rattle.tn_client.specs.Terms.{heard, mode_at, mode_by, chars_by, payload_at, is_echoed, tells_size}
 use Rattle.tn_client.specs.Lines.{settings, role_of_typed}
@@ -70,13 +69,6 @@ after_resize old width height = record old { width = width; height = height }
 
 abbrev pub says_resize : End → ℕ → ℕ → List Item
 says_resize old width height = size_sent (tells_size old.options) (old.width, old.height) (width, height)
-
--- a front of this was said
-pub record Cuts (whole : List Item) (before after : List ℕ) : Type 0 where
-  pub part : List Item
-  pub rest : List Item
-  pub whole_is : whole ≡ part ++ rest
-  pub appended : after ≡ before ++ spells part
 
 -- an item wants memory, by what the end knows now
 abbrev pub MayGrowNow : End → Item → Type 0

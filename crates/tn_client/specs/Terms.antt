@@ -1,6 +1,5 @@
 -- What a client end has agreed on with its server: options, special characters and the mode of editing.
-use Rattle.std.specs.Prelude.{ℕ, Bool, true, false, not, ◌&&◌, ◌==◌, nat_le, length, Option, Some, None, [], ◌∷◌, if◌then◌else◌}
-use Rattle.tn_codes.specs.PayloadOf.{payload_of}
+use Rattle.std.specs.Prelude.{ℕ, Bool, true, false, ◌&&◌, ◌==◌, Option, Some, None, [], ◌∷◌, if◌then◌else◌}
 use Rattle.tn_codes.specs.declared.payloads.Payload.{Payload}
 use Rattle.tn_codes.specs.declared.payloads.Payload.TheVariants.{Mode, Slc}
 use Rattle.tn_discipline.specs.Characters.{Characters, standard_characters}
@@ -11,6 +10,7 @@ use Rattle.tn_nvt.specs.declared.items.Item.TheVariants.{Neg, Sub}
 use Rattle.tn_option.specs.Options.{Options, fresh, after_word, state_of, is_yes}
 use Rattle.tn_option.specs.declared.negotiation.Agree.{Agree}
 use Rattle.tn_option.specs.declared.q_method.Side.TheVariants.{Us, Them}
+use Rattle.tn_wire.specs.Words.{payload_under, differ}
 use Rattle.tn_client.specs.Events.{got, resized, History, begun, next}
 
 -- the client's own SUPPRESS-GO-AHEAD, NAWS and LINEMODE are agreed to, and the server's ECHO and
@@ -30,11 +30,9 @@ tells_size o = is_yes (state_of o Us 31)
 abbrev pub is_echoed : Options → Bool
 is_echoed o = is_yes (state_of o Them 1)
 
--- RFC 855: the payload of LINEMODE that an item brings, where LINEMODE is on. No subnegotiation of a stream
--- has more than 512 parameters
+-- the payload of LINEMODE that an item brings, where LINEMODE is on
 abbrev pub payload_at : Options → Item → Option Payload
-payload_at o (Sub option params) =
-    if (option == 34) && (linemode o && nat_le (length params) 512) then payload_of option params else None
+payload_at o (Sub option params) = payload_under ((option == 34) && linemode o) option params
 payload_at o _ = None
 
 -- the options after an item
@@ -47,10 +45,6 @@ abbrev pub options : History → Options
 options (begun width height limit) = fresh agree
 options (next h (got item)) = heard (options h) item
 options (next h _) = options h
-
-abbrev pub differ : Bool → Bool → Bool
-differ true b = not b
-differ false b = b
 
 -- LINEMODE came on or went off
 abbrev pub changes : Options → Options → Bool

@@ -8,21 +8,21 @@ ghost use Rattle.tn_option.specs.Options.{state_of};
 ghost use Rattle.tn_client.specs.Events.{History, begun, next, typed, resized, proposed};
 ghost use Rattle.tn_client.specs.Terms.{options, mode, chars};
 ghost use Rattle.tn_client.specs.Lines.{held, ahead};
-ghost use Rattle.tn_client.specs.Replies.{listed, replies};
+ghost use Rattle.tn_client.specs.Replies.{replies, size_told};
 ghost use Rattle.tn_client.specs.Standing.{Stands, Goes, Sends, Shows, Keeps, Grows, Feeds, Breaks, call_fault, propose_fault, IsFault};
 ghost use Rattle.tn_client.specs.Steps.{after_resize, says_resize};
 
 use crate::faults::ClientFault;
-use crate::sending::{put_list, put_size};
 use crate::taking::Lent;
 use std::alloc::{AllocError, Global};
 use std::marker::Model;
 use std::mem;
-use tn_codes::{Func, Triple};
+use tn_codes::{Func, Payload};
 use tn_discipline::{Chars, Limit, Line};
 use tn_linemode::{ClientMode, ClientTable};
 use tn_nvt::Decoder;
 use tn_option::{Agree, Engine, LINEMODE, NAWS, QState, Side};
+use tn_wire::{put_payload, put_triple};
 
 /// The client end of one connection. Its owner types keys and feeds it what comes from the network,
 /// sends what is appended to `out`, and shows what is appended to `screen`.
@@ -197,7 +197,7 @@ impl ClientEnd {
     {
         let is_new = width != self.width || height != self.height;
         if self.options.is_on(Side::Us, NAWS) && is_new {
-            put_size(width, height, out)?;
+            self.put_size(width, height, out)?;
             self.width = width;
             self.height = height;
             return Ok(());
@@ -205,6 +205,19 @@ impl ClientEnd {
         self.width = width;
         self.height = height;
         Ok(())
+    }
+
+    // Appends the window's size (RFC 1073).
+    pub(crate) fn put_size(
+        &self,
+        width: u16,
+        height: u16,
+        out: &mut Vec<u8>,
+    ) -> Result<(), AllocError>
+        ensures ok { OnOk result (out.new.items ≡ out.old.items ++ spells (size_told (width, height))) }
+        ensures err { OnErr result (out.new.items ≡ out.old.items) }
+    {
+        put_payload(self.alloc, &Payload::Naws { width, height }, out)
     }
 
     /// Proposes a special character to the server, or none by `None`. Nothing changes here until the
@@ -232,20 +245,11 @@ impl ClientEnd {
         }
         match self.table.propose(func, value) {
             Err(fault) => Err(ClientFault::Char(fault)),
-            Ok(triple) => match self.put_triple(triple, out) {
+            Ok(triple) => match put_triple(self.alloc, triple, out) {
                 Ok(()) => Ok(()),
                 Err(_) => Err(ClientFault::Memory),
             },
         }
-    }
-
-    fn put_triple(&self, triple: Triple, out: &mut Vec<u8>) -> Result<(), AllocError>
-        ensures ok { OnOk result (out.new.items ≡ out.old.items ++ spells (listed (triple ∷ []))) }
-        ensures err { OnErr result (out.new.items ≡ out.old.items) }
-    {
-        let mut triples = Vec::new(self.alloc);
-        triples.push(triple)?;
-        put_list(self.alloc, triples, out)
     }
 
     /// The mask in force: EDIT and TRAPSIG (RFC 1184, section 2.2).

@@ -1,27 +1,25 @@
 //! What a client end does with an item that came.
 
-ghost use Rattle.std.specs.Prelude.{◌≡◌, ◌≢◌, ◌⊎◌, ◌≤◌, ◌++◌, ◌∷◌, ℕ, true, false, Some, None, [], length, if◌then◌else◌, IfOk, IfSome, OnOk, OnErr};
-ghost use Rattle.tn_codes.specs.Payloads.{IsShort};
+ghost use Rattle.std.specs.Prelude.{◌≡◌, ◌≢◌, ◌⊎◌, ◌≤◌, ◌++◌, ◌∷◌, ℕ, ◌==◌, ◌&&◌, Some, [], length, if◌then◌else◌, OnOk, OnErr};
 ghost use Rattle.tn_codes.specs.declared.payloads.Payload.TheVariants as payload;
 ghost use Rattle.tn_nvt.specs.Spelling.{spells};
 ghost use Rattle.tn_nvt.specs.declared.items.Item.TheVariants as item;
-ghost use Rattle.tn_client.specs.Terms.{changes, tells_size, payload_at};
+ghost use Rattle.tn_client.specs.Terms.{linemode, changes, tells_size, payload_at};
 ghost use Rattle.tn_client.specs.Replies.{size_told_on, payload_answered};
 ghost use Rattle.tn_client.specs.Screen.{item_shown};
 ghost use Rattle.tn_client.specs.Standing.{ReadsList};
-ghost use Rattle.tn_client.specs.Steps.{Cuts, MayGrowNow, with_mode, says_mode, after_got, says_got, after_sub, says_sub};
+ghost use Rattle.tn_client.specs.Steps.{MayGrowNow, with_mode, says_mode, after_got, says_got, after_sub, says_sub};
+ghost use Rattle.tn_wire.specs.Fronts.{Cuts};
 
 use crate::end::ClientEnd;
 use crate::screen::{show_byte, show_new_line};
-use crate::sending::{put_bytes, put_list, put_mode, put_no_mask, put_size, put_word};
+use crate::sending::put_bytes;
 use std::alloc::AllocError;
-use tn_codes::{Payload, PayloadFault, Triples, Verb, read_payload};
+use tn_codes::{Payload, Triples, Verb};
 use tn_linemode::{ClientMode, EDIT};
 use tn_nvt::{Item, Params};
 use tn_option::{Engine, LINEMODE, NAWS, Side};
-
-/// How many parameters a subnegotiation of a stream has at most.
-const MOST_PARAMS: usize = 512;
+use tn_wire::{put_list, put_mode, put_payload, put_word, read_under};
 
 impl ClientEnd {
     /// What an item does, from what the end knows now. After a refusal the end is not used again.
@@ -110,7 +108,7 @@ impl ClientEnd {
             OnErr result (size_told_on (tells_size self.now.options) is_on size ≢ []) }
     {
         if is_on && !self.options.is_on(Side::Us, NAWS) {
-            return put_size(self.width, self.height, out);
+            return self.put_size(self.width, self.height, out);
         }
         Ok(())
     }
@@ -131,10 +129,12 @@ impl ClientEnd {
         ensures grows { let sub = item.Sub option params.now in OnErr result
             ((says_sub self.old (payload_at self.old.options sub) ≢ []) ⊎ ReadsList self.old.options sub) }
     {
-        match self.payload(option, params)? {
+        match read_under(self.alloc, self.is_read(option), option, params)? {
             Some(Payload::Mode(mask)) => self.mode_got(mask, out),
             Some(Payload::Slc(triples)) => self.list(&triples, out),
-            Some(Payload::ForwardOn(_) | Payload::ForwardOff) => put_no_mask(out),
+            Some(Payload::ForwardOn(_) | Payload::ForwardOff) => {
+                put_payload(self.alloc, &Payload::ForwardNo, out)
+            },
             Some(
                 Payload::Naws {
                     width: _,
@@ -147,24 +147,11 @@ impl ClientEnd {
         }
     }
 
-    // What a subnegotiation says to this end, where LINEMODE is on.
-    fn payload(&self, option: u8, params: &Params) -> Result<Option<Payload>, AllocError>
-        ensures value { IfOk result
-            (λ payload. payload ≡ payload_at self.now.options (item.Sub option params.now)) }
-        ensures short { IfOk result (λ payload. IfSome payload IsShort) }
-        ensures list { OnErr result (ReadsList self.now.options (item.Sub option params.now)) }
+    // Payloads of this option are read: it is LINEMODE, and on.
+    fn is_read(&self, option: u8) -> bool
+        ensures { result ≡ ((option == 34) && linemode self.now.options) }
     {
-        if option != LINEMODE
-            || !self.options.is_on(Side::Us, LINEMODE)
-            || params.len() > MOST_PARAMS
-        {
-            return Ok(None);
-        }
-        match read_payload(self.alloc, option, params.as_slice()) {
-            Ok(payload) => Ok(Some(payload)),
-            Err(PayloadFault::Memory) => Err(AllocError),
-            Err(_) => Ok(None),
-        }
+        option == LINEMODE && self.options.is_on(Side::Us, LINEMODE)
     }
 
     // A MODE of the server.
@@ -179,7 +166,7 @@ impl ClientEnd {
         let mut mode = self.mode;
         let answer = mode.got(mask);
         self.put_held(mode, out)?;
-        put_mode(answer, out)?;
+        put_mode(self.alloc, answer, out)?;
         self.set_mode(mode);
         Ok(())
     }

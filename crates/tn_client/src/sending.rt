@@ -3,18 +3,13 @@
 ghost use Rattle.std.specs.Prelude.{◌≡◌, ◌≢◌, ◌<◌, ◌≤◌, ◌++◌, [], Some, length, flat_map, OnOk, OnErr};
 ghost use Rattle.tn_nvt.specs.Spelling.{spells, spelling};
 ghost use Rattle.tn_nvt.specs.declared.items.Item.TheVariants as item;
-ghost use Rattle.tn_client.specs.Replies.{spelled, func_of, command_for, command_of, commanded, sent_raw, sent_edited, word, listed, mode_told, size_told, size_told_on, subnegotiated};
+ghost use Rattle.tn_client.specs.Replies.{spelled, func_of, command_for, command_of, commanded, sent_raw, sent_edited};
 ghost use Rattle.tn_client.specs.Steps.{Begins};
-ghost use Rattle.tn_codes.specs.declared.payloads.Payload.TheVariants.{ForwardNo};
 
-use std::alloc::{AllocError, Global};
-use tn_codes::{Command, Func, Payload, Triple, Triples, Verb, write_payload};
+use std::alloc::AllocError;
+use tn_codes::{Command, Func};
 use tn_discipline::{Line, Role, Sig, special_characters};
-use tn_nvt::{put_byte, put_cmd, put_neg, put_newline, put_sub};
-use tn_option::{LINEMODE, NAWS};
-
-/// The kind of a LINEMODE subnegotiation that carries a mode (RFC 1184, section 2.2).
-const MODE: u8 = 1;
+use tn_nvt::{put_byte, put_cmd, put_newline};
 
 macro_rules! commands {
     ($wanted:expr, $($func:ident $name:ident [$($command:ident)?] = $standard:expr),*) => {
@@ -133,66 +128,4 @@ pub(crate) fn put_edited(role: Role, line: &Line, out: &mut Vec<u8>) -> Result<(
         Role::Kill if line.ahead() > 0 => put_command(role, out),
         Role::Erase | Role::Kill | Role::Ignored | Role::Ordinary(_) => Ok(()),
     }
-}
-
-/// Appends an option word, where there is one to say.
-pub(crate) fn put_word(said: Option<(Verb, u8)>, out: &mut Vec<u8>) -> Result<(), AllocError>
-    ensures ok { OnOk result (out.new.items ≡ out.old.items ++ spells (word said)) }
-    ensures err { OnErr result (out.new.items ≡ out.old.items) }
-    ensures grows { OnErr result (word said ≢ []) }
-{
-    match said {
-        Some((verb, option)) => put_neg(verb, option, out),
-        None => Ok(()),
-    }
-}
-
-/// Appends a MODE with this mask, where one is to be sent.
-pub(crate) fn put_mode(mask: Option<u8>, out: &mut Vec<u8>) -> Result<(), AllocError>
-    ensures ok { OnOk result (out.new.items ≡ out.old.items ++ spells (mode_told mask)) }
-    ensures err { OnErr result (out.new.items ≡ out.old.items) }
-    ensures grows { OnErr result (mode_told mask ≢ []) }
-{
-    match mask {
-        Some(mask) => put_sub(LINEMODE, &[MODE, mask], out),
-        None => Ok(()),
-    }
-}
-
-/// Appends the refusal of a forward mask.
-pub(crate) fn put_no_mask(out: &mut Vec<u8>) -> Result<(), AllocError>
-    ensures ok { OnOk result (out.new.items ≡ out.old.items ++ spells (subnegotiated ForwardNo)) }
-    ensures err { OnErr result (out.new.items ≡ out.old.items) }
-{
-    put_sub(LINEMODE, &[Verb::Wont.code(), 2], out)
-}
-
-/// Appends the window's size (RFC 1073).
-pub(crate) fn put_size(width: u16, height: u16, out: &mut Vec<u8>) -> Result<(), AllocError>
-    ensures ok { OnOk result (out.new.items ≡ out.old.items ++ spells (size_told (width, height))) }
-    ensures err { OnErr result (out.new.items ≡ out.old.items) }
-{
-    let [a, b] = width.to_be_bytes();
-    let [c, d] = height.to_be_bytes();
-    put_sub(NAWS, &[a, b, c, d], out)
-}
-
-/// Appends a list of local characters, unless it is empty.
-pub(crate) fn put_list(
-    alloc: Global,
-    triples: Vec<Triple>,
-    out: &mut Vec<u8>,
-) -> Result<(), AllocError>
-    requires { length triples.items ≤ 170 }
-    ensures ok { OnOk result (out.new.items ≡ out.old.items ++ spells (listed triples.items)) }
-    ensures err { OnErr result (out.new.items ≡ out.old.items) }
-    ensures grows { OnErr result (listed triples.items ≢ []) }
-{
-    if triples.is_empty() {
-        return Ok(());
-    }
-    let payload = Payload::Slc(Triples::from(triples));
-    let mut params = Vec::new(alloc);
-    write_payload(&payload, &mut params)?;
-    put_sub(LINEMODE, &params, out)
 }

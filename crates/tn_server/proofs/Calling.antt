@@ -15,10 +15,11 @@ use Rattle.tn_option.specs.Options.{Options, state_of, is_yes}
 use Rattle.tn_option.specs.declared.q_method.Side.TheVariants.{Us}
 use Rattle.tn_pty.specs.Terminal.{Terminal, fits, outputs}
 use Rattle.tn_server.specs.Events.{History, next, took, wrote, pulled, wished, echo_set}
-use Rattle.tn_server.specs.Terms.{Terms, terms, terms_by, flags, chars, settings, asked, asked_of, asked_while, changes, differ, mode_after, linemode, mask_for, asks_echo, echo_asked, wants_echo, told_by}
+use Rattle.tn_server.specs.Terms.{Terms, terms, terms_by, flags, chars, settings, asked, asked_of, asked_while, changes, mode_after, linemode, mask_for, asks_echo, echo_asked, wants_echo, told_by}
+use Rattle.tn_wire.specs.Words.{differ, mode_told}
 use Rattle.tn_server.specs.Lines.{entries, taken}
 use Rattle.tn_server.specs.Screen.{queue, due}
-use Rattle.tn_server.specs.Replies.{says_by, echo_told, mode_told, table_told}
+use Rattle.tn_server.specs.Replies.{says_by, echo_told, table_told}
 use Rattle.tn_server.specs.Standing.{End, Stands, Goes}
 use Rattle.tn_server.specs.Steps.{after_wished, says_wished, negotiated, with_negotiated}
 use Rattle.tn_server.specs.declared.terms.Negotiation.{Negotiation}

@@ -11,7 +11,8 @@ use Rattle.tn_option.specs.Options.{Options}
 use Rattle.tn_pty.specs.declared.pty.PtyFault.{PtyFault}
 use Rattle.tn_pty.specs.declared.pty.PtyFault.TheVariants as pty
 use Rattle.tn_server.specs.Events.{Event, History, got}
-use Rattle.tn_server.specs.Faults.{IsCause, IsList, SaysSomething}
+use Rattle.tn_server.specs.Faults.{IsCause, SaysSomething}
+use Rattle.tn_wire.specs.Words.{IsList}
 use Rattle.tn_server.specs.Lines.{role_at, role_of_item}
 use Rattle.tn_server.specs.Replies.{replies}
 use Rattle.tn_server.specs.Standing.{End, Stands}

@@ -1,6 +1,5 @@
 pub mod Beginning
 pub mod Calling
-pub mod Cutting
 pub mod Listing
 pub mod Passing
 pub mod Settling

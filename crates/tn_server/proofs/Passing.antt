@@ -14,12 +14,13 @@ use Rattle.tn_server.specs.Faults.{IsCause}
 use Rattle.tn_server.specs.Replies.{replies, sent}
 use Rattle.tn_server.specs.Terms.{payload_at}
 use Rattle.tn_server.specs.Standing.{End, Stands, Goes, Gets, Refuses, Stops}
-use Rattle.tn_server.specs.Steps.{IsShut, IsKeyCause, CanGrow, Cuts, role_typed, typed_byte, says_got, says_sub}
+use Rattle.tn_server.specs.Steps.{IsShut, IsKeyCause, CanGrow, role_typed, typed_byte, says_got, says_sub}
+use Rattle.tn_wire.specs.Fronts.{Cuts}
 use Rattle.tn_server.specs.declared.faults.ServerFault.{ServerFault}
 use Rattle.tn_server.specs.declared.faults.ServerFault.TheVariants.{Pty, Memory}
 use Rattle.tn_server.proofs.Causes.{typed_cause, sub_cause}
 use Rattle.tn_server.proofs.Wishing.{sub_said}
-use Rattle.tn_server.proofs.Cutting.{spelled_on}
+use Rattle.tn_wire.proofs.lemmas.Cutting.{spelled_on}
 use Rattle.tn_server.proofs.lemmas.Histories.{gets-append}
 use Rattle.tn_server.proofs.Standings.{replies_got}
 use Rattle.tn_server.proofs.Turning.{IsSound, sound, goes_typed}

@@ -4,8 +4,9 @@ use Rattle.tn_discipline.specs.Characters.{Characters}
 use Rattle.tn_discipline.specs.declared.termios.Flags.{Flags}
 use Rattle.tn_linemode.specs.Modes.{Modes, mode_of, sent_by_wish}
 use Rattle.tn_option.specs.Options.{Options}
-use Rattle.tn_server.specs.Terms.{Terms, linemode, asked_while, asked_of, mode_sent, told_by, asks_echo, changes, differ, mode_after, terms_by, wished_after, echo_asked, wants_echo}
-use Rattle.tn_server.specs.Replies.{says_by, table_told, mode_told, echo_told}
+use Rattle.tn_server.specs.Terms.{Terms, linemode, asked_while, asked_of, mode_sent, told_by, asks_echo, changes, mode_after, terms_by, wished_after, echo_asked, wants_echo}
+use Rattle.tn_wire.specs.Words.{differ, mode_told}
+use Rattle.tn_server.specs.Replies.{says_by, table_told, echo_told}
 use Rattle.tn_server.specs.Steps.{modes_before, modes_told, modes_asked, told_now, masks_by, settled, settling}
 use Rattle.tn_server.specs.declared.terms.Negotiation.{Negotiation}
 use Rattle.tn_server.specs.declared.wishes.Editing.{Editing}

@@ -16,7 +16,8 @@ use Rattle.tn_option.specs.Options.{Options, after_word}
 use Rattle.tn_pty.specs.Terminal.{Terminal, fitted}
 use Rattle.tn_pty.specs.Typing.{typed}
 use Rattle.tn_server.specs.Events.{History, next, got}
-use Rattle.tn_server.specs.Terms.{Terms, terms_by, told_by, asks_echo, wants_echo, asked_of, asked_while, changes, differ, mode_after, chars_after, payload_at, wish_in, heard, linemode, echoes, wished_after}
+use Rattle.tn_server.specs.Terms.{Terms, terms_by, told_by, asks_echo, wants_echo, asked_of, asked_while, changes, mode_after, chars_after, payload_at, wish_in, heard, linemode, echoes, wished_after}
+use Rattle.tn_wire.specs.Words.{differ}
 use Rattle.tn_server.specs.Lines.{role_at}
 use Rattle.tn_server.specs.Screen.{shows, size_after}
 use Rattle.tn_server.specs.Replies.{says, says_by, word_back, list_answered}

@@ -2,8 +2,8 @@
 use Rattle.std.specs.Prelude.{◌≡◌, List, ℕ, [], ◌∷◌, ◌++◌, length}
 use Rattle.tn_discipline.specs.Canon.{Canon}
 use Rattle.tn_nvt.specs.Standing.{HasRead}
-use Rattle.tn_nvt.specs.Stream.{Reading}
 use Rattle.tn_nvt.specs.declared.items.Item.{Item}
+use Rattle.tn_wire.specs.Fronts.{IsRead}
 use Rattle.tn_server.specs.Events.{Event, got, wrote, pulled, History, begun, next, items, gets}
 use Rattle.tn_server.specs.Screen.{queue}
 use Rattle.tn_server.specs.Standing.{End, Stands}
@@ -23,10 +23,6 @@ stream (called course call) = stream course
 abbrev pub IsCall : Event → Type 0
 IsCall (got item) = ⊥
 IsCall _ = Unit {0}
-
--- these are the items of the stream
-abbrev pub IsRead : List ℕ → List Item → Type 0
-IsRead bytes xs = (rest : List ℕ) × Reading bytes xs rest
 
 -- The course leads to this history: each piece brings the items that it adds to those of the stream before it.
 abbrev pub Leads : Course → History → Type 0

@@ -1,13 +1,11 @@
 -- Why calls are refused.
-use Rattle.std.specs.Prelude.{◌≡◌, ◌≢◌, ◌⊎◌, true, Option, Some, None, List, [], length}
-use Rattle.tn_codes.specs.declared.payloads.Payload.{Payload}
-use Rattle.tn_codes.specs.declared.payloads.Payload.TheVariants.{Slc}
-use Rattle.tn_codes.specs.declared.triples.Triple.{Triple}
+use Rattle.std.specs.Prelude.{◌≡◌, ◌≢◌, ◌⊎◌, true, Option, Some, None, [], length}
 use Rattle.tn_discipline.specs.HalfLine.{GivesText}
 use Rattle.tn_discipline.specs.Keys.{gives_entry}
 use Rattle.tn_nvt.specs.declared.items.Item.{Item}
 use Rattle.tn_pty.specs.Terminal.{most_waiting}
 use Rattle.tn_pty.specs.declared.pty.PtyFault.TheVariants as pty
+use Rattle.tn_wire.specs.Words.{IsList}
 use Rattle.tn_server.specs.Events.{Event, got, History}
 use Rattle.tn_server.specs.Lines.{role_of_item, line, waiting}
 use Rattle.tn_server.specs.Replies.{replies}
@@ -18,10 +16,6 @@ use Rattle.tn_server.specs.declared.faults.ServerFault.TheVariants.{Pty, Memory,
 -- an event makes the server send something
 abbrev pub SaysSomething : History → Event → Type 0
 SaysSomething h e = replies h e ≢ []
-
--- a list of local characters that is not empty: it has to be kept while it is answered
-abbrev pub IsList : Option Payload → Type 0
-IsList payload = (triples : List Triple) × (triples ≢ []) × (payload ≡ Some (Slc triples))
 
 -- why an item is refused: too many entries wait for the one that it makes; memory is wanting for the text of a line, for
 -- what is to be sent, or for a list

@@ -1,13 +1,11 @@
 -- What a server end sends, as items; its bytes are their spellings, one after another.
-use Rattle.std.specs.Prelude.{ℕ, Bool, true, false, not, ◌&&◌, Option, Some, None, Result, Ok, Err, List, [], ◌∷◌, ◌++◌, map, take, if◌then◌else◌}
-use Rattle.tn_codes.specs.Payloads.{written}
+use Rattle.std.specs.Prelude.{ℕ, Bool, true, false, not, ◌&&◌, Option, Some, Result, Ok, Err, List, [], ◌∷◌, ◌++◌, map, take, if◌then◌else◌}
 use Rattle.tn_codes.specs.declared.codes.Command.TheVariants.{Ga}
 use Rattle.tn_codes.specs.declared.codes.Func.{Func}
 use Rattle.tn_codes.specs.declared.codes.Verb.{Verb}
 use Rattle.tn_codes.specs.declared.codes.Verb.TheVariants as verb
 use Rattle.tn_codes.specs.declared.payloads.Payload.{Payload}
-use Rattle.tn_codes.specs.declared.payloads.Payload.TheVariants.{Mode, Slc}
-use Rattle.tn_codes.specs.declared.triples.Triple.{Triple}
+use Rattle.tn_codes.specs.declared.payloads.Payload.TheVariants.{Slc}
 use Rattle.tn_discipline.specs.Characters.{Characters, slot}
 use Rattle.tn_discipline.specs.declared.termios.Flags.{Flags}
 use Rattle.tn_discipline.specs.declared.echo.Symbol.{Symbol}
@@ -15,32 +13,20 @@ use Rattle.tn_discipline.specs.declared.echo.Symbol.TheVariants as symbol
 use Rattle.tn_linemode.specs.Exchange.{announcement, server_answers, server_is_asked, is_same_value}
 use Rattle.tn_linemode.specs.Triples.{triple_of}
 use Rattle.tn_nvt.specs.declared.items.Item.{Item}
-use Rattle.tn_nvt.specs.declared.items.Item.TheVariants.{Byte, Newline, Cmd, Neg, Sub}
+use Rattle.tn_nvt.specs.declared.items.Item.TheVariants.{Byte, Newline, Cmd, Neg}
 use Rattle.tn_option.specs.Options.{Options, reply_to, answer_to}
 use Rattle.tn_option.specs.declared.q_method.AskFault.{AskFault}
 use Rattle.tn_option.specs.declared.q_method.Side.TheVariants.{Us}
 use Rattle.tn_server.specs.Events.{Event, got, took, wrote, pulled, wished, char_set, echo_set, History, begun, next}
 use Rattle.tn_server.specs.Terms.{Terms, terms, options, flags, chars, linemode, payload_at, heard, asked_of, wished_after, wish_at, wants_echo, told_by, asks_echo, is_echo_set, chars_after}
 use Rattle.tn_server.specs.declared.wishes.Editing.{Editing}
+use Rattle.tn_wire.specs.Words.{word, mode_told, listed}
 use Rattle.tn_server.specs.Screen.{sends_ga, none_waits, due, queue}
-
--- an option word (RFC 855)
-abbrev pub word : Option (Verb × ℕ) → List Item
-word None = []
-word (Some said) = Neg said.0 said.1 ∷ []
 
 -- a wish that is refused says nothing
 abbrev pub asked_word : Result (Option (Verb × ℕ)) AskFault → List Item
 asked_word (Ok said) = word said
 asked_word (Err fault) = []
-
-abbrev pub subnegotiated : Payload → List Item
-subnegotiated payload = Sub 34 (written payload) ∷ []
-
--- an empty list is not sent
-abbrev pub listed : List Triple → List Item
-listed [] = []
-listed (triple ∷ triples) = subnegotiated (Slc (triple ∷ triples))
 
 -- the word that answers an option word
 abbrev pub word_back : Options → Event → List Item
@@ -55,10 +41,6 @@ table_asked false c = []
 -- the whole table, where LINEMODE comes on
 abbrev pub table_told : Bool → Bool → Characters → List Item
 table_told was on c = table_asked (on && not was) c
-
-abbrev pub mode_told : Option ℕ → List Item
-mode_told None = []
-mode_told (Some mask) = subnegotiated (Mode mask)
 
 abbrev pub echo_told : Bool → Bool → Options → List Item
 echo_told true wanted o = asked_word (answer_to o Us 1 wanted)

@@ -6,9 +6,10 @@ use Rattle.tn_discipline.specs.Leaves.{Leaves}
 use Rattle.tn_discipline.specs.declared.reads.Entry.{Entry}
 use Rattle.tn_linemode.specs.Modes.{Modes}
 use Rattle.tn_nvt.specs.Spelling.{spells}
-use Rattle.tn_nvt.specs.Standing.{Standing, failed, Adds, KeepsParameter}
+use Rattle.tn_nvt.specs.Standing.{Standing, failed, Adds}
 use Rattle.tn_nvt.specs.declared.items.Item.{Item}
 use Rattle.tn_pty.specs.Terminal.{Terminal}
+use Rattle.tn_wire.specs.Fronts.{WantsMemory}
 use Rattle.tn_server.specs.Events.{History, Event, next, got, gets, limit}
 use Rattle.tn_server.specs.Terms.{Terms, terms, asked, mode, settings, chars}
 use Rattle.tn_server.specs.Lines.{roles, entries, taken}
@@ -94,11 +95,6 @@ pub record Feeds (old : End) (piece before after : List ℕ) (new : End) : Type 
   pub stands : (h : History) → Stands h old → Stands (gets h items) new
   pub failed : new.failed ≡ old.failed
   pub closed : new.terminal.closed ≡ old.terminal.closed
-
--- the decoder wants memory for the next byte of the stream, a parameter
-abbrev pub WantsMemory : Standing → List ℕ → Type 0
-WantsMemory here [] = ⊥
-WantsMemory here (byte ∷ bytes) = KeepsParameter here byte
 
 -- what the first of these items makes the server send, if there is one
 abbrev pub first_replies : History → List Item → List Item

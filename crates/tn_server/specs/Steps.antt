@@ -12,7 +12,6 @@ use Rattle.tn_discipline.specs.declared.keys.Role.{Role}
 use Rattle.tn_discipline.specs.declared.termios.Flags.{Flags}
 use Rattle.tn_linemode.specs.Modes.{Modes, no_mode, edits, sent_by_wish, after_wish, after_mode, wished_by}
 use Rattle.tn_linemode.specs.Exchange.{server_after}
-use Rattle.tn_nvt.specs.Spelling.{spells}
 use Rattle.tn_nvt.specs.declared.items.Item.{Item}
 use Rattle.tn_option.specs.Options.{after_word, reply_to}
 use Rattle.tn_pty.specs.Terminal.{Terminal, shut, most_waiting}
@@ -20,11 +19,11 @@ use Rattle.tn_pty.specs.Typing.{typed, command_role, command_shows}
 use Rattle.tn_pty.specs.declared.pty.PtyFault.{PtyFault}
 use Rattle.tn_pty.specs.declared.pty.PtyFault.TheVariants as pty
 use Rattle.tn_server.specs.Events.{Event, got}
-use Rattle.tn_server.specs.Faults.{IsList}
-use Rattle.tn_server.specs.Terms.{Terms, terms_after, payload_at, asked_of, changes, differ, mode_after, chars_after, echoes, linemode, echo_asked, wants_echo, mask_for, editing}
+use Rattle.tn_wire.specs.Words.{IsList, differ, word, mode_told}
+use Rattle.tn_server.specs.Terms.{Terms, terms_after, payload_at, asked_of, changes, mode_after, chars_after, echoes, linemode, echo_asked, wants_echo, mask_for, editing}
 use Rattle.tn_server.specs.Lines.{role_at, role_of_byte}
 use Rattle.tn_server.specs.Screen.{shows, byte_shows, size_after}
-use Rattle.tn_server.specs.Replies.{says, list_answered, word, table_told, mode_told, echo_told}
+use Rattle.tn_server.specs.Replies.{says, list_answered, table_told, echo_told}
 use Rattle.tn_server.specs.Standing.{End}
 use Rattle.tn_server.specs.declared.terms.Negotiation.{Negotiation}
 
@@ -139,13 +138,6 @@ abbrev pub says_sub : End → Option Payload → List Item
 says_sub old (Some (Mode mask)) = says_mode_got old mask
 says_sub old (Some (Slc triples)) = list_answered old.table (Some (Slc triples))
 says_sub old _ = []
-
--- a front of these items was appended
-pub record Cuts (whole : List Item) (before after : List ℕ) : Type 0 where
-  pub part : List Item
-  pub rest : List Item
-  pub whole_is : whole ≡ part ++ rest
-  pub appended : after ≡ before ++ spells part
 
 -- a key or command was refused: it had no effect but that the terminal may be shut
 abbrev pub IsShut : End → End → Type 0

@@ -1,8 +1,7 @@
 -- What a server end has agreed on with its client: options, special characters and the mode of editing.
-use Rattle.std.specs.Prelude.{ℕ, Bool, true, false, not, ◌&&◌, ◌||◌, nat_le, length, Option, Some, None, is_some, [], ◌∷◌, if◌then◌else◌}
+use Rattle.std.specs.Prelude.{ℕ, Bool, true, false, not, ◌&&◌, ◌||◌, Option, Some, None, is_some, [], ◌∷◌, if◌then◌else◌}
 use Rattle.tn_codes.specs.declared.payloads.Payload.{Payload}
 use Rattle.tn_codes.specs.declared.payloads.Payload.TheVariants.{Mode, Slc}
-use Rattle.tn_codes.specs.PayloadOf.{payload_of}
 use Rattle.tn_discipline.specs.Characters.{Characters, with_slot}
 use Rattle.tn_discipline.specs.declared.termios.Flags.{Flags}
 use Rattle.tn_discipline.specs.declared.termios.Settings.{Settings}
@@ -13,6 +12,7 @@ use Rattle.tn_nvt.specs.declared.items.Item.TheVariants.{Neg, Sub}
 use Rattle.tn_option.specs.Options.{Options, fresh, after_word, after_wish, state_of, is_yes}
 use Rattle.tn_option.specs.declared.negotiation.Agree.{Agree}
 use Rattle.tn_option.specs.declared.q_method.Side.TheVariants.{Us, Them}
+use Rattle.tn_wire.specs.Words.{payload_under, differ}
 use Rattle.tn_server.specs.Events.{Event, got, wished, char_set, echo_set, History, begun, next}
 use Rattle.tn_server.specs.declared.wishes.Editing.{Editing}
 use Rattle.tn_server.specs.declared.wishes.Editing.TheVariants.{Remote, Local}
@@ -34,11 +34,9 @@ linemode o = is_yes (state_of o Them 34)
 abbrev pub echoes : Options → Bool
 echoes o = is_yes (state_of o Us 1)
 
--- RFC 855: the payload that an item brings, where its option is on at the client's side. No subnegotiation of a stream
--- has more than 512 parameters
+-- the payload that an item brings, where its option is on at the client's side
 abbrev pub payload_at : Options → Item → Option Payload
-payload_at o (Sub option params) =
-    if is_yes (state_of o Them option) && nat_le (length params) 512 then payload_of option params else None
+payload_at o (Sub option params) = payload_under (is_yes (state_of o Them option)) option params
 payload_at o _ = None
 
 -- RFC 1184, section 2.2: Remote is no mode bit; Local is EDIT, with TRAPSIG where ISIG is set. Local is allowed where
@@ -107,10 +105,6 @@ heard o _ = o
 -- ECHO is the server's where the client does not edit, or where the flag ECHO is clear: then nobody echoes
 abbrev pub wants_echo : ℕ → Flags → Bool
 wants_echo asked flags = not (edits asked) || not flags.echo
-
-abbrev pub differ : Bool → Bool → Bool
-differ true b = not b
-differ false b = b
 
 abbrev pub is_echo_set : Event → Bool
 is_echo_set (echo_set on) = true

@@ -11,26 +11,22 @@ ghost use Rattle.tn_server.specs.Events.{got};
 ghost use Rattle.tn_server.specs.Terms.{payload_at, mask_for};
 ghost use Rattle.tn_server.specs.Replies.{list_answered};
 ghost use Rattle.tn_server.specs.Standing.{Goes, Gets, Refuses, Stops};
-ghost use Rattle.tn_server.specs.Faults.{IsOfItem, IsList};
-ghost use Rattle.tn_server.specs.Steps.{role_typed, typed_byte, typed_command, IsShut, IsKeyCause, CanGrow, Cuts, after_words, says_words, after_wished, says_wished, sends_wished, after_mode_got, says_mode_got, after_list, after_sub, says_sub};
+ghost use Rattle.tn_server.specs.Faults.{IsOfItem};
+ghost use Rattle.tn_wire.specs.Words.{IsList};
+ghost use Rattle.tn_server.specs.Steps.{role_typed, typed_byte, typed_command, IsShut, IsKeyCause, CanGrow, after_words, says_words, after_wished, says_wished, sends_wished, after_mode_got, says_mode_got, after_list, after_sub, says_sub};
+ghost use Rattle.tn_wire.specs.Fronts.{Cuts};
 
 use crate::end::ServerEnd;
 use crate::faults::ServerFault;
-use crate::sending::{put_list, put_word};
 use crate::terms::announce;
 use crate::wishes::Editing;
 use std::alloc::AllocError;
-use tn_codes::{Command, Payload, PayloadFault, Triples, Verb, read_payload};
+use tn_codes::{Command, Payload, Triples, Verb};
 use tn_linemode::EDIT;
 use tn_nvt::{Item, Params};
 use tn_option::Side;
 use tn_pty::PtyFault;
-
-/// How many parameters a subnegotiation of a stream has at most.
-const MOST_PARAMS: usize = 512;
-
-/// How many triples a list of local characters has at most.
-const MOST_TRIPLES: usize = 170;
+use tn_wire::{put_list, put_word, read_under};
 
 impl ServerEnd {
     /// Takes bytes of data, one after another.
@@ -204,7 +200,8 @@ impl ServerEnd {
         ensures some { OnErr result (CanGrow self.old (payload_at self.old.terms.options (item.Sub option params.now))) }
         ensures err { OnErr result (self.new ≡ self.old) }
     {
-        match self.payload(option, params)? {
+        let is_on = self.terms.options.is_on(Side::Them, option);
+        match read_under(self.alloc, is_on, option, params)? {
             Some(Payload::Naws { width, height }) => {
                 self.pair.resize(width, height);
                 Ok(())
@@ -218,22 +215,6 @@ impl ServerEnd {
                 | Payload::ForwardNo,
             )
             | None => Ok(()),
-        }
-    }
-
-    // What a subnegotiation says to this end, where its option is on.
-    fn payload(&self, option: u8, params: &Params) -> Result<Option<Payload>, AllocError>
-        ensures value { IfOk result (λ payload. payload ≡ payload_at self.now.terms.options (item.Sub option params.now)) }
-        ensures short { IfOk result (λ payload. IfSome payload IsShort) }
-        ensures list { OnErr result (IsList (payload_at self.now.terms.options (item.Sub option params.now))) }
-    {
-        if !self.terms.options.is_on(Side::Them, option) || params.len() > MOST_PARAMS {
-            return Ok(None);
-        }
-        match read_payload(self.alloc, option, params.as_slice()) {
-            Ok(payload) => Ok(Some(payload)),
-            Err(PayloadFault::Memory) => Err(AllocError),
-            Err(_) => Ok(None),
         }
     }
 }

@@ -4,15 +4,17 @@ ghost use Rattle.std.specs.Prelude.{◌≡◌, ◌≢◌, [], ◌++◌, true, is
 ghost use Rattle.tn_linemode.specs.Modes.{no_mode};
 ghost use Rattle.tn_nvt.specs.Spelling.{spells};
 ghost use Rattle.tn_server.specs.Terms.{opened, linemode, echoes, echo_asked, wants_echo};
-ghost use Rattle.tn_server.specs.Replies.{table_told, listed, echo_told};
+ghost use Rattle.tn_server.specs.Replies.{table_told, echo_told};
+ghost use Rattle.tn_wire.specs.Words.{listed};
 ghost use Rattle.tn_linemode.specs.Exchange.{announcement};
-ghost use Rattle.tn_server.specs.Steps.{told_now, masks_by, settled, settling, Cuts};
+ghost use Rattle.tn_server.specs.Steps.{told_now, masks_by, settled, settling};
+ghost use Rattle.tn_wire.specs.Fronts.{Cuts};
 
-use crate::sending::{put_list, put_mode, put_word};
 use std::alloc::{AllocError, Global};
 use tn_discipline::Flags;
 use tn_linemode::{EDIT, ServerMode, ServerTable};
 use tn_option::{Agree, ECHO, Engine, LINEMODE, NAWS, SUPPRESS_GO_AHEAD, Side};
+use tn_wire::{put_list, put_mode, put_word};
 
 /// The options, the masks, and the mask of the last wish that was allowed.
 #[derive(Clone, Copy)]
@@ -111,7 +113,7 @@ impl Negotiation {
         let is_on = self.has_linemode();
         put_table(alloc, was_on, is_on, table, out)?;
         let told = self.ask_mode(was_on);
-        put_mode(told, out)?;
+        put_mode(alloc, told, out)?;
         let is_due = is_on != was_on || (told.is_some() || is_set);
         self.ask_echo(is_due, flags, out)?;
         Ok(told.is_some())

@@ -30,7 +30,8 @@ use Rattle.tn_client.specs.Events.{typed, got, resized, History, next, gets}
 use Rattle.tn_client.specs.Terms as terms
 use Rattle.tn_client.specs.Terms.{linemode, tells_size, payload_at, options, changes, mode_by, mode_at, chars_by, chars, size}
 use Rattle.tn_client.specs.Lines.{traps, role_of_typed, role_at, line_limit, line}
-use Rattle.tn_client.specs.Replies.{spelled, command_of, commanded, sent_raw, sent_edited, key_sent, subnegotiated, size_told, mode_told, payload_answered, answered, ending, is_same_size, replies, sent}
+use Rattle.tn_client.specs.Replies.{spelled, command_of, commanded, sent_raw, sent_edited, key_sent, size_told, payload_answered, answered, ending, is_same_size, replies, sent}
+use Rattle.tn_wire.specs.Words.{subnegotiated, mode_told}
 use Rattle.tn_client.specs.Standing.{End, Stands, Goes, Keeps, Sends, Feeds}
 use Rattle.tn_client.proofs.lemmas.Ends.{line_is}
 use Rattle.tn_client.proofs.lemmas.Histories.{ahead-none, unedited-held, unedited-line, mode-small}
@@ -459,7 +460,7 @@ unasked-at h option params mask is off =
     said-mode (options h) option params mask is ∙ ap (λ (b : Bool). if b then Some (payload.Mode mask) else None) off
 
 chattered-at : (h : History) (option : ℕ) (params : List ℕ) → IsChatter (payload_of option params) → IsChatter (payload_at (options h) (Sub option params))
-chattered-at h option params i = chatter-if ((option == 34) && (linemode (options h) && nat_le (length params) 512)) (payload_of option params) i
+chattered-at h option params i = chatter-if (((option == 34) && linemode (options h)) && nat_le (length params) 512) (payload_of option params) i
 
 nothing-came : (rules : Rules) (h : History) (option : ℕ) (params : List ℕ) (t p : ℕ) → IsChatter (payload_at (options h) (Sub option params)) → heard rules.linemode (Sub option params) ≡ chatter → Came rules h (Sub option params) t p (heard rules.linemode (Sub option params))
 nothing-came rules h option params t p i is =

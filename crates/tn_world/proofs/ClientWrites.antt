@@ -20,8 +20,9 @@ use Rattle.tn_option.specs.Options.{Options, after_word, reply_to, is_yes}
 use Rattle.tn_option.specs.QMethod.{side_of, cause_of}
 use Rattle.tn_option.specs.declared.q_method.Side.TheVariants.{Us}
 use Rattle.tn_option.proofs.lemmas.OptionLaws.{LeavesOthers-moved}
-use Rattle.tn_client.specs.Terms.{linemode, tells_size, payload_at, differ, mode_by, mode_at, chars_by}
-use Rattle.tn_client.specs.Replies.{spelled, word, subnegotiated, size_told, size_told_on, payload_answered, answered}
+use Rattle.tn_client.specs.Terms.{linemode, tells_size, payload_at, mode_by, mode_at, chars_by}
+use Rattle.tn_wire.specs.Words.{differ, word, subnegotiated}
+use Rattle.tn_client.specs.Replies.{spelled, size_told, size_told_on, payload_answered, answered}
 use Rattle.tn_world.specs.relation.Machine as machine
 use Rattle.tn_world.specs.relation.Machine.{Mode, Rules, chatter, Server, read, read_item, read_all, byte, other, bytes, IsAskable}
 use Rattle.tn_world.specs.relation.Calm.{bits, IsCalmToServer, AsksCalmly, seen, heard_payload}

@@ -24,7 +24,8 @@ use Rattle.tn_server.specs.Events.{Event, History, next, got, took, wrote, pulle
 use Rattle.tn_server.specs.Terms.{Terms, terms, options, flags, chars, settings, mode, linemode, echoes, payload_at, heard, wish_at, is_echo_set, wished_after, told_by, asks_echo, asked_of, wants_echo, chars_after}
 use Rattle.tn_server.specs.Lines.{line}
 use Rattle.tn_server.specs.Screen.{queue, shows, sends_ga, none_waits, due}
-use Rattle.tn_server.specs.Replies.{word, asked_word, word_back, opening, listed, table_asked, table_told, mode_told, echo_told, says_by, says, list_answered, triple_told, replies, sent}
+use Rattle.tn_server.specs.Replies.{asked_word, word_back, opening, table_asked, table_told, echo_told, says_by, says, list_answered, triple_told, replies, sent}
+use Rattle.tn_wire.specs.Words.{word, listed, mode_told}
 use Rattle.tn_server.specs.Standing.{End, Stands, Goes, Feeds, Halts, first_replies}
 use Rattle.tn_server.specs.declared.faults.ServerFault.{ServerFault}
 use Rattle.tn_server.specs.declared.wishes.Editing.{Editing}

@@ -37,10 +37,11 @@ use Rattle.tn_option.specs.declared.q_method.Side.{Side}
 use Rattle.tn_option.specs.declared.q_method.Side.TheVariants.{Us, Them}
 use Rattle.tn_option.proofs.lemmas.OptionLaws.{LeavesOthers-moved}
 use Rattle.tn_server.specs.Events.{Event, History, next, got, took, wrote, pulled, wished, char_set, echo_set, gets, limit}
-use Rattle.tn_server.specs.Terms.{Terms, terms, options, flags, chars, settings, mode, linemode, payload_at, heard, wish_in, wished_after, mask_for, mask_or, asked_of, asked_while, mode_sent, told_by, asks_echo, wants_echo, terms_by, differ, mode_after, chars_after}
+use Rattle.tn_server.specs.Terms.{Terms, terms, options, flags, chars, settings, mode, linemode, payload_at, heard, wish_in, wished_after, mask_for, mask_or, asked_of, asked_while, mode_sent, told_by, asks_echo, wants_echo, terms_by, mode_after, chars_after}
+use Rattle.tn_wire.specs.Words.{differ, word, subnegotiated, mode_told}
 use Rattle.tn_server.specs.Lines.{role_at, roles, entries, half, taken, waiting}
 use Rattle.tn_server.specs.Screen.{queue, sends_ga, none_waits, due}
-use Rattle.tn_server.specs.Replies.{word, asked_word, word_back, subnegotiated, table_told, mode_told, echo_told, says_by, list_answered, data_of, replies, sent}
+use Rattle.tn_server.specs.Replies.{asked_word, word_back, table_told, echo_told, says_by, list_answered, data_of, replies, sent}
 use Rattle.tn_server.specs.Standing.{End, Stands, Goes, Keeps, Feeds}
 use Rattle.tn_server.specs.declared.wishes.Editing.{Editing}
 use Rattle.tn_server.specs.declared.wishes.Editing.TheVariants.{Remote, Local}

@@ -18,7 +18,8 @@ use Rattle.tn_server.specs.Screen.{queue, sends_ga, none_waits, due}
 use Rattle.tn_server.specs.Standing as server
 use Rattle.tn_server.specs.Terms.{options, chars, flags, terms}
 use Rattle.tn_client.specs.Terms as client_terms
-use Rattle.tn_client.specs.Terms.{mode_by, mode_at, linemode, differ}
+use Rattle.tn_client.specs.Terms.{mode_by, mode_at, linemode}
+use Rattle.tn_wire.specs.Words.{differ}
 use Rattle.tn_world.specs.Flight.{InFlight}
 use Rattle.tn_world.specs.Headline.{IsBetweenLines, ComeWhere, DeliversWhere, IsQuietEvent, AreQuiet, KeepsTheMode, EachKeepsTheMode, IsMark, NoneFailed}
 use Rattle.tn_world.specs.Past.{IsSound}

@@ -9,9 +9,10 @@ use Rattle.tn_client.specs.Events.{Event, typed, got, resized, proposed, History
 use Rattle.tn_client.specs.Replies.{sent}
 use Rattle.tn_client.specs.Screen.{shown}
 use Rattle.tn_client.specs.Standing.{End, Stands, Keeps, Goes, Feeds, GivesUp, Breaks}
-use Rattle.tn_client.specs.Course.{Course, started, fed, called, stream, IsCall, IsRead, Leads, IsAt}
+use Rattle.tn_client.specs.Course.{Course, started, fed, called, stream, IsCall, Leads, IsAt}
+use Rattle.tn_wire.specs.Fronts.{IsRead}
 use Rattle.tn_client.proofs.lemmas.Histories.{items-gets, gets-append}
-use Rattle.tn_client.proofs.Growing.{cons_some, back_some}
+use Rattle.tn_wire.proofs.lemmas.Cutting.{cons_some, back_some}
 
 -- a call brings no item
 items-call : (h : History) (e : Event) → IsCall e → items (next h e) ≡ items h

@@ -1,21 +1,17 @@
 -- Each item that a client end says fits a stream.
-use Rattle.std.proofs.Common.{◌≡◌, ◌≤◌, ℕ, Bool, true, false, not, ◌==◌, ◌&&◌, Option, Some, None, List, [], ◌∷◌, ◌++◌, length, nat_le, if◌then◌else◌, refl, arith}
+use Rattle.std.proofs.Common.{ℕ, Bool, true, false, not, ◌==◌, ◌&&◌, Option, Some, None, List, [], ◌∷◌, arith}
 use Rattle.std.specs.Prelude.{All}
-use Rattle.std.proofs.lemmas.List.Elements.{All-nil, All-cons, All-append}
-use Rattle.tn_codes.specs.Payloads.{written, IsShort}
-use Rattle.tn_codes.specs.PayloadOf.{payload_of}
+use Rattle.std.proofs.lemmas.List.Elements.{All-cons}
+use Rattle.tn_codes.specs.Payloads.{written}
 use Rattle.tn_codes.specs.declared.codes.Command.{Command}
-use Rattle.tn_codes.specs.declared.codes.Verb.{Verb}
 use Rattle.tn_codes.specs.declared.payloads.Payload.{Payload}
 use Rattle.tn_codes.specs.declared.payloads.Payload.TheVariants as payload
-use Rattle.tn_codes.specs.declared.triples.Triple.{Triple}
-use Rattle.tn_codes.proofs.lemmas.Telling.{says}
 use Rattle.tn_discipline.specs.Characters.{Characters}
 use Rattle.tn_discipline.specs.HalfLine.{HalfLine, has_held, has_ahead}
 use Rattle.tn_discipline.specs.declared.keys.Role.{Role}
 use Rattle.tn_discipline.specs.declared.keys.Role.TheVariants as role
 use Rattle.tn_linemode.specs.Modes.{edits, mode_answer}
-use Rattle.tn_linemode.specs.Exchange.{client_answers}
+use Rattle.tn_linemode.specs.Exchange.{client_answers, client_next, client_answer}
 use Rattle.tn_linemode.specs.Triples.{triple_of}
 use Rattle.tn_nvt.specs.Spelling.{Fits}
 use Rattle.tn_nvt.specs.declared.items.Item.{Item}
@@ -24,25 +20,11 @@ use Rattle.tn_option.specs.Options.{Options, reply_to}
 use Rattle.tn_client.specs.Events.{History, Event, typed, got, resized, proposed, begun, next}
 use Rattle.tn_client.specs.Terms.{options, mode, chars, size, linemode, tells_size, heard, payload_at, mode_at}
 use Rattle.tn_client.specs.Lines.{role_at, line}
-use Rattle.tn_client.specs.Replies.{spelled, command_of, commanded, sent_raw, sent_edited, key_sent, word, size_told, mode_told, listed, size_told_on, payload_answered, answered, ending, is_same_size, replies, sent}
-use Rattle.tn_client.proofs.lemmas.Listing.{list_fits, short_list, answers_fit}
-
--- these items fit
-abbrev Fit : List Item → Type 0
-Fit = All Fits
-
-none : Fit []
-none = All-nil Fits
-
-one : (item : Item) → Fits item → Fit (item ∷ [])
-one item fits = All-cons Fits item [] fits none
-
-both : (xs ys : List Item) → Fit xs → Fit ys → Fit (xs ++ ys)
-both = All-append Fits
-
-unless : (b : Bool) (xs : List Item) → Fit xs → Fit (if b then xs else [])
-unless true xs h = h
-unless false xs h = none
+use Rattle.tn_client.specs.Replies.{spelled, command_of, commanded, sent_raw, sent_edited, key_sent, size_told, size_told_on, payload_answered, answered, ending, is_same_size, replies, sent}
+use Rattle.tn_wire.specs.Words.{word}
+use Rattle.tn_linemode.proofs.lemmas.Answering.{length-answers_along}
+use Rattle.tn_wire.proofs.lemmas.Fitting.{Fit, none, one, both, unless, word-fits, mode-fits, list-fits}
+use Rattle.tn_wire.proofs.lemmas.Listing.{IsShortOrNone, short_under}
 
 bytes-fit : (bs : List ℕ) → Fit (spelled bs)
 bytes-fit [] = none
@@ -78,43 +60,11 @@ key-fits : (edit : Bool) (r : Role) (l : HalfLine) (key : ℕ) → Fit (key_sent
 key-fits true r l key = edited-fits r l
 key-fits false r l key = raw-fits r key
 
-word-fits : (w : Option (Verb × ℕ)) → Fit (word w)
-word-fits None = none
-word-fits (Some w) = one (Neg w.0 w.1) tt
-
 size-fits : (z : ℕ × ℕ) → Fit (size_told z)
 size-fits (width, height) = one (Sub 31 (written (payload.Naws width height))) (omega arith)
 
-mode-fits : (m : Option ℕ) → Fit (mode_told m)
-mode-fits None = none
-mode-fits (Some mask) = one (Sub 34 (written (payload.Mode mask))) (omega arith)
-
-list-fits : (ts : List Triple) → length ts ≤ 170 → Fit (listed ts)
-list-fits [] h = none
-list-fits (t ∷ ts) h = one (Sub 34 (written (payload.Slc (t ∷ ts)))) (list_fits (t ∷ ts) (written (payload.Slc (t ∷ ts))) h refl)
-
--- a payload that is said, if one is, is short
-abbrev IsShortOrNone : Option Payload → Type 0
-IsShortOrNone None = Unit {0}
-IsShortOrNone (Some p) = IsShort p
-
-fits_by : (n : ℕ) → nat_le n 512 ≡ true → n ≤ 512
-fits_by n h = grind arith
-
-short_told : (option : ℕ) (params : List ℕ) (p : Option Payload) → payload_of option params ≡ p → length params ≤ 512 → IsShortOrNone p
-short_told option params None e h = tt
-short_told option params (Some p) e h = short_list option params p h (says option params p e)
-
-short_by_tests : (option : ℕ) (params : List ℕ) (a b c : Bool) → nat_le (length params) 512 ≡ c → IsShortOrNone (if a && (b && c) then payload_of option params else None)
-short_by_tests option params true true true e = short_told option params (payload_of option params) refl (fits_by (length params) e)
-short_by_tests option params true true false e = tt
-short_by_tests option params true false c e = tt
-short_by_tests option params false b c e = tt
-
-short_at : (o : Options) (option : ℕ) (params : List ℕ) → IsShortOrNone (payload_at o (Sub option params))
-short_at o option params = short_by_tests option params (option == 34) (linemode o) (nat_le (length params) 512) refl
-
 payload-fits : (m : ℕ) (c : Characters) (p : Option Payload) → IsShortOrNone p → Fit (payload_answered m c p)
+unfolding client_answers
 payload-fits m c None h = none
 payload-fits m c (Some (payload.Naws width height)) h = none
 payload-fits m c (Some (payload.Mode mask)) h = mode-fits (mode_answer m mask)
@@ -122,7 +72,7 @@ payload-fits m c (Some (payload.ForwardOn mask)) h = one (Sub 34 (written payloa
 payload-fits m c (Some payload.ForwardOff) h = one (Sub 34 (written payload.ForwardNo)) (omega arith)
 payload-fits m c (Some payload.ForwardYes) h = none
 payload-fits m c (Some payload.ForwardNo) h = none
-payload-fits m c (Some (payload.Slc triples)) h = list-fits (client_answers c triples) (omega (arith, answers_fit c triples, h))
+payload-fits m c (Some (payload.Slc triples)) h = list-fits (client_answers c triples) (omega (arith, length-answers_along client_next client_answer c triples, h))
 
 answer-fits : (o : Options) (m : ℕ) (c : Characters) (z : ℕ × ℕ) (item : Item) → Fit (answered o m c z item)
 answer-fits o m c z (Byte b) = none
@@ -131,7 +81,7 @@ answer-fits o m c z (Cmd command) = none
 answer-fits o m c z (Neg verb option) =
     both (word (reply_to o verb option)) (size_told_on (tells_size o) (tells_size (heard o (Neg verb option))) z)
     (word-fits (reply_to o verb option)) (unless (tells_size (heard o (Neg verb option)) && not (tells_size o)) (size_told z) (size-fits z))
-answer-fits o m c z (Sub option params) = payload-fits m c (payload_at o (Sub option params)) (short_at o option params)
+answer-fits o m c z (Sub option params) = payload-fits m c (payload_at o (Sub option params)) (short_under ((option == 34) && linemode o) option params)
 
 ending-fits : (before after : Bool) (bs : List ℕ) → Fit (ending before after bs)
 ending-fits true false bs = bytes-fit bs

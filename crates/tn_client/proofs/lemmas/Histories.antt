@@ -1,7 +1,6 @@
 -- What holds of every history.
-use Rattle.std.proofs.Common.{◌≡◌, ◌<◌, ℕ, min, ◌==◌, nat_le, Bool, true, false, ◌&&◌, Option, Some, None, List, [], ◌∷◌, ◌++◌, length, drop, refl, sym, ap, ◌∙◌, if◌then◌else◌, append-nil, append_assoc, arith}
+use Rattle.std.proofs.Common.{◌≡◌, ◌<◌, ℕ, min, ◌==◌, Bool, true, false, ◌&&◌, Option, Some, None, List, [], ◌∷◌, ◌++◌, length, drop, refl, sym, ap, ◌∙◌, if◌then◌else◌, append-nil, append_assoc, arith}
 use Rattle.std.proofs.lemmas.Nat.{and_mask}
-use Rattle.tn_codes.specs.PayloadOf.{payload_of}
 use Rattle.tn_codes.specs.declared.payloads.Payload.{Payload}
 use Rattle.tn_codes.specs.declared.payloads.Payload.TheVariants as payload
 use Rattle.tn_discipline.specs.Entries.{half_of}
@@ -12,7 +11,8 @@ use Rattle.tn_nvt.specs.declared.items.Item.{Item}
 use Rattle.tn_nvt.specs.declared.items.Item.TheVariants.{Byte, Newline, Cmd, Neg, Sub}
 use Rattle.tn_option.specs.Options.{Options, after_word}
 use Rattle.tn_client.specs.Events.{History, begun, next, typed, got, resized, proposed, items, keys, gets}
-use Rattle.tn_client.specs.Terms.{options, mode, linemode, payload_at, differ, changes, mode_by, mode_at}
+use Rattle.tn_client.specs.Terms.{options, mode, linemode, payload_at, changes, mode_by, mode_at}
+use Rattle.tn_wire.specs.Words.{payload_under, differ}
 use Rattle.tn_client.specs.Lines.{line_limit, edited, ahead, held, half_line, line}
 use Rattle.tn_client.specs.Replies.{replies, sent}
 use Rattle.tn_client.specs.Screen.{shown, shows}
@@ -79,10 +79,9 @@ unedited_half h e = ap (half_of (line_limit h)) (unedited h e)
 
 -- without LINEMODE no payload counts
 payload_off : (o : Options) (option : ℕ) (params : List ℕ) → linemode o ≡ false → payload_at o (Sub option params) ≡ None
-payload_off o option params e =
-    ap (λ (on : Bool). if (option == 34) && (on && nat_le (length params) 512) then payload_of option params else None) e ∙ go (option == 34)
+payload_off o option params e = ap (λ (on : Bool). payload_under ((option == 34) && on) option params) e ∙ go (option == 34)
   where
-    go : (b : Bool) → (if b && (false && nat_le (length params) 512) then payload_of option params else None) ≡ None
+    go : (b : Bool) → payload_under (b && false) option params ≡ None
     go true = refl
     go false = refl
 

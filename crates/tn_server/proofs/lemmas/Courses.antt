@@ -13,7 +13,8 @@ use Rattle.tn_nvt.specs.Standing.{HasRead}
 use Rattle.tn_nvt.specs.Stream.{Reading}
 use Rattle.tn_nvt.specs.declared.items.Item.{Item}
 use Rattle.tn_nvt.proofs.lemmas.Reading.{one_reading, reads_on, reads_none, has_reading}
-use Rattle.tn_server.specs.Course.{Course, started, fed, called, stream, IsCall, IsRead, Leads, IsAt, in_parts}
+use Rattle.tn_server.specs.Course.{Course, started, fed, called, stream, IsCall, Leads, IsAt, in_parts}
+use Rattle.tn_wire.specs.Fronts.{IsRead}
 use Rattle.tn_server.specs.Events.{Event, History, begun, next, got, took, wrote, pulled, wished, char_set, echo_set, items, gets}
 use Rattle.tn_server.specs.Replies.{data_of, sent}
 use Rattle.tn_server.specs.Screen.{queue}

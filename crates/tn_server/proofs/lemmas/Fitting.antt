@@ -1,23 +1,18 @@
 -- Each item that a server end sends fits a stream.
-use Rattle.std.proofs.Common.{◌≡◌, ◌≤◌, ℕ, Bool, true, false, not, ◌&&◌, nat_le, Option, Some, None, Result, Ok, Err, List, [], ◌∷◌, ◌++◌, map, length, take, if◌then◌else◌, refl, arith, lit≤}
+use Rattle.std.proofs.Common.{ℕ, Bool, true, false, not, ◌&&◌, Option, Some, None, Result, Ok, Err, List, [], ◌∷◌, ◌++◌, map, take, if◌then◌else◌, arith, lit≤}
 use Rattle.std.specs.Prelude.{All}
-use Rattle.std.proofs.lemmas.Bool.{leb-true}
 use Rattle.std.proofs.lemmas.List.Elements.{All-nil, All-cons, All-append}
-use Rattle.tn_codes.specs.Payloads.{written, IsShort}
-use Rattle.tn_codes.specs.PayloadOf.{payload_of}
 use Rattle.tn_codes.specs.declared.codes.Command.TheVariants.{Ga}
 use Rattle.tn_codes.specs.declared.codes.Func.{Func}
 use Rattle.tn_codes.specs.declared.codes.Verb.{Verb}
 use Rattle.tn_codes.specs.declared.codes.Verb.TheVariants as verb
 use Rattle.tn_codes.specs.declared.payloads.Payload.{Payload}
 use Rattle.tn_codes.specs.declared.payloads.Payload.TheVariants.{Naws, Mode, ForwardOn, ForwardOff, ForwardYes, ForwardNo, Slc}
-use Rattle.tn_codes.specs.declared.triples.Triple.{Triple}
-use Rattle.tn_codes.proofs.lemmas.Telling.{says as is_said}
 use Rattle.tn_discipline.specs.Characters.{Characters, slot}
 use Rattle.tn_discipline.specs.declared.echo.Symbol.{Symbol}
 use Rattle.tn_discipline.specs.declared.echo.Symbol.TheVariants as symbol
 use Rattle.tn_discipline.specs.declared.termios.Flags.{Flags}
-use Rattle.tn_linemode.specs.Exchange.{announcement, server_answers, is_same_value}
+use Rattle.tn_linemode.specs.Exchange.{announcement, server_answers, server_next, server_answer, is_same_value}
 use Rattle.tn_linemode.specs.Triples.{triple_of}
 use Rattle.tn_nvt.specs.Spelling.{Fits}
 use Rattle.tn_nvt.specs.declared.items.Item.{Item}
@@ -28,29 +23,21 @@ use Rattle.tn_option.specs.declared.q_method.Side.TheVariants.{Us, Them}
 use Rattle.tn_server.specs.Events.{History, Event, begun, next, got, took, wrote, pulled, wished, char_set, echo_set}
 use Rattle.tn_server.specs.Terms.{Terms, terms, options, flags, chars, linemode, payload_at, heard, wish_at, is_echo_set, wished_after, told_by, asks_echo, asked_of, wants_echo, chars_after}
 use Rattle.tn_server.specs.Screen.{queue, sends_ga, none_waits, due}
-use Rattle.tn_server.specs.Replies.{word, asked_word, word_back, listed, table_asked, table_told, mode_told, echo_told, says_by, says, list_answered, triple_told, data_of, opening, replies, sent}
+use Rattle.tn_server.specs.Replies.{asked_word, word_back, table_asked, table_told, echo_told, says_by, says, list_answered, triple_told, data_of, opening, replies, sent}
+use Rattle.tn_wire.specs.Words.{listed, mode_told}
 use Rattle.tn_server.specs.declared.wishes.Editing.{Editing}
-use Rattle.tn_server.proofs.Listing.{list_fits, length-announcement, says_short, answers_fit}
-
-word_fits : (said : Option (Verb × ℕ)) → All Fits (word said)
-word_fits None = All-nil Fits
-word_fits (Some said) = All-cons Fits (Neg said.0 said.1) [] tt (All-nil Fits)
+use Rattle.tn_linemode.proofs.lemmas.Answering.{length-answers_along}
+use Rattle.tn_wire.proofs.lemmas.Fitting.{word-fits, mode-fits, list-fits}
+use Rattle.tn_wire.proofs.lemmas.Listing.{IsShortOrNone, short_under}
+use Rattle.tn_server.proofs.Listing.{length-announcement}
 
 asked_fits : (r : Result (Option (Verb × ℕ)) AskFault) → All Fits (asked_word r)
-asked_fits (Ok said) = word_fits said
+asked_fits (Ok said) = word-fits said
 asked_fits (Err fault) = All-nil Fits
 
-listed_fits : (triples : List Triple) → length triples ≤ 170 → All Fits (listed triples)
-listed_fits [] few = All-nil Fits
-listed_fits (t ∷ ts) few = All-cons Fits (Sub 34 (written (Slc (t ∷ ts)))) [] (list_fits (t ∷ ts) (written (Slc (t ∷ ts))) few refl) (All-nil Fits)
-
 table_fits : (asked : Bool) (c : Characters) → All Fits (table_asked asked c)
-table_fits true c = listed_fits (announcement c) (omega (arith, length-announcement c))
+table_fits true c = list-fits (announcement c) (omega (arith, length-announcement c))
 table_fits false c = All-nil Fits
-
-mode_fits : (mask : Option ℕ) → All Fits (mode_told mask)
-mode_fits None = All-nil Fits
-mode_fits (Some mask) = All-cons Fits (Sub 34 (written (Mode mask))) [] (lit≤ tt) (All-nil Fits)
 
 echo_fits : (due wanted : Bool) (o : Options) → All Fits (echo_told due wanted o)
 echo_fits true wanted o = asked_fits (answer_to o Us 1 wanted)
@@ -62,10 +49,10 @@ says_by_fits f c t o editing set =
     let echo = echo_told (asks_echo t.options o (told_by t o wish) set) (wants_echo (asked_of o wish) f) o in
     All-append Fits (table_told (linemode t.options) (linemode o) c) (mode_told (told_by t o wish) ++ echo)
     (table_fits (linemode o && not (linemode t.options)) c)
-    (All-append Fits (mode_told (told_by t o wish)) echo (mode_fits (told_by t o wish)) (echo_fits (asks_echo t.options o (told_by t o wish) set) (wants_echo (asked_of o wish) f) o))
+    (All-append Fits (mode_told (told_by t o wish)) echo (mode-fits (told_by t o wish)) (echo_fits (asks_echo t.options o (told_by t o wish) set) (wants_echo (asked_of o wish) f) o))
 
 back_fits : (o : Options) (e : Event) → All Fits (word_back o e)
-back_fits o (got (Neg v option)) = word_fits (reply_to o v option)
+back_fits o (got (Neg v option)) = word-fits (reply_to o v option)
 back_fits o (got (Byte b)) = All-nil Fits
 back_fits o (got Newline) = All-nil Fits
 back_fits o (got (Cmd command)) = All-nil Fits
@@ -82,41 +69,18 @@ says_fits f c t e =
     All-append Fits (word_back t.options e) (says_by f c t (heard t.options e) (wish_at t.options e) (is_echo_set e)) (back_fits t.options e)
     (says_by_fits f c t (heard t.options e) (wish_at t.options e) (is_echo_set e))
 
--- a list that counts is short
-abbrev FewTriples : Option Payload → Type 0
-FewTriples (Some (Slc triples)) = length triples ≤ 170
-FewTriples _ = Unit {0}
-
-short_few : (p : Payload) → IsShort p → FewTriples (Some p)
-short_few (Naws width height) s = tt
-short_few (Mode mask) s = tt
-short_few (ForwardOn mask) s = tt
-short_few ForwardOff s = tt
-short_few ForwardYes s = tt
-short_few ForwardNo s = tt
-short_few (Slc triples) s = s
-
-few_of : (option : ℕ) (params : List ℕ) (p : Option Payload) → payload_of option params ≡ p → length params ≤ 512 → FewTriples p
-few_of option params None e few = tt
-few_of option params (Some p) e few = short_few p (says_short option params p (is_said option params p e) few)
-
-few_if : (on : Bool) (option : ℕ) (params : List ℕ) (short : Bool) → nat_le (length params) 512 ≡ short → FewTriples (if on && short then payload_of option params else None)
-few_if true option params true e = few_of option params (payload_of option params) refl (leb-true (length params) 512 e)
-few_if true option params false e = tt
-few_if false option params true e = tt
-few_if false option params false e = tt
-
-few_at : (o : Options) (item : Item) → FewTriples (payload_at o item)
+few_at : (o : Options) (item : Item) → IsShortOrNone (payload_at o item)
 few_at o (Byte b) = tt
 few_at o Newline = tt
 few_at o (Cmd command) = tt
 few_at o (Neg v option) = tt
-few_at o (Sub option params) = few_if (is_yes (state_of o Them option)) option params (nat_le (length params) 512) refl
+few_at o (Sub option params) = short_under (is_yes (state_of o Them option)) option params
 
-answered_fits : (c : Characters) (p : Option Payload) → FewTriples p → All Fits (list_answered c p)
+answered_fits : (c : Characters) (p : Option Payload) → IsShortOrNone p → All Fits (list_answered c p)
+unfolding server_answers
 answered_fits c None few = All-nil Fits
 answered_fits c (Some (Slc triples)) few =
-    All-append Fits (listed (server_answers c triples)) _ (listed_fits (server_answers c triples) (omega (arith, answers_fit c triples, few)))
+    All-append Fits (listed (server_answers c triples)) _ (list-fits (server_answers c triples) (omega (arith, length-answers_along server_next server_answer c triples, few)))
     (table_fits _ (chars_after c (Some (Slc triples))))
 answered_fits c (Some (Naws width height)) few = All-nil Fits
 answered_fits c (Some (Mode mask)) few = All-nil Fits
@@ -126,7 +90,7 @@ answered_fits c (Some ForwardYes) few = All-nil Fits
 answered_fits c (Some ForwardNo) few = All-nil Fits
 
 triple_fits : (told : Bool) (func : Func) (value : Option ℕ) → All Fits (triple_told told func value)
-triple_fits true func value = listed_fits (triple_of func value ∷ []) (lit≤ tt)
+triple_fits true func value = list-fits (triple_of func value ∷ []) (lit≤ tt)
 triple_fits false func value = All-nil Fits
 
 data_fits : (symbols : List Symbol) → All Fits (map data_of symbols)

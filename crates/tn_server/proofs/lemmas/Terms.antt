@@ -4,7 +4,8 @@ use Rattle.tn_discipline.specs.Characters.{Characters}
 use Rattle.tn_discipline.specs.declared.termios.Flags.{Flags}
 use Rattle.tn_linemode.specs.Modes.{mode_of}
 use Rattle.tn_option.specs.Options.{Options, after_wish, state_of}
-use Rattle.tn_server.specs.Terms.{Terms, linemode, asked_while, mode_sent, differ, terms_by, wished_after, echo_asked}
+use Rattle.tn_server.specs.Terms.{Terms, linemode, asked_while, mode_sent, terms_by, wished_after, echo_asked}
+use Rattle.tn_wire.specs.Words.{differ}
 use Rattle.tn_server.specs.Replies.{says_by, table_told}
 use Rattle.tn_server.specs.declared.wishes.Editing.{Editing}
 

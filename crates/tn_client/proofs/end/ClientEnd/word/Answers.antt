@@ -6,9 +6,9 @@ use Rattle.tn_nvt.specs.declared.items.Item.{Item}
 use Rattle.tn_nvt.specs.declared.items.Item.TheVariants.{Neg}
 use Rattle.tn_option.specs.Options.{Options, reply_to, after_word}
 use Rattle.tn_client.specs.Terms.{mode_at, tells_size}
-use Rattle.tn_client.specs.Replies.{word, ending, size_told_on}
-use Rattle.tn_client.proofs.Cutting.{cut_after_two}
-use Rattle.tn_client.proofs.Growing.{front_some, back_some}
+use Rattle.tn_client.specs.Replies.{ending, size_told_on}
+use Rattle.tn_wire.specs.Words.{word}
+use Rattle.tn_wire.proofs.lemmas.Cutting.{cut_after_two, front_some, back_some}
 use Rattle.tn_client.proofs.end.ClientEnd.word.Goals as goal
 
 -- what is held, the answer, and the size
@@ -37,7 +37,7 @@ returns-in_err-put_word-clause-grows c =
     let b = second old.options c.args.verb c.args.option in
     let d = third old.options c.args.verb c.args.option (old.width, old.height) in
     rw (p.1, ← c.self.view_is) (back_some (first old.options old.mode old.line.held (Neg c.args.verb c.args.option)) (b ++ d)
-    (front_some b d (rw c.got-said.ensures.word at c.in_err-put_word.ensures.grows)))
+    (front_some b d (rw c.got-said.ensures.word at c.in_err-put_word.ensures.some)))
 
 pub returns-in_err-put_size_on-clause-cut : goal.returns-in_err-put_size_on-clause-cut
 returns-in_err-put_size_on-clause-cut c =

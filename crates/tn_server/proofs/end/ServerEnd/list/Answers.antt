@@ -1,26 +1,31 @@
 use Rattle.std.proofs.Common.{◌++◌, List, length, sym, ap, ◌∙◌, arith}
 use Rattle.std.proofs.lemmas.Result.{err_from_is_err_and}
 use Rattle.tn_codes.specs.declared.triples.Triple.{Triple}
-use Rattle.tn_linemode.specs.Exchange.{server_answers}
-use Rattle.tn_server.proofs.Listing.{answers_fit, answered_some, asked_some, wanted_some}
+use Rattle.tn_linemode.specs.Exchange.{server_answers, server_next, server_answer}
+use Rattle.tn_linemode.proofs.lemmas.Answering.{length-answers_along}
+use Rattle.tn_wire.proofs.lemmas.Listing.{answered_some, wanted_some}
+use Rattle.tn_server.proofs.Listing.{asked_some}
 use Rattle.tn_server.proofs.end.ServerEnd.list.Goals as goal
 
 pub put_list-requires : goal.put_list-requires
+unfolding server_answers
 put_list-requires c =
     let all = c.in_ok-is_asked.ensures.answers ∙ ap (λ (xs : List Triple). xs ++ server_answers c.self.inside.table c.as_slice.result.now) c.new-answers.ensures.items in
-    omega (arith, ap length all, answers_fit c.self.inside.table c.as_slice.result.now, ap length c.as_slice.ensures, c.requires)
+    omega (arith, ap length all, length-answers_along server_next server_answer c.self.inside.table c.as_slice.result.now, ap length c.as_slice.ensures, c.requires)
 
 pub returns-in_err-is_asked-clause-some : goal.returns-in_err-is_asked-clause-some
+unfolding server_answers
 returns-in_err-is_asked-clause-some c =
     let p = err_from_is_err_and c.from_residual.result c.from_residual.ensures.1 in
-    let some = wanted_some c.self.inside.table c.as_slice.result.now _ _ c.in_err-is_asked.ensures.full c.new-answers.ensures.len in
+    let some = wanted_some server_next server_answer c.self.inside.table c.as_slice.result.now _ _ c.in_err-is_asked.ensures.full c.new-answers.ensures.len in
     rw p.1 (rw c.as_slice.ensures at some)
 
 pub returns-in_err-put_list-clause-some : goal.returns-in_err-put_list-clause-some
+unfolding server_answers
 returns-in_err-put_list-clause-some c =
     let p = err_from_is_err_and c.from_residual-in_err-put_list.result c.from_residual-in_err-put_list.ensures.1 in
     let all = c.in_ok-is_asked.ensures.answers ∙ ap (λ (xs : List Triple). xs ++ server_answers c.self.inside.table c.as_slice.result.now) c.new-answers.ensures.items in
-    let some = answered_some c.self.inside.table c.as_slice.result.now _ all c.in_err-put_list.ensures.some in
+    let some = answered_some server_next server_answer c.self.inside.table c.as_slice.result.now _ all c.in_err-put_list.ensures.some in
     rw p.1 (rw c.as_slice.ensures at some)
 
 pub returns-in_err-announce-clause-some : goal.returns-in_err-announce-clause-some

@@ -2,9 +2,9 @@ use Rattle.std.proofs.Common.{refl, false}
 use Rattle.std.proofs.lemmas.Result.{err_from_is_err_and}
 use Rattle.tn_option.specs.Options.{reply_to, after_word}
 use Rattle.tn_server.specs.Terms.{linemode}
-use Rattle.tn_server.specs.Replies.{word}
+use Rattle.tn_wire.specs.Words.{word}
 use Rattle.tn_server.specs.Steps.{settling}
-use Rattle.tn_server.proofs.Cutting.{cut_after_one}
+use Rattle.tn_wire.proofs.lemmas.Cutting.{cut_after_one}
 use Rattle.tn_server.proofs.end.ServerEnd.word.Goals as goal
 
 pub returns-in_err-_sent-clause-cut : goal.returns-in_err-_sent-clause-cut

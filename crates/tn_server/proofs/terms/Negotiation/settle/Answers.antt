@@ -1,9 +1,10 @@
 use Rattle.std.proofs.Common.{refl}
 use Rattle.std.proofs.lemmas.Result.{err_from_is_err_and}
 use Rattle.tn_server.specs.Terms.{linemode, wants_echo}
-use Rattle.tn_server.specs.Replies.{table_told, mode_told, echo_told}
+use Rattle.tn_server.specs.Replies.{table_told, echo_told}
+use Rattle.tn_wire.specs.Words.{mode_told}
 use Rattle.tn_server.specs.Steps.{told_now, masks_by, is_due}
-use Rattle.tn_server.proofs.Cutting.{cut_after_two}
+use Rattle.tn_wire.proofs.lemmas.Cutting.{cut_after_two}
 use Rattle.tn_server.proofs.terms.Negotiation.settle.Goals as goal
 
 pub returns-in_err-ask_echo-clause-err : goal.returns-in_err-ask_echo-clause-err

@@ -1,6 +1,6 @@
-use Rattle.std.proofs.Common.{◌≤◌, Err, ◌∙◌, sym, length, ap, arith}
-use Rattle.tn_server.proofs.Listing.{says_short, list_at}
-use Rattle.tn_server.proofs.end.ServerEnd.payload.Goals as goal
+use Rattle.std.proofs.Common.{◌≤◌, Err, length, ap, arith}
+use Rattle.tn_wire.proofs.lemmas.Listing.{says_short, list_under}
+use Rattle.tn_wire.proofs.reading.read_under.Goals as goal
 
 pub returns-in-Ok-clause-short : goal.returns-in-Ok-clause-short
 returns-in-Ok-clause-short c =
@@ -10,4 +10,4 @@ pub returns-in-Err-Memory-clause-list : goal.returns-in-Err-Memory-clause-list
 returns-in-Err-Memory-clause-list c =
     let m = rw c.as_slice.ensures at (c.in-Err-Memory.ensures.memory (ap Err c.in-Err-Memory.field-0-is)) in
     let few : length c.args.params.now ≤ 512 = omega (arith, c.len.ensures, c.if-len-gt-MOST_PARAMS.false) in
-    rw (← c.self.view_is) (m.0, m.1, list_at _ c.args.option c.args.params.now m.0 (sym c.is_on.ensures ∙ c.if-not-is_on.false) few m.2)
+    (m.0, m.1, list_under c.args.is_on c.args.option c.args.params.now m.0 c.if-not-is_on.false few m.2)

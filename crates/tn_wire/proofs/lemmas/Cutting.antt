@@ -1,9 +1,9 @@
--- A front of what was to be said was said.
+-- A front of what was to be said was said, and lists that are not empty.
 use Rattle.std.proofs.Common.{◌≡◌, ◌≢◌, ℕ, List, [], ◌∷◌, ◌++◌, refl, sym, ap, ◌∙◌, append_assoc}
 use Rattle.std.proofs.lemmas.Grind.{flat_map-append}
 use Rattle.tn_nvt.specs.Spelling.{spelling, spells}
 use Rattle.tn_nvt.specs.declared.items.Item.{Item}
-use Rattle.tn_server.specs.Steps.{Cuts}
+use Rattle.tn_wire.specs.Fronts.{Cuts}
 
 pub spells-append : (xs ys : List Item) → spells (xs ++ ys) ≡ spells xs ++ spells ys
 spells-append xs ys = flat_map-append spelling xs ys
@@ -30,7 +30,14 @@ cut_after_one whole a b before first after is one c = record {
   appended = spelled_on a c.part before first after one c.appended;
 }
 
+pub cons_some : {A : Type 0} (x : A) (xs : List A) → x ∷ xs ≢ []
+cons_some x xs e = cc
+
 -- where one part is something, the whole is
-pub some_left : (xs ys : List Item) → xs ≢ [] → xs ++ ys ≢ []
-some_left [] ys some = λ none. some refl
-some_left (x ∷ xs) ys some = λ none. cc
+pub front_some : {A : Type 0} (xs ys : List A) → xs ≢ [] → xs ++ ys ≢ []
+front_some [] ys some e = some refl
+front_some (x ∷ xs) ys some e = cc
+
+pub back_some : {A : Type 0} (xs ys : List A) → ys ≢ [] → xs ++ ys ≢ []
+back_some [] ys some e = some e
+back_some (x ∷ xs) ys some e = cc

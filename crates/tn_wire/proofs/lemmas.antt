@@ -1,0 +1,4 @@
+pub mod Cutting
+pub mod Listing
+pub mod Fitting
+pub mod Reading

@@ -1,0 +1,42 @@
+-- What either end says fits a stream.
+use Rattle.std.proofs.Common.{◌≤◌, ℕ, Bool, true, false, Option, Some, None, List, [], ◌∷◌, ◌++◌, length, if◌then◌else◌, arith}
+use Rattle.std.specs.Prelude.{All}
+use Rattle.std.proofs.lemmas.List.Elements.{All-nil, All-cons, All-append}
+use Rattle.tn_codes.specs.Payloads.{written}
+use Rattle.tn_codes.specs.declared.codes.Verb.{Verb}
+use Rattle.tn_codes.specs.declared.payloads.Payload.TheVariants.{Mode, Slc}
+use Rattle.tn_codes.specs.declared.triples.Triple.{Triple}
+use Rattle.tn_nvt.specs.Spelling.{Fits}
+use Rattle.tn_nvt.specs.declared.items.Item.{Item}
+use Rattle.tn_nvt.specs.declared.items.Item.TheVariants.{Neg, Sub}
+use Rattle.tn_wire.specs.Words.{word, mode_told, listed}
+use Rattle.tn_wire.proofs.lemmas.Listing.{length-octets}
+
+-- these items fit
+abbrev pub Fit : List Item → Type 0
+Fit = All Fits
+
+pub none : Fit []
+none = All-nil Fits
+
+pub one : (item : Item) → Fits item → Fit (item ∷ [])
+one item fits = All-cons Fits item [] fits none
+
+pub both : (xs ys : List Item) → Fit xs → Fit ys → Fit (xs ++ ys)
+both = All-append Fits
+
+pub unless : (b : Bool) (xs : List Item) → Fit xs → Fit (if b then xs else [])
+unless true xs h = h
+unless false xs h = none
+
+pub word-fits : (said : Option (Verb × ℕ)) → Fit (word said)
+word-fits None = none
+word-fits (Some said) = one (Neg said.0 said.1) tt
+
+pub mode-fits : (mask : Option ℕ) → Fit (mode_told mask)
+mode-fits None = none
+mode-fits (Some mask) = one (Sub 34 (written (Mode mask))) (omega arith)
+
+pub list-fits : (triples : List Triple) → length triples ≤ 170 → Fit (listed triples)
+list-fits [] few = none
+list-fits (t ∷ ts) few = one (Sub 34 (written (Slc (t ∷ ts)))) (omega (arith, few, length-octets (t ∷ ts)))

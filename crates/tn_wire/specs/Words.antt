@@ -1,0 +1,42 @@
+-- What either end says as items, and what a subnegotiation says to it.
+use Rattle.std.specs.Prelude.{◌≡◌, ◌≢◌, ℕ, Bool, true, false, not, ◌&&◌, nat_le, Option, Some, None, List, [], ◌∷◌, length, if◌then◌else◌}
+use Rattle.tn_codes.specs.PayloadOf.{payload_of}
+use Rattle.tn_codes.specs.Payloads.{option_of, written}
+use Rattle.tn_codes.specs.declared.codes.Verb.{Verb}
+use Rattle.tn_codes.specs.declared.payloads.Payload.{Payload}
+use Rattle.tn_codes.specs.declared.payloads.Payload.TheVariants.{Mode, Slc}
+use Rattle.tn_codes.specs.declared.triples.Triple.{Triple}
+use Rattle.tn_nvt.specs.declared.items.Item.{Item}
+use Rattle.tn_nvt.specs.declared.items.Item.TheVariants.{Neg, Sub}
+
+-- an option word (RFC 855)
+abbrev pub word : Option (Verb × ℕ) → List Item
+word None = []
+word (Some said) = Neg said.0 said.1 ∷ []
+
+-- a payload, as a subnegotiation of its option
+abbrev pub subnegotiated : Payload → List Item
+subnegotiated payload = Sub (option_of payload) (written payload) ∷ []
+
+abbrev pub mode_told : Option ℕ → List Item
+mode_told None = []
+mode_told (Some mask) = subnegotiated (Mode mask)
+
+-- an empty list is not sent
+abbrev pub listed : List Triple → List Item
+listed [] = []
+listed (triple ∷ triples) = subnegotiated (Slc (triple ∷ triples))
+
+-- RFC 855: what a subnegotiation says where its option is on. None of a stream has more than 512 parameters
+abbrev pub payload_under : Bool → ℕ → List ℕ → Option Payload
+payload_under on option params =
+    if on && nat_le (length params) 512 then payload_of option params else None
+
+-- a list of local characters that is not empty: it has to be kept while it is answered
+abbrev pub IsList : Option Payload → Type 0
+IsList payload = (triples : List Triple) × (triples ≢ []) × (payload ≡ Some (Slc triples))
+
+-- one of two is so, and not both
+abbrev pub differ : Bool → Bool → Bool
+differ true b = not b
+differ false b = b

@@ -1,0 +1,33 @@
+//! What came in a subnegotiation.
+
+ghost use Rattle.std.specs.Prelude.{◌≡◌, IfOk, IfSome, OnErr};
+ghost use Rattle.tn_codes.specs.Payloads.{IsShort};
+ghost use Rattle.tn_wire.specs.Words.{payload_under, IsList};
+
+use std::alloc::{AllocError, Global};
+use tn_codes::{Payload, PayloadFault, read_payload};
+use tn_nvt::Params;
+
+/// How many parameters a subnegotiation of a stream has at most.
+const MOST_PARAMS: usize = 512;
+
+/// What a subnegotiation says, where its option is on.
+pub fn read_under(
+    alloc: Global,
+    is_on: bool,
+    option: u8,
+    params: &Params,
+) -> Result<Option<Payload>, AllocError>
+    ensures value { IfOk result (λ payload. payload ≡ payload_under is_on option params.now) }
+    ensures short { IfOk result (λ payload. IfSome payload IsShort) }
+    ensures list { OnErr result (IsList (payload_under is_on option params.now)) }
+{
+    if !is_on || params.len() > MOST_PARAMS {
+        return Ok(None);
+    }
+    match read_payload(alloc, option, params.as_slice()) {
+        Ok(payload) => Ok(Some(payload)),
+        Err(PayloadFault::Memory) => Err(AllocError),
+        Err(_) => Ok(None),
+    }
+}
