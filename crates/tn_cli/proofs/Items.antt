@@ -4,10 +4,11 @@ use Rattle.std.proofs.lemmas.List.Elements.{filter_map-append}
 use Rattle.tn_nvt.proofs.lemmas.Folding.{taken_all}
 use Rattle.tn_nvt.specs.declared.items.Item.{Item}
 use Rattle.tn_nvt.specs.declared.items.Item.TheVariants.{Byte}
-use Rattle.tn_nvt.specs.Sinks.{Hands, all_of, calls_of}
-use Rattle.tn_nvt.specs.Standing.{Standing, HasRead}
+use Rattle.tn_nvt.specs.Sinks.{FeedsTo, all_of, calls_of}
+use Rattle.tn_nvt.specs.Feeding.{DecoderState}
+use Rattle.tn_nvt.specs.Feeding as nvt
 use Rattle.tn_cli.specs.Replay.{key_of, keys_of, TypesItems, TypesSome, IsReplayOf}
-use Rattle.tn_cli.specs.Typing.{HasTyped, Types, local_output}
+use Rattle.tn_cli.specs.Typing.{LeadsTo, Types, local_output}
 use Rattle.tn_cli.specs.declared.typing.Typing.{Typing}
 
 pub types_nothing : (typing : Typing) → Types [] typing typing
@@ -30,8 +31,8 @@ types_items : (old mid new : Typing) (xs ys : List Item) → TypesItems old xs m
 types_items old mid new xs ys first then = rw (filter_map-append key_of xs ys) (types_both old mid new (keys_of xs) (keys_of ys) first then)
 
 -- what a new decoder hands to a new line is a replay of the whole stream
-pub replays : (fresh after : Standing) (stream output : List ℕ) (old new : Typing) → HasRead fresh [] [] → HasTyped [] old
-    → Hands TypesItems fresh stream old new after → ((keys : List ℕ) → HasTyped keys new → output ≡ local_output keys) → IsReplayOf stream output
+pub replays : (fresh after : DecoderState) (stream output : List ℕ) (old new : Typing) → nvt.LeadsTo [] [] fresh → LeadsTo [] old
+    → FeedsTo TypesItems fresh stream old new after → ((keys : List ℕ) → LeadsTo keys new → output ≡ local_output keys) → IsReplayOf stream output
 replays fresh after stream output old new begins empty hands printed =
     let items = all_of (calls_of hands.parts) in
     let read = hands.adds [] [] begins in

@@ -4,8 +4,8 @@ use Rattle.std.proofs.lemmas.Grind.{flat_map-append}
 use Rattle.tn_discipline.specs.Canon.{typed_entries}
 use Rattle.tn_discipline.specs.Entries.{entries_of}
 use Rattle.tn_discipline.specs.Keys.{roles_of}
-use Rattle.tn_discipline.specs.Leaves.{Advances}
-use Rattle.tn_discipline.specs.HalfLine.{gained}
+use Rattle.tn_discipline.specs.Advancing.{Advances}
+use Rattle.tn_discipline.specs.HalfLine.{effect_entries}
 use Rattle.tn_discipline.specs.declared.half_line.Effect.{Effect}
 use Rattle.tn_discipline.specs.declared.half_line.Effect.TheVariants as effect
 use Rattle.tn_discipline.specs.declared.reads.Entry.{Entry}
@@ -36,7 +36,7 @@ typed_more old new key gain same moves shown keys had =
     }
 
 -- an effect that gives no entry
-pub none_gained : (e : Effect) → ((entry : Entry) → e ≡ effect.Gives entry → ⊥) → gained e ≡ []
+pub none_gained : (e : Effect) → ((entry : Entry) → e ≡ effect.Gives entry → ⊥) → effect_entries e ≡ []
 none_gained effect.Nothing h = refl
 none_gained effect.Kept h = refl
 none_gained effect.Erased h = refl

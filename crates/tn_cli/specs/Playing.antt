@@ -3,9 +3,10 @@ use Rattle.std.specs.Prelude.{◌≡◌, ◌≢◌, ◌⊎◌, ℕ, zero, suc, �
 use Rattle.std.specs.Io.KnownBytes.{Appends}
 use Rattle.hex.specs.Hex.{encode_lower}
 use Rattle.tn_discipline.specs.declared.reads.Entry.{Entry}
-use Rattle.tn_world.specs.Headline.{NothingFlies, IsSettled}
-use Rattle.tn_world.specs.Opened.{IsOpened, anew}
-use Rattle.tn_world.specs.Worlds.{World, Runs, Ends}
+use Rattle.tn_world.specs.Headline.{NothingInFlight, IsSettled}
+use Rattle.tn_world.specs.Opened.{IsOpened, with_new_lists}
+use Rattle.tn_world.specs.Worlds.{World, Runs}
+use Rattle.tn_world.specs.Worlds as world_words
 use Rattle.tn_world.specs.declared.events.Event.{Event}
 use Rattle.tn_world.specs.declared.events.Event.TheVariants as event
 use Rattle.tn_world.specs.declared.faults.Cause.{Cause}
@@ -33,7 +34,7 @@ printed_read None = codes "none\n"
 
 -- one of the events is refused
 abbrev pub RefusesEvents : World → List Event → Type 0
-RefusesEvents w events = (at : ℕ) × (cause : Cause) × (new : World) × Ends w events at cause new
+RefusesEvents w events = (at : ℕ) × (cause : Cause) × (new : World) × world_words.StopsWithin w events at cause new
 
 -- All that is in flight to the client arrives, and then all that is in flight to the server.
 pub record Delivers (old new : World) : Type 0 where
@@ -49,24 +50,24 @@ RefusesRound w =
     ⊎ ((mid : World) × Runs w returning mid × RefusesEvents mid (event.ToServer (length mid.to_server) ∷ []))
 
 -- so many rounds, something being in flight before each
-abbrev pub Rounds : ℕ → World → World → Type 0
-Rounds zero old new = new ≡ old
-Rounds (suc n) old new = (mid : World) × Rounds n old mid × (¬ NothingFlies mid) × Delivers mid new
+abbrev pub RunsRounds : ℕ → World → World → Type 0
+RunsRounds zero old new = new ≡ old
+RunsRounds (suc n) old new = (mid : World) × RunsRounds n old mid × (¬ NothingInFlight mid) × Delivers mid new
 
 -- Rounds until nothing is in flight, and at most 64.
 pub record Settles (old new : World) : Type 0 where
   pub count : ℕ
-  pub rounds : Rounds count old new
+  pub rounds : RunsRounds count old new
   pub most : count ≤ 64
-  pub ended : NothingFlies new ⊎ (count ≡ 64)
+  pub ended : NothingInFlight new ⊎ (count ≡ 64)
 
 -- A round after fewer than 64 is refused.
 pub record RefusesToSettle (old : World) : Type 0 where
   pub count : ℕ
   pub mid : World
-  pub rounds : Rounds count old mid
+  pub rounds : RunsRounds count old mid
   pub less : count + 1 ≤ 64
-  pub flies : ¬ NothingFlies mid
+  pub flies : ¬ NothingInFlight mid
   pub refuses : RefusesRound mid
 
 -- The job asks for an entry: the one that it got, or none, is printed.
@@ -77,20 +78,20 @@ pub record TakesOne (old : World) (text : List ℕ) (new : World) : Type 0 where
   pub printed : text ≡ printed_read entry
 
 -- At rest the lists of typed keys and taken entries begin anew.
-abbrev pub Marks : World → List ℕ → World → Type 0
-Marks old text new =
-    (IsSettled old × (text ≡ codes "mark true\n") × (new ≡ anew old))
+abbrev pub PrintsMark : World → List ℕ → World → Type 0
+PrintsMark old text new =
+    (IsSettled old × (text ≡ codes "mark true\n") × (new ≡ with_new_lists old))
     ⊎ ((¬ IsSettled old) × (text ≡ codes "mark false\n") × (new ≡ old))
 
 -- the command is done and prints this text
-abbrev pub Performs : World → Command → List ℕ → World → Type 0
-Performs old (Keys keys) text new = Runs old (map event.Key keys) new × (text ≡ [])
-Performs old (Happen e) text new = Runs old (e ∷ []) new × (text ≡ [])
-Performs old Settle text new = Settles old new × (text ≡ [])
-Performs old Take text new = TakesOne old text new
-Performs old Mark text new = Marks old text new
-Performs old Flight text new = (text ≡ printed_flight old) × (new ≡ old)
-Performs old Shown text new = (text ≡ codes "shown " ++ printed_bytes old.shown) × (new ≡ old)
+abbrev pub RunsCommand : World → Command → List ℕ → World → Type 0
+RunsCommand old (Keys keys) text new = Runs old (map event.Key keys) new × (text ≡ [])
+RunsCommand old (Happen e) text new = Runs old (e ∷ []) new × (text ≡ [])
+RunsCommand old Settle text new = Settles old new × (text ≡ [])
+RunsCommand old Take text new = TakesOne old text new
+RunsCommand old Mark text new = PrintsMark old text new
+RunsCommand old Flight text new = (text ≡ printed_flight old) × (new ≡ old)
+RunsCommand old Shown text new = (text ≡ codes "shown " ++ printed_bytes old.shown) × (new ≡ old)
 
 -- what does this, from one world to another, appended its text
 abbrev pub Prints : (List ℕ → World → Type 0) → List ℕ → List ℕ → World → Type 0
@@ -107,10 +108,10 @@ RefusesCommand w Flight = ⊥
 RefusesCommand w Shown = ⊥
 
 -- a line is done: an empty one is passed over
-abbrev pub Plays : World → List ℕ → List ℕ → World → Type 0
-Plays old [] text new = (text ≡ []) × (new ≡ old)
-Plays old (b ∷ bs) text new =
-    (command : Command) × (command_of (b ∷ bs) ≡ Some command) × Performs old command text new
+abbrev pub RunsLine : World → List ℕ → List ℕ → World → Type 0
+RunsLine old [] text new = (text ≡ []) × (new ≡ old)
+RunsLine old (b ∷ bs) text new =
+    (command : Command) × (command_of (b ∷ bs) ≡ Some command) × RunsCommand old command text new
 
 -- a line that is not empty, and no command
 abbrev pub IsBad : List ℕ → Type 0
@@ -122,46 +123,46 @@ RefusesLine w line =
     (line ≢ []) × (command : Command) × (command_of line ≡ Some command) × RefusesCommand w command
 
 -- lines are done, one after another
-abbrev pub PlaysAll : World → List (List ℕ) → List ℕ → World → Type 0
-PlaysAll old [] text new = (text ≡ []) × (new ≡ old)
-PlaysAll old (line ∷ lines) text new =
+abbrev pub RunsLines : World → List (List ℕ) → List ℕ → World → Type 0
+RunsLines old [] text new = (text ≡ []) × (new ≡ old)
+RunsLines old (line ∷ lines) text new =
     (mid : World) × (head : List ℕ) × (rest : List ℕ)
-    × Plays old line head mid × PlaysAll mid lines rest new × (text ≡ head ++ rest)
+    × RunsLine old line head mid × RunsLines mid lines rest new × (text ≡ head ++ rest)
 
 -- These lines were done in a world that was opened with standard settings, lines of the standard limit and a
 -- window of 80 by 24, and printed this text.
-pub record HasPlayed (lines : List (List ℕ)) (text : List ℕ) (new : World) : Type 0 where
+pub record LeadsTo (lines : List (List ℕ)) (text : List ℕ) (new : World) : Type 0 where
   pub start : World
   pub opened : IsOpened standard 80 24 start
-  pub plays : PlaysAll start lines text new
+  pub plays : RunsLines start lines text new
 
 -- all of these lines were done and printed this text
 abbrev pub PrintsWhole : List (List ℕ) → List ℕ → Type 0
-PrintsWhole lines text = (new : World) × HasPlayed lines text new
+PrintsWhole lines text = (new : World) × LeadsTo lines text new
 
 -- A script stops at the line of this number, counted from 1: those before it were done and printed this text.
-pub record StopsAt (lines : List (List ℕ)) (number : ℕ) (text : List ℕ) : Type 0 where
+pub record StopsWithin (lines : List (List ℕ)) (number : ℕ) (text : List ℕ) : Type 0 where
   pub done : List (List ℕ)
   pub line : List ℕ
   pub left : List (List ℕ)
   pub whole : lines ≡ done ++ line ∷ left
   pub place : number ≡ length done + 1
   pub world : World
-  pub played : HasPlayed done text world
+  pub played : LeadsTo done text world
 
 -- that line is no command
-abbrev pub StopsAtBad : List (List ℕ) → ℕ → List ℕ → Type 0
-StopsAtBad lines number text = (stop : StopsAt lines number text) × IsBad stop.line
+abbrev pub StopsAtBadLine : List (List ℕ) → ℕ → List ℕ → Type 0
+StopsAtBadLine lines number text = (stop : StopsWithin lines number text) × IsBad stop.line
 
 -- an event of that line's command is refused
-abbrev pub StopsAtRefused : List (List ℕ) → ℕ → List ℕ → Type 0
-StopsAtRefused lines number text = (stop : StopsAt lines number text) × RefusesLine stop.world stop.line
+abbrev pub StopsAtRefusedLine : List (List ℕ) → ℕ → List ℕ → Type 0
+StopsAtRefusedLine lines number text = (stop : StopsWithin lines number text) × RefusesLine stop.world stop.line
 
 -- how a script ended, and what it had printed
 abbrev pub EndsWith : List (List ℕ) → Option CliFault → List ℕ → Type 0
 EndsWith lines None text = PrintsWhole lines text
-EndsWith lines (Some (fault.Script number)) text = StopsAtBad lines number text
-EndsWith lines (Some (fault.World number)) text = StopsAtRefused lines number text
+EndsWith lines (Some (fault.Script number)) text = StopsAtBadLine lines number text
+EndsWith lines (Some (fault.World number)) text = StopsAtRefusedLine lines number text
 EndsWith lines (Some f) text = ⊥
 
 -- what a script prints, whole or up to where it stops
@@ -169,8 +170,8 @@ abbrev pub PrintsSome : List (List ℕ) → List ℕ → Type 0
 PrintsSome lines text = (end : Option CliFault) × EndsWith lines end text
 
 -- such a text was appended
-abbrev pub Adds : (List ℕ → Type 0) → List ℕ → List ℕ → Type 0
-Adds is old new = (text : List ℕ) × is text × (new ≡ old ++ text)
+abbrev pub AppendsPrint : (List ℕ → Type 0) → List ℕ → List ℕ → Type 0
+AppendsPrint is old new = (text : List ℕ) × is text × (new ≡ old ++ text)
 
 -- such a text was appended, where the writer tells what it holds
 abbrev pub AppendsText : (List ℕ → Type 0) → Option (List ℕ) → Option (List ℕ) → Type 0

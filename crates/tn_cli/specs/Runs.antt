@@ -10,13 +10,13 @@ use Rattle.tn_cli.specs.declared.words.Asked.{Asked}
 use Rattle.tn_cli.specs.declared.words.Asked.TheVariants.{Local, Replay, World}
 
 -- where the reader tells its bytes and the writer what it holds, the run has appended what was asked for
-abbrev pub Runs : Asked → Option (List ℕ) → Option (List ℕ) → Option (List ℕ) → Type 0
-Runs Local input old new = IfSome input (λ keys. Appends old new (local_output keys))
-Runs Replay input old new = IfSome input (λ stream. Replays stream old new)
-Runs World input old new = IfSome input (λ script. AppendsText (PrintsWhole (lines_of script)) old new)
+abbrev pub RunsAsked : Asked → Option (List ℕ) → Option (List ℕ) → Option (List ℕ) → Type 0
+RunsAsked Local input old new = IfSome input (λ keys. Appends old new (local_output keys))
+RunsAsked Replay input old new = IfSome input (λ stream. Replays stream old new)
+RunsAsked World input old new = IfSome input (λ script. AppendsText (PrintsWhole (lines_of script)) old new)
 
 -- the run that the words ask for, or some text where they ask for help
 abbrev pub DoesAsAsked : List (List ℕ) → Option (List ℕ) → Option (List ℕ) → Option (List ℕ) → Type 0
 DoesAsAsked words input old new =
-    ((asked : Asked) × AskFor words asked × Runs asked input old new)
+    ((asked : Asked) × AskFor words asked × RunsAsked asked input old new)
     ⊎ (AsksForHelp words × ((help : List ℕ) × Appends old new help))

@@ -68,14 +68,14 @@ alone verb =
     else if bytes_eq verb (codes "client-stops") then Some (Happen event.ClientStops)
     else None
 
-abbrev pub wished : List ℕ → Option Command
-wished name =
+abbrev pub wish_command : List ℕ → Option Command
+wish_command name =
     if bytes_eq name (codes "local") then Some (Happen (event.Wish Local))
     else if bytes_eq name (codes "remote") then Some (Happen (event.Wish Remote))
     else None
 
-abbrev pub echoed : List ℕ → Option Command
-echoed name =
+abbrev pub echo_command : List ℕ → Option Command
+echo_command name =
     if bytes_eq name (codes "on") then Some (Happen (event.Echo true))
     else if bytes_eq name (codes "off") then Some (Happen (event.Echo false))
     else None
@@ -83,8 +83,8 @@ echoed name =
 -- a line of two words, the second of them a name
 abbrev pub with_name : List ℕ → List ℕ → Option Command
 with_name verb name =
-    if bytes_eq verb (codes "wish") then wished name
-    else if bytes_eq verb (codes "echo") then echoed name
+    if bytes_eq verb (codes "wish") then wish_command name
+    else if bytes_eq verb (codes "echo") then echo_command name
     else None
 
 -- a line of two words, the second of them a number
@@ -120,22 +120,22 @@ with_word verb word =
     option_or (with_name verb word) (option_or counted spelled)
 
 -- a line of three words, the last two of them numbers
-abbrev pub resized : List ℕ → List ℕ → List ℕ → Option Command
-resized verb first second =
+abbrev pub resize_command : List ℕ → List ℕ → List ℕ → Option Command
+resize_command verb first second =
     option_and_then
     (λ width. option_and_then (with_size verb width) (number_within 65535 second))
     (number_within 65535 first)
 
 -- a line of three words, the last of them a byte
-abbrev pub characterized : List ℕ → List ℕ → List ℕ → Option Command
-characterized verb first second =
+abbrev pub character_command : List ℕ → List ℕ → List ℕ → Option Command
+character_command verb first second =
     option_and_then
     (λ func. option_and_then (with_character verb func) (option_and_then character (hex_bytes second)))
     (func_named first)
 
 -- a line of three words
 abbrev pub with_words : List ℕ → List ℕ → List ℕ → Option Command
-with_words verb first second = option_or (resized verb first second) (characterized verb first second)
+with_words verb first second = option_or (resize_command verb first second) (character_command verb first second)
 
 abbrev pub command_of_words : List (List ℕ) → Option Command
 command_of_words (verb ∷ []) = alone verb

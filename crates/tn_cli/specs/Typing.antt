@@ -3,7 +3,7 @@ use Rattle.std.specs.Prelude.{◌≡◌, ℕ, List, ◌++◌}
 use Rattle.tn_discipline.specs.Canon.{Canon, typed_entries}
 use Rattle.tn_discipline.specs.Characters.{standard_characters}
 use Rattle.tn_discipline.specs.Keys.{roles_of, standard_flags}
-use Rattle.tn_discipline.specs.Leaves.{Leaves}
+use Rattle.tn_discipline.specs.Advancing as discipline
 use Rattle.tn_discipline.specs.Limits.{standard_limit}
 use Rattle.tn_cli.specs.Printed.{printed}
 use Rattle.tn_cli.specs.declared.typing.Typing.{Typing}
@@ -20,13 +20,13 @@ abbrev pub local_output : List ℕ → List ℕ
 local_output keys = printed (typed_entries standard keys)
 
 -- these keys were typed
-pub record HasTyped (keys : List ℕ) (typing : Typing) : Type 0 where
+pub record LeadsTo (keys : List ℕ) (typing : Typing) : Type 0 where
   pub settings : typing.settings ≡ standard.settings
   pub limit : typing.line.limit ≡ standard.limit
-  pub leaves : Leaves (roles_of standard.settings keys) typing.line
+  pub leaves : discipline.LeadsTo (roles_of standard.settings keys) typing.line
   pub ahead : typing.line.ahead ≡ 0
   pub printed : typing.printed.items ≡ local_output keys
 
 -- these keys more were typed
 abbrev pub Types : List ℕ → Typing → Typing → Type 0
-Types keys old new = (before : List ℕ) → HasTyped before old → HasTyped (before ++ keys) new
+Types keys old new = (before : List ℕ) → LeadsTo before old → LeadsTo (before ++ keys) new

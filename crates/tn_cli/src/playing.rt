@@ -1,7 +1,7 @@
 //! The commands of a script, done in a world.
 
 ghost use Rattle.std.specs.Prelude.{◌≡◌, ◌≢◌, ◌++◌, [], ◌∷◌, ◌↔◌, IfOk, OnOk, OnErr, IsErrOf, Err, map, IsTrue};
-ghost use Rattle.tn_world.specs.Headline.{NothingFlies};
+ghost use Rattle.tn_world.specs.Headline.{NothingInFlight};
 ghost use Rattle.tn_world.specs.declared.events.Event.TheVariants as event;
 ghost use Rattle.tn_cli.specs.Playing as play;
 ghost use Rattle.tn_cli.specs.declared.playing.Stop.TheVariants.{Bad, Refused, Memory};
@@ -49,7 +49,7 @@ pub(crate) fn play_line(
     out: &mut Vec<u8>,
 ) -> Result<(), Stop>
     ensures ok { OnOk result
-        (play.Prints (play.Plays world.old line.now) out.old.items out.new.items world.new) }
+        (play.Prints (play.RunsLine world.old line.now) out.old.items out.new.items world.new) }
     ensures bad { IsErrOf result Bad → play.IsBad line.now × (out.new.items ≡ out.old.items) }
     ensures refused { IsErrOf result Refused →
         play.RefusesLine world.old line.now × (out.new.items ≡ out.old.items) }
@@ -74,7 +74,7 @@ fn perform(
     out: &mut Vec<u8>,
 ) -> Result<(), Stop>
     ensures ok { OnOk result
-        (play.Prints (play.Performs world.old command) out.old.items out.new.items world.new) }
+        (play.Prints (play.RunsCommand world.old command) out.old.items out.new.items world.new) }
     ensures refused { IsErrOf result Refused →
         play.RefusesCommand world.old command × (out.new.items ≡ out.old.items) }
     ensures not_bad { result ≢ Err Bad }
@@ -137,7 +137,7 @@ fn settle(world: &mut World) -> Result<(), WorldFault>
 }
 
 fn is_quiet(world: &World) -> bool
-    ensures { IsTrue result ↔ NothingFlies world.now }
+    ensures { IsTrue result ↔ NothingInFlight world.now }
 {
     world.in_flight(ToWhom::Server).is_empty() && world.in_flight(ToWhom::Client).is_empty()
 }
@@ -169,7 +169,7 @@ fn take(alloc: Global, world: &mut World, out: &mut Vec<u8>) -> Result<(), Stop>
 }
 
 fn mark(world: &mut World, out: &mut Vec<u8>) -> Result<(), AllocError>
-    ensures { OnOk result (play.Prints (play.Marks world.old) out.old.items out.new.items world.new) }
+    ensures { OnOk result (play.Prints (play.PrintsMark world.old) out.old.items out.new.items world.new) }
 {
     if world.mark() {
         out.extend_from_slice(b"mark true\n")?;

@@ -2,7 +2,7 @@
 
 ghost use Rattle.std.specs.Prelude.{◌≡◌, ◌≢◌, IfOk, OnOk, map, string_bytes};
 ghost use Rattle.tn_cli.specs.Faults.{status_after};
-ghost use Rattle.tn_cli.specs.Runs.{Runs, DoesAsAsked};
+ghost use Rattle.tn_cli.specs.Runs.{RunsAsked, DoesAsAsked};
 
 use crate::fault::CliFault;
 use crate::local::run_local;
@@ -107,7 +107,7 @@ fn run_asked<R: Read, W: Write>(
     writer: &mut W,
 ) -> Result<(), CliFault>
     ensures { OnOk result
-        (Runs asked (R.remaining reader.old) (W.contents writer.old) (W.contents writer.new)) }
+        (RunsAsked asked (R.remaining reader.old) (W.contents writer.old) (W.contents writer.new)) }
 {
     match asked {
         Asked::Local => run_local(alloc, reader, writer),

@@ -121,7 +121,7 @@ fn with_name(verb: &[u8], name: &[u8]) -> Option<Command>
 }
 
 fn wished(name: &[u8]) -> Option<Command>
-    ensures { result ≡ script.wished name.now }
+    ensures { result ≡ script.wish_command name.now }
 {
     value_of_word! { name;
         b"local" => Command::Happen(Event::Wish(Editing::Local)),
@@ -130,7 +130,7 @@ fn wished(name: &[u8]) -> Option<Command>
 }
 
 fn echoed(name: &[u8]) -> Option<Command>
-    ensures { result ≡ script.echoed name.now }
+    ensures { result ≡ script.echo_command name.now }
 {
     value_of_word! { name;
         b"on" => Command::Happen(Event::Echo(true)),
@@ -185,7 +185,7 @@ fn with_words(
 }
 
 fn resized(verb: &[u8], first: &[u8], second: &[u8]) -> Option<Command>
-    ensures { result ≡ script.resized verb.now first.now second.now }
+    ensures { result ≡ script.resize_command verb.now first.now second.now }
 {
     let width = number_within(MOST_SIZE, first)?;
     let height = number_within(MOST_SIZE, second)?;

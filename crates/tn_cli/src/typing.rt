@@ -1,7 +1,7 @@
 //! Keys typed at one line, and the printed entries that they give.
 
 ghost use Rattle.std.specs.Prelude.{◌≡◌, ℕ, List, [], ◌∷◌, IfOk, OnOk};
-ghost use Rattle.tn_cli.specs.Typing.{HasTyped, Types, local_output};
+ghost use Rattle.tn_cli.specs.Typing.{LeadsTo, Types, local_output};
 
 use crate::printed::print_entry;
 use std::alloc::{AllocError, Global};
@@ -18,7 +18,7 @@ pub(crate) struct Typing {
 
 impl Typing {
     pub(crate) fn new(alloc: Global) -> Result<Typing, AllocError>
-        ensures { IfOk result (λ typing. HasTyped [] typing) }
+        ensures { IfOk result (λ typing. LeadsTo [] typing) }
     {
         Ok(Typing {
             alloc,
@@ -49,7 +49,7 @@ impl Typing {
     }
 
     pub(crate) fn into_printed(self) -> Vec<u8>
-        ensures { (keys : List ℕ) → HasTyped keys self → result.items ≡ local_output keys }
+        ensures { (keys : List ℕ) → LeadsTo keys self → result.items ≡ local_output keys }
     {
         self.printed
     }

@@ -38,10 +38,10 @@ pub fn run_world<R: Read, W: Write>(
     ensures too_long { IsErrOf result CliFault.TooLong →
         IfSome (R.remaining reader.old) (λ text. 1048576 < length text) }
     ensures script { (line : ℕ) → IsErrOf result (CliFault.Script line) →
-        IfSome (R.remaining reader.old) (λ text. play.AppendsText (play.StopsAtBad (lines_of text) line)
+        IfSome (R.remaining reader.old) (λ text. play.AppendsText (play.StopsAtBadLine (lines_of text) line)
         (W.contents writer.old) (W.contents writer.new)) }
     ensures world { (line : ℕ) → IsErrOf result (CliFault.World line) →
-        IfSome (R.remaining reader.old) (λ text. play.AppendsText (play.StopsAtRefused (lines_of text) line)
+        IfSome (R.remaining reader.old) (λ text. play.AppendsText (play.StopsAtRefusedLine (lines_of text) line)
         (W.contents writer.old) (W.contents writer.new)) }
     ensures write { IsErrOf result CliFault.Write → IfSome (R.remaining reader.old) (λ text.
         play.AppendsFrontOfText (play.PrintsSome (lines_of text))
@@ -69,7 +69,7 @@ fn play_script(
     printed: &mut Vec<u8>,
 ) -> Result<Option<CliFault>, AllocError>
     ensures { IfOk result (λ end.
-        play.Adds (play.EndsWith (lines_of script.now) end) printed.old.items printed.new.items) }
+        play.AppendsPrint (play.EndsWith (lines_of script.now) end) printed.old.items printed.new.items) }
 {
     let lines = parts(alloc, script, b'\n')?;
     let end = play_lines(alloc, &lines, printed)?;
@@ -81,7 +81,7 @@ fn play_lines(
     lines: &[&[u8]],
     printed: &mut Vec<u8>,
 ) -> Result<Option<CliFault>, AllocError>
-    ensures { IfOk result (λ end. play.Adds
+    ensures { IfOk result (λ end. play.AppendsPrint
         (play.EndsWith (map (λ line. line.now) lines.now) end) printed.old.items printed.new.items) }
 {
     let Ok(mut world) = World::open(

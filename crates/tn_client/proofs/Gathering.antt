@@ -8,67 +8,67 @@ use Rattle.tn_nvt.specs.declared.items.Item.TheVariants.{Byte}
 use Rattle.tn_client.specs.Events.{History, next, got, gets}
 use Rattle.tn_client.specs.Terms.{mode}
 use Rattle.tn_client.specs.Lines.{line}
-use Rattle.tn_client.specs.Replies.{replies, sent, ending}
-use Rattle.tn_client.specs.Screen.{shown, item_shown}
-use Rattle.tn_client.specs.Standing.{End, Stands, Keeps, Gets}
-use Rattle.tn_client.specs.Steps.{line_left, after_got, says_got}
+use Rattle.tn_client.specs.Replies.{replies, items_said, end_of_edit_items}
+use Rattle.tn_client.specs.Screen.{text_shown, item_shown}
+use Rattle.tn_client.specs.Calls.{End, LeadsTo, ReadsNothing, AdvancesAll}
+use Rattle.tn_client.specs.Steps.{line_left, end_after_item, says_got}
 use Rattle.tn_client.proofs.lemmas.Histories.{gets-append}
 use Rattle.tn_wire.proofs.lemmas.Cutting.{spelled_on}
 use Rattle.tn_client.proofs.Standings.{stands_got, replies_got}
 
-pub keeps_same : (old : End) → Keeps old old
+pub keeps_same : (old : End) → ReadsNothing old old
 keeps_same old = record { decoder = refl; failed = refl }
 
-pub keeps_both : (old mid new : End) → Keeps old mid → Keeps mid new → Keeps old new
+pub keeps_both : (old mid new : End) → ReadsNothing old mid → ReadsNothing mid new → ReadsNothing old new
 keeps_both old mid new a b = record { decoder = b.decoder ∙ a.decoder; failed = b.failed ∙ a.failed }
 
-pub gets_none : (old : End) (before seen : List ℕ) → Gets old [] before before seen seen old
+pub gets_none : (old : End) (before seen : List ℕ) → AdvancesAll old [] before before seen seen old
 gets_none old before seen = record {
   said = [];
   text = [];
   appended = sym (append-nil before);
   displayed = sym (append-nil seen);
-  sends = λ h s. sym (append-nil (sent h));
-  shows = λ h s. sym (append-nil (shown h));
+  sends = λ h s. sym (append-nil (items_said h));
+  shows = λ h s. sym (append-nil (text_shown h));
   stands = λ h s. s;
 }
 
 -- an item
-pub gets_one : (old new : End) (item : Item) (before after seen now : List ℕ) → new ≡ after_got old item → after ≡ before ++ spells (says_got old item) → now ≡ seen ++ item_shown item → Gets old (item ∷ []) before after seen now new
+pub gets_one : (old new : End) (item : Item) (before after seen now : List ℕ) → new ≡ end_after_item old item → after ≡ before ++ spells (says_got old item) → now ≡ seen ++ item_shown item → AdvancesAll old (item ∷ []) before after seen now new
 gets_one old new item before after seen now is appended displayed = record {
   said = says_got old item;
   text = item_shown item;
   appended = appended;
   displayed = displayed;
-  sends = λ h s. ap (λ (xs : List Item). sent h ++ xs) (replies_got h old item s);
+  sends = λ h s. ap (λ (xs : List Item). items_said h ++ xs) (replies_got h old item s);
   shows = λ h s. refl;
-  stands = λ h s. subst (Stands (next h (got item))) (sym is) (stands_got h old item s);
+  stands = λ h s. subst (LeadsTo (next h (got item))) (sym is) (stands_got h old item s);
 }
 
 -- more items
-pub gets_both : (old mid new : End) (xs ys : List Item) (before between after seen then now : List ℕ) → Gets old xs before between seen then mid → Gets mid ys between after then now new → Gets old (xs ++ ys) before after seen now new
+pub gets_both : (old mid new : End) (xs ys : List Item) (before between after seen then now : List ℕ) → AdvancesAll old xs before between seen then mid → AdvancesAll mid ys between after then now new → AdvancesAll old (xs ++ ys) before after seen now new
 gets_both old mid new xs ys before between after seen then now g k = record {
   said = g.said ++ k.said;
   text = g.text ++ k.text;
   appended = spelled_on g.said k.said before between after g.appended k.appended;
   displayed = k.displayed ∙ ap (λ (zs : List ℕ). zs ++ k.text) g.displayed ∙ append_assoc seen g.text k.text;
   sends = λ h s.
-      ap sent (gets-append h xs ys)
+      ap items_said (gets-append h xs ys)
       ∙ k.sends (gets h xs) (g.stands h s)
       ∙ ap (λ (zs : List Item). zs ++ k.said) (g.sends h s)
-      ∙ append_assoc (sent h) g.said k.said;
+      ∙ append_assoc (items_said h) g.said k.said;
   shows = λ h s.
-      ap shown (gets-append h xs ys)
+      ap text_shown (gets-append h xs ys)
       ∙ k.shows (gets h xs) (g.stands h s)
       ∙ ap (λ (zs : List ℕ). zs ++ k.text) (g.shows h s)
-      ∙ append_assoc (shown h) g.text k.text;
+      ∙ append_assoc (text_shown h) g.text k.text;
   stands = λ h s.
-      let P : History → Type 0 = λ k. Stands k new in
+      let P : History → Type 0 = λ k. LeadsTo k new in
       subst P (sym (gets-append h xs ys)) (k.stands (gets h xs) (g.stands h s));
 }
 
 -- PLAIN BYTES: they change nothing but the screen
-ending_same : (b : Bool) (bytes : List ℕ) → ending b b bytes ≡ []
+ending_same : (b : Bool) (bytes : List ℕ) → end_of_edit_items b b bytes ≡ []
 ending_same true bytes = refl
 ending_same false bytes = refl
 
@@ -76,33 +76,33 @@ line_same : (b : Bool) (l : HalfLine) → line_left b b l ≡ l
 line_same true l = refl
 line_same false l = refl
 
-after_byte : (old : End) (byte : ℕ) → after_got old (Byte byte) ≡ old
+after_byte : (old : End) (byte : ℕ) → end_after_item old (Byte byte) ≡ old
 after_byte old byte = ap (λ (l : HalfLine). record old { line = l }) (line_same (edits old.mode) old.line)
 
 replies_byte : (h : History) (byte : ℕ) → replies h (got (Byte byte)) ≡ []
 replies_byte h byte = ap (λ (xs : List Item). xs ++ []) (ending_same (edits (mode h)) (line h).held)
 
-stands_plain : (h : History) (old : End) (bytes : List ℕ) → Stands h old → Stands (gets h (map Byte bytes)) old
+stands_plain : (h : History) (old : End) (bytes : List ℕ) → LeadsTo h old → LeadsTo (gets h (map Byte bytes)) old
 stands_plain h old [] s = s
 stands_plain h old (b ∷ bs) s =
-    stands_plain (next h (got (Byte b))) old bs (subst (Stands (next h (got (Byte b)))) (after_byte old b) (stands_got h old (Byte b) s))
+    stands_plain (next h (got (Byte b))) old bs (subst (LeadsTo (next h (got (Byte b)))) (after_byte old b) (stands_got h old (Byte b) s))
 
-sent_plain : (h : History) (bytes : List ℕ) → sent (gets h (map Byte bytes)) ≡ sent h
+sent_plain : (h : History) (bytes : List ℕ) → items_said (gets h (map Byte bytes)) ≡ items_said h
 sent_plain h [] = refl
 sent_plain h (b ∷ bs) =
-    sent_plain (next h (got (Byte b))) bs ∙ ap (λ (xs : List Item). sent h ++ xs) (replies_byte h b) ∙ append-nil (sent h)
+    sent_plain (next h (got (Byte b))) bs ∙ ap (λ (xs : List Item). items_said h ++ xs) (replies_byte h b) ∙ append-nil (items_said h)
 
-shown_plain : (h : History) (bytes : List ℕ) → shown (gets h (map Byte bytes)) ≡ shown h ++ bytes
-shown_plain h [] = sym (append-nil (shown h))
-shown_plain h (b ∷ bs) = shown_plain (next h (got (Byte b))) bs ∙ append_assoc (shown h) (b ∷ []) bs
+shown_plain : (h : History) (bytes : List ℕ) → text_shown (gets h (map Byte bytes)) ≡ text_shown h ++ bytes
+shown_plain h [] = sym (append-nil (text_shown h))
+shown_plain h (b ∷ bs) = shown_plain (next h (got (Byte b))) bs ∙ append_assoc (text_shown h) (b ∷ []) bs
 
-pub gets_plain : (old : End) (bytes before seen : List ℕ) → Gets old (map Byte bytes) before before seen (seen ++ bytes) old
+pub gets_plain : (old : End) (bytes before seen : List ℕ) → AdvancesAll old (map Byte bytes) before before seen (seen ++ bytes) old
 gets_plain old bytes before seen = record {
   said = [];
   text = bytes;
   appended = sym (append-nil before);
   displayed = refl;
-  sends = λ h s. sent_plain h bytes ∙ sym (append-nil (sent h));
+  sends = λ h s. sent_plain h bytes ∙ sym (append-nil (items_said h));
   shows = λ h s. shown_plain h bytes;
   stands = λ h s. stands_plain h old bytes s;
 }

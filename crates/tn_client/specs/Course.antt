@@ -1,10 +1,10 @@
 -- A client end from outside: the pieces of its stream, cut anywhere, and the calls between them.
 use Rattle.std.specs.Prelude.{◌≡◌, ℕ, List, [], ◌++◌}
-use Rattle.tn_nvt.specs.Standing.{HasRead}
+use Rattle.tn_nvt.specs.Feeding as nvt
 use Rattle.tn_nvt.specs.declared.items.Item.{Item}
 use Rattle.tn_wire.specs.Fronts.{IsRead}
 use Rattle.tn_client.specs.Events.{Event, typed, got, resized, proposed, History, begun, next, items, gets}
-use Rattle.tn_client.specs.Standing.{End, Stands}
+use Rattle.tn_client.specs.Calls.{End, LeadsTo}
 
 pub data Course : Type 0 where
   -- with a window of this width and height, and lines of at most so many bytes
@@ -26,16 +26,16 @@ IsCall (resized width height) = Unit {0}
 IsCall (proposed func value) = Unit {0}
 
 -- this is the history of the course: a piece brings the items that the longer stream has more
-abbrev pub Leads : Course → History → Type 0
-Leads (started width height limit) h = h ≡ begun width height limit
-Leads (fed c piece) h =
-    (old : History) × (more : List Item) × Leads c old
+abbrev pub ReadsAs : Course → History → Type 0
+ReadsAs (started width height limit) h = h ≡ begun width height limit
+ReadsAs (fed c piece) h =
+    (old : History) × (more : List Item) × ReadsAs c old
     × IsRead (stream c ++ piece) (items old ++ more) × (h ≡ gets old more)
-Leads (called c e) h = (old : History) × Leads c old × IsCall e × (h ≡ next old e)
+ReadsAs (called c e) h = (old : History) × ReadsAs c old × IsCall e × (h ≡ next old e)
 
 -- the course leads to this end
-pub record IsAt (c : Course) (end : End) : Type 0 where
+pub record CourseLeadsTo (c : Course) (end : End) : Type 0 where
   pub history : History
-  pub leads : Leads c history
-  pub stands : Stands history end
-  pub reads : HasRead end.decoder (stream c) (items history)
+  pub leads : ReadsAs c history
+  pub stands : LeadsTo history end
+  pub reads : nvt.LeadsTo (stream c) (items history) end.decoder

@@ -3,7 +3,7 @@ pub mod Terms
 pub mod Lines
 pub mod Replies
 pub mod Screen
-pub mod Standing
+pub mod Calls
 pub mod Course
 pub mod Steps
 pub mod Lending

@@ -16,22 +16,22 @@ traps mask = not (bit_and mask 2 == 0)
 
 -- the settings that a client has its keys by: a carriage return ends the line as a line feed does, the
 -- characters are those of its table, and ISIG is TRAPSIG
-abbrev pub settings : ℕ → Characters → Settings
-settings mask c = record { flags = record standard_flags { isig = traps mask }; chars = c }
+abbrev pub key_settings : ℕ → Characters → Settings
+key_settings mask c = record { flags = record standard_flags { isig = traps mask }; chars = c }
 
 abbrev pub role_of_typed : ℕ → Characters → ℕ → Role
-role_of_typed mask c key = role_of_key (settings mask c) key
+role_of_typed mask c key = role_of_key (key_settings mask c) key
 
 -- the role of a key at this client
 abbrev pub role_at : History → ℕ → Role
 role_at h key = role_of_typed (mode h) (chars h) key
 
 -- the roles of the keys that were typed since EDIT began, each by the mode and the characters that it met
-abbrev pub edited : History → List Role
-edited (begun width height limit) = []
-edited (next h (typed key)) = if edits (mode h) then edited h ++ roles_from (role_at h key) else []
-edited (next h (got item)) = if edits (mode h) && edits (mode (next h (got item))) then edited h else []
-edited (next h _) = edited h
+abbrev pub edited_roles : History → List Role
+edited_roles (begun width height limit) = []
+edited_roles (next h (typed key)) = if edits (mode h) then edited_roles h ++ roles_from (role_at h key) else []
+edited_roles (next h (got item)) = if edits (mode h) && edits (mode (next h (got item))) then edited_roles h else []
+edited_roles (next h _) = edited_roles h
 
 -- how many bytes a line has at most, with its closing byte
 abbrev pub line_limit : History → ℕ
@@ -40,7 +40,7 @@ line_limit (next h e) = line_limit h
 
 -- the half line, whichever end has its bytes
 abbrev pub half_line : History → List ℕ
-half_line h = half_of (line_limit h) (edited h)
+half_line h = half_of (line_limit h) (edited_roles h)
 
 -- How much of it was sent before it was closed: the least length that it has had since a byte of the forward
 -- mask sent all of it. No forward mask is taken, so nothing is sent before.
@@ -51,8 +51,8 @@ ahead (next h (got item)) = if edits (mode h) && edits (mode (next h (got item))
 ahead (next h _) = ahead h
 
 -- what the client holds of it
-abbrev pub held : History → List ℕ
-held h = drop (ahead h) (half_line h)
+abbrev pub held_bytes : History → List ℕ
+held_bytes h = drop (ahead h) (half_line h)
 
 abbrev pub line : History → HalfLine
-line h = record { held = held h; ahead = ahead h; limit = line_limit h }
+line h = record { held = held_bytes h; ahead = ahead h; limit = line_limit h }

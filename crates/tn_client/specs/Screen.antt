@@ -12,7 +12,7 @@ use Rattle.tn_nvt.specs.declared.items.Item.{Item}
 use Rattle.tn_nvt.specs.declared.items.Item.TheVariants.{Byte, Newline}
 use Rattle.tn_client.specs.Events.{Event, typed, got, resized, proposed, History, begun, next}
 use Rattle.tn_client.specs.Terms.{options, mode, chars, is_echoed}
-use Rattle.tn_client.specs.Lines.{settings, role_at, line}
+use Rattle.tn_client.specs.Lines.{key_settings, role_at, line}
 
 abbrev pub new_line : List ℕ
 new_line = 13 ∷ 10 ∷ []
@@ -52,13 +52,13 @@ item_shown _ = []
 -- what an event shows
 abbrev pub shows : History → Event → List ℕ
 shows h (typed key) =
-    let terminal = settings (mode h) (chars h) in
+    let terminal = key_settings (mode h) (chars h) in
     key_shown (is_echoed (options h)) (edits (mode h)) terminal (role_at h key) (line h) key
 shows h (got item) = item_shown item
 shows h (resized width height) = []
 shows h (proposed func value) = []
 
 -- what was shown
-abbrev pub shown : History → List ℕ
-shown (begun width height limit) = []
-shown (next h e) = shown h ++ shows h e
+abbrev pub text_shown : History → List ℕ
+text_shown (begun width height limit) = []
+text_shown (next h e) = text_shown h ++ shows h e

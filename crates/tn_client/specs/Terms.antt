@@ -3,11 +3,11 @@ use Rattle.std.specs.Prelude.{ℕ, Bool, true, false, ◌&&◌, ◌==◌, Option
 use Rattle.tn_codes.specs.declared.payloads.Payload.{Payload}
 use Rattle.tn_codes.specs.declared.payloads.Payload.TheVariants.{Mode, Slc}
 use Rattle.tn_discipline.specs.Characters.{Characters, standard_characters}
-use Rattle.tn_linemode.specs.Modes.{mode_after}
+use Rattle.tn_linemode.specs.Modes.{client_mask_after}
 use Rattle.tn_linemode.specs.Exchange.{client_after}
 use Rattle.tn_nvt.specs.declared.items.Item.{Item}
 use Rattle.tn_nvt.specs.declared.items.Item.TheVariants.{Neg, Sub}
-use Rattle.tn_option.specs.Options.{Options, fresh, after_word, state_of, is_yes}
+use Rattle.tn_option.specs.Options.{Options, new_options, options_after_word, state_of, is_yes}
 use Rattle.tn_option.specs.declared.negotiation.Agree.{Agree}
 use Rattle.tn_option.specs.declared.q_method.Side.TheVariants.{Us, Them}
 use Rattle.tn_wire.specs.Words.{payload_under, differ}
@@ -15,8 +15,8 @@ use Rattle.tn_client.specs.Events.{got, resized, History, begun, next}
 
 -- the client's own SUPPRESS-GO-AHEAD, NAWS and LINEMODE are agreed to, and the server's ECHO and
 -- SUPPRESS-GO-AHEAD
-abbrev pub agree : Agree
-agree =
+abbrev pub agreement : Agree
+agreement =
     record { us = false ∷ true ∷ true ∷ true ∷ []; them = true ∷ true ∷ false ∷ false ∷ [] }
 
 abbrev pub linemode : Options → Bool
@@ -36,14 +36,14 @@ payload_at o (Sub option params) = payload_under ((option == 34) && linemode o) 
 payload_at o _ = None
 
 -- the options after an item
-abbrev pub heard : Options → Item → Options
-heard o (Neg verb option) = after_word o verb option
-heard o _ = o
+abbrev pub options_after : Options → Item → Options
+options_after o (Neg verb option) = options_after_word o verb option
+options_after o _ = o
 
 -- the client starts no word
 abbrev pub options : History → Options
-options (begun width height limit) = fresh agree
-options (next h (got item)) = heard (options h) item
+options (begun width height limit) = new_options agreement
+options (next h (got item)) = options_after (options h) item
 options (next h _) = options h
 
 -- LINEMODE came on or went off
@@ -52,12 +52,12 @@ changes old new = differ (linemode old) (linemode new)
 
 -- RFC 1184, section 2.2: the client takes a mask that acknowledges nothing
 abbrev pub mode_by : ℕ → Option Payload → ℕ
-mode_by mode (Some (Mode mask)) = mode_after mode mask
+mode_by mode (Some (Mode mask)) = client_mask_after mode mask
 mode_by mode _ = mode
 
 -- the mask after an item: LINEMODE begins and ends without one
 abbrev pub mode_at : Options → ℕ → Item → ℕ
-mode_at o mode (Neg verb option) = if changes o (after_word o verb option) then 0 else mode
+mode_at o mode (Neg verb option) = if changes o (options_after_word o verb option) then 0 else mode
 mode_at o mode (Sub option params) = mode_by mode (payload_at o (Sub option params))
 mode_at o mode _ = mode
 

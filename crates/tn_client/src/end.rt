@@ -3,14 +3,14 @@
 ghost use Rattle.std.specs.Prelude.{◌≡◌, ◌≢◌, ◌++◌, ◌∷◌, ℕ, List, true, false, None, [], length, take, IfOk, IfErr, OnOk, OnErr, IsErrOf};
 ghost use Rattle.tn_linemode.specs.Triples.{triple_of};
 ghost use Rattle.tn_nvt.specs.Spelling.{spells};
-ghost use Rattle.tn_nvt.specs.Standing.{HasRead};
+ghost use Rattle.tn_nvt.specs.Feeding as nvt;
 ghost use Rattle.tn_option.specs.Options.{state_of};
 ghost use Rattle.tn_client.specs.Events.{History, begun, next, typed, resized, proposed};
 ghost use Rattle.tn_client.specs.Terms.{options, mode, chars};
-ghost use Rattle.tn_client.specs.Lines.{held, ahead};
-ghost use Rattle.tn_client.specs.Replies.{replies, size_told};
-ghost use Rattle.tn_client.specs.Standing.{Stands, Goes, Sends, Shows, Keeps, Grows, Feeds, Breaks, call_fault, propose_fault, IsFault};
-ghost use Rattle.tn_client.specs.Steps.{after_resize, says_resize};
+ghost use Rattle.tn_client.specs.Lines.{held_bytes, ahead};
+ghost use Rattle.tn_client.specs.Replies.{replies, size_items};
+ghost use Rattle.tn_client.specs.Calls.{LeadsTo, Advances, Sends, Shows, ReadsNothing, SaysOrShows, Feeds, StopsWithin, call_fault, propose_fault, IsFault};
+ghost use Rattle.tn_client.specs.Steps.{end_after_resize, says_resize};
 
 use crate::faults::ClientFault;
 use crate::taking::Lent;
@@ -40,7 +40,7 @@ pub struct ClientEnd {
 }
 
 impl Model for ClientEnd {
-    ghost use Rattle.tn_client.specs.Standing.{End};
+    ghost use Rattle.tn_client.specs.Calls.{End};
 
     ghost Value = { End };
 
@@ -65,8 +65,8 @@ impl ClientEnd {
         height: u16,
         limit: Limit,
     ) -> Result<ClientEnd, ClientFault>
-        ensures stands { IfOk result (λ end. Stands (begun width height limit) end) }
-        ensures reads { IfOk result (λ end. HasRead end.decoder [] []) }
+        ensures stands { IfOk result (λ end. LeadsTo (begun width height limit) end) }
+        ensures reads { IfOk result (λ end. nvt.LeadsTo [] [] end.decoder) }
         ensures runs { IfOk result (λ end. end.failed ≡ false) }
         ensures fault { IfErr result (λ fault. fault ≡ ClientFault.Memory) }
     {
@@ -97,10 +97,10 @@ impl ClientEnd {
         out: &mut Vec<u8>,
         screen: &mut Vec<u8>,
     ) -> Result<(), ClientFault>
-        ensures goes { OnOk result (Goes self.old (typed key) self.new) }
+        ensures goes { OnOk result (Advances self.old (typed key) self.new) }
         ensures sends { OnOk result (Sends self.old (typed key) out.old.items out.new.items) }
         ensures shows { OnOk result (Shows self.old (typed key) screen.old.items screen.new.items) }
-        ensures keeps { OnOk result (Keeps self.old self.new) }
+        ensures keeps { OnOk result (ReadsNothing self.old self.new) }
 
         ensures accepted { OnOk result (call_fault self.old ≡ None) }
         ensures fault { IfErr result (IsFault (call_fault self.old)) }
@@ -108,7 +108,7 @@ impl ClientEnd {
         ensures err_out { OnErr result (out.new.items ≡ out.old.items) }
         ensures err_screen { OnErr result (screen.new.items ≡ screen.old.items) }
         ensures grows { IsErrOf result ClientFault.Memory →
-            (h : History) → Stands h self.old → Grows h (typed key) }
+            (h : History) → LeadsTo h self.old → SaysOrShows h (typed key) }
     {
         if self.failed {
             return Err(ClientFault::Failed);
@@ -137,7 +137,7 @@ impl ClientEnd {
         ensures fault { IfErr result (IsFault (call_fault self.old)) }
 
         // Some items were done, and it is said why no more were.
-        ensures memory { IsErrOf result ClientFault.Memory → Breaks self.old piece.now
+        ensures memory { IsErrOf result ClientFault.Memory → StopsWithin self.old piece.now
             out.old.items out.new.items screen.old.items screen.new.items }
         ensures err { OnErr result (self.new.failed ≡ true) }
 
@@ -167,16 +167,16 @@ impl ClientEnd {
 
     /// Takes a new size of the window, in characters, and tells it where NAWS is on and it changed.
     pub fn resize(&mut self, width: u16, height: u16, out: &mut Vec<u8>) -> Result<(), ClientFault>
-        ensures goes { OnOk result (Goes self.old (resized width height) self.new) }
+        ensures goes { OnOk result (Advances self.old (resized width height) self.new) }
         ensures sends { OnOk result (Sends self.old (resized width height) out.old.items out.new.items) }
-        ensures keeps { OnOk result (Keeps self.old self.new) }
+        ensures keeps { OnOk result (ReadsNothing self.old self.new) }
 
         ensures accepted { OnOk result (call_fault self.old ≡ None) }
         ensures fault { IfErr result (IsFault (call_fault self.old)) }
         ensures err { OnErr result (self.new ≡ self.old) }
         ensures err_out { OnErr result (out.new.items ≡ out.old.items) }
         ensures grows { IsErrOf result ClientFault.Memory →
-            (h : History) → Stands h self.old → replies h (resized width height) ≢ [] }
+            (h : History) → LeadsTo h self.old → replies h (resized width height) ≢ [] }
     {
         if self.failed {
             return Err(ClientFault::Failed);
@@ -188,7 +188,7 @@ impl ClientEnd {
     }
 
     fn set_size(&mut self, width: u16, height: u16, out: &mut Vec<u8>) -> Result<(), AllocError>
-        ensures ok { OnOk result (self.new ≡ after_resize self.old width height) }
+        ensures ok { OnOk result (self.new ≡ end_after_resize self.old width height) }
         ensures out { OnOk result
             (out.new.items ≡ out.old.items ++ spells (says_resize self.old width height)) }
         ensures err { OnErr result (self.new ≡ self.old) }
@@ -214,7 +214,7 @@ impl ClientEnd {
         height: u16,
         out: &mut Vec<u8>,
     ) -> Result<(), AllocError>
-        ensures ok { OnOk result (out.new.items ≡ out.old.items ++ spells (size_told (width, height))) }
+        ensures ok { OnOk result (out.new.items ≡ out.old.items ++ spells (size_items (width, height))) }
         ensures err { OnErr result (out.new.items ≡ out.old.items) }
     {
         put_payload(self.alloc, &Payload::Naws { width, height }, out)
@@ -228,9 +228,9 @@ impl ClientEnd {
         value: Option<u8>,
         out: &mut Vec<u8>,
     ) -> Result<(), ClientFault>
-        ensures goes { OnOk result (Goes self.old (proposed func value) self.new) }
+        ensures goes { OnOk result (Advances self.old (proposed func value) self.new) }
         ensures sends { OnOk result (Sends self.old (proposed func value) out.old.items out.new.items) }
-        ensures keeps { OnOk result (Keeps self.old self.new) }
+        ensures keeps { OnOk result (ReadsNothing self.old self.new) }
 
         ensures accepted { OnOk result (propose_fault self.old func value ≡ None) }
         ensures fault { IfErr result (IsFault (propose_fault self.old func value)) }
@@ -255,7 +255,7 @@ impl ClientEnd {
     /// The mask in force: EDIT and TRAPSIG (RFC 1184, section 2.2).
     pub fn mode(&self) -> u8
         ensures value { result ≡ self.now.mode }
-        ensures stands { (h : History) → Stands h self.now → result ≡ mode h }
+        ensures stands { (h : History) → LeadsTo h self.now → result ≡ mode h }
     {
         self.mode.current()
     }
@@ -263,7 +263,7 @@ impl ClientEnd {
     /// The bytes of the half line that are held here.
     pub fn half(&self) -> &[u8]
         ensures value { result.now ≡ self.now.line.held }
-        ensures stands { (h : History) → Stands h self.now → result.now ≡ held h }
+        ensures stands { (h : History) → LeadsTo h self.now → result.now ≡ held_bytes h }
     {
         self.line.held()
     }
@@ -271,7 +271,7 @@ impl ClientEnd {
     /// How many bytes of the half line were sent before those that are held.
     pub fn ahead(&self) -> u16
         ensures value { result ≡ self.now.line.ahead }
-        ensures stands { (h : History) → Stands h self.now → result ≡ ahead h }
+        ensures stands { (h : History) → LeadsTo h self.now → result ≡ ahead h }
     {
         self.line.ahead()
     }
@@ -279,7 +279,7 @@ impl ClientEnd {
     /// The special characters in force.
     pub fn chars(&self) -> Chars
         ensures value { result ≡ self.now.table }
-        ensures stands { (h : History) → Stands h self.now → result ≡ chars h }
+        ensures stands { (h : History) → LeadsTo h self.now → result ≡ chars h }
     {
         self.table.chars()
     }
@@ -287,7 +287,7 @@ impl ClientEnd {
     /// Where an option stands; `No` for each that no end knows.
     pub fn option(&self, side: Side, option: u8) -> QState
         ensures value { result ≡ state_of self.now.options side option }
-        ensures stands { (h : History) → Stands h self.now → result ≡ state_of (options h) side option }
+        ensures stands { (h : History) → LeadsTo h self.now → result ≡ state_of (options h) side option }
     {
         self.options.q_state(side, option)
     }

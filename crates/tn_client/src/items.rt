@@ -5,11 +5,11 @@ ghost use Rattle.tn_codes.specs.declared.payloads.Payload.TheVariants as payload
 ghost use Rattle.tn_nvt.specs.Spelling.{spells};
 ghost use Rattle.tn_nvt.specs.declared.items.Item.TheVariants as item;
 ghost use Rattle.tn_client.specs.Terms.{linemode, changes, tells_size, payload_at};
-ghost use Rattle.tn_client.specs.Replies.{size_told_on, payload_answered};
+ghost use Rattle.tn_client.specs.Replies.{new_size_items, payload_answers};
 ghost use Rattle.tn_client.specs.Screen.{item_shown};
-ghost use Rattle.tn_client.specs.Standing.{ReadsList};
-ghost use Rattle.tn_client.specs.Steps.{MayGrowNow, with_mode, says_mode, after_got, says_got, after_sub, says_sub};
-ghost use Rattle.tn_wire.specs.Fronts.{Cuts};
+ghost use Rattle.tn_client.specs.Calls.{ReadsList};
+ghost use Rattle.tn_client.specs.Steps.{MayWantMemoryNow, with_mode, says_mode, end_after_item, says_got, end_after_payload, says_sub};
+ghost use Rattle.tn_wire.specs.Fronts.{AppendsFront};
 
 use crate::end::ClientEnd;
 use crate::screen::{show_byte, show_new_line};
@@ -29,12 +29,12 @@ impl ClientEnd {
         out: &mut Vec<u8>,
         screen: &mut Vec<u8>,
     ) -> Result<(), AllocError>
-        ensures ok { OnOk result (self.new ≡ after_got self.old item) }
+        ensures ok { OnOk result (self.new ≡ end_after_item self.old item) }
         ensures out { OnOk result (out.new.items ≡ out.old.items ++ spells (says_got self.old item)) }
         ensures screen { OnOk result (screen.new.items ≡ screen.old.items ++ item_shown item) }
-        ensures cut { OnErr result (Cuts (says_got self.old item) out.old.items out.new.items) }
+        ensures cut { OnErr result (AppendsFront (says_got self.old item) out.old.items out.new.items) }
         ensures err { OnErr result (screen.new.items ≡ screen.old.items) }
-        ensures grows { OnErr result (MayGrowNow self.old item) }
+        ensures grows { OnErr result (MayWantMemoryNow self.old item) }
     {
         match item {
             Item::Byte(byte) => show_byte(byte, screen),
@@ -69,11 +69,11 @@ impl ClientEnd {
 
     // An option word: it is answered, and what follows from it is said.
     fn word(&mut self, verb: Verb, option: u8, out: &mut Vec<u8>) -> Result<(), AllocError>
-        ensures ok { OnOk result (self.new ≡ after_got self.old (item.Neg verb option)) }
+        ensures ok { OnOk result (self.new ≡ end_after_item self.old (item.Neg verb option)) }
         ensures out { OnOk result
             (out.new.items ≡ out.old.items ++ spells (says_got self.old (item.Neg verb option))) }
         ensures cut { OnErr result
-            (Cuts (says_got self.old (item.Neg verb option)) out.old.items out.new.items) }
+            (AppendsFront (says_got self.old (item.Neg verb option)) out.old.items out.new.items) }
         ensures grows { OnErr result (says_got self.old (item.Neg verb option) ≢ []) }
     {
         let mut options = self.options;
@@ -101,11 +101,11 @@ impl ClientEnd {
     // Tells the size where NAWS came on.
     fn put_size_on(&self, is_on: bool, out: &mut Vec<u8>) -> Result<(), AllocError>
         ensures ok { let size : ℕ × ℕ = (self.now.width, self.now.height) in
-            let says = size_told_on (tells_size self.now.options) is_on size in
+            let says = new_size_items (tells_size self.now.options) is_on size in
             OnOk result (out.new.items ≡ out.old.items ++ spells says) }
         ensures err { OnErr result (out.new.items ≡ out.old.items) }
         ensures grows { let size : ℕ × ℕ = (self.now.width, self.now.height) in
-            OnErr result (size_told_on (tells_size self.now.options) is_on size ≢ []) }
+            OnErr result (new_size_items (tells_size self.now.options) is_on size ≢ []) }
     {
         if is_on && !self.options.is_on(Side::Us, NAWS) {
             return self.put_size(self.width, self.height, out);
@@ -121,11 +121,11 @@ impl ClientEnd {
         out: &mut Vec<u8>,
     ) -> Result<(), AllocError>
         ensures ok { let payload = payload_at self.old.options (item.Sub option params.now) in
-            OnOk result (self.new ≡ after_sub self.old payload) }
+            OnOk result (self.new ≡ end_after_payload self.old payload) }
         ensures out { let payload = payload_at self.old.options (item.Sub option params.now) in
             OnOk result (out.new.items ≡ out.old.items ++ spells (says_sub self.old payload)) }
         ensures cut { let payload = payload_at self.old.options (item.Sub option params.now) in
-            OnErr result (Cuts (says_sub self.old payload) out.old.items out.new.items) }
+            OnErr result (AppendsFront (says_sub self.old payload) out.old.items out.new.items) }
         ensures grows { let sub = item.Sub option params.now in OnErr result
             ((says_sub self.old (payload_at self.old.options sub) ≢ []) ⊎ ReadsList self.old.options sub) }
     {
@@ -156,11 +156,11 @@ impl ClientEnd {
 
     // A MODE of the server.
     fn mode_got(&mut self, mask: u8, out: &mut Vec<u8>) -> Result<(), AllocError>
-        ensures ok { OnOk result (self.new ≡ after_sub self.old (Some (payload.Mode mask))) }
+        ensures ok { OnOk result (self.new ≡ end_after_payload self.old (Some (payload.Mode mask))) }
         ensures out { OnOk result
             (out.new.items ≡ out.old.items ++ spells (says_sub self.old (Some (payload.Mode mask)))) }
         ensures cut { OnErr result
-            (Cuts (says_sub self.old (Some (payload.Mode mask))) out.old.items out.new.items) }
+            (AppendsFront (says_sub self.old (Some (payload.Mode mask))) out.old.items out.new.items) }
         ensures grows { OnErr result (says_sub self.old (Some (payload.Mode mask)) ≢ []) }
     {
         let mut mode = self.mode;
@@ -174,11 +174,11 @@ impl ClientEnd {
     // A list of local characters: the answers in one list.
     fn list(&mut self, triples: &Triples, out: &mut Vec<u8>) -> Result<(), AllocError>
         requires { length triples.now ≤ 170 }
-        ensures ok { OnOk result (self.new ≡ after_sub self.old (Some (payload.Slc triples.now))) }
+        ensures ok { OnOk result (self.new ≡ end_after_payload self.old (Some (payload.Slc triples.now))) }
         ensures out { OnOk result
             (out.new.items ≡ out.old.items ++ spells (says_sub self.old (Some (payload.Slc triples.now)))) }
         ensures cut { OnErr result
-            (Cuts (says_sub self.old (Some (payload.Slc triples.now))) out.old.items out.new.items) }
+            (AppendsFront (says_sub self.old (Some (payload.Slc triples.now))) out.old.items out.new.items) }
         ensures grows { OnErr result (triples.now ≢ []) }
     {
         let mut table = self.table;

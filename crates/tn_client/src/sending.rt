@@ -3,7 +3,7 @@
 ghost use Rattle.std.specs.Prelude.{◌≡◌, ◌≢◌, ◌<◌, ◌≤◌, ◌++◌, [], Some, length, flat_map, OnOk, OnErr};
 ghost use Rattle.tn_nvt.specs.Spelling.{spells, spelling};
 ghost use Rattle.tn_nvt.specs.declared.items.Item.TheVariants as item;
-ghost use Rattle.tn_client.specs.Replies.{spelled, func_of, command_for, command_of, commanded, sent_raw, sent_edited};
+ghost use Rattle.tn_client.specs.Replies.{byte_items, func_of, command_for, command_of, command_items, raw_key_items, edited_key_items};
 ghost use Rattle.tn_client.specs.Steps.{Begins};
 
 use std::alloc::AllocError;
@@ -52,9 +52,9 @@ fn command_for(func: Func) -> Option<Command>
 }
 
 fn put_command(role: Role, out: &mut Vec<u8>) -> Result<(), AllocError>
-    ensures ok { OnOk result (out.new.items ≡ out.old.items ++ spells (commanded (command_of role))) }
+    ensures ok { OnOk result (out.new.items ≡ out.old.items ++ spells (command_items (command_of role))) }
     ensures err { OnErr result (out.new.items ≡ out.old.items) }
-    ensures grows { OnErr result (commanded (command_of role) ≢ []) }
+    ensures grows { OnErr result (command_items (command_of role) ≢ []) }
 {
     match command_of(role) {
         Some(command) => put_cmd(command, out),
@@ -64,9 +64,9 @@ fn put_command(role: Role, out: &mut Vec<u8>) -> Result<(), AllocError>
 
 /// Appends a key that is sent at once.
 pub(crate) fn put_raw(role: Role, key: u8, out: &mut Vec<u8>) -> Result<(), AllocError>
-    ensures ok { OnOk result (out.new.items ≡ out.old.items ++ spells (sent_raw role key)) }
+    ensures ok { OnOk result (out.new.items ≡ out.old.items ++ spells (raw_key_items role key)) }
     ensures err { OnErr result (out.new.items ≡ out.old.items) }
-    ensures grows { OnErr result (sent_raw role key ≢ []) }
+    ensures grows { OnErr result (raw_key_items role key ≢ []) }
 {
     if matches!(role, Role::Signal(_)) {
         return put_command(role, out);
@@ -89,9 +89,9 @@ fn put_each(bytes: &[u8], out: &mut Vec<u8>) -> Result<(), AllocError>
 
 /// Appends bytes of data.
 pub(crate) fn put_bytes(bytes: &[u8], out: &mut Vec<u8>) -> Result<(), AllocError>
-    ensures ok { OnOk result (out.new.items ≡ out.old.items ++ spells (spelled bytes.now)) }
+    ensures ok { OnOk result (out.new.items ≡ out.old.items ++ spells (byte_items bytes.now)) }
     ensures err { OnErr result (out.new.items ≡ out.old.items) }
-    ensures grows { OnErr result (spelled bytes.now ≢ []) }
+    ensures grows { OnErr result (byte_items bytes.now ≢ []) }
 {
     let sent = out.len();
     match put_each(bytes, out) {
@@ -106,9 +106,9 @@ pub(crate) fn put_bytes(bytes: &[u8], out: &mut Vec<u8>) -> Result<(), AllocErro
 /// Appends what a key of this role sends of the line, before it changes the line. After a refusal the
 /// bytes begin as they did.
 pub(crate) fn put_edited(role: Role, line: &Line, out: &mut Vec<u8>) -> Result<(), AllocError>
-    ensures ok { OnOk result (out.new.items ≡ out.old.items ++ spells (sent_edited role line.now)) }
+    ensures ok { OnOk result (out.new.items ≡ out.old.items ++ spells (edited_key_items role line.now)) }
     ensures err { OnErr result (Begins out.old.items out.new.items) }
-    ensures grows { OnErr result (sent_edited role line.now ≢ []) }
+    ensures grows { OnErr result (edited_key_items role line.now ≢ []) }
 {
     match role {
         Role::Nl => {

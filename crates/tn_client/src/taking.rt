@@ -12,11 +12,11 @@ pub(crate) struct Lent<'a> {
 }
 
 impl<'a> Sink for Lent<'a> {
-    ghost use Rattle.tn_client.specs.Lending.{Takes, RefusesFirst};
+    ghost use Rattle.tn_client.specs.Lending.{TakesItems, RefusesItems};
 
-    ghost takes = { Takes };
+    ghost takes = { TakesItems };
 
-    ghost gives_up = { RefusesFirst };
+    ghost gives_up = { RefusesItems };
 
     // Plain bytes are shown as they are.
     fn run(&mut self, bytes: &[u8]) -> Result<(), Refused> {

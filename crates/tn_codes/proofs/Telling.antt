@@ -10,7 +10,7 @@ use Rattle.tn_codes.specs.declared.payloads.Payload.TheVariants.{Naws, Mode, For
 use Rattle.tn_codes.specs.declared.payloads.PayloadFault.{PayloadFault}
 use Rattle.tn_codes.specs.declared.payloads.PayloadFault.TheVariants.{UnknownOption, UnknownSub, BadLength, Memory}
 use Rattle.tn_codes.specs.declared.triples.Triple.{Triple}
-use Rattle.tn_codes.specs.Masks.{filled}
+use Rattle.tn_codes.specs.Masks.{filled_octets}
 use Rattle.tn_codes.specs.Payloads.{octets_of, Says, IsUnknownSub, HasBadLength, Tells}
 use Rattle.tn_codes.specs.PayloadOf.{size_of, mode_of, triples_of, alone, forward_of, forwardmask_of, linemode_of, payload_of}
 use Rattle.tn_codes.proofs.Grammar.{says_option, says_kind, says_length, unknown_length, option_length, option_kind}
@@ -98,10 +98,10 @@ no_says option octets payload is e =
     let back = alone_back ForwardNo payload octets e in
     subst (λ p. Says option (252 ∷ 2 ∷ octets) p) back.1 (is, ap (λ xs. 252 ∷ 2 ∷ xs) back.0)
 
-on_says : (option : ℕ) (octets : List ℕ) (payload : Payload) (fits : Bool) → option ≡ 34 → (fits ≡ true → length octets ≤ 32) → (if fits then Some (ForwardOn (record { 0 = filled octets })) else None) ≡ Some payload → Says option (253 ∷ 2 ∷ octets) payload
+on_says : (option : ℕ) (octets : List ℕ) (payload : Payload) (fits : Bool) → option ≡ 34 → (fits ≡ true → length octets ≤ 32) → (if fits then Some (ForwardOn (record { 0 = filled_octets octets })) else None) ≡ Some payload → Says option (253 ∷ 2 ∷ octets) payload
 on_says option octets payload false is h e = cc
 on_says option octets payload true is h e =
-    let same : ForwardOn (record { 0 = filled octets }) ≡ payload = cc in
+    let same : ForwardOn (record { 0 = filled_octets octets }) ≡ payload = cc in
     subst (λ p. Says option (253 ∷ 2 ∷ octets) p) same (is, (octets, refl, h refl, refl))
 
 at_most : (octets : List ℕ) → nat_le (length octets) 32 ≡ true → length octets ≤ 32

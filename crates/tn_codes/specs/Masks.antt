@@ -11,8 +11,8 @@ abbrev pub has_character : Mask → ℕ → Bool
 has_character mask c = not (bit_and (slice_index mask.0 (c / 8)) (2 ^ (7 - c % 8)) == 0)
 
 -- these octets with zeros after them, 32 in all
-abbrev pub filled : List ℕ → List ℕ
-filled octets = octets ++ replicate (32 - length octets) 0
+abbrev pub filled_octets : List ℕ → List ℕ
+filled_octets octets = octets ++ replicate (32 - length octets) 0
 
 -- an octet before others, but no zero before none
 abbrev pub before : ℕ → List ℕ → List ℕ
@@ -20,6 +20,6 @@ before b [] = if b == 0 then [] else (b ∷ [])
 before b (x ∷ xs) = b ∷ x ∷ xs
 
 -- octets without the zeros at their end
-unfoldable pub trimmed : List ℕ → List ℕ
-trimmed [] = []
-trimmed (b ∷ bs) = before b (trimmed bs)
+unfoldable pub trimmed_octets : List ℕ → List ℕ
+trimmed_octets [] = []
+trimmed_octets (b ∷ bs) = before b (trimmed_octets bs)

@@ -6,7 +6,7 @@ use Rattle.tn_codes.specs.declared.payloads.Payload.{Payload}
 use Rattle.tn_codes.specs.declared.payloads.Payload.TheVariants.{Naws, Mode, ForwardOn, ForwardOff, ForwardYes, ForwardNo, Slc}
 use Rattle.tn_codes.specs.declared.triples.Triple.{Triple}
 use Rattle.tn_codes.specs.Codes.{verb_code}
-use Rattle.tn_codes.specs.Masks.{filled}
+use Rattle.tn_codes.specs.Masks.{filled_octets}
 use Rattle.tn_codes.specs.Payloads.{naws, linemode, mode, forwardmask, slc}
 
 abbrev pub size_of : List ℕ → Option Payload
@@ -33,7 +33,7 @@ forward_of first octets =
     if first == verb_code Will then alone ForwardYes octets
     else (if first == verb_code Wont then alone ForwardNo octets
     else (if first == verb_code DoIt
-    then (if nat_le (length octets) 32 then Some (ForwardOn (record { 0 = filled octets })) else None)
+    then (if nat_le (length octets) 32 then Some (ForwardOn (record { 0 = filled_octets octets })) else None)
     else (if first == verb_code DontIt then alone ForwardOff octets else None)))
 
 abbrev pub forwardmask_of : ℕ → List ℕ → Option Payload

@@ -9,7 +9,7 @@ use Rattle.tn_codes.specs.declared.payloads.PayloadFault.{PayloadFault}
 use Rattle.tn_codes.specs.declared.payloads.PayloadFault.TheVariants as fault
 use Rattle.tn_codes.specs.declared.triples.Triple.{Triple}
 use Rattle.tn_codes.specs.Codes.{verb_code}
-use Rattle.tn_codes.specs.Masks.{filled, trimmed}
+use Rattle.tn_codes.specs.Masks.{filled_octets, trimmed_octets}
 
 -- the options
 abbrev pub naws : ℕ
@@ -41,7 +41,7 @@ Says option params (Mode mask) = (option ≡ linemode) × (params ≡ mode ∷ m
 Says option params (ForwardOn mask) =
     (option ≡ linemode)
     × ((octets : List ℕ) × (params ≡ verb_code DoIt ∷ forwardmask ∷ octets)
-    × (length octets ≤ 32) × (mask.0 ≡ filled octets))
+    × (length octets ≤ 32) × (mask.0 ≡ filled_octets octets))
 Says option params ForwardOff = (option ≡ linemode) × (params ≡ verb_code DontIt ∷ forwardmask ∷ [])
 Says option params ForwardYes = (option ≡ linemode) × (params ≡ verb_code Will ∷ forwardmask ∷ [])
 Says option params ForwardNo = (option ≡ linemode) × (params ≡ verb_code Wont ∷ forwardmask ∷ [])
@@ -94,14 +94,14 @@ option_of ForwardNo = linemode
 option_of (Slc triples) = linemode
 
 -- the parameters that are written; a mask goes without the zero octets at its end
-abbrev pub written : Payload → List ℕ
-written (Naws width height) = to_be_bytes w16 width ++ to_be_bytes w16 height
-written (Mode mask) = mode ∷ mask ∷ []
-written (ForwardOn mask) = verb_code DoIt ∷ forwardmask ∷ trimmed mask.0
-written ForwardOff = verb_code DontIt ∷ forwardmask ∷ []
-written ForwardYes = verb_code Will ∷ forwardmask ∷ []
-written ForwardNo = verb_code Wont ∷ forwardmask ∷ []
-written (Slc triples) = slc ∷ flat_map octets_of triples
+abbrev pub parameters_of : Payload → List ℕ
+parameters_of (Naws width height) = to_be_bytes w16 width ++ to_be_bytes w16 height
+parameters_of (Mode mask) = mode ∷ mask ∷ []
+parameters_of (ForwardOn mask) = verb_code DoIt ∷ forwardmask ∷ trimmed_octets mask.0
+parameters_of ForwardOff = verb_code DontIt ∷ forwardmask ∷ []
+parameters_of ForwardYes = verb_code Will ∷ forwardmask ∷ []
+parameters_of ForwardNo = verb_code Wont ∷ forwardmask ∷ []
+parameters_of (Slc triples) = slc ∷ flat_map octets_of triples
 
 -- what its type holds: sides of 16 bits, a mask of 32 octets
 abbrev pub Fits : Payload → Type 0

@@ -3,7 +3,7 @@
 ghost use Rattle.std.specs.Prelude.{◌≡◌, ◌↔◌, ℕ, List, Some};
 ghost use Rattle.tn_codes.specs.Codes.{verb_code, command_code, func_code, level_code};
 ghost use Rattle.tn_codes.specs.Payloads.{Says, IsUnknownOption, IsUnknownSub, HasBadLength};
-ghost use Rattle.tn_codes.specs.Payloads.{option_of, written, Fits};
+ghost use Rattle.tn_codes.specs.Payloads.{option_of, parameters_of, Fits};
 ghost use Rattle.tn_codes.specs.PayloadOf.{payload_of};
 ghost use Rattle.tn_codes.specs.declared.codes.Verb.{Verb};
 ghost use Rattle.tn_codes.specs.declared.codes.Verb.TheVariants as verb;
@@ -105,5 +105,5 @@ pub fn faults_are_apart()
 /// What is written says the payload that it was written for.
 pub fn written_is_said()
     ensures { (payload : Payload) → Fits payload →
-        Says (option_of payload) (written payload) payload }
+        Says (option_of payload) (parameters_of payload) payload }
 {}

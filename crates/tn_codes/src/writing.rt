@@ -5,7 +5,7 @@ ghost use Rattle.std.specs.Prelude.{vec_len, vec_capacity, OnOk, OnErr};
 ghost use Rattle.tn_codes.specs.declared.codes.Verb.TheVariants.{DoIt};
 ghost use Rattle.tn_codes.specs.Codes.{verb_code};
 ghost use Rattle.tn_codes.specs.Masks as mask;
-ghost use Rattle.tn_codes.specs.Payloads.{Says, option_of, written, IsShort};
+ghost use Rattle.tn_codes.specs.Payloads.{Says, option_of, parameters_of, IsShort};
 ghost use Rattle.tn_codes.specs.Payloads.{forwardmask, slc, octets_of};
 
 use crate::codes::Verb;
@@ -17,12 +17,12 @@ use std::alloc::AllocError;
 /// subnegotiation, and are read as that payload again (RFC 1073, RFC 1184).
 pub fn write_payload(payload: &Payload, out: &mut Vec<u8>) -> Result<(), AllocError>
     requires { IsShort payload.now }
-    ensures ok { OnOk result (out.new.items ≡ out.old.items ++ written payload.now) }
-    ensures said { OnOk result (Says (option_of payload.now) (written payload.now) payload.now) }
-    ensures short { OnOk result (length (written payload.now) ≤ 511) }
+    ensures ok { OnOk result (out.new.items ≡ out.old.items ++ parameters_of payload.now) }
+    ensures said { OnOk result (Says (option_of payload.now) (parameters_of payload.now) payload.now) }
+    ensures short { OnOk result (length (parameters_of payload.now) ≤ 511) }
     ensures err { OnErr result (out.new.items ≡ out.old.items) }
     ensures full { OnErr result
-        (vec_capacity out.old < vec_len out.old + length (written payload.now)) }
+        (vec_capacity out.old < vec_len out.old + length (parameters_of payload.now)) }
 {
     match payload {
         Payload::Naws { width, height } => {
@@ -41,8 +41,8 @@ pub fn write_payload(payload: &Payload, out: &mut Vec<u8>) -> Result<(), AllocEr
 
 // The octets without the zeros at their end.
 fn trimmed(octets: &[u8; 32]) -> &[u8]
-    ensures octets { result.now ≡ mask.trimmed octets.now }
-    ensures filled { octets.now ≡ mask.filled result.now }
+    ensures octets { result.now ≡ mask.trimmed_octets octets.now }
+    ensures filled { octets.now ≡ mask.filled_octets result.now }
     ensures len { length result.now ≤ 32 }
 {
     let mut len = 0;

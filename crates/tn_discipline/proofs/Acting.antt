@@ -7,12 +7,12 @@ use Rattle.tn_discipline.specs.declared.half_line.Effect.{Effect}
 use Rattle.tn_discipline.specs.declared.half_line.Effect.TheVariants as effect
 use Rattle.tn_discipline.specs.Entries.{line_of}
 use Rattle.tn_discipline.specs.Keys.{roles_from}
-use Rattle.tn_discipline.specs.HalfLine.{HalfLine, empty_line, effect_of, line_after, gained, GivesText}
-use Rattle.tn_discipline.specs.Leaves.{Advances, DropsExactly}
+use Rattle.tn_discipline.specs.HalfLine.{HalfLine, empty_line, effect_of, line_after, effect_entries, GivesText}
+use Rattle.tn_discipline.specs.Advancing.{Advances, DropsExactly}
 use Rattle.tn_discipline.proofs.lemmas.Lines.{advances, advances_erase, drops_exactly}
 
 -- the same of an effect and a line that are known to be those
-pub advances_to : (old new : HalfLine) (r : Role) (e : Effect) → e ≡ effect_of old r → new ≡ line_after old r → Advances old (roles_from r) (gained e) new
+pub advances_to : (old new : HalfLine) (r : Role) (e : Effect) → e ≡ effect_of old r → new ≡ line_after old r → Advances old (roles_from r) (effect_entries e) new
 advances_to old new r e is leaves = rw (is, leaves) (advances old r)
 
 pub erases_to : (old new : HalfLine) → new ≡ line_after old role.Erase → Advances old (role.Erase ∷ []) [] new
@@ -38,7 +38,7 @@ gives_eof old some =
     gives_text old role.Eof [] (ap (λ bytes. effect.Gives (line_of bytes)) (sym (append-nil old.held))) some
 
 -- the same of a call that may have been refused
-pub advances_or : {E : Type 0} (r : Result Effect E) (old new : HalfLine) (role : Role) → IfOk r (λ e. e ≡ effect_of old role) → OnOk r (new ≡ line_after old role) → IfOk r (λ e. Advances old (roles_from role) (gained e) new)
+pub advances_or : {E : Type 0} (r : Result Effect E) (old new : HalfLine) (role : Role) → IfOk r (λ e. e ≡ effect_of old role) → OnOk r (new ≡ line_after old role) → IfOk r (λ e. Advances old (roles_from role) (effect_entries e) new)
 advances_or (Ok e) old new role is leaves = advances_to old new role e is leaves
 advances_or (Err e) old new role is leaves = tt
 

@@ -11,30 +11,30 @@ is_dropped limit count (role.Ordinary byte) = count == most_counted limit
 is_dropped limit count _ = false
 
 -- the count after one more admitted key: KILL and the keys that close a line leave none
-abbrev pub counted : ℕ → Role → ℕ
-counted count (role.Ordinary byte) = count + 1
-counted count role.Erase = count - 1
-counted count (role.Signal sig) = count
-counted count role.Ignored = count
-counted count _ = 0
+abbrev pub next_count : ℕ → Role → ℕ
+next_count count (role.Ordinary byte) = count + 1
+next_count count role.Erase = count - 1
+next_count count (role.Signal sig) = count
+next_count count role.Ignored = count
+next_count count _ = 0
 
 -- the admitted keys, where the count before them is this
 abbrev pub admitted_after : ℕ → ℕ → List Role → List Role
 admitted_after limit count [] = []
 admitted_after limit count (r ∷ roles) =
     if is_dropped limit count r then admitted_after limit count roles
-    else r ∷ admitted_after limit (counted count r) roles
+    else r ∷ admitted_after limit (next_count count r) roles
 
 -- the count that these keys leave, where the count before them is this
 abbrev pub count_after : ℕ → ℕ → List Role → ℕ
 count_after limit count [] = count
 count_after limit count (r ∷ roles) =
     if is_dropped limit count r then count_after limit count roles
-    else count_after limit (counted count r) roles
+    else count_after limit (next_count count r) roles
 
 -- the keys without those that are dropped
-abbrev pub admitted : ℕ → List Role → List Role
-admitted limit roles = admitted_after limit 0 roles
+abbrev pub admitted_roles : ℕ → List Role → List Role
+admitted_roles limit roles = admitted_after limit 0 roles
 
 -- the count that these keys leave
 abbrev pub count_of : ℕ → List Role → ℕ

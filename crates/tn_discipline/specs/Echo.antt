@@ -9,12 +9,12 @@ use Rattle.tn_discipline.specs.declared.echo.Symbol.{Symbol}
 use Rattle.tn_discipline.specs.declared.echo.Symbol.TheVariants.{Byte, Newline}
 
 -- nothing is shown
-abbrev pub unshown : List (Option Symbol)
-unshown = None ∷ None ∷ None ∷ []
+abbrev pub no_echo : List (Option Symbol)
+no_echo = None ∷ None ∷ None ∷ []
 
 -- one symbol is shown, where the flags say so
 abbrev pub one_shown : Bool → Symbol → List (Option Symbol)
-one_shown shown symbol = if shown then Some symbol ∷ None ∷ None ∷ [] else unshown
+one_shown shown symbol = if shown then Some symbol ∷ None ∷ None ∷ [] else no_echo
 
 -- an ordinary byte is shown as it is, and one that was dropped as a bell
 abbrev pub ordinary_shown : ℕ → Effect → Symbol
@@ -28,8 +28,8 @@ is_erased effect.ErasedAhead = true
 is_erased _ = false
 
 -- a byte is wiped by a backspace, a space and a backspace
-abbrev pub wiped : List (Option Symbol)
-wiped = Some (Byte 8) ∷ Some (Byte 32) ∷ Some (Byte 8) ∷ []
+abbrev pub wiping_symbols : List (Option Symbol)
+wiping_symbols = Some (Byte 8) ∷ Some (Byte 32) ∷ Some (Byte 8) ∷ []
 
 -- what is shown of a key of this role that had this effect
 abbrev pub echo_at : Flags → Role → Effect → List (Option Symbol)
@@ -37,6 +37,6 @@ echo_at flags (role.Ordinary byte) e = one_shown flags.echo (ordinary_shown byte
 echo_at flags role.Nl e = one_shown (flags.echo || flags.echonl) Newline
 echo_at flags (role.Eol byte) e = one_shown flags.echo (Byte byte)
 echo_at flags (role.Eol2 byte) e = one_shown flags.echo (Byte byte)
-echo_at flags role.Erase e = if flags.echo && (flags.echoe && is_erased e) then wiped else unshown
+echo_at flags role.Erase e = if flags.echo && (flags.echoe && is_erased e) then wiping_symbols else no_echo
 echo_at flags role.Kill e = one_shown (flags.echo && flags.echok) Newline
-echo_at flags _ e = unshown
+echo_at flags _ e = no_echo

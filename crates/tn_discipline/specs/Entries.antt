@@ -1,9 +1,9 @@
 -- What reads of the terminal give (XBD 11.1.6), where a signal doesn't flush the line (NOFLSH, XBD 11.2.5).
 use Rattle.std.specs.Prelude.{ℕ, List, [], ◌∷◌, ◌++◌}
 use Rattle.std.specs.List.{flat_map}
-use Rattle.tn_discipline.specs.Admitted.{admitted}
-use Rattle.tn_discipline.specs.Pieces.{Piece, cut}
-use Rattle.tn_discipline.specs.Kept.{kept}
+use Rattle.tn_discipline.specs.Admitted.{admitted_roles}
+use Rattle.tn_discipline.specs.Pieces.{Piece, pieces_of}
+use Rattle.tn_discipline.specs.Kept.{kept_bytes}
 use Rattle.tn_discipline.specs.declared.reads.Entry.{Entry}
 use Rattle.tn_discipline.specs.declared.reads.Entry.TheVariants as entry
 use Rattle.tn_discipline.specs.declared.keys.Role.{Role}
@@ -22,13 +22,13 @@ line_of (byte ∷ bytes) = entry.Text (byte ∷ bytes)
 
 -- a closed piece gives its signals, and then what is kept of it with its closing byte
 abbrev pub piece_entries : Piece → List Entry
-piece_entries piece = signals piece.keys ++ line_of (kept piece.keys ++ piece.closing) ∷ []
+piece_entries piece = signals piece.keys ++ line_of (kept_bytes piece.keys ++ piece.closing) ∷ []
 
 -- what these keys give, where a line has at most so many bytes with its closing byte
 abbrev pub entries_of : ℕ → List Role → List Entry
 entries_of limit roles =
-    let pieces = cut (admitted limit roles) in flat_map piece_entries pieces.closed ++ signals pieces.last
+    let pieces = pieces_of (admitted_roles limit roles) in flat_map piece_entries pieces.closed ++ signals pieces.last
 
 -- the half line that these keys leave
 abbrev pub half_of : ℕ → List Role → List ℕ
-half_of limit roles = kept (cut (admitted limit roles)).last
+half_of limit roles = kept_bytes (pieces_of (admitted_roles limit roles)).last

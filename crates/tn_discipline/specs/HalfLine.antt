@@ -65,9 +65,9 @@ line_after line (role.Signal sig) = line
 line_after line _ = empty_line line.limit
 
 -- the entries that an effect gives
-abbrev pub gained : Effect → List Entry
-gained (effect.Gives e) = e ∷ []
-gained _ = []
+abbrev pub effect_entries : Effect → List Entry
+effect_entries (effect.Gives e) = e ∷ []
+effect_entries _ = []
 
 -- a key of this role gives a text
 abbrev pub GivesText : HalfLine → Role → Type 0

@@ -13,5 +13,5 @@ kept_backwards (suc erasures) (role.Ordinary byte ∷ before) = kept_backwards e
 kept_backwards erasures (_ ∷ before) = kept_backwards erasures before
 
 -- what is kept of a piece, which has no closing key
-abbrev pub kept : List Role → List ℕ
-kept piece = kept_backwards 0 (reverse piece)
+abbrev pub kept_bytes : List Role → List ℕ
+kept_bytes piece = kept_backwards 0 (reverse piece)

@@ -7,6 +7,6 @@ pub mod Kept
 pub mod Entries
 pub mod Steps
 pub mod HalfLine
-pub mod Leaves
+pub mod Advancing
 pub mod Canon
 pub mod Echo

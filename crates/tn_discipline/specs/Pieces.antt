@@ -35,6 +35,6 @@ cut_before (Some bytes) r pieces =
     record { closed = record { keys = []; closing = bytes } ∷ pieces.closed; last = pieces.last }
 
 -- the keys, cut after each closing key
-abbrev pub cut : List Role → Pieces
-cut [] = record { closed = []; last = [] }
-cut (r ∷ roles) = cut_before (closing_bytes r) r (cut roles)
+abbrev pub pieces_of : List Role → Pieces
+pieces_of [] = record { closed = []; last = [] }
+pieces_of (r ∷ roles) = cut_before (closing_bytes r) r (pieces_of roles)

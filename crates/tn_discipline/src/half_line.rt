@@ -1,8 +1,8 @@
 ghost use Rattle.std.specs.Prelude.{◌≡◌, ◌==◌, ◌<◌, ◌+◌, ◌-◌, [], ◌∷◌, ◌++◌, length, IfOk, OnOk, OnErr};
 ghost use Rattle.tn_discipline.specs.Keys.{roles_of, role_of_key, literal_role};
 ghost use Rattle.tn_discipline.specs.Entries.{line_of};
-ghost use Rattle.tn_discipline.specs.HalfLine.{empty_line, line_length, effect_of, line_after, line_kept, line_erased, gained, GivesText};
-ghost use Rattle.tn_discipline.specs.Leaves.{Advances, DropsExactly};
+ghost use Rattle.tn_discipline.specs.HalfLine.{empty_line, line_length, effect_of, line_after, line_kept, line_erased, effect_entries, GivesText};
+ghost use Rattle.tn_discipline.specs.Advancing.{Advances, DropsExactly};
 ghost use Rattle.tn_discipline.specs.declared.half_line.Effect.TheVariants as effect;
 ghost use Rattle.tn_discipline.specs.declared.keys.Role.TheVariants as role;
 
@@ -86,7 +86,7 @@ impl Line {
         // Whatever keys led to this half line, with this key they give what the effect gives, and
         // leave the half line that is there now.
         ensures advances { let roles = roles_of settings.now (key ∷ []) in
-            IfOk result (λ effect. Advances self.old roles (gained effect) self.new) }
+            IfOk result (λ effect. Advances self.old roles (effect_entries effect) self.new) }
         ensures dropped { IfOk result (DropsExactly self.old (roles_of settings.now (key ∷ []))) }
 
         ensures effect { IfOk result (λ effect. effect ≡ effect_of self.old (role_of_key settings.now key)) }
@@ -103,7 +103,7 @@ impl Line {
     /// wanted for a text alone, and after a refusal the line is as it was.
     pub fn literal(&mut self, settings: &Settings, byte: u8) -> Result<Effect, AllocError>
         ensures advances { let roles = literal_role settings.now.chars byte ∷ [] in
-            IfOk result (λ effect. Advances self.old roles (gained effect) self.new) }
+            IfOk result (λ effect. Advances self.old roles (effect_entries effect) self.new) }
         ensures dropped { IfOk result (DropsExactly self.old (literal_role settings.now.chars byte ∷ [])) }
 
         ensures effect { let role = literal_role settings.now.chars byte in
@@ -144,7 +144,7 @@ impl Line {
     /// line is as it was.
     pub fn end_of_file(&mut self) -> Result<Effect, AllocError>
         ensures advances { IfOk result
-            (λ effect. Advances self.old (role.Eof ∷ []) (gained effect) self.new) }
+            (λ effect. Advances self.old (role.Eof ∷ []) (effect_entries effect) self.new) }
         ensures effect { IfOk result (λ effect. effect ≡ effect_of self.old role.Eof) }
         ensures line { OnOk result (self.new ≡ line_after self.old role.Eof) }
 

@@ -8,8 +8,8 @@ ghost use Rattle.tn_discipline.specs.Admitted.{count_of};
 ghost use Rattle.tn_discipline.specs.Limits.{most_counted};
 ghost use Rattle.tn_discipline.specs.Entries.{half_of, entries_of};
 ghost use Rattle.tn_discipline.specs.Steps.{half_next, gain_next, half_all, gain_all};
-ghost use Rattle.tn_discipline.specs.HalfLine.{HalfLine, line_length, effect_of, line_after, gained};
-ghost use Rattle.tn_discipline.specs.Leaves.{Leaves, Advances, DropsExactly, Moves};
+ghost use Rattle.tn_discipline.specs.HalfLine.{HalfLine, line_length, effect_of, line_after, effect_entries};
+ghost use Rattle.tn_discipline.specs.Advancing.{LeadsTo, Advances, DropsExactly, AdvancesFromLine};
 ghost use Rattle.tn_discipline.specs.declared.keys.Role.{Role};
 ghost use Rattle.tn_discipline.specs.declared.reads.Entry.{Entry};
 ghost use Rattle.tn_discipline.specs.declared.termios.Settings.{Settings};
@@ -62,20 +62,20 @@ pub fn more_roles()
 /// something.
 pub fn every_line_is_left()
     ensures { (line : HalfLine) → line_length line < line.limit →
-        (history : List Role) × Leaves history line }
+        (history : List Role) × LeadsTo history line }
 {}
 
 /// What a key of each role does to a line is what the whole list of keys says of it.
 pub fn each_role_advances()
     ensures advances { (line : HalfLine) (r : Role) →
-        Advances line (roles_from r) (gained (effect_of line r)) (line_after line r) }
+        Advances line (roles_from r) (effect_entries (effect_of line r)) (line_after line r) }
     ensures dropped { (line : HalfLine) (r : Role) → DropsExactly line (roles_from r) (effect_of line r) }
 {}
 
 /// What is said of all keys that left a line is said by the line alone, and the other way round.
 pub fn moves_are_advances()
     ensures moves { (old new : HalfLine) (roles : List Role) (gain : List Entry) →
-        line_length old < old.limit → Advances old roles gain new → Moves old roles gain new }
+        line_length old < old.limit → Advances old roles gain new → AdvancesFromLine old roles gain new }
     ensures advances { (old new : HalfLine) (roles : List Role) (gain : List Entry) →
-        Moves old roles gain new → Advances old roles gain new }
+        AdvancesFromLine old roles gain new → Advances old roles gain new }
 {}

@@ -6,7 +6,7 @@ use Rattle.std.proofs.lemmas.Bool.{eq-eqb, ne_eqb}
 use Rattle.std.proofs.lemmas.Bool.Decides.{eqb_tells}
 use Rattle.std.proofs.lemmas.List.Sums.{length-filter}
 use Rattle.std.proofs.lemmas.List.Folds.{list_any_at}
-use Rattle.tn_jobs.specs.Jobs.{Jobs, state_at, with_state, held, is_foreground, has_foreground, foreground_after, is_number, NamesForeground, IsSound, HasNoGap, add_fault}
+use Rattle.tn_jobs.specs.Jobs.{Jobs, state_at, with_state, held_count, is_foreground, has_foreground, foreground_after, is_number, NamesForeground, IsTable, HasNoGap, add_fault}
 use Rattle.tn_jobs.specs.declared.held_jobs.JobFault.TheVariants.{Full}
 use Rattle.tn_jobs.specs.declared.verdicts.JobState.{JobState}
 use Rattle.tn_jobs.specs.declared.verdicts.JobState.TheVariants.{Foreground, Background, Stopped, Ended}
@@ -32,23 +32,23 @@ is_some-foreground jobs (Some id) names = let there = has_foreground_at jobs id 
 is_some-foreground jobs None names =
     let none = has_no_foreground jobs (λ id there. let named = (names id).1 there in cc) in cc
 
-held_more : (state : JobState) (jobs : Jobs) → held (Some state ∷ jobs) ≡ suc (held jobs)
+held_more : (state : JobState) (jobs : Jobs) → held_count (Some state ∷ jobs) ≡ suc (held_count jobs)
 held_more state jobs = sym (length-filter is_some (Some state ∷ jobs)) ∙ ap suc (length-filter is_some jobs)
 
-held_at_most : (jobs : Jobs) → held jobs ≤ length jobs
+held_at_most : (jobs : Jobs) → held_count jobs ≤ length jobs
 held_at_most [] = omega arith
 held_at_most (None ∷ jobs) = let again = held_at_most jobs in omega arith
 held_at_most (Some state ∷ jobs) = omega (arith, held_more state jobs, held_at_most jobs)
 
 -- fewer are held than there are numbers, where one is free
-pub held_below : (jobs : Jobs) (id : ℕ) → id < length jobs → state_at jobs id ≡ None → held jobs < length jobs
+pub held_below : (jobs : Jobs) (id : ℕ) → id < length jobs → state_at jobs id ≡ None → held_count jobs < length jobs
 held_below [] id low free = absurd (omega arith)
 held_below (None ∷ jobs) id low free = let most = held_at_most jobs in omega arith
 held_below (Some state ∷ jobs) zero low free = cc
 held_below (Some state ∷ jobs) (suc id) low free = omega (arith, held_more state jobs, held_below jobs id (omega arith) free)
 
 -- and as many, where none is
-pub held_all : (jobs : Jobs) → HasNoGap jobs → held jobs ≡ length jobs
+pub held_all : (jobs : Jobs) → HasNoGap jobs → held_count jobs ≡ length jobs
 held_all [] all = refl
 held_all (None ∷ jobs) all = let there = all 0 (omega arith) in cc
 held_all (Some state ∷ jobs) all = omega (arith, held_more state jobs, held_all jobs (λ id low. all (suc id) (omega arith)))
@@ -67,7 +67,7 @@ more_keeps (job ∷ jobs) zero state e = e
 more_keeps (job ∷ jobs) (suc id) state e = more_keeps jobs id state e
 
 -- a job at a new number, in the background
-pub sound_more : (jobs : Jobs) → IsSound jobs → length jobs < 16 → IsSound (jobs ++ Some Background ∷ [])
+pub sound_more : (jobs : Jobs) → IsTable jobs → length jobs < 16 → IsTable (jobs ++ Some Background ∷ [])
 sound_more jobs sound room = record {
   one_foreground = λ a b e f. sound.one_foreground a b (more_at jobs a Foreground (λ same. cc) e) (more_at jobs b Foreground (λ same. cc) f);
   at_most_sixteen = grind (arith, common_steps);
@@ -83,10 +83,10 @@ names_more jobs foreground names = λ id. (
 -- A JOB ELSEWHERE
 
 within : (jobs : Jobs) (id : ℕ) → IsSome (state_at jobs id) → id < length jobs
-within jobs id held = grind (arith, get_or_past)
+within jobs id held_count = grind (arith, get_or_past)
 
 at_set : (jobs : Jobs) (id : ℕ) (state : Option JobState) → IsSome (state_at jobs id) → state_at (with_state jobs id state) id ≡ state
-at_set jobs id state held = let low = within jobs id held in grind (arith, common_steps)
+at_set jobs id state held_count = let low = within jobs id held_count in grind (arith, common_steps)
 
 at_other : (jobs : Jobs) (id other : ℕ) (state : Option JobState) → other ≢ id → state_at (with_state jobs id state) other ≡ state_at jobs other
 at_other jobs id other state differs = grind (arith, common_steps)
@@ -94,41 +94,41 @@ at_other jobs id other state differs = grind (arith, common_steps)
 -- one state of another number, or of this one
 set_at_state : (jobs : Jobs) (id other : ℕ) (state found : JobState) → IsSome (state_at jobs id) → state_at (with_state jobs id (Some state)) other ≡ Some found
     → ((other ≡ id) × (state ≡ found)) ⊎ ((other ≢ id) × (state_at jobs other ≡ Some found))
-set_at_state jobs id other state found held e =
+set_at_state jobs id other state found held_count e =
     elim (eqb_tells other id) [
-      | inl is ↦ let same : other ≡ id = is.1 in let here = at_set jobs id (Some state) held in let there = rw same at e in inl (same, cc)
+      | inl is ↦ let same : other ≡ id = is.1 in let here = at_set jobs id (Some state) held_count in let there = rw same at e in inl (same, cc)
       | inr other_is ↦ let differs : other ≢ id = other_is.1 in inr (differs, sym (at_other jobs id other (Some state) differs) ∙ e)
     ]
 
 pub sound_set : (jobs : Jobs) (id : ℕ) (state : JobState) → IsSome (state_at jobs id) → (is_foreground (Some state) ≡ true → has_foreground jobs ≡ false) → state ≢ Ended
-    → IsSound jobs → IsSound (with_state jobs id (Some state))
-sound_set jobs id state held alone differs sound = record {
+    → IsTable jobs → IsTable (with_state jobs id (Some state))
+sound_set jobs id state held_count alone differs sound = record {
   one_foreground = λ a b e f.
-      elim (set_at_state jobs id a state Foreground held e) [
-        | inl x ↦ elim (set_at_state jobs id b state Foreground held f) [
+      elim (set_at_state jobs id a state Foreground held_count e) [
+        | inl x ↦ elim (set_at_state jobs id b state Foreground held_count f) [
           | inl y ↦ x.0 ∙ sym y.0
           | inr y ↦ let none = alone (ap (λ s. is_foreground (Some s)) x.1) in let some = has_foreground_at jobs b y.1 in cc
         ]
-        | inr x ↦ elim (set_at_state jobs id b state Foreground held f) [
+        | inr x ↦ elim (set_at_state jobs id b state Foreground held_count f) [
           | inl y ↦ let none = alone (ap (λ s. is_foreground (Some s)) y.1) in let some = has_foreground_at jobs a x.1 in cc
           | inr y ↦ sound.one_foreground a b x.1 y.1
         ]
       ];
   at_most_sixteen = grind (arith, common_steps);
-  none_ended = λ other e. elim (set_at_state jobs id other state Ended held e) [ inl x ↦ differs x.1 | inr y ↦ sound.none_ended other y.1 ];
+  none_ended = λ other e. elim (set_at_state jobs id other state Ended held_count e) [ inl x ↦ differs x.1 | inr y ↦ sound.none_ended other y.1 ];
 }
 
-pub full_is : (jobs : Jobs) → held jobs ≡ 16 → Full ≡ add_fault jobs
+pub full_is : (jobs : Jobs) → held_count jobs ≡ 16 → Full ≡ add_fault jobs
 full_is jobs full = rw full refl
 
 some_is : (a b : ℕ) → Some a ≡ Some b → b ≡ a
 some_is a b e = cc
 
 names_brought : (jobs : Jobs) (id : ℕ) → IsSome (state_at jobs id) → has_foreground jobs ≡ false → NamesForeground (with_state jobs id (Some Foreground)) (Some id)
-names_brought jobs id held alone = λ other. (
-  λ e. ap (state_at (with_state jobs id (Some Foreground))) (some_is id other e) ∙ at_set jobs id (Some Foreground) held,
+names_brought jobs id held_count alone = λ other. (
+  λ e. ap (state_at (with_state jobs id (Some Foreground))) (some_is id other e) ∙ at_set jobs id (Some Foreground) held_count,
   λ e.
-      elim (set_at_state jobs id other Foreground Foreground held e) [
+      elim (set_at_state jobs id other Foreground Foreground held_count e) [
         | inl x ↦ ap (λ (n : ℕ). Some n) (sym x.0)
         | inr x ↦ let some = has_foreground_at jobs other x.1 in cc
       ],
@@ -136,30 +136,30 @@ names_brought jobs id held alone = λ other. (
 
 names_left : (jobs : Jobs) (foreground : Option ℕ) (id : ℕ) (state : JobState) → IsSome (state_at jobs id) → state ≢ Foreground → NamesForeground jobs foreground
     → NamesForeground (with_state jobs id (Some state)) (if is_number foreground id then None else foreground)
-names_left jobs None id state held differs names = λ other. (
+names_left jobs None id state held_count differs names = λ other. (
   λ e. cc,
-  λ e. elim (set_at_state jobs id other state Foreground held e) [ inl x ↦ absurd (differs x.1) | inr x ↦ (names other).1 x.1 ],
+  λ e. elim (set_at_state jobs id other state Foreground held_count e) [ inl x ↦ absurd (differs x.1) | inr x ↦ (names other).1 x.1 ],
 )
-names_left jobs (Some n) id state held differs names =
+names_left jobs (Some n) id state held_count differs names =
     elim (eqb_tells n id) [
       | inl is ↦ let same : n ≡ id = is.1 in rw (eq-eqb n id same) (λ other. (
         λ e. cc,
         λ e.
-            elim (set_at_state jobs id other state Foreground held e) [
+            elim (set_at_state jobs id other state Foreground held_count e) [
               | inl x ↦ absurd (differs x.1)
               | inr x ↦ absurd (x.0 (some_is n other ((names other).1 x.1) ∙ same))
             ],
       ))
       | inr other_is ↦ let apart : n ≢ id = other_is.1 in rw (ne_eqb n id apart) (λ other. (
         λ e. at_other jobs id other (Some state) (λ f. apart (sym (some_is n other e) ∙ f)) ∙ (names other).0 e,
-        λ e. elim (set_at_state jobs id other state Foreground held e) [ inl x ↦ absurd (differs x.1) | inr x ↦ (names other).1 x.1 ],
+        λ e. elim (set_at_state jobs id other state Foreground held_count e) [ inl x ↦ absurd (differs x.1) | inr x ↦ (names other).1 x.1 ],
       ))
     ]
 
 -- the number that is kept, after it
 pub names_set : (jobs : Jobs) (foreground : Option ℕ) (id : ℕ) (state : JobState) {after : Option ℕ} → IsSome (state_at jobs id) → (is_foreground (Some state) ≡ true → has_foreground jobs ≡ false)
     → NamesForeground jobs foreground → after ≡ foreground_after foreground id (Some state) → NamesForeground (with_state jobs id (Some state)) after
-names_set jobs foreground id Foreground held alone names is = subst (NamesForeground (with_state jobs id (Some Foreground))) (sym is) (names_brought jobs id held (alone refl))
-names_set jobs foreground id Background held alone names is = subst (NamesForeground (with_state jobs id (Some Background))) (sym is) (names_left jobs foreground id Background held (λ e. cc) names)
-names_set jobs foreground id (Stopped why) held alone names is = subst (NamesForeground (with_state jobs id (Some (Stopped why)))) (sym is) (names_left jobs foreground id (Stopped why) held (λ e. cc) names)
-names_set jobs foreground id Ended held alone names is = subst (NamesForeground (with_state jobs id (Some Ended))) (sym is) (names_left jobs foreground id Ended held (λ e. cc) names)
+names_set jobs foreground id Foreground held_count alone names is = subst (NamesForeground (with_state jobs id (Some Foreground))) (sym is) (names_brought jobs id held_count (alone refl))
+names_set jobs foreground id Background held_count alone names is = subst (NamesForeground (with_state jobs id (Some Background))) (sym is) (names_left jobs foreground id Background held_count (λ e. cc) names)
+names_set jobs foreground id (Stopped why) held_count alone names is = subst (NamesForeground (with_state jobs id (Some (Stopped why)))) (sym is) (names_left jobs foreground id (Stopped why) held_count (λ e. cc) names)
+names_set jobs foreground id Ended held_count alone names is = subst (NamesForeground (with_state jobs id (Some Ended))) (sym is) (names_left jobs foreground id Ended held_count (λ e. cc) names)

@@ -14,8 +14,8 @@ abbrev pub state_at : Jobs → ℕ → Option JobState
 state_at jobs id = slice_index_or jobs id None
 
 -- how many numbers are held
-abbrev pub held : Jobs → ℕ
-held jobs = count_by is_some jobs
+abbrev pub held_count : Jobs → ℕ
+held_count jobs = count_by is_some jobs
 
 -- the jobs with one number changed
 abbrev pub with_state : Jobs → ℕ → Option JobState → Jobs
@@ -32,7 +32,7 @@ abbrev pub has_foreground : Jobs → Bool
 has_foreground jobs = list_any is_foreground jobs
 
 -- at most one job is in the foreground, sixteen at most are held, under numbers below sixteen, and none is Ended
-pub record IsSound (jobs : Jobs) : Type 0 where
+pub record IsTable (jobs : Jobs) : Type 0 where
   pub one_foreground : (a b : ℕ) → state_at jobs a ≡ Some Foreground → state_at jobs b ≡ Some Foreground
       → a ≡ b
   pub at_most_sixteen : length jobs ≤ 16
@@ -65,11 +65,11 @@ pub record Adds (old new : Jobs) (id : ℕ) : Type 0 where
   pub was_free : state_at old id ≡ None
   pub added : state_at new id ≡ Some Background
   pub others : (other : ℕ) → other ≢ id → state_at new other ≡ state_at old other
-  pub held_more : held new ≡ held old + 1
+  pub held_more : held_count new ≡ held_count old + 1
 
 -- why no job can be added, where none can
 abbrev pub add_fault : Jobs → JobFault
-add_fault jobs = if held jobs == 16 then Full else Memory
+add_fault jobs = if held_count jobs == 16 then Full else Memory
 
 abbrev pub wrong_if : Bool → Option JobFault
 wrong_if true = Some WrongState

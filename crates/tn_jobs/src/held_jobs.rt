@@ -3,7 +3,7 @@
 ghost use Rattle.std.specs.Prelude.{◌≡◌, ◌≢◌, ◌+◌, ◌<◌, [], Some, None, true, false, IsSome};
 ghost use Rattle.std.specs.Prelude.{IfOk, OnOk, IfErr, OnErr, IsErrOf, MatchOption};
 ghost use Rattle.std.specs.Result.{result_err};
-ghost use Rattle.tn_jobs.specs.Jobs.{state_at, with_state, held, IsSound, HasNoGap, IsFreeBelow, Adds};
+ghost use Rattle.tn_jobs.specs.Jobs.{state_at, with_state, held_count, IsTable, HasNoGap, IsFreeBelow, Adds};
 ghost use Rattle.tn_jobs.specs.Jobs.{is_foreground, has_foreground, foreground_after, add_fault};
 ghost use Rattle.tn_jobs.specs.Jobs.{foreground_fault, background_fault, stopped_fault, done_fault};
 
@@ -42,13 +42,13 @@ pub struct Table {
 impl Model for Table {
     ghost use Rattle.std.specs.Prelude.{List, Option};
     ghost use Rattle.tn_jobs.specs.declared.verdicts.JobState.{JobState};
-    ghost use Rattle.tn_jobs.specs.Jobs.{IsSound, NamesForeground};
+    ghost use Rattle.tn_jobs.specs.Jobs.{IsTable, NamesForeground};
 
     ghost Value = { List (Option JobState) };
 
     ghost view = { λ table. table.jobs.items };
 
-    ghost invariant = { λ table. IsSound table.jobs.items
+    ghost invariant = { λ table. IsTable table.jobs.items
         × NamesForeground table.jobs.items table.foreground };
 }
 
@@ -68,7 +68,7 @@ impl Table {
     pub fn add(&mut self) -> Result<JobId, JobFault>
         ensures adds { IfOk result (λ id. Adds self.old self.new id.0) }
         ensures number { IfOk result (λ id. id.0 < 16) }
-        ensures room { OnOk result (held self.old < 16) }
+        ensures room { OnOk result (held_count self.old < 16) }
         ensures fault { IfErr result (λ fault. fault ≡ add_fault self.old) }
         ensures memory { IsErrOf result JobFault.Memory → HasNoGap self.old }
         ensures err { OnErr result (self.new ≡ self.old) }
@@ -142,7 +142,7 @@ impl Table {
     pub fn done(&mut self, id: JobId) -> Result<(), JobFault>
         ensures fault { result_err result ≡ done_fault self.old id.0 }
         ensures ok { OnOk result (self.new ≡ with_state self.old id.0 None) }
-        ensures fewer { OnOk result (held self.new + 1 ≡ held self.old) }
+        ensures fewer { OnOk result (held_count self.new + 1 ≡ held_count self.old) }
         ensures err { OnErr result (self.new ≡ self.old) }
     {
         match self.state(id) {
@@ -158,7 +158,7 @@ impl Table {
     /// The state of a job, which is never `Ended`; `None` where no job has the number.
     pub fn state(&self, id: JobId) -> Option<JobState>
         ensures state { result ≡ state_at self.now id.0 }
-        ensures sound { IsSound self.now }
+        ensures sound { IsTable self.now }
     {
         self.jobs.get(id.0).copied().flatten()
     }

@@ -9,8 +9,8 @@ use Rattle.tn_codes.specs.declared.triples.Triple.{Triple}
 use Rattle.tn_discipline.specs.Characters.{Characters, AreAllowed, slot, with_slot, special_functions, is_same, is_settable, is_reserved, is_set_to}
 use Rattle.tn_discipline.proofs.lemmas.Functions.{same_function, apart, is_same-refl, is_among, among_more, finds, slot-with_slot, slot-with_slot-other, same_slots}
 use Rattle.tn_linemode.specs.declared.triples.Saying.TheVariants as saying
-use Rattle.tn_linemode.specs.Triples.{has_ack, special_at, says_of_all, says_of, says, triple_of, acknowledging}
-use Rattle.tn_linemode.specs.Exchange.{without, is_line_end, is_same_value, announcement, answers_along, server_next, server_answer, server_after, server_answers, client_next, client_answer, client_takes, client_after, client_answers}
+use Rattle.tn_linemode.specs.Triples.{has_ack, special_at, saying_of_all, saying_of_function, saying_of, triple_of, acknowledged_triple}
+use Rattle.tn_linemode.specs.Exchange.{without_character, is_line_end, is_same_value, announcement, answers_along, server_next, server_answer, server_after, server_answers, client_next, client_answer, client_takes, client_after, client_answers}
 use Rattle.tn_linemode.proofs.Taking.{slot-without, stays}
 
 and_true : (a b : Bool) → (a && b) ≡ true → (a ≡ true) × (b ≡ true)
@@ -39,16 +39,16 @@ acknowledged_answers c (t ∷ ts) acks =
     ap (λ o. option_to_list o ++ server_answers (server_next c t) ts) silent ∙ ap (λ d. server_answers d ts) same ∙ acknowledged_answers c ts both.1
 
 -- a function that has another character than the one that is taken away keeps it
-slot-without-other : (c : Characters) (v : Option ℕ) (f : Func) → ((byte : ℕ) → v ≡ Some byte → slot c f ≢ Some byte) → slot (without c v) f ≡ slot c f
+slot-without-other : (c : Characters) (v : Option ℕ) (f : Func) → ((byte : ℕ) → v ≡ Some byte → slot c f ≢ Some byte) → slot (without_character c v) f ≡ slot c f
 slot-without-other c None f other = refl
 slot-without-other c (Some byte) f other = slot-without c byte f ∙ stays (slot c f) byte (other byte refl)
 
 -- a client's table that took the character of one function of an allowed table
 abbrev took : Characters → Characters → Func → Characters
-took s c k = with_slot (without c (slot s k)) k (slot s k)
+took s c k = with_slot (without_character c (slot s k)) k (slot s k)
 
 took_at : (s c : Characters) (k : Func) → is_settable k ≡ true → slot (took s c k) k ≡ slot s k
-took_at s c k settable = slot-with_slot (without c (slot s k)) k (slot s k) settable
+took_at s c k settable = slot-with_slot (without_character c (slot s k)) k (slot s k) settable
 
 took_keeps : (s c : Characters) (k f : Func) → AreAllowed s → is_settable k ≡ true → slot c f ≡ slot s f → slot (took s c k) f ≡ slot s f
 took_keeps s c k f allowed settable same = by_test (is_same f k) refl
@@ -57,7 +57,7 @@ took_keeps s c k f allowed settable same = by_test (is_same f k) refl
     by_test true e =
         let one : f ≡ k = same_function f k e in ap (slot (took s c k)) one ∙ took_at s c k settable ∙ ap (slot s) (sym one)
     by_test false e =
-        slot-with_slot-other (without c (slot s k)) k f (slot s k) e
+        slot-with_slot-other (without_character c (slot s k)) k f (slot s k) e
         ∙ slot-without-other c (slot s k) f (λ byte held there. let one : f ≡ k = allowed.distinct f k byte (sym same ∙ there) held in absurd (apart f k e one))
         ∙ same
 
@@ -75,13 +75,13 @@ special_at-code : (k : Func) → is_settable k ≡ true → special_at (func_cod
 special_at-code k settable = finds (λ f. func_code f == func_code k) k special_functions settable (is_same-refl k) (λ f e. same_function f k e)
 
 -- a triple says what it is made of
-pub says-triple_of : (k : Func) (v : Option ℕ) → is_settable k ≡ true → is_set_to v 255 ≡ false → says (triple_of k v) ≡ saying.Character k v
+pub says-triple_of : (k : Func) (v : Option ℕ) → is_settable k ≡ true → is_set_to v 255 ≡ false → saying_of (triple_of k v) ≡ saying.Character k v
 says-triple_of k None settable other =
-    ap (λ (zero : Bool). if zero then saying.Nothing else says_of (special_at (func_code k)) level.NoSupport (func_code k) 0) (above_zero k)
-    ∙ ap (λ o. says_of o level.NoSupport (func_code k) 0) (special_at-code k settable)
+    ap (λ (zero : Bool). if zero then saying.Nothing else saying_of_function (special_at (func_code k)) level.NoSupport (func_code k) 0) (above_zero k)
+    ∙ ap (λ o. saying_of_function o level.NoSupport (func_code k) 0) (special_at-code k settable)
 says-triple_of k (Some byte) settable other =
-    ap (λ (zero : Bool). if zero then says_of_all level.Value (byte == 0) else says_of (special_at (func_code k)) level.Value (func_code k) byte) (above_zero k)
-    ∙ ap (λ o. says_of o level.Value (func_code k) byte) (special_at-code k settable)
+    ap (λ (zero : Bool). if zero then saying_of_all level.Value (byte == 0) else saying_of_function (special_at (func_code k)) level.Value (func_code k) byte) (above_zero k)
+    ∙ ap (λ o. saying_of_function o level.Value (func_code k) byte) (special_at-code k settable)
     ∙ ap (λ (escape : Bool). saying.Character k (if escape then None else Some byte)) other
 
 client_next-own : (s c : Characters) (k : Func) → AreAllowed s → is_settable k ≡ true → client_next c (triple_of k (slot s k)) ≡ took s c k
@@ -121,7 +121,7 @@ pub announced : (c s : Characters) → AreAllowed s → client_after c (announce
 announced c s allowed = same_slots _ _ (announced_at s c allowed)
 
 -- a client's answers to a table are acknowledgements
-acknowledges : (k : Func) (v : Option ℕ) → has_ack (acknowledging (triple_of k v)) ≡ true
+acknowledges : (k : Func) (v : Option ℕ) → has_ack (acknowledged_triple (triple_of k v)) ≡ true
 acknowledges k None = refl
 acknowledges k (Some byte) = refl
 

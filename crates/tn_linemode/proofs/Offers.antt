@@ -9,8 +9,8 @@ use Rattle.tn_codes.specs.declared.triples.Triple.{Triple}
 use Rattle.tn_discipline.specs.Characters.{Characters, AreAllowed, slot, with_slot, special_functions, standard_characters, is_settable, is_reserved, is_set_to, char_fault}
 use Rattle.tn_linemode.specs.declared.triples.Saying.{Saying}
 use Rattle.tn_linemode.specs.declared.triples.Saying.TheVariants as saying
-use Rattle.tn_linemode.specs.Triples.{has_ack, special_at, level_of, wanted, says_of_all, says_of, says, triple_of, acknowledging, unsupported, IsOffer}
-use Rattle.tn_linemode.specs.Exchange.{cleared, without, is_line_end, is_same_value, server_takes, server_replies, server_next, server_answer, client_takes, client_replies, client_next, client_answer, Answers, table_after}
+use Rattle.tn_linemode.specs.Triples.{has_ack, special_at, level_of, wanted_character, saying_of_all, saying_of_function, saying_of, triple_of, acknowledged_triple, unsupported_triple, IsOffer}
+use Rattle.tn_linemode.specs.Exchange.{cleared_character, without_character, is_line_end, is_same_value, server_takes, server_replies, server_next, server_answer, client_takes, client_replies, client_next, client_answer, Answers, table_after}
 use Rattle.tn_discipline.proofs.lemmas.Functions.{found}
 use Rattle.tn_linemode.proofs.Taking.{slot-without, accepts_offer}
 
@@ -28,23 +28,23 @@ no_escape_standard : (f : Func) → is_set_to (slot standard_characters f) 255 �
 no_escape_standard func.Ip = refl
 no_escape_standard _ = refl
 
-no_escape_wanted : (f : Func) (l : Level) (value : ℕ) → is_set_to (wanted f l value) 255 ≡ false
+no_escape_wanted : (f : Func) (l : Level) (value : ℕ) → is_set_to (wanted_character f l value) 255 ≡ false
 no_escape_wanted f level.NoSupport value = refl
 no_escape_wanted f level.CantChange value = no_escape_below value
 no_escape_wanted f level.Value value = no_escape_below value
 no_escape_wanted f level.ByDefault value = no_escape_standard f
 
-about_offer : (o : Option Func) (l : Level) (code value : ℕ) (f : Func) (character : Option ℕ) → Settable o → says_of o l code value ≡ saying.Character f character → IsOffer f character
+about_offer : (o : Option Func) (l : Level) (code value : ℕ) (f : Func) (character : Option ℕ) → Settable o → saying_of_function o l code value ≡ saying.Character f character → IsOffer f character
 about_offer (Some g) l code value f character settable e =
     let same_f : g ≡ f = cc in
-    let same_value : wanted g l value ≡ character = cc in
+    let same_value : wanted_character g l value ≡ character = cc in
     record { settable = ap is_settable (sym same_f) ∙ settable g refl; no_escape = ap (λ v. is_set_to v 255) (sym same_value) ∙ no_escape_wanted g l value }
 about_offer None level.NoSupport code value f character settable e = cc
 about_offer None level.CantChange code value f character settable e = cc
 about_offer None level.Value code value f character settable e = cc
 about_offer None level.ByDefault code value f character settable e = cc
 
-all_offer : (l : Level) (zero : Bool) (f : Func) (character : Option ℕ) → says_of_all l zero ≡ saying.Character f character → IsOffer f character
+all_offer : (l : Level) (zero : Bool) (f : Func) (character : Option ℕ) → saying_of_all l zero ≡ saying.Character f character → IsOffer f character
 all_offer level.NoSupport zero f character e = cc
 all_offer level.CantChange zero f character e = cc
 all_offer level.Value true f character e = cc
@@ -59,7 +59,7 @@ either_offer true all one f character from_all from_one e = from_all e
 either_offer false all one f character from_all from_one e = from_one e
 
 -- what a triple says of a function with a character is an offer
-pub says_offer : (t : Triple) (f : Func) (character : Option ℕ) → says t ≡ saying.Character f character → IsOffer f character
+pub says_offer : (t : Triple) (f : Func) (character : Option ℕ) → saying_of t ≡ saying.Character f character → IsOffer f character
 says_offer t f character e =
     either_offer (t.func == 0) _ _ f character (all_offer (level_of t) (t.value == 0) f character) (about_offer (special_at t.func) (level_of t) t.func t.value f character (settable_at t.func)) e
 
@@ -86,9 +86,9 @@ server_takes-allowed c saying.Nothing accepts standard allowed = allowed
 
 server_next-allowed : (c : Characters) (t : Triple) → Accepts → AreAllowed standard_characters → AreAllowed c → AreAllowed (server_next c t)
 server_next-allowed c t accepts standard allowed =
-    allowed_if (has_ack t) _ _ (λ e. allowed) (server_takes-allowed c (says t) accepts standard allowed)
+    allowed_if (has_ack t) _ _ (λ e. allowed) (server_takes-allowed c (saying_of t) accepts standard allowed)
 
-left_over : (x : Option ℕ) (byte b : ℕ) → cleared x byte ≡ Some b → x ≡ Some b
+left_over : (x : Option ℕ) (byte b : ℕ) → cleared_character x byte ≡ Some b → x ≡ Some b
 left_over None byte b e = cc
 left_over (Some a) byte b e = over (a == byte) a b e
   where
@@ -96,10 +96,10 @@ left_over (Some a) byte b e = over (a == byte) a b e
     over true a b e = cc
     over false a b e = e
 
-left_at : (c : Characters) (byte b : ℕ) (f : Func) → slot (without c (Some byte)) f ≡ Some b → slot c f ≡ Some b
+left_at : (c : Characters) (byte b : ℕ) (f : Func) → slot (without_character c (Some byte)) f ≡ Some b → slot c f ≡ Some b
 left_at c byte b f e = left_over (slot c f) byte b (sym (slot-without c byte f) ∙ e)
 
-without-allowed : (c : Characters) (v : Option ℕ) → AreAllowed c → AreAllowed (without c v)
+without-allowed : (c : Characters) (v : Option ℕ) → AreAllowed c → AreAllowed (without_character c v)
 without-allowed c None allowed = allowed
 without-allowed c (Some byte) allowed =
     record {
@@ -117,12 +117,12 @@ client_takes-allowed c saying.Table offers accepts allowed = allowed
 client_takes-allowed c (saying.Character f v) offers accepts allowed =
     by_test (is_line_end v) _
     (λ e. rw e allowed)
-    (λ e. rw e (accepts (without c v) f v (without-allowed c v allowed) (accepts_offer c f v (offers f v refl) e)))
+    (λ e. rw e (accepts (without_character c v) f v (without-allowed c v allowed) (accepts_offer c f v (offers f v refl) e)))
 client_takes-allowed c (saying.Unsupported code) offers accepts allowed = allowed
 client_takes-allowed c saying.Nothing offers accepts allowed = allowed
 
 client_next-allowed : (c : Characters) (t : Triple) → Accepts → AreAllowed c → AreAllowed (client_next c t)
-client_next-allowed c t accepts allowed = client_takes-allowed c (says t) (says_offer t) accepts allowed
+client_next-allowed c t accepts allowed = client_takes-allowed c (saying_of t) (says_offer t) accepts allowed
 
 pub server_after-allowed : (ts : List Triple) (c : Characters) → Accepts → AreAllowed standard_characters → AreAllowed c → AreAllowed (table_after server_next c ts)
 server_after-allowed [] c accepts standard allowed = allowed
@@ -148,7 +148,7 @@ Speaks code (saying.Character f v) = (func_code f ≡ code) × (is_set_to v 255 
 Speaks code (saying.Unsupported other) = other ≡ code
 Speaks code saying.Nothing = Unit {0}
 
-speaks_all : (l : Level) (zero : Bool) (code : ℕ) → Speaks code (says_of_all l zero)
+speaks_all : (l : Level) (zero : Bool) (code : ℕ) → Speaks code (saying_of_all l zero)
 speaks_all level.NoSupport zero code = tt
 speaks_all level.CantChange zero code = tt
 speaks_all level.Value true code = tt
@@ -156,7 +156,7 @@ speaks_all level.Value false code = tt
 speaks_all level.ByDefault true code = tt
 speaks_all level.ByDefault false code = tt
 
-speaks_of : (o : Option Func) (l : Level) (code value : ℕ) → Names code o → Speaks code (says_of o l code value)
+speaks_of : (o : Option Func) (l : Level) (code value : ℕ) → Names code o → Speaks code (saying_of_function o l code value)
 speaks_of (Some f) l code value names = (names f refl, no_escape_wanted f l value)
 speaks_of None level.NoSupport code value names = tt
 speaks_of None level.CantChange code value names = refl
@@ -167,7 +167,7 @@ speaks_either : (code : ℕ) (test : Bool) (r s : Saying) → Speaks code r → 
 speaks_either code true r s h k = h
 speaks_either code false r s h k = k
 
-speaks : (t : Triple) → Speaks t.func (says t)
+speaks : (t : Triple) → Speaks t.func (saying_of t)
 speaks t =
     speaks_either t.func (t.func == 0) _ _ (speaks_all (level_of t) (t.value == 0) t.func) (speaks_of (special_at t.func) (level_of t) t.func t.value (names_at t.func))
 
@@ -184,14 +184,14 @@ answer_if : (t : Triple) (test : Bool) (o p : Option Triple) → AllAnswer t o �
 answer_if t true o p h k = h
 answer_if t false o p h k = k
 
-unsupported_answers : (t : Triple) (code : ℕ) → code ≡ t.func → Answers t (unsupported code)
+unsupported_answers : (t : Triple) (code : ℕ) → code ≡ t.func → Answers t (unsupported_triple code)
 unsupported_answers t code same = record { function = same; modifier = λ e. omega (arith, e); character = λ e. omega (arith, e) }
 
 plain_answers : (t : Triple) (f : Func) (v : Option ℕ) → func_code f ≡ t.func → is_set_to v 255 ≡ false → Answers t (triple_of f v)
 plain_answers t f None same other = unsupported_answers t (func_code f) same
 plain_answers t f (Some b) same other = record { function = same; modifier = λ e. omega (arith, e); character = λ e. grind (arith, e) }
 
-acknowledging_answers : (t : Triple) (f : Func) (v : Option ℕ) → func_code f ≡ t.func → is_set_to v 255 ≡ false → Answers t (acknowledging (triple_of f v))
+acknowledging_answers : (t : Triple) (f : Func) (v : Option ℕ) → func_code f ≡ t.func → is_set_to v 255 ≡ false → Answers t (acknowledged_triple (triple_of f v))
 acknowledging_answers t f None same other = record { function = same; modifier = λ e. omega (arith, e); character = λ e. omega (arith, e) }
 acknowledging_answers t f (Some b) same other = record { function = same; modifier = λ e. omega (arith, e); character = λ e. grind (arith, e) }
 
@@ -204,22 +204,22 @@ server_replies-answer c t saying.Standard allowed h = tt
 server_replies-answer c t saying.Table allowed h = tt
 server_replies-answer c t (saying.Character f v) allowed h =
     answer_if t (is_same_value (slot c f) v) None _ tt
-    (answer_if t (is_none (char_fault c f v)) (Some (acknowledging (triple_of f v))) (Some (triple_of f (slot c f))) (acknowledging_answers t f v h.0 h.1) (plain_answers t f (slot c f) h.0 (own_value (slot c f) (allowed.unreserved f))))
+    (answer_if t (is_none (char_fault c f v)) (Some (acknowledged_triple (triple_of f v))) (Some (triple_of f (slot c f))) (acknowledging_answers t f v h.0 h.1) (plain_answers t f (slot c f) h.0 (own_value (slot c f) (allowed.unreserved f))))
 server_replies-answer c t (saying.Unsupported code) allowed h = unsupported_answers t code h
 server_replies-answer c t saying.Nothing allowed h = tt
 
 pub server_answer-answers : (c : Characters) (t a : Triple) → AreAllowed c → server_answer c t ≡ Some a → Answers t a
 server_answer-answers c t a allowed e =
-    answers_none t a (server_answer c t) (answer_if t (has_ack t) None _ tt (server_replies-answer c t (says t) allowed (speaks t))) e
+    answers_none t a (server_answer c t) (answer_if t (has_ack t) None _ tt (server_replies-answer c t (saying_of t) allowed (speaks t))) e
 
 client_replies-answer : (c : Characters) (t : Triple) (s : Saying) → Speaks t.func s → AllAnswer t (client_replies c s)
 client_replies-answer c t saying.Standard h = tt
 client_replies-answer c t saying.Table h = tt
 client_replies-answer c t (saying.Character f v) h =
-    answer_if t (is_line_end v || is_same_value (slot c f) v) None (Some (acknowledging (triple_of f v))) tt (acknowledging_answers t f v h.0 h.1)
+    answer_if t (is_line_end v || is_same_value (slot c f) v) None (Some (acknowledged_triple (triple_of f v))) tt (acknowledging_answers t f v h.0 h.1)
 client_replies-answer c t (saying.Unsupported code) h = unsupported_answers t code h
 client_replies-answer c t saying.Nothing h = tt
 
 pub client_answer-answers : (c : Characters) (t a : Triple) → client_answer c t ≡ Some a → Answers t a
 client_answer-answers c t a e =
-    answers_none t a (client_answer c t) (answer_if t (has_ack t) None _ tt (client_replies-answer c t (says t) (speaks t))) e
+    answers_none t a (client_answer c t) (answer_if t (has_ack t) None _ tt (client_replies-answer c t (saying_of t) (speaks t))) e

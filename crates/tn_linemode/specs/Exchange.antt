@@ -6,7 +6,7 @@ use Rattle.tn_codes.specs.declared.triples.Triple.{Triple}
 use Rattle.tn_discipline.specs.Characters.{Characters, slot, with_slot, with_each, special_functions, is_set_to, char_fault, standard_characters}
 use Rattle.tn_linemode.specs.declared.triples.Saying.{Saying}
 use Rattle.tn_linemode.specs.declared.triples.Saying.TheVariants.{Standard, Table, Character, Unsupported, Nothing}
-use Rattle.tn_linemode.specs.Triples.{has_ack, says, triple_of, acknowledging, unsupported}
+use Rattle.tn_linemode.specs.Triples.{has_ack, saying_of, triple_of, acknowledged_triple, unsupported_triple}
 
 -- the same character, or none at both
 abbrev pub is_same_value : Option ℕ → Option ℕ → Bool
@@ -33,9 +33,9 @@ server_replies c Standard = None
 server_replies c Table = None
 server_replies c (Character f value) =
     if is_same_value (slot c f) value then None else
-    (if is_none (char_fault c f value) then Some (acknowledging (triple_of f value)) else
+    (if is_none (char_fault c f value) then Some (acknowledged_triple (triple_of f value)) else
     Some (triple_of f (slot c f)))
-server_replies c (Unsupported code) = Some (unsupported code)
+server_replies c (Unsupported code) = Some (unsupported_triple code)
 server_replies c Nothing = None
 
 abbrev pub wants_table : Saying → Bool
@@ -48,13 +48,13 @@ wants_table Nothing = false
 -- the server's table after one triple, what it answers, and whether it is to send the whole table. An
 -- acknowledgement changes nothing and is not answered
 abbrev pub server_next : Characters → Triple → Characters
-server_next c t = if has_ack t then c else server_takes c (says t)
+server_next c t = if has_ack t then c else server_takes c (saying_of t)
 
 abbrev pub server_answer : Characters → Triple → Option Triple
-server_answer c t = if has_ack t then None else server_replies c (says t)
+server_answer c t = if has_ack t then None else server_replies c (saying_of t)
 
 abbrev pub asks_for_table : Triple → Bool
-asks_for_table t = not (has_ack t) && wants_table (says t)
+asks_for_table t = not (has_ack t) && wants_table (saying_of t)
 
 -- THE CLIENT never takes a line feed or a carriage return
 abbrev pub is_line_end : Option ℕ → Bool
@@ -62,19 +62,19 @@ is_line_end None = false
 is_line_end (Some value) = value == 10 || value == 13
 
 -- a character that is disabled where it is this byte
-abbrev pub cleared : Option ℕ → ℕ → Option ℕ
-cleared character byte = if is_set_to character byte then None else character
+abbrev pub cleared_character : Option ℕ → ℕ → Option ℕ
+cleared_character character byte = if is_set_to character byte then None else character
 
 -- the characters once none of them is this byte
-abbrev pub without : Characters → Option ℕ → Characters
-without c None = c
-without c (Some byte) = with_each (λ character. cleared character byte) c
+abbrev pub without_character : Characters → Option ℕ → Characters
+without_character c None = c
+without_character c (Some byte) = with_each (λ character. cleared_character character byte) c
 
 -- it takes every other character, and another function that had it loses it
 abbrev pub client_takes : Characters → Saying → Characters
 client_takes c Standard = c
 client_takes c Table = c
-client_takes c (Character f value) = if is_line_end value then c else with_slot (without c value) f value
+client_takes c (Character f value) = if is_line_end value then c else with_slot (without_character c value) f value
 client_takes c (Unsupported code) = c
 client_takes c Nothing = c
 
@@ -84,16 +84,16 @@ client_replies c Standard = None
 client_replies c Table = None
 client_replies c (Character f value) =
     if is_line_end value || is_same_value (slot c f) value then None else
-    Some (acknowledging (triple_of f value))
-client_replies c (Unsupported code) = Some (unsupported code)
+    Some (acknowledged_triple (triple_of f value))
+client_replies c (Unsupported code) = Some (unsupported_triple code)
 client_replies c Nothing = None
 
 -- the client's table after one triple, be it an acknowledgement or not, and its answer to one that is none
 abbrev pub client_next : Characters → Triple → Characters
-client_next c t = client_takes c (says t)
+client_next c t = client_takes c (saying_of t)
 
 abbrev pub client_answer : Characters → Triple → Option Triple
-client_answer c t = if has_ack t then None else client_replies c (says t)
+client_answer c t = if has_ack t then None else client_replies c (saying_of t)
 
 -- a table after a list of triples
 abbrev pub table_after : (Characters → Triple → Characters) → Characters → List Triple → Characters

@@ -25,24 +25,24 @@ abbrev pub no_mode : Modes
 no_mode = record { asked = 0; current = 0 }
 
 -- what the server asked for last, once it has wished for a mask
-abbrev pub after_wish : Modes → ℕ → Modes
-after_wish m mask = record m { asked = mode_of mask }
+abbrev pub modes_after_wish : Modes → ℕ → Modes
+modes_after_wish m mask = record m { asked = mode_of mask }
 
 -- a wish is sent unless it was asked already
-abbrev pub sent_by_wish : Modes → ℕ → Option ℕ
-sent_by_wish m mask = if mode_of mask == m.asked then None else Some (mode_of mask)
+abbrev pub mask_sent : Modes → ℕ → Option ℕ
+mask_sent m mask = if mode_of mask == m.asked then None else Some (mode_of mask)
 
 -- a mask that the client sends is in force once it acknowledges one
-abbrev pub after_mode : Modes → ℕ → Modes
-after_mode m mask = if is_acknowledged mask then record m { current = mode_of mask } else m
+abbrev pub modes_after_mode : Modes → ℕ → Modes
+modes_after_mode m mask = if is_acknowledged mask then record m { current = mode_of mask } else m
 
 -- any other mask of the client is its wish: to edit, or not to
-abbrev pub wished_by : ℕ → Option Bool
-wished_by mask = if is_acknowledged mask then None else Some (edits mask)
+abbrev pub wish_of_mask : ℕ → Option Bool
+wish_of_mask mask = if is_acknowledged mask then None else Some (edits mask)
 
 -- the client changes its mask by one that the server asks for
-abbrev pub mode_after : ℕ → ℕ → ℕ
-mode_after current mask = if is_acknowledged mask then current else mode_of mask
+abbrev pub client_mask_after : ℕ → ℕ → ℕ
+client_mask_after current mask = if is_acknowledged mask then current else mode_of mask
 
 -- and acknowledges a mask that differs from its own
 abbrev pub mode_answer : ℕ → ℕ → Option ℕ

@@ -27,47 +27,47 @@ abbrev pub special_at : ℕ → Option Func
 special_at code = find (λ f. func_code f == code) special_functions
 
 -- the character that a function with a character is to have: 255 disables it
-abbrev pub wanted : Func → Level → ℕ → Option ℕ
-wanted f level.NoSupport value = None
-wanted f level.CantChange value = if value == 255 then None else Some value
-wanted f level.Value value = if value == 255 then None else Some value
-wanted f level.ByDefault value = slot standard_characters f
+abbrev pub wanted_character : Func → Level → ℕ → Option ℕ
+wanted_character f level.NoSupport value = None
+wanted_character f level.CantChange value = if value == 255 then None else Some value
+wanted_character f level.Value value = if value == 255 then None else Some value
+wanted_character f level.ByDefault value = slot standard_characters f
 
 -- function 0 speaks of all: "use your standard characters and tell me yours", and "tell me yours"
-abbrev pub says_of_all : Level → Bool → Saying
-says_of_all level.NoSupport zero = saying.Nothing
-says_of_all level.CantChange zero = saying.Nothing
-says_of_all level.Value zero = if zero then saying.Table else saying.Nothing
-says_of_all level.ByDefault zero = if zero then saying.Standard else saying.Nothing
+abbrev pub saying_of_all : Level → Bool → Saying
+saying_of_all level.NoSupport zero = saying.Nothing
+saying_of_all level.CantChange zero = saying.Nothing
+saying_of_all level.Value zero = if zero then saying.Table else saying.Nothing
+saying_of_all level.ByDefault zero = if zero then saying.Standard else saying.Nothing
 
-abbrev pub says_of_other : Level → ℕ → Saying
-says_of_other level.NoSupport code = saying.Nothing
-says_of_other level.CantChange code = saying.Unsupported code
-says_of_other level.Value code = saying.Unsupported code
-says_of_other level.ByDefault code = saying.Unsupported code
+abbrev pub saying_of_other : Level → ℕ → Saying
+saying_of_other level.NoSupport code = saying.Nothing
+saying_of_other level.CantChange code = saying.Unsupported code
+saying_of_other level.Value code = saying.Unsupported code
+saying_of_other level.ByDefault code = saying.Unsupported code
 
-abbrev pub says_of : Option Func → Level → ℕ → ℕ → Saying
-says_of (Some f) l code value = saying.Character f (wanted f l value)
-says_of None l code value = says_of_other l code
+abbrev pub saying_of_function : Option Func → Level → ℕ → ℕ → Saying
+saying_of_function (Some f) l code value = saying.Character f (wanted_character f l value)
+saying_of_function None l code value = saying_of_other l code
 
 -- what a triple says
-abbrev pub says : Triple → Saying
-says t =
-    if t.func == 0 then says_of_all (level_of t) (t.value == 0) else
-    says_of (special_at t.func) (level_of t) t.func t.value
+abbrev pub saying_of : Triple → Saying
+saying_of t =
+    if t.func == 0 then saying_of_all (level_of t) (t.value == 0) else
+    saying_of_function (special_at t.func) (level_of t) t.func t.value
 
 -- a function has no character
-abbrev pub unsupported : ℕ → Triple
-unsupported code = record { func = code; flags = 0; value = 0 }
+abbrev pub unsupported_triple : ℕ → Triple
+unsupported_triple code = record { func = code; flags = 0; value = 0 }
 
 -- the plain triple by which a function has this character, at the level SLC_VALUE, or none
 abbrev pub triple_of : Func → Option ℕ → Triple
-triple_of f None = unsupported (func_code f)
+triple_of f None = unsupported_triple (func_code f)
 triple_of f (Some value) = record { func = func_code f; flags = 2; value = value }
 
 -- a triple as an acknowledgement
-abbrev pub acknowledging : Triple → Triple
-acknowledging t = record t { flags = bit_or t.flags 128 }
+abbrev pub acknowledged_triple : Triple → Triple
+acknowledged_triple t = record t { flags = bit_or t.flags 128 }
 
 -- what a triple can say of a function with a character: 255 is never its character
 pub record IsOffer (f : Func) (value : Option ℕ) : Type 0 where

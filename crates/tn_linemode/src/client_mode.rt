@@ -1,7 +1,7 @@
 //! The mode of LINEMODE at the client.
 
 ghost use Rattle.std.specs.Prelude.{◌≡◌};
-ghost use Rattle.tn_linemode.specs.Modes.{IsMode, mode_after, mode_answer};
+ghost use Rattle.tn_linemode.specs.Modes.{IsMode, client_mask_after, mode_answer};
 
 use crate::masks::{MODE_ACK, is_acknowledged, mode_of};
 use std::marker::Model;
@@ -36,7 +36,7 @@ impl ClientMode {
     /// Takes a mask from the server, which acknowledges nothing, and answers the mask to send back
     /// where the mode changed.
     pub fn got(&mut self, mask: u8) -> Option<u8>
-        ensures mode { self.new ≡ mode_after self.old mask }
+        ensures mode { self.new ≡ client_mask_after self.old mask }
         ensures answer { result ≡ mode_answer self.old mask }
     {
         let mode = mode_of(mask);

@@ -4,7 +4,7 @@ ghost use Rattle.std.specs.Prelude.{◌≡◌, ◌+◌, ◌<◌, ◌++◌, lengt
 ghost use Rattle.std.specs.Result.{result_err};
 ghost use Rattle.tn_discipline.specs.Characters.{with_slot, char_fault, standard_characters};
 ghost use Rattle.tn_linemode.specs.Triples.{triple_of, IsOffer};
-ghost use Rattle.tn_linemode.specs.Exchange.{without, is_line_end, client_takes, client_replies, client_next, client_answer, client_after, client_answers};
+ghost use Rattle.tn_linemode.specs.Exchange.{without_character, is_line_end, client_takes, client_replies, client_next, client_answer, client_after, client_answers};
 
 use crate::triples::{
     Saying, acknowledging, has_ack, push_answer, reading_of, triple_of, unsupported,
@@ -135,7 +135,7 @@ impl ClientTable {
 
     // Disables the character that is this byte, where there is one.
     fn free(&mut self, value: Option<u8>)
-        ensures { self.new ≡ without self.old value }
+        ensures { self.new ≡ without_character self.old value }
     {
         let Some(byte) = value else {
             return;

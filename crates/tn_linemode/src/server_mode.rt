@@ -1,7 +1,7 @@
 //! The mode of LINEMODE at the server.
 
 ghost use Rattle.std.specs.Prelude.{◌≡◌};
-ghost use Rattle.tn_linemode.specs.Modes.{no_mode, after_wish, sent_by_wish, after_mode, wished_by, IsMode};
+ghost use Rattle.tn_linemode.specs.Modes.{no_mode, modes_after_wish, mask_sent, modes_after_mode, wish_of_mask, IsMode};
 
 use crate::masks::{edits, is_acknowledged, mode_of};
 use std::marker::Model;
@@ -40,8 +40,8 @@ impl ServerMode {
     /// Asks for a mask, where it was not asked last; answers the mask to send. It has no effect on
     /// `current` until the client acknowledges it.
     pub fn wish(&mut self, mask: u8) -> Option<u8>
-        ensures mode { self.new ≡ after_wish self.old mask }
-        ensures sent { result ≡ sent_by_wish self.old mask }
+        ensures mode { self.new ≡ modes_after_wish self.old mask }
+        ensures sent { result ≡ mask_sent self.old mask }
     {
         let mode = mode_of(mask);
         if mode == self.asked {
@@ -54,8 +54,8 @@ impl ServerMode {
     /// Takes a mask from the client: one with MODE_ACK is from now on in force, and one without is
     /// the client's wish for editing (`true`) or for none.
     pub fn got(&mut self, mask: u8) -> Option<bool>
-        ensures mode { self.new ≡ after_mode self.old mask }
-        ensures wish { result ≡ wished_by mask }
+        ensures mode { self.new ≡ modes_after_mode self.old mask }
+        ensures wish { result ≡ wish_of_mask mask }
     {
         if is_acknowledged(mask) {
             self.current = mode_of(mask);

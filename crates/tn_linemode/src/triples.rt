@@ -1,7 +1,7 @@
 //! What one triple of a list of local characters says (RFC 1184, section 2.4).
 
 ghost use Rattle.std.specs.Prelude.{◌≡◌, ◌+◌, ◌<◌, ◌≤◌, ◌++◌, length, is_ok, option_to_list, vec_len, vec_capacity, OnOk, OnErr, if◌then◌else◌};
-ghost use Rattle.tn_linemode.specs.Triples.{has_ack, level_of, special_at, wanted, says, triple_of, acknowledging, unsupported};
+ghost use Rattle.tn_linemode.specs.Triples.{has_ack, level_of, special_at, wanted_character, saying_of, triple_of, acknowledged_triple, unsupported_triple};
 ghost use Rattle.tn_linemode.specs.Exchange.{announcement};
 
 use std::alloc::AllocError;
@@ -58,7 +58,7 @@ fn special_at(code: u8) -> Option<Func>
 }
 
 fn wanted(func: Func, level: Level, value: u8) -> Option<u8>
-    ensures { result ≡ wanted func level value }
+    ensures { result ≡ wanted_character func level value }
 {
     match level {
         Level::NoSupport => None,
@@ -69,7 +69,7 @@ fn wanted(func: Func, level: Level, value: u8) -> Option<u8>
 
 /// What a triple says. The flush flags and the bits that no rule names say nothing.
 pub fn reading_of(triple: Triple) -> Saying
-    ensures { result ≡ says triple }
+    ensures { result ≡ saying_of triple }
 {
     let level = level_of(triple);
     if triple.func == 0 {
@@ -102,7 +102,7 @@ pub fn triple_of(func: Func, value: Option<u8>) -> Triple
 
 /// The same triple as an acknowledgement.
 pub fn acknowledging(func: Func, value: Option<u8>) -> Triple
-    ensures { result ≡ acknowledging (triple_of func value) }
+    ensures { result ≡ acknowledged_triple (triple_of func value) }
 {
     let triple = triple_of(func, value);
     Triple {
@@ -113,7 +113,7 @@ pub fn acknowledging(func: Func, value: Option<u8>) -> Triple
 
 /// The triple that says that a function has no character.
 pub fn unsupported(code: u8) -> Triple
-    ensures { result ≡ unsupported code }
+    ensures { result ≡ unsupported_triple code }
 {
     Triple {
         func: code,

@@ -15,20 +15,20 @@ use Rattle.tn_nvt.specs.declared.places.Given.{Given}
 use Rattle.tn_nvt.specs.declared.places.Given.TheVariants as given
 use Rattle.tn_nvt.specs.declared.places.Place.{Place}
 use Rattle.tn_nvt.specs.declared.places.Place.TheVariants as place
-use Rattle.tn_nvt.specs.Spelling.{doubled}
+use Rattle.tn_nvt.specs.Spelling.{doubled_bytes}
 use Rattle.tn_nvt.specs.Stream.{spelled, escaped, cut, IsPartial}
-use Rattle.tn_nvt.specs.Standing.{StandsAt, HasRead, Adds, Gains, KeepsParameter, StopsWithin}
-use Rattle.tn_nvt.specs.Machine.{standing, progress, Stands, Advances, Keeps}
-use Rattle.tn_nvt.proofs.Steps.{Splits-append, Advances-append}
+use Rattle.tn_nvt.specs.Feeding.{HasRest, LeadsTo, Advances, Feeds, KeepsParameter, StopsWithin}
+use Rattle.tn_nvt.specs.Machine.{state_of_place, progress, PlaceHasRest, StepAdvances, KeepsByte}
+use Rattle.tn_nvt.proofs.Steps.{Splits-append, StepAdvances-append}
 
 -- each place stands at less than a segment
-pub partial_of : (place : Progress) (rest : List ℕ) → Stands place rest → IsPartial rest
+pub partial_of : (place : Progress) (rest : List ℕ) → PlaceHasRest place rest → IsPartial rest
 partial_of Outside rest h = record { segment = spelled Newline; more = 13 ∷ 10 ∷ []; is_segment = tt; proper = lit< tt; begins = rw h refl }
 partial_of AfterCr rest h = record { segment = spelled Newline; more = 10 ∷ []; is_segment = tt; proper = lit< tt; begins = rw h refl }
 partial_of AfterIac rest h = record { segment = escaped 0; more = 0 ∷ []; is_segment = inl (lit< tt); proper = lit< tt; begins = rw h refl }
 partial_of (AfterVerb v) rest h = record { segment = spelled (Neg v 0); more = 0 ∷ []; is_segment = tt; proper = lit< tt; begins = rw h refl }
 partial_of (Inside body) rest h = record { segment = cut h.0 0; more = 255 ∷ 0 ∷ []; is_segment = (omega arith, omega arith); proper = lit< tt; begins = rw h.2 refl }
-partial_of (InsideIac body) rest h = record { segment = cut h.0 0; more = 0 ∷ []; is_segment = (omega arith, omega arith); proper = lit< tt; begins = rw h.2 (ap (λ x. 255 ∷ 250 ∷ x) (append_assoc (doubled h.0) (255 ∷ []) (0 ∷ []))) }
+partial_of (InsideIac body) rest h = record { segment = cut h.0 0; more = 0 ∷ []; is_segment = (omega arith, omega arith); proper = lit< tt; begins = rw h.2 (ap (λ x. 255 ∷ 250 ∷ x) (append_assoc (doubled_bytes h.0) (255 ∷ []) (0 ∷ []))) }
 partial_of Failed rest h = absurd h
 
 verb_no_sb : (v : Verb) → verb_code v ≢ 250
@@ -37,25 +37,25 @@ verb_no_sb verb.Wont e = omega arith
 verb_no_sb verb.DoIt e = omega arith
 verb_no_sb verb.DontIt e = omega arith
 
-ends : (bytes : List ℕ) → 255 ∷ 250 ∷ doubled bytes ≡ 255 ∷ 250 ∷ doubled bytes ++ []
-ends bytes = ap (λ x. 255 ∷ 250 ∷ x) (sym (append-nil (doubled bytes)))
+ends : (bytes : List ℕ) → 255 ∷ 250 ∷ doubled_bytes bytes ≡ 255 ∷ 250 ∷ doubled_bytes bytes ++ []
+ends bytes = ap (λ x. 255 ∷ 250 ∷ x) (sym (append-nil (doubled_bytes bytes)))
 
 -- what is known of the rest is that the place stands there
-pub known : (place : Progress) (rest : List ℕ) → Stands place rest → StandsAt (standing place) rest
+pub known : (place : Progress) (rest : List ℕ) → PlaceHasRest place rest → HasRest (state_of_place place) rest
 known Outside rest h = (h, λ more e. cc)
 known AfterCr rest h = (h, λ more e. cc)
 known AfterIac rest h = (h, λ more e. cc)
 known (AfterVerb v) rest h = (h, λ more e. verb_no_sb v (ap (λ xs. get_or xs 1 0) e))
-known (Inside Nothing) rest h = (omega arith, h.2 ∙ ap (λ x. 255 ∷ 250 ∷ doubled x) h.1 ∙ ends [])
-known (Inside (Kept option params)) rest h = (omega (arith, h.1.1), h.2 ∙ ap (λ x. 255 ∷ 250 ∷ doubled x) h.1.0 ∙ ends (option ∷ params))
+known (Inside Nothing) rest h = (omega arith, h.2 ∙ ap (λ x. 255 ∷ 250 ∷ doubled_bytes x) h.1 ∙ ends [])
+known (Inside (Kept option params)) rest h = (omega (arith, h.1.1), h.2 ∙ ap (λ x. 255 ∷ 250 ∷ doubled_bytes x) h.1.0 ∙ ends (option ∷ params))
 known (Inside Overlong) rest h = (h.0, h.1, h.2 ∙ ends h.0)
-known (InsideIac Nothing) rest h = (omega arith, h.2 ∙ ap (λ x. 255 ∷ 250 ∷ doubled x ++ 255 ∷ []) h.1)
-known (InsideIac (Kept option params)) rest h = (omega (arith, h.1.1), h.2 ∙ ap (λ x. 255 ∷ 250 ∷ doubled x ++ 255 ∷ []) h.1.0)
+known (InsideIac Nothing) rest h = (omega arith, h.2 ∙ ap (λ x. 255 ∷ 250 ∷ doubled_bytes x ++ 255 ∷ []) h.1)
+known (InsideIac (Kept option params)) rest h = (omega (arith, h.1.1), h.2 ∙ ap (λ x. 255 ∷ 250 ∷ doubled_bytes x ++ 255 ∷ []) h.1.0)
 known (InsideIac Overlong) rest h = h
 known Failed rest h = absurd h
 
 -- and the other way round
-pub stood : (place : Progress) (rest : List ℕ) → StandsAt (standing place) rest → Stands place rest
+pub stood : (place : Progress) (rest : List ℕ) → HasRest (state_of_place place) rest → PlaceHasRest place rest
 stood Outside rest h = h.0
 stood AfterCr rest h = h.0
 stood AfterIac rest h = h.0
@@ -68,11 +68,11 @@ stood (InsideIac (Kept option params)) rest h = (option ∷ params, (refl, omega
 stood (InsideIac Overlong) rest h = h
 stood Failed rest h = absurd h
 
-pub at_start : HasRead (standing Outside) [] []
+pub at_start : LeadsTo [] [] (state_of_place Outside)
 at_start = record { rest = []; reading = record { segments = []; splits = refl; partial = partial_of Outside [] refl; read = refl }; stands = known Outside [] refl }
 
-pub Adds-from_advances : (here next : Progress) (more : List ℕ) (items : List Item) → Advances here more items next → Adds (standing here) more items (standing next)
-Adds-from_advances here next more items f = λ stream had h.
+pub Advances-from_advances : (here next : Progress) (more : List ℕ) (items : List Item) → StepAdvances here more items next → Advances (state_of_place here) more items (state_of_place next)
+Advances-from_advances here next more items f = λ stream had h.
     let a = f h.rest (stood here h.rest h.stands) in
     record {
       rest = a.new;
@@ -93,19 +93,19 @@ at_element xs i lt = sym (take-append-drop (i + 1) xs) ∙ ap (λ ys. ys ++ drop
 pub record Appends (here : Progress) (more : List ℕ) (before after : List Item) (next : Progress) : Type 0 where
   pub items : List Item
   pub appended : after ≡ before ++ items
-  pub advances : Advances here more items next
+  pub advances : StepAdvances here more items next
 
-pub Appends-push : (here middle next : Progress) (more : List ℕ) (b : ℕ) (given before between after : List Item) → Appends here more before between middle → Advances middle (b ∷ []) given next → after ≡ between ++ given → Appends here (more ++ b ∷ []) before after next
+pub Appends-push : (here middle next : Progress) (more : List ℕ) (b : ℕ) (given before between after : List Item) → Appends here more before between middle → StepAdvances middle (b ∷ []) given next → after ≡ between ++ given → Appends here (more ++ b ∷ []) before after next
 Appends-push here middle next more b given before between after a f e = record {
   items = a.items ++ given;
   appended = rw (e, a.appended) (append_assoc before a.items given);
-  advances = Advances-append here middle next more (b ∷ []) a.items given a.advances f;
+  advances = StepAdvances-append here middle next more (b ∷ []) a.items given a.advances f;
 }
 
-pub Gains-from_appends : (here next : Progress) (piece : List ℕ) (before after : List Item) → Appends here piece before after next → Gains (standing here) piece before after (standing next)
-Gains-from_appends here next piece before after a = record { items = a.items; appended = a.appended; adds = Adds-from_advances here next piece a.items a.advances }
+pub Feeds-from_appends : (here next : Progress) (piece : List ℕ) (before after : List Item) → Appends here piece before after next → Feeds (state_of_place here) piece before after (state_of_place next)
+Feeds-from_appends here next piece before after a = record { items = a.items; appended = a.appended; adds = Advances-from_advances here next piece a.items a.advances }
 
-pub kept : (place : Progress) (b : ℕ) → Keeps place b → KeepsParameter (standing place) b
+pub kept : (place : Progress) (b : ℕ) → KeepsByte place b → KeepsParameter (state_of_place place) b
 kept Outside b k = absurd k
 kept AfterCr b k = absurd k
 kept AfterIac b k = absurd k
@@ -119,7 +119,7 @@ kept (InsideIac Overlong) b k = absurd k.1
 kept Failed b k = absurd k
 
 -- a parameter was to be kept
-pub StopsWithin-from_kept : (here next : Progress) (front back : List ℕ) (b : ℕ) (piece : List ℕ) (before after : List Item) (room : ℕ) → piece ≡ front ++ b ∷ back → Appends here front before after next → Keeps next b → StopsWithin (standing here) piece before after room
+pub StopsWithin-from_kept : (here next : Progress) (front back : List ℕ) (b : ℕ) (piece : List ℕ) (before after : List Item) (room : ℕ) → piece ≡ front ++ b ∷ back → Appends here front before after next → KeepsByte next b → StopsWithin (state_of_place here) piece before after room
 StopsWithin-from_kept here next front back b piece before after room whole a k = record {
   front = front;
   byte = b;
@@ -127,13 +127,13 @@ StopsWithin-from_kept here next front back b piece before after room whole a k =
   whole = whole;
   items = a.items;
   appended = a.appended;
-  here = standing next;
-  adds = Adds-from_advances here next front a.items a.advances;
+  here = state_of_place next;
+  adds = Advances-from_advances here next front a.items a.advances;
   wanted = inr (kept next b k);
 }
 
 -- there was no room for what the byte completes
-pub StopsWithin-from_no_room : (here next then : Progress) (front back : List ℕ) (b : ℕ) (piece : List ℕ) (before after given : List Item) (room : ℕ) → piece ≡ front ++ b ∷ back → Appends here front before after next → Advances next (b ∷ []) given then → room < length given → StopsWithin (standing here) piece before after room
+pub StopsWithin-from_no_room : (here next then : Progress) (front back : List ℕ) (b : ℕ) (piece : List ℕ) (before after given : List Item) (room : ℕ) → piece ≡ front ++ b ∷ back → Appends here front before after next → StepAdvances next (b ∷ []) given then → room < length given → StopsWithin (state_of_place here) piece before after room
 StopsWithin-from_no_room here next then front back b piece before after given room whole a f no_room = record {
   front = front;
   byte = b;
@@ -141,9 +141,9 @@ StopsWithin-from_no_room here next then front back b piece before after given ro
   whole = whole;
   items = a.items;
   appended = a.appended;
-  here = standing next;
-  adds = Adds-from_advances here next front a.items a.advances;
-  wanted = inl (record { items = given; next = standing then; no_room = no_room; adds = Adds-from_advances next then (b ∷ []) given f });
+  here = state_of_place next;
+  adds = Advances-from_advances here next front a.items a.advances;
+  wanted = inl (record { items = given; next = state_of_place then; no_room = no_room; adds = Advances-from_advances next then (b ∷ []) given f });
 }
 
 -- a subnegotiation that was handed on is of no more account

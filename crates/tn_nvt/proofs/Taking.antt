@@ -6,14 +6,14 @@ use Rattle.tn_nvt.specs.declared.items.Item.{Item}
 use Rattle.tn_nvt.specs.declared.items.Item.TheVariants.{Byte}
 use Rattle.tn_nvt.specs.declared.places.Place.{Place}
 use Rattle.tn_nvt.specs.declared.places.Place.TheVariants as place
-use Rattle.tn_nvt.specs.Machine.{Progress, Outside, standing, Advances, Keeps}
-use Rattle.tn_nvt.specs.Sinks.{IsRun, EndsRun, AreSpecial, Part, run, said, bytes_of, part_bytes, calls_of, part_calls, all_of, AreLongest, TakesEach, Hands, Refuses, Wants}
-use Rattle.tn_nvt.specs.Runs.{pending, singles, RefusesEach, Handed, HandedPart}
-use Rattle.tn_nvt.specs.Standing.{Standing, IsLetGo}
+use Rattle.tn_nvt.specs.Machine.{Progress, Outside, state_of_place, StepAdvances, KeepsByte}
+use Rattle.tn_nvt.specs.Sinks.{IsRun, EndsRun, AreSpecial, Part, run, said, bytes_of, part_bytes, calls_of, part_calls, all_of, AreLongest, TakesEach, FeedsTo, StopsAtSink, StopsForMemory}
+use Rattle.tn_nvt.specs.Runs.{pending, singles, RefusesEach, HandsByte, HandsPart}
+use Rattle.tn_nvt.specs.Feeding.{DecoderState, IsLetGo}
 use Rattle.tn_nvt.proofs.Cuts.{front_is, back_is, parts_is, first_of}
 use Rattle.tn_nvt.proofs.LettingGo.{wants_none}
-use Rattle.tn_nvt.proofs.Steps.{Advances-none, Advances-append}
-use Rattle.tn_nvt.proofs.Feeding.{Adds-from_advances, kept}
+use Rattle.tn_nvt.proofs.Steps.{StepAdvances-none, StepAdvances-append}
+use Rattle.tn_nvt.proofs.Feeding.{Advances-from_advances, kept}
 
 -- what holds anyway holds at a refusal
 pub on_err : {T E : Type 0} (r : Result T E) (P : Type 0) → P → OnErr r P
@@ -87,22 +87,22 @@ module _ {S : Type 0} (takes gives_up : S → List Item → S → Type 0) where
     pub bytes : front ≡ bytes_of parts
     pub longest : AreLongest parts last
     pub taken : TakesEach takes before (calls_of parts) after
-    pub advances : Advances here front (all_of (calls_of parts)) next
+    pub advances : StepAdvances here front (all_of (calls_of parts)) next
 
   pub handed_none : (here : Progress) (last : List ℕ) (a : S) → HandedFront here [] last a a here
-  handed_none here last a = record { parts = []; bytes = refl; longest = tt; taken = refl; advances = Advances-none here }
+  handed_none here last a = record { parts = []; bytes = refl; longest = tt; taken = refl; advances = StepAdvances-none here }
 
   -- some parts more
   joined : (here middle next : Progress) (front more last : List ℕ) (a b c : S) (h : HandedFront here front (more ++ last) a b middle) (qs : List Part) → more ≡ bytes_of qs → AreLongest qs last
-      → TakesEach takes b (calls_of qs) c → Advances middle more (all_of (calls_of qs)) next → HandedFront here (front ++ more) last a c next
+      → TakesEach takes b (calls_of qs) c → StepAdvances middle more (all_of (calls_of qs)) next → HandedFront here (front ++ more) last a c next
   joined here middle next front more last a b c h qs bytes longest taken advances = record {
     parts = h.parts ++ qs;
     bytes = ap (λ x. x ++ more) h.bytes ∙ ap (λ x. bytes_of h.parts ++ x) bytes ∙ sym (bytes_more h.parts qs);
     longest = longest_more h.parts qs last (subst (λ x. AreLongest h.parts (x ++ last)) bytes h.longest) longest;
     taken = subst (λ x. TakesEach takes a x c) (sym (calls_more h.parts qs)) (TakesEach-append (calls_of h.parts) (calls_of qs) a b c h.taken taken);
     advances =
-        subst (λ x. Advances here (front ++ more) x next) (sym (all_more (calls_of h.parts) (calls_of qs)) ∙ ap all_of (sym (calls_more h.parts qs)))
-        (Advances-append here middle next front more (all_of (calls_of h.parts)) (all_of (calls_of qs)) h.advances advances);
+        subst (λ x. StepAdvances here (front ++ more) x next) (sym (all_more (calls_of h.parts) (calls_of qs)) ∙ ap all_of (sym (calls_more h.parts qs)))
+        (StepAdvances-append here middle next front more (all_of (calls_of h.parts)) (all_of (calls_of qs)) h.advances advances);
   }
 
   said_calls : (byte : ℕ) (items : List Item) → singles items ≡ calls_of (said (byte ∷ []) items ∷ [])
@@ -111,32 +111,32 @@ module _ {S : Type 0} (takes gives_up : S → List Item → S → Type 0) where
   said_items : (byte : ℕ) (items : List Item) → items ≡ all_of (calls_of (said (byte ∷ []) items ∷ []))
   said_items byte items = sym (all_singles items) ∙ ap all_of (said_calls byte items)
 
-  pub handed_byte : (here middle next : Progress) (front last : List ℕ) (byte : ℕ) (a b c : S) → HandedFront here front (byte ∷ last) a b middle → Handed takes middle byte b c next → HandedFront here (front ++ byte ∷ []) last a c next
+  pub handed_byte : (here middle next : Progress) (front last : List ℕ) (byte : ℕ) (a b c : S) → HandedFront here front (byte ∷ last) a b middle → HandsByte takes middle byte b c next → HandedFront here (front ++ byte ∷ []) last a c next
   handed_byte here middle next front last byte a b c h k =
       joined here middle next front (byte ∷ []) last a b c h (said (byte ∷ []) k.items ∷ []) refl (k.special, tt)
       (subst (λ x. TakesEach takes b x c) (said_calls byte k.items) k.taken)
-      (subst (λ x. Advances middle (byte ∷ []) x next) (said_items byte k.items) k.advances)
+      (subst (λ x. StepAdvances middle (byte ∷ []) x next) (said_items byte k.items) k.advances)
 
   run_parts : Place → List ℕ → List Part
   run_parts here bytes = said [] (pending here) ∷ run bytes ∷ []
 
   pub handed_run : (here middle : Progress) (at : Place) (front bytes last : List ℕ) (a b c : S) → HandedFront here front (bytes ++ last) a b middle → IsRun bytes → EndsRun last
-      → Advances middle bytes (pending at ++ map Byte bytes) Outside → TakesEach takes b (singles (pending at) ++ map Byte bytes ∷ []) c → HandedFront here (front ++ bytes) last a c Outside
+      → StepAdvances middle bytes (pending at ++ map Byte bytes) Outside → TakesEach takes b (singles (pending at) ++ map Byte bytes ∷ []) c → HandedFront here (front ++ bytes) last a c Outside
   handed_run here middle at front bytes last a b c h is ends advances taken =
       joined here middle Outside front bytes last a b c h (said [] (pending at) ∷ run bytes ∷ []) (sym (append-nil bytes)) (pending_special at, (is, ends, tt))
       taken
-      (subst (λ x. Advances middle bytes x Outside) (run_items (pending at) bytes) advances)
+      (subst (λ x. StepAdvances middle bytes x Outside) (run_items (pending at) bytes) advances)
 
-  pub Hands-from_front : (here next : Progress) (piece : List ℕ) (a b : S) → HandedFront here piece [] a b next → Hands takes (standing here) piece a b (standing next)
-  Hands-from_front here next piece a b h =
-      record { parts = h.parts; whole = h.bytes; longest = h.longest; taken = h.taken; adds = Adds-from_advances here next piece (all_of (calls_of h.parts)) h.advances }
+  pub FeedsTo-from_front : (here next : Progress) (piece : List ℕ) (a b : S) → HandedFront here piece [] a b next → FeedsTo takes (state_of_place here) piece a b (state_of_place next)
+  FeedsTo-from_front here next piece a b h =
+      record { parts = h.parts; whole = h.bytes; longest = h.longest; taken = h.taken; adds = Advances-from_advances here next piece (all_of (calls_of h.parts)) h.advances }
 
   -- the calls of further parts were refused
   refused_in : (here middle next : Progress) (piece front more last : List ℕ) (a b c : S) (h : HandedFront here front (more ++ last) a b middle) (qs : List Part) → piece ≡ (front ++ more) ++ last → more ≡ bytes_of qs → AreLongest qs last
-      → RefusesEach takes gives_up b (calls_of qs) c → Advances middle more (all_of (calls_of qs)) next → Refuses takes gives_up (standing here) piece a c
+      → RefusesEach takes gives_up b (calls_of qs) c → StepAdvances middle more (all_of (calls_of qs)) next → StopsAtSink takes gives_up (state_of_place here) piece a c
   refused_in here middle next piece front more last a b c h qs whole bytes longest refused advances =
       let both : front ++ more ≡ bytes_of (h.parts ++ qs) = ap (λ x. x ++ more) h.bytes ∙ ap (λ x. bytes_of h.parts ++ x) bytes ∙ sym (bytes_more h.parts qs) in
-      let on = Advances-append here middle next front more (all_of (calls_of h.parts)) (all_of (calls_of qs)) h.advances advances in
+      let on = StepAdvances-append here middle next front more (all_of (calls_of h.parts)) (all_of (calls_of qs)) h.advances advances in
       let items : all_of (calls_of h.parts) ++ all_of (calls_of qs) ≡ all_of (calls_of (h.parts ++ qs)) = sym (all_more (calls_of h.parts) (calls_of qs)) ∙ ap all_of (sym (calls_more h.parts qs)) in
       record {
         parts = h.parts ++ qs;
@@ -147,41 +147,41 @@ module _ {S : Type 0} (takes gives_up : S → List Item → S → Type 0) where
         left = refused.left;
         unseen = refused.unseen;
         calls = calls_more h.parts qs ∙ ap (λ x. calls_of h.parts ++ x) refused.all ∙ sym (append_assoc (calls_of h.parts) refused.done (refused.left ∷ refused.unseen));
-        here = standing next;
-        adds = Adds-from_advances here next (bytes_of (h.parts ++ qs)) (all_of (calls_of (h.parts ++ qs))) (subst (λ x. Advances here x (all_of (calls_of (h.parts ++ qs))) next) both (subst (λ x. Advances here (front ++ more) x next) items on));
+        here = state_of_place next;
+        adds = Advances-from_advances here next (bytes_of (h.parts ++ qs)) (all_of (calls_of (h.parts ++ qs))) (subst (λ x. StepAdvances here x (all_of (calls_of (h.parts ++ qs))) next) both (subst (λ x. StepAdvances here (front ++ more) x next) items on));
         middle = refused.middle;
         taken = TakesEach-append (calls_of h.parts) refused.done a b refused.middle h.taken refused.taken;
         given_up = refused.given_up;
       }
 
-  pub Refuses-from_byte : (here middle : Progress) (piece front last : List ℕ) (byte : ℕ) (a b c : S) → HandedFront here front (byte ∷ last) a b middle → piece ≡ (front ++ byte ∷ []) ++ last → HandedPart takes gives_up middle byte b c → Refuses takes gives_up (standing here) piece a c
-  Refuses-from_byte here middle piece front last byte a b c h whole p =
+  pub StopsAtSink-from_byte : (here middle : Progress) (piece front last : List ℕ) (byte : ℕ) (a b c : S) → HandedFront here front (byte ∷ last) a b middle → piece ≡ (front ++ byte ∷ []) ++ last → HandsPart takes gives_up middle byte b c → StopsAtSink takes gives_up (state_of_place here) piece a c
+  StopsAtSink-from_byte here middle piece front last byte a b c h whole p =
       refused_in here middle p.next piece front (byte ∷ []) last a b c h (said (byte ∷ []) p.items ∷ []) whole refl (p.special, tt)
       (subst (λ x. RefusesEach takes gives_up b x c) (said_calls byte p.items) p.refused)
-      (subst (λ x. Advances middle (byte ∷ []) x p.next) (said_items byte p.items) p.advances)
+      (subst (λ x. StepAdvances middle (byte ∷ []) x p.next) (said_items byte p.items) p.advances)
 
-  pub Refuses-from_run : (here middle : Progress) (at : Place) (piece front bytes last : List ℕ) (a b c : S) → HandedFront here front (bytes ++ last) a b middle → piece ≡ (front ++ bytes) ++ last → IsRun bytes → EndsRun last
-      → Advances middle bytes (pending at ++ map Byte bytes) Outside → RefusesEach takes gives_up b (singles (pending at) ++ map Byte bytes ∷ []) c → Refuses takes gives_up (standing here) piece a c
-  Refuses-from_run here middle at piece front bytes last a b c h whole is ends advances refused =
+  pub StopsAtSink-from_run : (here middle : Progress) (at : Place) (piece front bytes last : List ℕ) (a b c : S) → HandedFront here front (bytes ++ last) a b middle → piece ≡ (front ++ bytes) ++ last → IsRun bytes → EndsRun last
+      → StepAdvances middle bytes (pending at ++ map Byte bytes) Outside → RefusesEach takes gives_up b (singles (pending at) ++ map Byte bytes ∷ []) c → StopsAtSink takes gives_up (state_of_place here) piece a c
+  StopsAtSink-from_run here middle at piece front bytes last a b c h whole is ends advances refused =
       refused_in here middle Outside piece front bytes last a b c h (said [] (pending at) ∷ run bytes ∷ []) whole (sym (append-nil bytes)) (pending_special at, (is, ends, tt))
       refused
-      (subst (λ x. Advances middle bytes x Outside) (run_items (pending at) bytes) advances)
+      (subst (λ x. StepAdvances middle bytes x Outside) (run_items (pending at) bytes) advances)
 
-  pub Wants-from_front : (here next : Progress) (piece front last : List ℕ) (byte : ℕ) (a b : S) → piece ≡ front ++ byte ∷ last → HandedFront here front (byte ∷ last) a b next → Keeps next byte → Wants takes (standing here) piece a b
-  Wants-from_front here next piece front last byte a b whole h k = record {
+  pub StopsForMemory-from_front : (here next : Progress) (piece front last : List ℕ) (byte : ℕ) (a b : S) → piece ≡ front ++ byte ∷ last → HandedFront here front (byte ∷ last) a b next → KeepsByte next byte → StopsForMemory takes (state_of_place here) piece a b
+  StopsForMemory-from_front here next piece front last byte a b whole h k = record {
     parts = h.parts;
     byte = byte;
     back = last;
     whole = whole ∙ ap (λ x. x ++ byte ∷ last) h.bytes;
     longest = h.longest;
     taken = h.taken;
-    here = standing next;
-    adds = Adds-from_advances here next (bytes_of h.parts) (all_of (calls_of h.parts)) (subst (λ x. Advances here x (all_of (calls_of h.parts)) next) h.bytes h.advances);
+    here = state_of_place next;
+    adds = Advances-from_advances here next (bytes_of h.parts) (all_of (calls_of h.parts)) (subst (λ x. StepAdvances here x (all_of (calls_of h.parts)) next) h.bytes h.advances);
     wanted = kept next byte k;
   }
 
   -- no byte of a subnegotiation that is let go wanted memory
-  pub wants_nothing : (old : Standing) (piece : List ℕ) (a b : S) → IsLetGo old piece → Wants takes old piece a b → ⊥
+  pub wants_nothing : (old : DecoderState) (piece : List ℕ) (a b : S) → IsLetGo old piece → StopsForMemory takes old piece a b → ⊥
   wants_nothing old piece a b lets_go w =
       wants_none old piece [] (all_of (calls_of w.parts)) 0 lets_go
       (record { front = bytes_of w.parts; byte = w.byte; back = w.back; whole = w.whole; items = all_of (calls_of w.parts); appended = refl; here = w.here; adds = w.adds; wanted = inr w.wanted })
@@ -200,7 +200,7 @@ module _ {S : Type 0} (takes gives_up : S → List Item → S → Type 0) where
 
   -- after bytes that complete nothing
   pub handed_skip : (here middle next : Progress) (xs : List ℕ) (i k : ℕ) (a b : S) → HandedFront here (take i xs) (drop i xs) a b middle
-      → Advances middle (take k (take (length xs - i) (drop i xs))) [] next → HandedFront here (take (i + k) xs) (drop (i + k) xs) a b next
+      → StepAdvances middle (take k (take (length xs - i) (drop i xs))) [] next → HandedFront here (take (i + k) xs) (drop (i + k) xs) a b next
   handed_skip here middle next xs i k a b h advances =
       let rest = take (length xs - i) (drop i xs) in
       rw (front_is xs i k, back_is xs i k)

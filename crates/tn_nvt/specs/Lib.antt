@@ -1,6 +1,6 @@
 pub mod Spelling
 pub mod Stream
-pub mod Standing
+pub mod Feeding
 pub mod Sinks
 pub mod Machine
 pub mod Runs

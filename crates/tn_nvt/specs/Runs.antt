@@ -4,7 +4,7 @@ use Rattle.tn_nvt.specs.declared.items.Item.{Item}
 use Rattle.tn_nvt.specs.declared.items.Item.TheVariants.{Byte}
 use Rattle.tn_nvt.specs.declared.places.Place.{Place}
 use Rattle.tn_nvt.specs.declared.places.Place.TheVariants as place
-use Rattle.tn_nvt.specs.Machine.{Progress, Advances}
+use Rattle.tn_nvt.specs.Machine.{Progress, StepAdvances}
 use Rattle.tn_nvt.specs.Sinks.{AreSpecial, TakesEach}
 use Rattle.tn_nvt.specs.Spelling.{cr}
 
@@ -34,18 +34,18 @@ pub record RefusesEach {S : Type 0} (takes gives_up : S → List Item → S → 
   pub given_up : gives_up middle left new
 
 -- the sink took what this byte completes, item by item
-pub record Handed {S : Type 0} (takes : S → List Item → S → Type 0) (here : Progress) (byte : ℕ)
+pub record HandsByte {S : Type 0} (takes : S → List Item → S → Type 0) (here : Progress) (byte : ℕ)
     (before after : S) (next : Progress) : Type 0 where
   pub items : List Item
   pub special : AreSpecial items
   pub taken : TakesEach takes before (singles items) after
-  pub advances : Advances here (byte ∷ []) items next
+  pub advances : StepAdvances here (byte ∷ []) items next
 
 -- it gave up at one of them
-pub record HandedPart {S : Type 0} (takes gives_up : S → List Item → S → Type 0) (here : Progress)
+pub record HandsPart {S : Type 0} (takes gives_up : S → List Item → S → Type 0) (here : Progress)
     (byte : ℕ) (before after : S) : Type 0 where
   pub items : List Item
   pub special : AreSpecial items
   pub next : Progress
   pub refused : RefusesEach takes gives_up before (singles items) after
-  pub advances : Advances here (byte ∷ []) items next
+  pub advances : StepAdvances here (byte ∷ []) items next

@@ -3,7 +3,7 @@ use Rattle.std.specs.Prelude.{◌≡◌, ◌≢◌, ℕ, ◌<◌, List, [], ◌�
 use Rattle.tn_nvt.specs.declared.items.Item.{Item}
 use Rattle.tn_nvt.specs.declared.items.Item.TheVariants.{Byte, Newline, Cmd, Neg, Sub}
 use Rattle.tn_nvt.specs.Spelling.{cr, iac}
-use Rattle.tn_nvt.specs.Standing.{Standing, Adds, KeepsParameter}
+use Rattle.tn_nvt.specs.Feeding.{DecoderState, Advances, KeepsParameter}
 
 -- neither CR nor IAC
 abbrev pub IsPlain : ℕ → Type 0
@@ -70,16 +70,16 @@ TakesEach {S} takes old (call ∷ calls) new =
     (middle : S) × takes old call middle × TakesEach takes middle calls new
 
 -- the sink took what the piece adds
-pub record Hands {S : Type 0} (takes : S → List Item → S → Type 0) (old : Standing) (piece : List ℕ)
-    (before after : S) (new : Standing) : Type 0 where
+pub record FeedsTo {S : Type 0} (takes : S → List Item → S → Type 0) (old : DecoderState) (piece : List ℕ)
+    (before after : S) (new : DecoderState) : Type 0 where
   pub parts : List Part
   pub whole : piece ≡ bytes_of parts
   pub longest : AreLongest parts []
   pub taken : TakesEach takes before (calls_of parts) after
-  pub adds : Adds old piece (all_of (calls_of parts)) new
+  pub adds : Advances old piece (all_of (calls_of parts)) new
 
 -- The sink took the first calls for a front of the piece, gave up at one, and never saw the others.
-pub record Refuses {S : Type 0} (takes gives_up : S → List Item → S → Type 0) (old : Standing)
+pub record StopsAtSink {S : Type 0} (takes gives_up : S → List Item → S → Type 0) (old : DecoderState)
     (piece : List ℕ) (before after : S) : Type 0 where
   pub parts : List Part
   pub back : List ℕ
@@ -89,14 +89,14 @@ pub record Refuses {S : Type 0} (takes gives_up : S → List Item → S → Type
   pub left : List Item
   pub unseen : List (List Item)
   pub calls : calls_of parts ≡ done ++ left ∷ unseen
-  pub here : Standing
-  pub adds : Adds old (bytes_of parts) (all_of (calls_of parts)) here
+  pub here : DecoderState
+  pub adds : Advances old (bytes_of parts) (all_of (calls_of parts)) here
   pub middle : S
   pub taken : TakesEach takes before done middle
   pub given_up : gives_up middle left after
 
 -- The sink took what a front of the piece adds, and the byte after it, a parameter, wanted memory.
-pub record Wants {S : Type 0} (takes : S → List Item → S → Type 0) (old : Standing) (piece : List ℕ)
+pub record StopsForMemory {S : Type 0} (takes : S → List Item → S → Type 0) (old : DecoderState) (piece : List ℕ)
     (before after : S) : Type 0 where
   pub parts : List Part
   pub byte : ℕ
@@ -104,6 +104,6 @@ pub record Wants {S : Type 0} (takes : S → List Item → S → Type 0) (old : 
   pub whole : piece ≡ bytes_of parts ++ byte ∷ back
   pub longest : AreLongest parts (byte ∷ back)
   pub taken : TakesEach takes before (calls_of parts) after
-  pub here : Standing
-  pub adds : Adds old (bytes_of parts) (all_of (calls_of parts)) here
+  pub here : DecoderState
+  pub adds : Advances old (bytes_of parts) (all_of (calls_of parts)) here
   pub wanted : KeepsParameter here byte

@@ -2,9 +2,9 @@
 
 ghost use Rattle.std.specs.Prelude.{◌≡◌, ◌↔◌, ◌-◌, [], vec_len, vec_capacity};
 ghost use Rattle.std.specs.Prelude.{IsOk, IfOk, OnOk, IfErr, OnErr, IsErrOf};
-ghost use Rattle.tn_nvt.specs.Machine.{standing, progress};
-ghost use Rattle.tn_nvt.specs.Sinks.{Hands, Refuses, Wants};
-ghost use Rattle.tn_nvt.specs.Standing.{failed, HasRead, Gains, StopsWithin, IsLetGo};
+ghost use Rattle.tn_nvt.specs.Machine.{state_of_place, progress};
+ghost use Rattle.tn_nvt.specs.Sinks.{FeedsTo, StopsAtSink, StopsForMemory};
+ghost use Rattle.tn_nvt.specs.Feeding.{failed, LeadsTo, Feeds, StopsWithin, IsLetGo};
 ghost use Rattle.tn_nvt.specs.declared.decoding.NvtFault.TheVariants.{Memory};
 
 use crate::items::Item;
@@ -53,19 +53,19 @@ pub struct Decoder {
 }
 
 impl Model for Decoder {
-    ghost use Rattle.tn_nvt.specs.Standing.{Standing};
-    ghost use Rattle.tn_nvt.specs.Machine.{standing, progress};
+    ghost use Rattle.tn_nvt.specs.Feeding.{DecoderState};
+    ghost use Rattle.tn_nvt.specs.Machine.{state_of_place, progress};
 
-    ghost Value = { Standing };
+    ghost Value = { DecoderState };
 
-    ghost view = { λ decoder. standing (progress decoder.place decoder.body) };
+    ghost view = { λ decoder. state_of_place (progress decoder.place decoder.body) };
 }
 
 impl Decoder {
     /// A decoder that has read nothing. It takes memory from `alloc` for the parameters of
     /// subnegotiations alone.
     pub fn new(alloc: Global) -> Decoder
-        ensures { HasRead result [] [] }
+        ensures { LeadsTo [] [] result }
     {
         Decoder {
             alloc,
@@ -78,7 +78,7 @@ impl Decoder {
     /// `out` or the parameters of a subnegotiation, at most 512, can't grow: the decoder has failed
     /// then, and `out` keeps the items that were complete before. `Failed` where it had failed before.
     pub fn feed(&mut self, piece: &[u8], out: &mut Vec<Item>) -> Result<(), NvtFault>
-        ensures ok { OnOk result (Gains self.old piece.now out.old.items out.new.items self.new) }
+        ensures ok { OnOk result (Feeds self.old piece.now out.old.items out.new.items self.new) }
 
         // Memory is wanted for an item in `out` and for a parameter alone, and so for no byte of a
         // subnegotiation that is let go.
@@ -110,14 +110,14 @@ impl Decoder {
     /// failed before: it has failed after each of them.
     pub fn feed_to<S: Sink>(&mut self, piece: &[u8], sink: &mut S) -> Result<(), NvtFault>
         ensures ok { OnOk result
-            (Hands S.takes self.old piece.now sink.old sink.new self.new) }
+            (FeedsTo S.takes self.old piece.now sink.old sink.new self.new) }
         ensures refused { IsErrOf result NvtFault.Refused →
-            Refuses S.takes S.gives_up self.old piece.now sink.old sink.new }
+            StopsAtSink S.takes S.gives_up self.old piece.now sink.old sink.new }
 
         // Memory is wanted for a parameter alone, and so for no byte of a subnegotiation that is let
         // go.
         ensures memory { IsErrOf result NvtFault.Memory →
-            Wants S.takes self.old piece.now sink.old sink.new }
+            StopsForMemory S.takes self.old piece.now sink.old sink.new }
         ensures lets_go { IsLetGo self.old piece.now → ¬ IsErrOf result NvtFault.Memory }
         ensures fails { OnErr result (self.new ≡ failed) }
 
@@ -149,7 +149,7 @@ impl Decoder {
 
     // Hands out what has come of the next segment. Until that is put back the decoder has failed.
     fn begin(&mut self) -> Result<(Place, Body), NvtFault>
-        ensures ok { IfOk result (λ parts. standing (progress parts.0 parts.1) ≡ self.old) }
+        ensures ok { IfOk result (λ parts. state_of_place (progress parts.0 parts.1) ≡ self.old) }
         ensures fault { IfErr result (λ fault. fault ≡ NvtFault.Failed) }
         ensures failed { IsErrOf result NvtFault.Failed ↔ (self.old ≡ failed) }
         ensures fails { self.new ≡ failed }
@@ -163,7 +163,7 @@ impl Decoder {
     }
 
     fn resume(&mut self, place: Place, body: Body)
-        ensures { self.new ≡ standing (progress place body) }
+        ensures { self.new ≡ state_of_place (progress place body) }
     {
         self.place = place;
         self.body = body;

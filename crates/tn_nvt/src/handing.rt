@@ -8,9 +8,9 @@ ghost use Rattle.tn_nvt.specs.declared.places.Body.{Body as Held};
 ghost use Rattle.tn_nvt.specs.declared.places.Given.TheVariants as given;
 ghost use Rattle.tn_nvt.specs.declared.places.Place.TheVariants as place;
 ghost use Rattle.tn_nvt.specs.Machine as machine;
-ghost use Rattle.tn_nvt.specs.Machine.{Advances, Keeps, progress, given_items, HasNoRun};
+ghost use Rattle.tn_nvt.specs.Machine.{StepAdvances, KeepsByte, progress, given_items, HasNoRun};
 ghost use Rattle.tn_nvt.specs.Sinks.{IsPlain, IsRun, EndsRun, AreSpecial, TakesEach};
-ghost use Rattle.tn_nvt.specs.Runs.{pending, singles, RefusesEach, Handed, HandedPart};
+ghost use Rattle.tn_nvt.specs.Runs.{pending, singles, RefusesEach, HandsByte, HandsPart};
 
 use crate::bytes::{CR, IAC, LF, NUL};
 use crate::decoding::NvtFault;
@@ -38,7 +38,7 @@ impl Place {
         ensures within { result ≤ length rest.now }
         ensures plain { All IsPlain (take result rest.now) }
         ensures ends { 0 < result → EndsRun (drop result rest.now) }
-        ensures advances { 0 < result → (body : Held) → Advances (progress self body)
+        ensures advances { 0 < result → (body : Held) → StepAdvances (progress self body)
             (take result rest.now) (pending self ++ map Byte (take result rest.now)) machine.Outside }
         ensures none { result ≡ 0 → HasNoRun self (slice_index rest.now 0) }
     {
@@ -81,7 +81,7 @@ impl Place {
         requires none { HasNoRun self (slice_index rest.now 0) }
         ensures within { result.1 < length rest.now }
         ensures none { HasNoRun result.0 (slice_index rest.now result.1) }
-        ensures advances { (body : Held) → Advances (progress self body) (take result.1 rest.now) []
+        ensures advances { (body : Held) → StepAdvances (progress self body) (take result.1 rest.now) []
             (progress result.0 body) }
     {
         let Place::Outside = self else {
@@ -107,11 +107,11 @@ impl Place {
         sink: &mut S,
     ) -> Result<Place, NvtFault>
         requires { HasNoRun self byte }
-        ensures ok { IfOk result (λ next. Handed S.takes (progress self body.old) byte
+        ensures ok { IfOk result (λ next. HandsByte S.takes (progress self body.old) byte
             sink.old sink.new (progress next body.new)) }
-        ensures refused { IsErrOf result fault.Refused → HandedPart S.takes S.gives_up
+        ensures refused { IsErrOf result fault.Refused → HandsPart S.takes S.gives_up
             (progress self body.old) byte sink.old sink.new }
-        ensures memory { IsErrOf result fault.Memory → Keeps (progress self body.old) byte }
+        ensures memory { IsErrOf result fault.Memory → KeepsByte (progress self body.old) byte }
         ensures memory_hands { IsErrOf result fault.Memory → sink.new ≡ sink.old }
         ensures not_failed { ¬ IsErrOf result fault.Failed }
     {

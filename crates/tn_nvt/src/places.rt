@@ -6,8 +6,8 @@ ghost use Rattle.tn_nvt.specs.declared.places.Given.TheVariants as given;
 ghost use Rattle.tn_nvt.specs.declared.places.Place.TheVariants as place;
 ghost use Rattle.tn_nvt.specs.Machine as machine;
 ghost use Rattle.tn_nvt.specs.declared.places.Body.{Body as Held};
-ghost use Rattle.tn_nvt.specs.Machine.{Advances, Lengthens, IsKept, Keeps};
-ghost use Rattle.tn_nvt.specs.Machine.{gathered, progress, given_items, HasNoRun};
+ghost use Rattle.tn_nvt.specs.Machine.{StepAdvances, Lengthens, IsKept, KeepsByte};
+ghost use Rattle.tn_nvt.specs.Machine.{gathered_of, progress, given_items, HasNoRun};
 ghost use Rattle.tn_nvt.specs.Sinks.{AreSpecial};
 
 use crate::bytes::{CR, IAC, LF, NUL, SB, SE};
@@ -64,7 +64,7 @@ pub(crate) enum Given {
 impl Body {
     /// Nothing of a subnegotiation.
     pub(crate) fn new(alloc: Global) -> Body
-        ensures { gathered result ≡ machine.Nothing }
+        ensures { gathered_of result ≡ machine.Nothing }
     {
         Body {
             came: Came::Nothing,
@@ -74,8 +74,8 @@ impl Body {
 
     // One more byte has come.
     fn keep(&mut self, byte: u8) -> Result<(), AllocError>
-        ensures ok { OnOk result (Lengthens (gathered self.old) byte (gathered self.new)) }
-        ensures err { OnErr result (IsKept (gathered self.old)) }
+        ensures ok { OnOk result (Lengthens (gathered_of self.old) byte (gathered_of self.new)) }
+        ensures err { OnErr result (IsKept (gathered_of self.old)) }
     {
         match self.came {
             Came::Nothing => {
@@ -98,12 +98,12 @@ impl Body {
 impl Place {
     /// Where one more byte leads, and what it completes. It takes memory for a parameter alone.
     pub(crate) fn step(self, body: &mut Body, byte: u8) -> Result<(Place, Given), AllocError>
-        ensures ok { IfOk result (λ r. Advances (progress self body.old) (byte ∷ [])
+        ensures ok { IfOk result (λ r. StepAdvances (progress self body.old) (byte ∷ [])
             (given_items r.1 body.new) (progress r.0 body.new)) }
         ensures special { IfOk result (λ r.
             HasNoRun self byte → AreSpecial (given_items r.1 body.new)) }
         ensures closes { IfOk result (λ r. r.1 ≡ given.Sub → r.0 ≡ place.Outside) }
-        ensures err { OnErr result (Keeps (progress self body.old) byte) }
+        ensures err { OnErr result (KeepsByte (progress self body.old) byte) }
     {
         match self {
             Place::Outside => Ok(outside(byte)),
@@ -118,7 +118,7 @@ impl Place {
 }
 
 fn outside(byte: u8) -> (Place, Given)
-    ensures advances { (body : Held) → Advances machine.Outside (byte ∷ [])
+    ensures advances { (body : Held) → StepAdvances machine.Outside (byte ∷ [])
         (given_items result.1 body) (progress result.0 body) }
     ensures special { (body : Held) →
         HasNoRun place.Outside byte → AreSpecial (given_items result.1 body) }
@@ -132,7 +132,7 @@ fn outside(byte: u8) -> (Place, Given)
 }
 
 fn after_cr(byte: u8) -> (Place, Given)
-    ensures advances { (body : Held) → Advances machine.AfterCr (byte ∷ [])
+    ensures advances { (body : Held) → StepAdvances machine.AfterCr (byte ∷ [])
         (given_items result.1 body) (progress result.0 body) }
     ensures special { (body : Held) →
         HasNoRun place.AfterCr byte → AreSpecial (given_items result.1 body) }
@@ -148,7 +148,7 @@ fn after_cr(byte: u8) -> (Place, Given)
 }
 
 fn after_iac(body: &mut Body, byte: u8) -> (Place, Given)
-    ensures advances { Advances machine.AfterIac (byte ∷ [])
+    ensures advances { StepAdvances machine.AfterIac (byte ∷ [])
         (given_items result.1 body.new) (progress result.0 body.new) }
     ensures special { AreSpecial (given_items result.1 body.new) }
     ensures closes { result.1 ≢ given.Sub }
@@ -170,11 +170,11 @@ fn after_iac(body: &mut Body, byte: u8) -> (Place, Given)
 }
 
 fn inside(body: &mut Body, byte: u8) -> Result<(Place, Given), AllocError>
-    ensures ok { IfOk result (λ r. Advances (machine.Inside (gathered body.old)) (byte ∷ [])
+    ensures ok { IfOk result (λ r. StepAdvances (machine.Inside (gathered_of body.old)) (byte ∷ [])
         (given_items r.1 body.new) (progress r.0 body.new)) }
     ensures special { IfOk result (λ r. AreSpecial (given_items r.1 body.new)) }
     ensures closes { IfOk result (λ r. r.1 ≢ given.Sub) }
-    ensures err { OnErr result (Keeps (machine.Inside (gathered body.old)) byte) }
+    ensures err { OnErr result (KeepsByte (machine.Inside (gathered_of body.old)) byte) }
 {
     if byte == IAC {
         return Ok((Place::InsideIac, Given::Nothing));
@@ -184,11 +184,11 @@ fn inside(body: &mut Body, byte: u8) -> Result<(Place, Given), AllocError>
 }
 
 fn inside_iac(body: &mut Body, byte: u8) -> Result<(Place, Given), AllocError>
-    ensures ok { IfOk result (λ r. Advances (machine.InsideIac (gathered body.old)) (byte ∷ [])
+    ensures ok { IfOk result (λ r. StepAdvances (machine.InsideIac (gathered_of body.old)) (byte ∷ [])
         (given_items r.1 body.new) (progress r.0 body.new)) }
     ensures special { IfOk result (λ r. AreSpecial (given_items r.1 body.new)) }
     ensures closes { IfOk result (λ r. r.1 ≡ given.Sub → r.0 ≡ place.Outside) }
-    ensures err { OnErr result (Keeps (machine.InsideIac (gathered body.old)) byte) }
+    ensures err { OnErr result (KeepsByte (machine.InsideIac (gathered_of body.old)) byte) }
 {
     if byte == IAC {
         body.keep(IAC)?;

@@ -2,7 +2,7 @@
 use Rattle.std.specs.Prelude.{◌≡◌, ◌⊎◌, ℕ, ◌==◌, Bool, true, false, ◌&&◌, Option, None, option_to_list, Result, Ok, Err, List, [], ◌∷◌, ◌++◌}
 use Rattle.tn_codes.specs.declared.codes.Verb.{Verb}
 use Rattle.tn_codes.specs.declared.codes.Verb.TheVariants.{Will, Wont, DoIt, DontIt}
-use Rattle.tn_option.specs.Options.{Options, fresh, after_word, reply_to, after_wish, answer_to, state_of}
+use Rattle.tn_option.specs.Options.{Options, new_options, options_after_word, reply_to, options_after_wish, answer_to, state_of}
 use Rattle.tn_option.specs.declared.negotiation.Agree.{Agree}
 use Rattle.tn_option.specs.declared.q_method.AskFault.{AskFault}
 use Rattle.tn_option.specs.declared.q_method.Side.{Side}
@@ -28,35 +28,35 @@ abbrev pub asked_word : Result (Option (Verb × ℕ)) AskFault → Option (Verb 
 asked_word (Ok word) = word
 asked_word (Err fault) = None
 
-abbrev pub asked : Side → ℕ → Bool → EnginePair → EnginePair
-asked side code on e = record e {
-  here = after_wish e.here side code on;
+abbrev pub pair_after_ask : Side → ℕ → Bool → EnginePair → EnginePair
+pair_after_ask side code on e = record e {
+  here = options_after_wish e.here side code on;
   to_there = e.to_there ++ option_to_list (asked_word (answer_to e.here side code on));
 }
 
-abbrev pub got : List (Verb × ℕ) → EnginePair → EnginePair
-got [] e = e
-got (word ∷ rest) e = record e {
-  here = after_word e.here word.0 word.1;
+abbrev pub pair_after_word : List (Verb × ℕ) → EnginePair → EnginePair
+pair_after_word [] e = e
+pair_after_word (word ∷ rest) e = record e {
+  here = options_after_word e.here word.0 word.1;
   to_here = rest;
   to_there = e.to_there ++ option_to_list (reply_to e.here word.0 word.1);
 }
 
-abbrev pub turned : EnginePair → EnginePair
-turned e = record { here = e.there; there = e.here; to_here = e.to_there; to_there = e.to_here }
+abbrev pub turned_pair : EnginePair → EnginePair
+turned_pair e = record { here = e.there; there = e.here; to_here = e.to_there; to_there = e.to_here }
 
 abbrev pub engine_step : EngineStep → EnginePair → EnginePair
-engine_step (ask_here side code on) e = asked side code on e
-engine_step (ask_there side code on) e = turned (asked side code on (turned e))
-engine_step got_here e = got e.to_here e
-engine_step got_there e = turned (got e.to_there (turned e))
+engine_step (ask_here side code on) e = pair_after_ask side code on e
+engine_step (ask_there side code on) e = turned_pair (pair_after_ask side code on (turned_pair e))
+engine_step got_here e = pair_after_word e.to_here e
+engine_step got_there e = turned_pair (pair_after_word e.to_there (turned_pair e))
 
 abbrev pub engine_steps : List EngineStep → EnginePair → EnginePair
 engine_steps [] e = e
 engine_steps (first ∷ rest) e = engine_steps rest (engine_step first e)
 
 abbrev pub pair_of : Agree → Agree → EnginePair
-pair_of here there = record { here = fresh here; there = fresh there; to_here = []; to_there = [] }
+pair_of here there = record { here = new_options here; there = new_options there; to_here = []; to_there = [] }
 
 -- a word that an end hears is about this side of it
 abbrev pub is_about : Side → Verb → Bool
@@ -75,15 +75,15 @@ says_on Wont = false
 says_on DoIt = true
 says_on DontIt = false
 
-abbrev pub told_first : Bool → Bool → List Bool → List Bool
-told_first true on rest = on ∷ rest
-told_first false on rest = rest
+abbrev pub with_word_about : Bool → Bool → List Bool → List Bool
+with_word_about true on rest = on ∷ rest
+with_word_about false on rest = rest
 
 -- what the words on their way to an end say about this side of this option
-abbrev pub told : Side → ℕ → List (Verb × ℕ) → List Bool
-told side code [] = []
-told side code (word ∷ words) =
-    told_first (is_about side word.0 && (word.1 == code)) (says_on word.0) (told side code words)
+abbrev pub words_about : Side → ℕ → List (Verb × ℕ) → List Bool
+words_about side code [] = []
+words_about side code (word ∷ words) =
+    with_word_about (is_about side word.0 && (word.1 == code)) (says_on word.0) (words_about side code words)
 
 -- the side of the other end that is this side of this end
 abbrev pub facing : Side → Side
@@ -93,11 +93,11 @@ facing Them = Us
 -- where no word about an option is on its way, both ends have it on or both have it off
 abbrev pub EnginesAgree : EnginePair → Side → ℕ → Type 0
 EnginesAgree e side code =
-    told side code e.to_here ≡ [] → told (facing side) code e.to_there ≡ []
+    words_about side code e.to_here ≡ [] → words_about (facing side) code e.to_there ≡ []
     → ((state_of e.here side code ≡ Yes) × (state_of e.there (facing side) code ≡ Yes))
     ⊎ ((state_of e.here side code ≡ No) × (state_of e.there (facing side) code ≡ No))
 
 -- two ends are where some steps lead from two fresh ends
-pub record Paired (here there : Agree) (e : EnginePair) : Type 0 where
+pub record LeadTo (here there : Agree) (e : EnginePair) : Type 0 where
   pub list : List EngineStep
   pub is : engine_steps list (pair_of here there) ≡ e

@@ -32,9 +32,9 @@ pub data OptionStep : Type 0 where
   -- the next word comes, if there is one
   deliver : Side → Bool → OptionStep
 
-abbrev pub heard_as : Bool → Cause
-heard_as true = HeardOn
-heard_as false = HeardOff
+abbrev pub cause_of_word : Bool → Cause
+cause_of_word true = HeardOn
+cause_of_word false = HeardOff
 
 -- the word that an answer sends
 abbrev pub word_of : Answer → Option Bool
@@ -46,56 +46,56 @@ word_of answer.AlreadyAsked = None
 word_of answer.AlreadyQueued = None
 
 -- one for a wish that is accepted
-abbrev pub accepted : Answer → ℕ
-accepted answer.Nothing = 1
-accepted answer.SayOn = 1
-accepted answer.SayOff = 1
-accepted answer.AlreadySo = 0
-accepted answer.AlreadyAsked = 0
-accepted answer.AlreadyQueued = 0
+abbrev pub accepted_count : Answer → ℕ
+accepted_count answer.Nothing = 1
+accepted_count answer.SayOn = 1
+accepted_count answer.SayOff = 1
+accepted_count answer.AlreadySo = 0
+accepted_count answer.AlreadyAsked = 0
+accepted_count answer.AlreadyQueued = 0
 
-abbrev pub sent : List Bool → Option Bool → List Bool
-sent coming None = coming
-sent coming (Some word) = coming ++ (word ∷ [])
+abbrev pub with_word : List Bool → Option Bool → List Bool
+with_word coming None = coming
+with_word coming (Some word) = coming ++ (word ∷ [])
 
-abbrev pub count : Option Bool → ℕ
-count None = 0
-count (Some word) = 1
+abbrev pub word_count : Option Bool → ℕ
+word_count None = 0
+word_count (Some word) = 1
 
 -- the performing end takes a cell of the table: its next state, and the word that it sends
-abbrev pub cell_taken : QState × Answer → OptionWorld → OptionWorld
-cell_taken c w = record w {
+abbrev pub world_after_cell : QState × Answer → OptionWorld → OptionWorld
+world_after_cell c w = record w {
   performing = record w.performing { state = c.0 };
-  other = record w.other { coming = sent w.other.coming (word_of c.1) };
-  words = w.words + count (word_of c.1);
+  other = record w.other { coming = with_word w.other.coming (word_of c.1) };
+  words = w.words + word_count (word_of c.1);
 }
 
-abbrev pub wished : QState × Answer → OptionWorld → OptionWorld
-wished c w = record (cell_taken c w) { wishes = w.wishes + accepted c.1 }
+abbrev pub world_after_wish : QState × Answer → OptionWorld → OptionWorld
+world_after_wish c w = record (world_after_cell c w) { wishes = w.wishes + accepted_count c.1 }
 
-abbrev pub heard : Bool → List Bool → OptionWorld → OptionWorld
-heard agreed [] w = w
-heard agreed (word ∷ rest) w =
-    cell_taken (cell agreed (heard_as word) w.performing.state)
+abbrev pub world_after_word : Bool → List Bool → OptionWorld → OptionWorld
+world_after_word agreed [] w = w
+world_after_word agreed (word ∷ rest) w =
+    world_after_cell (cell agreed (cause_of_word word) w.performing.state)
     (record w { performing = record w.performing { coming = rest } })
 
 -- the two ends change places
-abbrev pub swapped : OptionWorld → OptionWorld
-swapped w = record w { performing = w.other; other = w.performing }
+abbrev pub swapped_world : OptionWorld → OptionWorld
+swapped_world w = record w { performing = w.other; other = w.performing }
 
 abbrev pub step : OptionStep → OptionWorld → OptionWorld
-step (wish Us agreed on) w = wished (cell agreed (wish_for on) w.performing.state) w
-step (wish Them agreed on) w = swapped (wished (cell agreed (wish_for on) w.other.state) (swapped w))
-step (deliver Us agreed) w = heard agreed w.performing.coming w
-step (deliver Them agreed) w = swapped (heard agreed w.other.coming (swapped w))
+step (wish Us agreed on) w = world_after_wish (cell agreed (wish_for on) w.performing.state) w
+step (wish Them agreed on) w = swapped_world (world_after_wish (cell agreed (wish_for on) w.other.state) (swapped_world w))
+step (deliver Us agreed) w = world_after_word agreed w.performing.coming w
+step (deliver Them agreed) w = swapped_world (world_after_word agreed w.other.coming (swapped_world w))
 
 abbrev pub steps : List OptionStep → OptionWorld → OptionWorld
 steps [] w = w
 steps (first ∷ rest) w = steps rest (step first w)
 
 -- the option is off at both ends, and nothing was wished or said
-abbrev pub opening : OptionWorld
-opening = record {
+abbrev pub opening_world : OptionWorld
+opening_world = record {
   performing = record { state = No; coming = [] };
   other = record { state = No; coming = [] };
   wishes = 0;

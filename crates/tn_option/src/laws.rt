@@ -3,9 +3,9 @@
 ghost use Rattle.std.specs.Prelude.{◌≡◌, ℕ, Bool, None, Some, List};
 ghost use Rattle.tn_codes.specs.declared.codes.Verb.{Verb};
 ghost use Rattle.tn_option.specs.QMethod.{side_of, cause_of, wish_for};
-ghost use Rattle.tn_option.specs.Options.{Options, known, after_word, after_wish, state_of};
+ghost use Rattle.tn_option.specs.Options.{Options, known_option, options_after_word, options_after_wish, state_of};
 ghost use Rattle.tn_option.specs.Laws.{MovesByCell, LeavesOthers, AgreesAsBefore};
-ghost use Rattle.tn_option.specs.OptionWorld.{OptionStep, steps, opening, EndsAgree, FewWords};
+ghost use Rattle.tn_option.specs.OptionWorld.{OptionStep, steps, opening_world, EndsAgree, FewWords};
 ghost use Rattle.tn_option.specs.EnginePair.{EngineStep, engine_steps, pair_of, EnginesAgree};
 ghost use Rattle.tn_option.specs.declared.known.Known.{Known};
 ghost use Rattle.tn_option.specs.declared.negotiation.Agree.{Agree};
@@ -14,43 +14,43 @@ ghost use Rattle.tn_option.specs.declared.q_method.QState.TheVariants.{No};
 
 /// A word or a wish about an option that is none of the four changes nothing.
 pub fn unknown_options_change_nothing()
-    ensures words { (o : Options) (verb : Verb) (code : ℕ) → known code ≡ None → after_word o verb code ≡ o }
-    ensures wishes { (o : Options) (side : Side) (code : ℕ) (on : Bool) → known code ≡ None
-        → after_wish o side code on ≡ o }
-    ensures states { (o : Options) (side : Side) (code : ℕ) → known code ≡ None → state_of o side code ≡ No }
+    ensures words { (o : Options) (verb : Verb) (code : ℕ) → known_option code ≡ None → options_after_word o verb code ≡ o }
+    ensures wishes { (o : Options) (side : Side) (code : ℕ) (on : Bool) → known_option code ≡ None
+        → options_after_wish o side code on ≡ o }
+    ensures states { (o : Options) (side : Side) (code : ℕ) → known_option code ≡ None → state_of o side code ≡ No }
 {}
 
 /// A word about one of the four options moves its side by one cell of the table, and leaves the
 /// other side, the other options and what this end agrees to.
 pub fn words_change_one_place()
-    ensures moves { (o : Options) (verb : Verb) (code : ℕ) (option : Known) → known code ≡ Some option
-        → MovesByCell o (after_word o verb code) (side_of verb) code (cause_of verb) }
-    ensures others { (o : Options) (verb : Verb) (code : ℕ) → LeavesOthers o (after_word o verb code)
+    ensures moves { (o : Options) (verb : Verb) (code : ℕ) (option : Known) → known_option code ≡ Some option
+        → MovesByCell o (options_after_word o verb code) (side_of verb) code (cause_of verb) }
+    ensures others { (o : Options) (verb : Verb) (code : ℕ) → LeavesOthers o (options_after_word o verb code)
         (side_of verb) code }
-    ensures agreement { (o : Options) (verb : Verb) (code : ℕ) → AgreesAsBefore o (after_word o verb code) }
+    ensures agreement { (o : Options) (verb : Verb) (code : ℕ) → AgreesAsBefore o (options_after_word o verb code) }
 {}
 
 /// A wish does so likewise.
 pub fn wishes_change_one_place()
     ensures moves { (o : Options) (side : Side) (code : ℕ) (on : Bool) (option : Known)
-        → known code ≡ Some option → MovesByCell o (after_wish o side code on) side code (wish_for on) }
+        → known_option code ≡ Some option → MovesByCell o (options_after_wish o side code on) side code (wish_for on) }
     ensures others { (o : Options) (side : Side) (code : ℕ) (on : Bool)
-        → LeavesOthers o (after_wish o side code on) side code }
+        → LeavesOthers o (options_after_wish o side code on) side code }
     ensures agreement { (o : Options) (side : Side) (code : ℕ) (on : Bool)
-        → AgreesAsBefore o (after_wish o side code on) }
+        → AgreesAsBefore o (options_after_wish o side code on) }
 {}
 
 /// Whatever the two ends wish, whatever each agrees to and whenever the words come: where no word
 /// about an option is on its way, it is on at both ends or off at both, and no more than two words
 /// were sent for each accepted wish.
 pub fn options_agree()
-    ensures ends { (list : List OptionStep) → EndsAgree (steps list opening) }
-    ensures words { (list : List OptionStep) → FewWords (steps list opening) }
+    ensures ends { (list : List OptionStep) → EndsAgree (steps list opening_world) }
+    ensures words { (list : List OptionStep) → FewWords (steps list opening_world) }
 {}
 
 /// The same of two whole ends, whose words about all options share the way: each of the four options,
 /// on either side, where no word about it is on its way.
 pub fn engines_agree()
     ensures { (here there : Agree) (list : List EngineStep) (side : Side) (code : ℕ) (option : Known)
-        → known code ≡ Some option → EnginesAgree (engine_steps list (pair_of here there)) side code }
+        → known_option code ≡ Some option → EnginesAgree (engine_steps list (pair_of here there)) side code }
 {}

@@ -3,7 +3,7 @@ use Rattle.std.specs.Prelude.{◌≡◌, ◌<◌, true, false, length}
 use Rattle.tn_discipline.specs.HalfLine.{GivesText}
 use Rattle.tn_discipline.specs.Keys.{gives_entry}
 use Rattle.tn_discipline.specs.declared.keys.Role.{Role}
-use Rattle.tn_pty.specs.Terminal.{Terminal, most_waiting, shut}
+use Rattle.tn_pty.specs.Terminal.{Terminal, most_waiting, shut_terminal}
 use Rattle.tn_pty.specs.declared.pty.PtyFault.{PtyFault}
 use Rattle.tn_pty.specs.declared.pty.PtyFault.TheVariants.{Closed, TooFarAhead, Memory}
 
@@ -17,5 +17,5 @@ pub record Accepts (old : Terminal) (r : Role) : Type 0 where
 abbrev pub Refuses : Terminal → Role → PtyFault → Terminal → Type 0
 Refuses old r Closed new = (old.closed ≡ true) × (new ≡ old)
 Refuses old r TooFarAhead new =
-    (old.closed ≡ false) × (gives_entry r ≡ true) × (length old.entries ≡ most_waiting) × (new ≡ shut old)
-Refuses old r Memory new = Accepts old r × GivesText old.line r × (new ≡ shut old)
+    (old.closed ≡ false) × (gives_entry r ≡ true) × (length old.entries ≡ most_waiting) × (new ≡ shut_terminal old)
+Refuses old r Memory new = Accepts old r × GivesText old.line r × (new ≡ shut_terminal old)

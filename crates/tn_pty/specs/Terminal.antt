@@ -20,8 +20,8 @@ pub record Terminal : Type 0 where
   pub closed : Bool
 
 -- a terminal at which nothing was typed, a line of which has at most so many bytes with its closing byte
-abbrev pub fresh : Settings → ℕ → Terminal
-fresh settings limit =
+abbrev pub new_terminal : Settings → ℕ → Terminal
+new_terminal settings limit =
     record {
       settings = settings;
       line = empty_line limit;
@@ -33,8 +33,8 @@ fresh settings limit =
     }
 
 -- a terminal that takes no key and no command any more
-abbrev pub shut : Terminal → Terminal
-shut old = record old { closed = true }
+abbrev pub shut_terminal : Terminal → Terminal
+shut_terminal old = record old { closed = true }
 
 -- how many symbols wait at most
 abbrev pub queue_symbols : ℕ
@@ -45,20 +45,20 @@ abbrev pub most_waiting : ℕ
 most_waiting = 1024
 
 -- the queue with these symbols behind it where all of them fit, else as it is
-abbrev pub fitted : List Symbol → List Symbol → List Symbol
-fitted queue symbols =
+abbrev pub queue_with : List Symbol → List Symbol → List Symbol
+queue_with queue symbols =
     if nat_le (length queue + length symbols) queue_symbols then queue ++ symbols else queue
 
 -- XBD 11.2.3, OPOST and ONLCR: how a byte of output is shown
-abbrev pub output : Flags → ℕ → Symbol
-output flags byte = if byte == 10 && (flags.opost && flags.onlcr) then Newline else Byte byte
+abbrev pub output_symbol : Flags → ℕ → Symbol
+output_symbol flags byte = if byte == 10 && (flags.opost && flags.onlcr) then Newline else Byte byte
 
-abbrev pub outputs : Flags → List ℕ → List Symbol
-outputs flags bytes = map (output flags) bytes
+abbrev pub output_symbols : Flags → List ℕ → List Symbol
+output_symbols flags bytes = map (output_symbol flags) bytes
 
 -- how many of these bytes of output fit behind the queue
-abbrev pub fits : List Symbol → List ℕ → ℕ
-fits queue bytes = min (length bytes) (queue_symbols - length queue)
+abbrev pub fitting_count : List Symbol → List ℕ → ℕ
+fitting_count queue bytes = min (length bytes) (queue_symbols - length queue)
 
 -- the first signal among these entries
 abbrev pub first_signal : List Entry → Option Sig

@@ -2,7 +2,7 @@
 use Rattle.std.specs.Prelude.{ℕ, Bool, Option, Some, None, List, [], ◌∷◌, ◌++◌, if◌then◌else◌}
 use Rattle.tn_codes.specs.declared.codes.Command.{Command}
 use Rattle.tn_codes.specs.declared.codes.Command.TheVariants as command
-use Rattle.tn_discipline.specs.HalfLine.{HalfLine, effect_of, line_after, gained}
+use Rattle.tn_discipline.specs.HalfLine.{HalfLine, effect_of, line_after, effect_entries}
 use Rattle.tn_discipline.specs.Keys.{role_of_key}
 use Rattle.tn_discipline.specs.Echo.{echo_at}
 use Rattle.tn_discipline.specs.declared.termios.Settings.{Settings}
@@ -12,30 +12,30 @@ use Rattle.tn_discipline.specs.declared.keys.Role.{Role}
 use Rattle.tn_discipline.specs.declared.keys.Role.TheVariants as role
 use Rattle.tn_discipline.specs.declared.echo.Symbol.{Symbol}
 use Rattle.tn_discipline.specs.declared.echo.Symbol.TheVariants.{Byte, Newline}
-use Rattle.tn_pty.specs.Terminal.{Terminal, fitted}
+use Rattle.tn_pty.specs.Terminal.{Terminal, queue_with}
 
 -- the entries that a key of this role gives at this line
 abbrev pub gain_of : HalfLine → Role → List Entry
-gain_of line r = gained (effect_of line r)
+gain_of line r = effect_entries (effect_of line r)
 
 -- those of the symbols that are there
-abbrev pub present : List (Option Symbol) → List Symbol
-present [] = []
-present (None ∷ rest) = present rest
-present (Some symbol ∷ rest) = symbol ∷ present rest
+abbrev pub symbols_in : List (Option Symbol) → List Symbol
+symbols_in [] = []
+symbols_in (None ∷ rest) = symbols_in rest
+symbols_in (Some symbol ∷ rest) = symbol ∷ symbols_in rest
 
 -- the echo of a key that comes at this line, where there is one
-abbrev pub echoed : Bool → Settings → ℕ → HalfLine → List Symbol
-echoed echo settings key line =
-    let r = role_of_key settings key in if echo then present (echo_at settings.flags r (effect_of line r)) else []
+abbrev pub echo_symbols : Bool → Settings → ℕ → HalfLine → List Symbol
+echo_symbols echo settings key line =
+    let r = role_of_key settings key in if echo then symbols_in (echo_at settings.flags r (effect_of line r)) else []
 
 -- the terminal after a key or command of this role, which is answered by these symbols
-abbrev pub typed : Terminal → Role → List Symbol → Terminal
-typed old r symbols =
+abbrev pub terminal_after : Terminal → Role → List Symbol → Terminal
+terminal_after old r symbols =
     record old {
       line = line_after old.line r;
       entries = old.entries ++ gain_of old.line r;
-      queue = fitted old.queue symbols;
+      queue = queue_with old.queue symbols;
     }
 
 -- RFC 854 and RFC 1184, section 2: the key that a command stands for. BRK is an interrupt here; commands that

@@ -1,9 +1,9 @@
 ghost use Rattle.std.specs.Prelude.{◌≡◌, ◌+◌, ◌-◌, ◌<◌, ◌≤◌, true, None, [], ◌++◌, ◌∷◌, length, map, take, drop, min, IfOk, IfErr, IfNone, IfSome, OnOk, OnErr, slice_get, option_copied, count_by, is_some, vec_len, vec_capacity};
 ghost use Rattle.tn_discipline.specs.Keys.{roles_of, role_of_key, literal_role, roles_from};
-ghost use Rattle.tn_discipline.specs.HalfLine.{effect_of, line_after, gained, GivesText};
-ghost use Rattle.tn_discipline.specs.Leaves.{Advances};
-ghost use Rattle.tn_pty.specs.Terminal.{fresh, fitted, outputs, output, fits, shut, first_signal};
-ghost use Rattle.tn_pty.specs.Typing.{gain_of, present, echoed, typed, command_role, command_shows, IsCommandRole};
+ghost use Rattle.tn_discipline.specs.HalfLine.{effect_of, line_after, effect_entries, GivesText};
+ghost use Rattle.tn_discipline.specs.Advancing.{Advances};
+ghost use Rattle.tn_pty.specs.Terminal.{new_terminal, queue_with, output_symbols, output_symbol, fitting_count, shut_terminal, first_signal};
+ghost use Rattle.tn_pty.specs.Typing.{gain_of, symbols_in, echo_symbols, terminal_after, command_role, command_shows, IsCommandRole};
 ghost use Rattle.tn_pty.specs.Faults.{Accepts, Refuses};
 ghost use Rattle.circular_buffer.specs.Buffer.{buffer};
 
@@ -84,7 +84,7 @@ impl Pair {
     /// A pair at which nothing was typed, of size (0, 0), a line of which has at most `limit` bytes with
     /// its closing byte. It makes the room for all that it will ever hold but the texts.
     pub fn new(alloc: Global, settings: Settings, limit: Limit) -> Result<Pair, AllocError>
-        ensures { IfOk result (λ pair. pair ≡ fresh settings limit) }
+        ensures { IfOk result (λ pair. pair ≡ new_terminal settings limit) }
     {
         Ok(Pair {
             settings,
@@ -105,8 +105,8 @@ impl Pair {
             let gain = gain_of self.old.line (role_of_key self.old.settings key) in
             OnOk result (Advances self.old.line roles gain self.new.line) }
         ensures pair { let role = role_of_key self.old.settings key in
-            let shown = echoed echo self.old.settings key self.old.line in
-            OnOk result (self.new ≡ typed self.old role shown) }
+            let shown = echo_symbols echo self.old.settings key self.old.line in
+            OnOk result (self.new ≡ terminal_after self.old role shown) }
         ensures accepted { OnOk result (Accepts self.old (role_of_key self.old.settings key)) }
         ensures refused { let role = role_of_key self.old.settings key in
             IfErr result (λ fault. Refuses self.old role fault self.new) }
@@ -133,7 +133,7 @@ impl Pair {
         ensures advances { let role = literal_role self.old.settings.chars byte in
             OnOk result (Advances self.old.line (role ∷ []) (gain_of self.old.line role) self.new.line) }
         ensures pair { let role = literal_role self.old.settings.chars byte in
-            OnOk result (self.new ≡ typed self.old role []) }
+            OnOk result (self.new ≡ terminal_after self.old role []) }
         ensures accepted { OnOk result (Accepts self.old (literal_role self.old.settings.chars byte)) }
         ensures refused { let role = literal_role self.old.settings.chars byte in
             IfErr result (λ fault. Refuses self.old role fault self.new) }
@@ -157,7 +157,7 @@ impl Pair {
         ensures advances { let role = command_role command in
             OnOk result (Advances self.old.line (roles_from role) (gain_of self.old.line role) self.new.line) }
         ensures pair { OnOk result
-            (self.new ≡ typed self.old (command_role command) (command_shows command)) }
+            (self.new ≡ terminal_after self.old (command_role command) (command_shows command)) }
         ensures accepted { OnOk result (Accepts self.old (command_role command)) }
         ensures refused { IfErr result (λ fault. Refuses self.old (command_role command) fault self.new) }
     {
@@ -245,8 +245,8 @@ impl Pair {
 
     /// The slave writes output. Its first bytes are taken, as many as symbols fit.
     pub fn write(&mut self, bytes: &[u8]) -> usize
-        ensures count { result ≡ fits self.old.queue bytes.now }
-        ensures pair { let shown = outputs self.old.settings.flags (take result bytes.now) in
+        ensures count { result ≡ fitting_count self.old.queue bytes.now }
+        ensures pair { let shown = output_symbols self.old.settings.flags (take result bytes.now) in
             self.new ≡ record self.old { queue = self.old.queue ++ shown } }
     {
         let flags = self.settings.flags;
@@ -288,7 +288,7 @@ impl Pair {
     // Why a key of this role is refused, before any memory is looked for.
     fn refusal(&self, role: Role) -> Option<PtyFault>
         ensures none { IfNone result (Accepts self.now role) }
-        ensures some { IfSome result (λ fault. Refuses self.now role fault (shut self.now)) }
+        ensures some { IfSome result (λ fault. Refuses self.now role fault (shut_terminal self.now)) }
         ensures within { length self.now.entries ≤ 1024 }
     {
         let is_full = self.entries.len() >= MOST_WAITING;
@@ -303,7 +303,7 @@ impl Pair {
 
     // No key and no command has an effect from now on.
     fn close(&mut self, fault: PtyFault) -> PtyFault
-        ensures pair { self.new ≡ shut self.old }
+        ensures pair { self.new ≡ shut_terminal self.old }
         ensures fault { result ≡ fault }
     {
         self.closed = true;
@@ -330,7 +330,7 @@ impl Pair {
     // Puts those of the symbols that are there into the queue, or none where they don't all fit.
     #[tactic(auto, using(crate::proofs::Shown::count_present))]
     fn show(&mut self, symbols: &[Option<Symbol>])
-        ensures { self.new ≡ record self.old { queue = fitted self.old.queue (present symbols.now) } }
+        ensures { self.new ≡ record self.old { queue = queue_with self.old.queue (symbols_in symbols.now) } }
     {
         if count_present(symbols) <= QUEUE_SYMBOLS - self.queue.len() {
             put_present(&mut self.queue, symbols);
@@ -339,8 +339,8 @@ impl Pair {
 
     // Puts the entry of an effect behind those that wait.
     fn keep(&mut self, effect: Effect)
-        requires { length self.old.entries + length (gained effect) ≤ 1024 }
-        ensures { self.new ≡ record self.old { entries = self.old.entries ++ gained effect } }
+        requires { length self.old.entries + length (effect_entries effect) ≤ 1024 }
+        ensures { self.new ≡ record self.old { entries = self.old.entries ++ effect_entries effect } }
     {
         if let Effect::Gives(entry) = effect {
             let _room = self.entries.try_push_back(entry);
@@ -364,7 +364,7 @@ fn role_of_command(command: Command) -> Role
 }
 
 fn answer_to(command: Command) -> &'static [Option<Symbol>]
-    ensures { present result.now ≡ command_shows command }
+    ensures { symbols_in result.now ≡ command_shows command }
 {
     match command {
         Command::Ayt => &YES,
@@ -380,8 +380,8 @@ fn count_present(symbols: &[Option<Symbol>]) -> usize
 
 // Puts those of the symbols that are there into a queue that has room.
 fn put_present(queue: &mut HeapCircularBuffer<Symbol>, symbols: &[Option<Symbol>])
-    requires { length queue.old.items + length (present symbols.now) ≤ queue.old.capacity }
-    ensures { queue.new ≡ buffer (queue.old.items ++ present symbols.now) queue.old.capacity }
+    requires { length queue.old.items + length (symbols_in symbols.now) ≤ queue.old.capacity }
+    ensures { queue.new ≡ buffer (queue.old.items ++ symbols_in symbols.now) queue.old.capacity }
 {
     for symbol in symbols {
         if let Some(symbol) = symbol {
@@ -393,7 +393,7 @@ fn put_present(queue: &mut HeapCircularBuffer<Symbol>, symbols: &[Option<Symbol>
 // Puts the bytes into a queue that has room.
 fn put_bytes(queue: &mut HeapCircularBuffer<Symbol>, flags: &Flags, bytes: &[u8])
     requires { length queue.old.items + length bytes.now ≤ queue.old.capacity }
-    ensures { queue.new ≡ buffer (queue.old.items ++ outputs flags.now bytes.now) queue.old.capacity }
+    ensures { queue.new ≡ buffer (queue.old.items ++ output_symbols flags.now bytes.now) queue.old.capacity }
 {
     for byte in bytes {
         let _room = queue.try_push_back(symbol_of(flags, *byte));
@@ -401,7 +401,7 @@ fn put_bytes(queue: &mut HeapCircularBuffer<Symbol>, flags: &Flags, bytes: &[u8]
 }
 
 fn symbol_of(flags: &Flags, byte: u8) -> Symbol
-    ensures { result ≡ output flags.now byte }
+    ensures { result ≡ output_symbol flags.now byte }
 {
     if byte == b'\n' && flags.opost && flags.onlcr {
         Symbol::Newline

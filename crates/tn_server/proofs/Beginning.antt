@@ -3,22 +3,22 @@ use Rattle.std.proofs.Common.{◌≡◌, ℕ, Bool, true, false, [], refl, sym, 
 use Rattle.tn_discipline.specs.Canon.{Canon}
 use Rattle.tn_linemode.specs.Modes.{no_mode}
 use Rattle.tn_option.specs.Options.{Options}
-use Rattle.tn_pty.specs.Terminal.{fresh}
+use Rattle.tn_pty.specs.Terminal.{new_terminal}
 use Rattle.tn_server.specs.Events.{begun}
-use Rattle.tn_server.specs.Terms.{opened, linemode, asked_while}
-use Rattle.tn_server.specs.Standing.{End, Stands}
+use Rattle.tn_server.specs.Terms.{opening_options, linemode, asked_mask_while}
+use Rattle.tn_server.specs.Calls.{End, LeadsTo}
 
 -- with no wish nothing is asked
-pub nothing_asked : (on : Bool) → asked_while on 0 ≡ 0
+pub nothing_asked : (on : Bool) → asked_mask_while on 0 ≡ 0
 nothing_asked true = refl
 nothing_asked false = refl
 
-pub begins : (canon : Canon) (end : End) → end.terminal ≡ fresh canon.settings canon.limit → end.table ≡ canon.settings.chars → end.terms.options ≡ opened → end.terms.wish ≡ 0 → end.modes ≡ no_mode → end.pulled ≡ false → Stands (begun canon) end
+pub begins : (canon : Canon) (end : End) → end.terminal ≡ new_terminal canon.settings canon.limit → end.table ≡ canon.settings.chars → end.terms.options ≡ opening_options → end.terms.wish ≡ 0 → end.modes ≡ no_mode → end.pulled ≡ false → LeadsTo (begun canon) end
 begins canon end terminal table options wish modes pulled = record {
   settings = ap (λ t. t.settings) terminal;
   table = table;
-  terms = ap (λ (o : Options). record { options = o; wish = end.terms.wish }) options ∙ ap (λ (w : ℕ). record { options = opened; wish = w }) wish;
-  modes = modes ∙ ap (λ (n : ℕ). record { asked = n; current = 0 }) (sym (nothing_asked (linemode opened)));
+  terms = ap (λ (o : Options). record { options = o; wish = end.terms.wish }) options ∙ ap (λ (w : ℕ). record { options = opening_options; wish = w }) wish;
+  modes = modes ∙ ap (λ (n : ℕ). record { asked = n; current = 0 }) (sym (nothing_asked (linemode opening_options)));
   limit = ap (λ t. t.line.limit) terminal;
   leaves = rw (ap (λ t. t.line) terminal) (record { sent = []; count = refl; bytes = refl });
   ahead = ap (λ t. t.line.ahead) terminal;

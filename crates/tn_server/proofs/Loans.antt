@@ -2,8 +2,9 @@
 use Rattle.std.proofs.Common.{◌≡◌, ◌≢◌, ◌↔◌, true, false, ℕ, List, [], ◌∷◌, ◌++◌, Result, Err, OnOk, IsErrOf, refl, sym, ap, ◌∙◌, append-nil, append_assoc, subst}
 use Rattle.tn_discipline.specs.declared.characters.CharFault.{CharFault}
 use Rattle.tn_nvt.specs.Spelling.{spells}
-use Rattle.tn_nvt.specs.Sinks.{TakesEach, Hands, Refuses as RefusesRest, Wants, all_of, calls_of, bytes_of}
-use Rattle.tn_nvt.specs.Standing.{Standing, failed, Adds}
+use Rattle.tn_nvt.specs.Sinks.{TakesEach, FeedsTo, StopsAtSink as RefusesRest, StopsForMemory, all_of, calls_of, bytes_of}
+use Rattle.tn_nvt.specs.Feeding.{DecoderState, failed}
+use Rattle.tn_nvt.specs.Feeding as decoder_words
 use Rattle.tn_nvt.specs.declared.decoding.NvtFault.{NvtFault}
 use Rattle.tn_nvt.specs.declared.decoding.NvtFault.TheVariants as nvt
 use Rattle.tn_nvt.specs.declared.items.Item.{Item}
@@ -11,9 +12,9 @@ use Rattle.tn_nvt.proofs.lemmas.Folding.{taken_all, refused_items, kept_by_all}
 use Rattle.tn_pty.specs.declared.pty.PtyFault.TheVariants.{Closed}
 use Rattle.tn_server.specs.Events.{History, got, gets}
 use Rattle.tn_server.specs.Faults.{IsOfItem}
-use Rattle.tn_server.specs.Replies.{sent}
-use Rattle.tn_server.specs.Standing.{End, Stands, Goes, Gets, Feeds, Refuses, Halts}
-use Rattle.tn_server.specs.Lending.{IsSameLoan, Takes, RefusesOne}
+use Rattle.tn_server.specs.Replies.{items_said}
+use Rattle.tn_server.specs.Calls.{End, LeadsTo, Advances, AdvancesAll, Feeds, RefusesItem, StopsWithin}
+use Rattle.tn_server.specs.Lending.{IsSameLoan, TakesItems, RefusesItems}
 use Rattle.tn_server.specs.declared.faults.ServerFault.{ServerFault}
 use Rattle.tn_server.specs.declared.faults.ServerFault.TheVariants.{Pty, Memory, Failed, Char}
 use Rattle.tn_server.specs.declared.taking.Lent.{Lent}
@@ -21,11 +22,11 @@ use Rattle.tn_wire.proofs.lemmas.Cutting.{spelled_on}
 use Rattle.tn_server.proofs.Passing.{gets_none, gets_one, gets_both, stands_decoder, stops_at}
 
 -- ONE CALL
-pub took_item : (a b : Lent) (item : Item) → IsSameLoan a b → Goes a.end.now (got item) a.out.now.items b.out.now.items b.end.now → b.end.now.failed ≡ a.end.now.failed → b.cause ≡ a.cause → Takes a (item ∷ []) b
+pub took_item : (a b : Lent) (item : Item) → IsSameLoan a b → Advances a.end.now (got item) a.out.now.items b.out.now.items b.end.now → b.end.now.failed ≡ a.end.now.failed → b.cause ≡ a.cause → TakesItems a (item ∷ []) b
 took_item a b item same goes runs cause =
     record { same = same; gets = gets_one a.end.now b.end.now item a.out.now.items b.out.now.items goes; failed = runs; cause = cause }
 
-pub refused_item : (a b : Lent) (item : Item) → IsSameLoan a b → Refuses a.end.now item b.cause a.out.now.items b.out.now.items b.end.now → IsOfItem b.cause → (b.cause ≡ Pty Closed → a.end.now.terminal.closed ≡ true) → RefusesOne a (item ∷ []) b
+pub refused_item : (a b : Lent) (item : Item) → IsSameLoan a b → RefusesItem a.end.now item b.cause a.out.now.items b.out.now.items b.end.now → IsOfItem b.cause → (b.cause ≡ Pty Closed → a.end.now.terminal.closed ≡ true) → RefusesItems a (item ∷ []) b
 refused_item a b item same r of shut = record {
   same = same;
   stops = stops_at a.end.now a.end.now b.end.now (item ∷ []) [] [] item b.cause a.out.now.items a.out.now.items b.out.now.items refl (gets_none a.end.now a.out.now.items) r;
@@ -35,47 +36,47 @@ refused_item a b item same r of shut = record {
 
 -- ALL CALLS
 abbrev GetsBy : Lent → List Item → Lent → Type 0
-GetsBy a items b = Gets a.end.now items a.out.now.items b.out.now.items b.end.now
+GetsBy a items b = AdvancesAll a.end.now items a.out.now.items b.out.now.items b.end.now
 
-gets_all : (a b : Lent) (calls : List (List Item)) → TakesEach Takes a calls b → GetsBy a (all_of calls) b
+gets_all : (a b : Lent) (calls : List (List Item)) → TakesEach TakesItems a calls b → GetsBy a (all_of calls) b
 gets_all a b calls t =
-    taken_all Takes RefusesOne GetsBy (λ x. gets_none x.end.now x.out.now.items) (λ x y z xs ys u g. gets_both _ _ _ xs ys _ _ _ u.gets g) a b calls t
+    taken_all TakesItems RefusesItems GetsBy (λ x. gets_none x.end.now x.out.now.items) (λ x y z xs ys u g. gets_both _ _ _ xs ys _ _ _ u.gets g) a b calls t
 
-failed_all : (a b : Lent) (calls : List (List Item)) → TakesEach Takes a calls b → b.end.now.failed ≡ a.end.now.failed
+failed_all : (a b : Lent) (calls : List (List Item)) → TakesEach TakesItems a calls b → b.end.now.failed ≡ a.end.now.failed
 failed_all a b calls t =
-    taken_all Takes RefusesOne (λ x _ y. y.end.now.failed ≡ x.end.now.failed) (λ x. refl) (λ x y z xs ys u e. e ∙ u.failed) a b calls t
+    taken_all TakesItems RefusesItems (λ x _ y. y.end.now.failed ≡ x.end.now.failed) (λ x. refl) (λ x y z xs ys u e. e ∙ u.failed) a b calls t
 
-cause_all : (a b : Lent) (calls : List (List Item)) → TakesEach Takes a calls b → b.cause ≡ a.cause
+cause_all : (a b : Lent) (calls : List (List Item)) → TakesEach TakesItems a calls b → b.cause ≡ a.cause
 cause_all a b calls t =
-    taken_all Takes RefusesOne (λ x _ y. y.cause ≡ x.cause) (λ x. refl) (λ x y z xs ys u e. e ∙ u.cause) a b calls t
+    taken_all TakesItems RefusesItems (λ x _ y. y.cause ≡ x.cause) (λ x. refl) (λ x y z xs ys u e. e ∙ u.cause) a b calls t
 
 -- whatever the decoder answered
-pub same_loan : (r : Result (Unit {0}) NvtFault) (old new : Standing) (piece : List ℕ) (a b : Lent) → OnOk r (Hands Takes old piece a b new) → (IsErrOf r nvt.Refused → RefusesRest Takes RefusesOne old piece a b) → (IsErrOf r nvt.Memory → Wants Takes old piece a b) → (IsErrOf r nvt.Failed → b ≡ a) → IsSameLoan a b
-same_loan = kept_by_all Takes RefusesOne IsSameLoan (λ x. record { end = refl; out = refl }) (λ x y z p q. record { end = q.end ∙ p.end; out = q.out ∙ p.out }) (λ x y xs t. t.same) (λ x y xs t. t.same)
+pub same_loan : (r : Result (Unit {0}) NvtFault) (old new : DecoderState) (piece : List ℕ) (a b : Lent) → OnOk r (FeedsTo TakesItems old piece a b new) → (IsErrOf r nvt.Refused → RefusesRest TakesItems RefusesItems old piece a b) → (IsErrOf r nvt.Memory → StopsForMemory TakesItems old piece a b) → (IsErrOf r nvt.Failed → b ≡ a) → IsSameLoan a b
+same_loan = kept_by_all TakesItems RefusesItems IsSameLoan (λ x. record { end = refl; out = refl }) (λ x y z p q. record { end = q.end ∙ p.end; out = q.out ∙ p.out }) (λ x y xs t. t.same) (λ x y xs t. t.same)
 
 -- the end was lent without its decoder
-lends : (h : History) (old : End) (held : Standing) (a : Lent) → a.end.now ≡ record old { decoder = held } → Stands h old → Stands h a.end.now
-lends h old held a began s = subst (Stands h) (sym began) (stands_decoder h old held s)
+lends : (h : History) (old : End) (held : DecoderState) (a : Lent) → a.end.now ≡ record old { decoder = held } → LeadsTo h old → LeadsTo h a.end.now
+lends h old held a began s = subst (LeadsTo h) (sym began) (stands_decoder h old held s)
 
-stands_failed : (h : History) (old : End) (d : Standing) → Stands h old → Stands h (record old { decoder = d; failed = true })
+stands_failed : (h : History) (old : End) (d : DecoderState) → LeadsTo h old → LeadsTo h (record old { decoder = d; failed = true })
 stands_failed h old d s = record { settings = s.settings; table = s.table; terms = s.terms; modes = s.modes; limit = s.limit; leaves = s.leaves; ahead = s.ahead; read = s.read; count = s.count; waits = s.waits; queue = s.queue; size = s.size; due = s.due }
 
 -- it comes back, and has failed
-comes_back : (h : History) (b : Lent) (d : Standing) (new : End) → new ≡ record b.end.now { decoder = d; failed = true } → Stands h b.end.now → Stands h new
-comes_back h b d new is s = subst (Stands h) (sym is) (stands_failed h b.end.now d s)
+comes_back : (h : History) (b : Lent) (d : DecoderState) (new : End) → new ≡ record b.end.now { decoder = d; failed = true } → LeadsTo h b.end.now → LeadsTo h new
+comes_back h b d new is s = subst (LeadsTo h) (sym is) (stands_failed h b.end.now d s)
 
 -- a piece that was read to its end
-pub feeds_of : (old new : End) (held d : Standing) (piece after : List ℕ) (a b : Lent) → a.end.now ≡ record old { decoder = held } → Hands Takes old.decoder piece a b d → new ≡ record b.end.now { decoder = d } → after ≡ b.out.now.items → Feeds old piece a.out.now.items after new
+pub feeds_of : (old new : End) (held d : DecoderState) (piece after : List ℕ) (a b : Lent) → a.end.now ≡ record old { decoder = held } → FeedsTo TakesItems old.decoder piece a b d → new ≡ record b.end.now { decoder = d } → after ≡ b.out.now.items → Feeds old piece a.out.now.items after new
 feeds_of old new held d piece after a b began hands is outs =
     let items = all_of (calls_of hands.parts) in
     let g = gets_all a b (calls_of hands.parts) hands.taken in
     record {
       items = items;
-      reads = subst (λ (e : Standing). Adds old.decoder piece items e) (sym (ap (λ (e : End). e.decoder) is)) hands.adds;
+      reads = subst (λ (e : DecoderState). decoder_words.Advances old.decoder piece items e) (sym (ap (λ (e : End). e.decoder) is)) hands.adds;
       said = g.said;
       appended = outs ∙ g.appended;
       sends = λ h s. g.sends h (lends h old held a began s);
-      stands = λ h s. subst (Stands (gets h items)) (sym is) (stands_decoder (gets h items) b.end.now d (g.stands h (lends h old held a began s)));
+      stands = λ h s. subst (LeadsTo (gets h items)) (sym is) (stands_decoder (gets h items) b.end.now d (g.stands h (lends h old held a began s)));
       failed = ap (λ (e : End). e.failed) is ∙ failed_all a b (calls_of hands.parts) hands.taken ∙ ap (λ (e : End). e.failed) began;
       closed = ap (λ (e : End). e.terminal.closed) is ∙ g.closed ∙ ap (λ (e : End). e.terminal.closed) began;
     }
@@ -87,13 +88,13 @@ four_parts taken done left unseen item call is =
     ∙ ap (λ (xs : List Item). taken ++ xs) (append_assoc done (item ∷ left) unseen)
     ∙ sym (append_assoc taken done (item ∷ left ++ unseen))
 
-halts_at : (old new : End) (held d : Standing) (piece after : List ℕ) (a b : Lent) → a.end.now ≡ record old { decoder = held } → RefusesRest Takes RefusesOne old.decoder piece a b → new ≡ record b.end.now { decoder = d; failed = true } → after ≡ b.out.now.items → Halts old piece b.cause a.out.now.items after new
+halts_at : (old new : End) (held d : DecoderState) (piece after : List ℕ) (a b : Lent) → a.end.now ≡ record old { decoder = held } → RefusesRest TakesItems RefusesItems old.decoder piece a b → new ≡ record b.end.now { decoder = d; failed = true } → after ≡ b.out.now.items → StopsWithin old piece b.cause a.out.now.items after new
 halts_at old new held d piece after a b began r is outs =
     let t = r.given_up.stops in
     let done = all_of r.done ++ t.done in
     let unseen = all_of r.unseen in
-    let g : Gets a.end.now done a.out.now.items t.between t.mid = gets_both _ _ _ (all_of r.done) t.done _ _ _ (gets_all a r.middle r.done r.taken) t.gets in
-    let stood : (h : History) → Stands h old → Stands (gets h done) t.mid = λ h s. g.stands h (lends h old held a began s) in
+    let g : AdvancesAll a.end.now done a.out.now.items t.between t.mid = gets_both _ _ _ (all_of r.done) t.done _ _ _ (gets_all a r.middle r.done r.taken) t.gets in
+    let stood : (h : History) → LeadsTo h old → LeadsTo (gets h done) t.mid = λ h s. g.stands h (lends h old held a began s) in
     record {
       front = bytes_of r.parts;
       back = r.back;
@@ -101,7 +102,7 @@ halts_at old new held d piece after a b began r is outs =
       done = done;
       left = t.item ∷ t.left ++ unseen;
       here = r.here;
-      reads = subst (λ (xs : List Item). Adds old.decoder (bytes_of r.parts) xs r.here) (refused_items Takes RefusesOne old.decoder piece a b r ∙ four_parts (all_of r.done) t.done t.left unseen t.item r.left t.whole) r.adds;
+      reads = subst (λ (xs : List Item). decoder_words.Advances old.decoder (bytes_of r.parts) xs r.here) (refused_items TakesItems RefusesItems old.decoder piece a b r ∙ four_parts (all_of r.done) t.done t.left unseen t.item r.left t.whole) r.adds;
       said = g.said;
       part = t.refuses.said;
       appended = outs ∙ spelled_on g.said t.refuses.said a.out.now.items t.between b.out.now.items g.appended t.refuses.appended;
@@ -111,7 +112,7 @@ halts_at old new held d piece after a b began r is outs =
       stands = λ h s. comes_back (gets h done) b d new is (t.refuses.stands (gets h done) (stood h s));
     }
 
-halts_after : (old new : End) (held d : Standing) (piece after : List ℕ) (a b : Lent) → a.end.now ≡ record old { decoder = held } → Wants Takes old.decoder piece a b → new ≡ record b.end.now { decoder = d; failed = true } → after ≡ b.out.now.items → Halts old piece Memory a.out.now.items after new
+halts_after : (old new : End) (held d : DecoderState) (piece after : List ℕ) (a b : Lent) → a.end.now ≡ record old { decoder = held } → StopsForMemory TakesItems old.decoder piece a b → new ≡ record b.end.now { decoder = d; failed = true } → after ≡ b.out.now.items → StopsWithin old piece Memory a.out.now.items after new
 halts_after old new held d piece after a b began w is outs =
     let items = all_of (calls_of w.parts) in
     let g = gets_all a b (calls_of w.parts) w.taken in
@@ -122,7 +123,7 @@ halts_after old new held d piece after a b began w is outs =
       done = items;
       left = [];
       here = w.here;
-      reads = subst (λ (xs : List Item). Adds old.decoder (bytes_of w.parts) xs w.here) (sym (append-nil items)) w.adds;
+      reads = subst (λ (xs : List Item). decoder_words.Advances old.decoder (bytes_of w.parts) xs w.here) (sym (append-nil items)) w.adds;
       said = g.said;
       part = [];
       appended = outs ∙ g.appended ∙ ap (λ (xs : List Item). a.out.now.items ++ spells xs) (sym (append-nil g.said));
@@ -133,7 +134,7 @@ halts_after old new held d piece after a b began w is outs =
     }
 
 -- a decoder that has failed reads nothing
-halts_unread : (old new : End) (held d : Standing) (piece after : List ℕ) (a b : Lent) → a.end.now ≡ record old { decoder = held } → old.decoder ≡ failed → b ≡ a → new ≡ record b.end.now { decoder = d; failed = true } → after ≡ b.out.now.items → Halts old piece Memory a.out.now.items after new
+halts_unread : (old new : End) (held d : DecoderState) (piece after : List ℕ) (a b : Lent) → a.end.now ≡ record old { decoder = held } → old.decoder ≡ failed → b ≡ a → new ≡ record b.end.now { decoder = d; failed = true } → after ≡ b.out.now.items → StopsWithin old piece Memory a.out.now.items after new
 halts_unread old new held d piece after a b began dead same is outs = record {
   front = [];
   back = piece;
@@ -145,21 +146,21 @@ halts_unread old new held d piece after a b began dead same is outs = record {
   said = [];
   part = [];
   appended = outs ∙ ap (λ (x : Lent). x.out.now.items) same ∙ sym (append-nil a.out.now.items);
-  sends = λ h s. sym (append-nil (sent h));
+  sends = λ h s. sym (append-nil (items_said h));
   begins = λ h s. ([], refl);
   cause = λ on h s. absurd (on dead);
-  stands = λ h s. comes_back h b d new is (subst (λ (x : Lent). Stands h x.end.now) (sym same) (lends h old held a began s));
+  stands = λ h s. comes_back h b d new is (subst (λ (x : Lent). LeadsTo h x.end.now) (sym same) (lends h old held a began s));
 }
 
-pub halts_of : (r : Result (Unit {0}) NvtFault) (e : NvtFault) → r ≡ Err e → (old new : End) (held d : Standing) (piece after : List ℕ) (a b : Lent) → a.cause ≡ Memory → a.end.now ≡ record old { decoder = held } → (IsErrOf r nvt.Refused → RefusesRest Takes RefusesOne old.decoder piece a b) → (IsErrOf r nvt.Memory → Wants Takes old.decoder piece a b) → (IsErrOf r nvt.Failed ↔ (old.decoder ≡ failed)) → (IsErrOf r nvt.Failed → b ≡ a) → new ≡ record b.end.now { decoder = d; failed = true } → after ≡ b.out.now.items → Halts old piece b.cause a.out.now.items after new
+pub halts_of : (r : Result (Unit {0}) NvtFault) (e : NvtFault) → r ≡ Err e → (old new : End) (held d : DecoderState) (piece after : List ℕ) (a b : Lent) → a.cause ≡ Memory → a.end.now ≡ record old { decoder = held } → (IsErrOf r nvt.Refused → RefusesRest TakesItems RefusesItems old.decoder piece a b) → (IsErrOf r nvt.Memory → StopsForMemory TakesItems old.decoder piece a b) → (IsErrOf r nvt.Failed ↔ (old.decoder ≡ failed)) → (IsErrOf r nvt.Failed → b ≡ a) → new ≡ record b.end.now { decoder = d; failed = true } → after ≡ b.out.now.items → StopsWithin old piece b.cause a.out.now.items after new
 halts_of r nvt.Refused e old new held d piece after a b none began refused memory dead same is outs = halts_at old new held d piece after a b began (refused e) is outs
 halts_of r nvt.Memory e old new held d piece after a b none began refused memory dead same is outs =
     let w = memory e in
     let cause = cause_all a b (calls_of w.parts) w.taken ∙ none in
-    subst (λ (f : ServerFault). Halts old piece f a.out.now.items after new) (sym cause) (halts_after old new held d piece after a b began w is outs)
+    subst (λ (f : ServerFault). StopsWithin old piece f a.out.now.items after new) (sym cause) (halts_after old new held d piece after a b began w is outs)
 halts_of r nvt.Failed e old new held d piece after a b none began refused memory dead same is outs =
     let cause = ap (λ (x : Lent). x.cause) (same e) ∙ none in
-    subst (λ (f : ServerFault). Halts old piece f a.out.now.items after new) (sym cause) (halts_unread old new held d piece after a b began (dead.0 e) (same e) is outs)
+    subst (λ (f : ServerFault). StopsWithin old piece f a.out.now.items after new) (sym cause) (halts_unread old new held d piece after a b began (dead.0 e) (same e) is outs)
 
 -- why a piece was refused
 record IsCauseOf (old : End) (f : ServerFault) : Type 0 where
@@ -171,7 +172,7 @@ for_memory old f is =
     let here : IsCauseOf old Memory = record { is_of_item = tt; shut = λ e. absurd (cc) } in
     subst (IsCauseOf old) (sym is) here
 
-for_any : (r : Result (Unit {0}) NvtFault) (e : NvtFault) → r ≡ Err e → (old : Standing) (piece : List ℕ) (a b : Lent) → a.cause ≡ Memory → (IsErrOf r nvt.Refused → RefusesRest Takes RefusesOne old piece a b) → (IsErrOf r nvt.Memory → Wants Takes old piece a b) → (IsErrOf r nvt.Failed → b ≡ a) → IsCauseOf a.end.now b.cause
+for_any : (r : Result (Unit {0}) NvtFault) (e : NvtFault) → r ≡ Err e → (old : DecoderState) (piece : List ℕ) (a b : Lent) → a.cause ≡ Memory → (IsErrOf r nvt.Refused → RefusesRest TakesItems RefusesItems old piece a b) → (IsErrOf r nvt.Memory → StopsForMemory TakesItems old piece a b) → (IsErrOf r nvt.Failed → b ≡ a) → IsCauseOf a.end.now b.cause
 for_any r nvt.Refused e old piece a b none refused memory same =
     let f = refused e in
     record { is_of_item = f.given_up.is_of_item; shut = λ c. sym (gets_all a f.middle f.done f.taken).closed ∙ f.given_up.shut c }
@@ -205,7 +206,7 @@ pub record IsRefusal (old : End) (f : ServerFault) : Type 0 where
   pub no_char : (c : CharFault) → ◌≢◌ {A = Result (Unit {0}) ServerFault} (Err f) (Err (Char c))
   pub shut : IsErrOf {T = Unit {0}} (Err f) (Pty Closed) → old.terminal.closed ≡ true
 
-pub is_refusal : (r : Result (Unit {0}) NvtFault) (e : NvtFault) → r ≡ Err e → (old : Standing) (piece : List ℕ) (a b : Lent) → a.cause ≡ Memory → (IsErrOf r nvt.Refused → RefusesRest Takes RefusesOne old piece a b) → (IsErrOf r nvt.Memory → Wants Takes old piece a b) → (IsErrOf r nvt.Failed → b ≡ a) → IsRefusal a.end.now b.cause
+pub is_refusal : (r : Result (Unit {0}) NvtFault) (e : NvtFault) → r ≡ Err e → (old : DecoderState) (piece : List ℕ) (a b : Lent) → a.cause ≡ Memory → (IsErrOf r nvt.Refused → RefusesRest TakesItems RefusesItems old piece a b) → (IsErrOf r nvt.Memory → StopsForMemory TakesItems old piece a b) → (IsErrOf r nvt.Failed → b ≡ a) → IsRefusal a.end.now b.cause
 is_refusal r e is old piece a b none refused memory same =
     let c = for_any r e is old piece a b none refused memory same in
     record { runs = never_failed b.cause c.is_of_item; no_char = never_char b.cause c.is_of_item; shut = λ f. c.shut (same_fault b.cause (Pty Closed) f) }

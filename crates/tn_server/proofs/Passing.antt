@@ -2,20 +2,20 @@
 use Rattle.std.proofs.Common.{◌≡◌, inl, inr, ℕ, ◌+◌, ◌<◌, List, [], ◌∷◌, ◌++◌, length, map, take, drop, get_or, true, Err, IsErrOf, refl, sym, ap, ◌∙◌, subst, append-nil, append_assoc}
 use Rattle.std.proofs.lemmas.List.{take_more, drop_more, take-append-drop, map-append}
 use Rattle.tn_discipline.specs.declared.keys.Role.{Role}
-use Rattle.tn_nvt.specs.Standing.{Standing}
+use Rattle.tn_nvt.specs.Feeding.{DecoderState}
 use Rattle.tn_nvt.specs.declared.items.Item.{Item}
 use Rattle.tn_nvt.specs.declared.items.Item.TheVariants.{Byte, Sub}
-use Rattle.tn_pty.specs.Terminal.{shut}
+use Rattle.tn_pty.specs.Terminal.{shut_terminal}
 use Rattle.tn_pty.specs.declared.pty.PtyFault.{PtyFault}
 use Rattle.tn_pty.specs.declared.pty.PtyFault.TheVariants as pty
 use Rattle.tn_pty.specs.declared.pty.PtyFault.TheVariants.{Closed, TooFarAhead}
 use Rattle.tn_server.specs.Events.{History, got, gets}
 use Rattle.tn_server.specs.Faults.{IsCause}
-use Rattle.tn_server.specs.Replies.{replies, sent}
+use Rattle.tn_server.specs.Replies.{replies, items_said}
 use Rattle.tn_server.specs.Terms.{payload_at}
-use Rattle.tn_server.specs.Standing.{End, Stands, Goes, Gets, Refuses, Stops}
-use Rattle.tn_server.specs.Steps.{IsShut, IsKeyCause, CanGrow, role_typed, typed_byte, says_got, says_sub}
-use Rattle.tn_wire.specs.Fronts.{Cuts}
+use Rattle.tn_server.specs.Calls.{End, LeadsTo, Advances, AdvancesAll, RefusesItem, StopsWithinItems}
+use Rattle.tn_server.specs.Steps.{IsShut, IsKeyCause, MayWantMemory, role_of_typed, end_after_byte, says_got, says_sub}
+use Rattle.tn_wire.specs.Fronts.{AppendsFront}
 use Rattle.tn_server.specs.declared.faults.ServerFault.{ServerFault}
 use Rattle.tn_server.specs.declared.faults.ServerFault.TheVariants.{Pty, Memory}
 use Rattle.tn_server.proofs.Causes.{typed_cause, sub_cause}
@@ -25,47 +25,47 @@ use Rattle.tn_server.proofs.lemmas.Histories.{gets-append}
 use Rattle.tn_server.proofs.Standings.{replies_got}
 use Rattle.tn_server.proofs.Turning.{IsSound, sound, goes_typed}
 
-pub gets_none : (old : End) (before : List ℕ) → Gets old [] before before old
+pub gets_none : (old : End) (before : List ℕ) → AdvancesAll old [] before before old
 gets_none old before = record {
   said = [];
   appended = sym (append-nil before);
-  sends = λ h s. sym (append-nil (sent h));
+  sends = λ h s. sym (append-nil (items_said h));
   stands = λ h s. s;
   closed = refl;
 }
 
 -- an item
-pub gets_one : (old new : End) (item : Item) (before after : List ℕ) → Goes old (got item) before after new → Gets old (item ∷ []) before after new
+pub gets_one : (old new : End) (item : Item) (before after : List ℕ) → Advances old (got item) before after new → AdvancesAll old (item ∷ []) before after new
 gets_one old new item before after e = record {
   said = e.said;
   appended = e.appended;
-  sends = λ h s. ap (λ (xs : List Item). sent h ++ xs) (e.replies h s);
+  sends = λ h s. ap (λ (xs : List Item). items_said h ++ xs) (e.replies h s);
   stands = e.stands;
   closed = e.closed;
 }
 
 -- more items
-pub gets_both : (old mid new : End) (xs ys : List Item) (before between after : List ℕ) → Gets old xs before between mid → Gets mid ys between after new → Gets old (xs ++ ys) before after new
+pub gets_both : (old mid new : End) (xs ys : List Item) (before between after : List ℕ) → AdvancesAll old xs before between mid → AdvancesAll mid ys between after new → AdvancesAll old (xs ++ ys) before after new
 gets_both old mid new xs ys before between after g k = record {
   said = g.said ++ k.said;
   appended = spelled_on g.said k.said before between after g.appended k.appended;
   sends = λ h s.
-      ap sent (gets-append h xs ys)
+      ap items_said (gets-append h xs ys)
       ∙ k.sends (gets h xs) (g.stands h s)
       ∙ ap (λ (zs : List Item). zs ++ k.said) (g.sends h s)
-      ∙ append_assoc (sent h) g.said k.said;
+      ∙ append_assoc (items_said h) g.said k.said;
   stands = λ h s. rw (gets-append h xs ys) (k.stands (gets h xs) (g.stands h s));
   closed = k.closed ∙ g.closed;
 }
 
-pub stands_decoder : (h : History) (old : End) (d : Standing) → Stands h old → Stands h (record old { decoder = d })
+pub stands_decoder : (h : History) (old : End) (d : DecoderState) → LeadsTo h old → LeadsTo h (record old { decoder = d })
 stands_decoder h old d s = record { settings = s.settings; table = s.table; terms = s.terms; modes = s.modes; limit = s.limit; leaves = s.leaves; ahead = s.ahead; read = s.read; count = s.count; waits = s.waits; queue = s.queue; size = s.size; due = s.due }
 
-pub stands_shut : (h : History) (old : End) → Stands h old → Stands h (record old { terminal = shut old.terminal })
+pub stands_shut : (h : History) (old : End) → LeadsTo h old → LeadsTo h (record old { terminal = shut_terminal old.terminal })
 stands_shut h old s = record { settings = s.settings; table = s.table; terms = s.terms; modes = s.modes; limit = s.limit; leaves = s.leaves; ahead = s.ahead; read = s.read; count = s.count; waits = s.waits; queue = s.queue; size = s.size; due = s.due }
 
 -- a key or a command that was refused
-pub refuses_shut : (old new : End) (item : Item) (fault : ServerFault) → IsShut old new → ((h : History) → Stands h old → IsCause h item fault) → (before : List ℕ) → Refuses old item fault before before new
+pub refuses_shut : (old new : End) (item : Item) (fault : ServerFault) → IsShut old new → ((h : History) → LeadsTo h old → IsCause h item fault) → (before : List ℕ) → RefusesItem old item fault before before new
 refuses_shut old new item fault shut' cause before = record {
   said = [];
   appended = sym (append-nil before);
@@ -74,27 +74,27 @@ refuses_shut old new item fault shut' cause before = record {
   stands = λ h s. stays h s shut';
 }
   where
-    stays : (h : History) → Stands h old → IsShut old new → Stands h new
-    stays h s (inl same) = subst (Stands h) (sym same) s
-    stays h s (inr closed) = subst (Stands h) (sym closed) (stands_shut h old s)
+    stays : (h : History) → LeadsTo h old → IsShut old new → LeadsTo h new
+    stays h s (inl same) = subst (LeadsTo h) (sym same) s
+    stays h s (inr closed) = subst (LeadsTo h) (sym closed) (stands_shut h old s)
 
 -- what answers an item was cut
-pub refuses_cut : (old new : End) (item : Item) (fault : ServerFault) (whole : List Item) (before after : List ℕ) → (IsSound old → says_got old item ≡ whole) → Cuts whole before after → new ≡ old → ((h : History) → Stands h old → IsCause h item fault) → Refuses old item fault before after new
+pub refuses_cut : (old new : End) (item : Item) (fault : ServerFault) (whole : List Item) (before after : List ℕ) → (IsSound old → says_got old item ≡ whole) → AppendsFront whole before after → new ≡ old → ((h : History) → LeadsTo h old → IsCause h item fault) → RefusesItem old item fault before after new
 refuses_cut old new item fault whole before after says c same cause = record {
   said = c.part;
   appended = c.appended;
   front = λ h s. (c.rest, replies_got h old item s ∙ says (sound h old s) ∙ c.whole_is);
   cause = cause;
-  stands = λ h s. subst (Stands h) (sym same) s;
+  stands = λ h s. subst (LeadsTo h) (sym same) s;
 }
 
-pub refuses_sub : (old new : End) (option : ℕ) (params before after : List ℕ) → Cuts (says_sub old (payload_at old.terms.options (Sub option params))) before after → new ≡ old → CanGrow old (payload_at old.terms.options (Sub option params)) → Refuses old (Sub option params) Memory before after new
+pub refuses_sub : (old new : End) (option : ℕ) (params before after : List ℕ) → AppendsFront (says_sub old (payload_at old.terms.options (Sub option params))) before after → new ≡ old → MayWantMemory old (payload_at old.terms.options (Sub option params)) → RefusesItem old (Sub option params) Memory before after new
 refuses_sub old new option params before after cut same grows =
     let payload = payload_at old.terms.options (Sub option params) in
     refuses_cut old new (Sub option params) Memory (says_sub old payload) before after (sub_said old option params payload refl) cut same (λ h s. sub_cause h old option params grows s)
 
 -- an item was refused, after these
-pub stops_at : (old mid new : End) (items done left : List Item) (item : Item) (fault : ServerFault) (before between after : List ℕ) → items ≡ done ++ item ∷ left → Gets old done before between mid → Refuses mid item fault between after new → Stops old items fault before after new
+pub stops_at : (old mid new : End) (items done left : List Item) (item : Item) (fault : ServerFault) (before between after : List ℕ) → items ≡ done ++ item ∷ left → AdvancesAll old done before between mid → RefusesItem mid item fault between after new → StopsWithinItems old items fault before after new
 stops_at old mid new items done left item fault before between after is g r = record {
   done = done;
   item = item;
@@ -107,22 +107,22 @@ stops_at old mid new items done left item fault before between after is g r = re
 }
 
 -- BYTES OF DATA
-pub goes_byte : (old new : End) (byte : ℕ) → new ≡ typed_byte old byte → (before : List ℕ) → Goes old (got (Byte byte)) before before new
+pub goes_byte : (old new : End) (byte : ℕ) → new ≡ end_after_byte old byte → (before : List ℕ) → Advances old (got (Byte byte)) before before new
 goes_byte old new byte is = goes_typed old new (Byte byte) (λ _. refl) (λ _. refl) (λ _. refl) is
 
-pub refuses_byte : (old new : End) (byte : ℕ) (f : PtyFault) → IsShut old new → IsKeyCause old.terminal (role_typed old byte) f → (before : List ℕ) → Refuses old (Byte byte) (Pty f) before before new
-refuses_byte old new byte f shut' cause before = refuses_shut old new (Byte byte) (Pty f) shut' (λ h s. typed_cause h old (Byte byte) (role_typed old byte) f refl cause s) before
+pub refuses_byte : (old new : End) (byte : ℕ) (f : PtyFault) → IsShut old new → IsKeyCause old.terminal (role_of_typed old byte) f → (before : List ℕ) → RefusesItem old (Byte byte) (Pty f) before before new
+refuses_byte old new byte f shut' cause before = refuses_shut old new (Byte byte) (Pty f) shut' (λ h s. typed_cause h old (Byte byte) (role_of_typed old byte) f refl cause s) before
 
 -- the bytes that were taken, and one more
 taken_next : (bytes : List ℕ) (i d : ℕ) → i < length bytes → map Byte (take (i + 1) bytes) ≡ map Byte (take i bytes) ++ Byte (get_or bytes i d) ∷ []
 taken_next bytes i d lt = ap (map Byte) (take_more bytes i d lt) ∙ map-append Byte (take i bytes) (get_or bytes i d ∷ [])
 
-pub bytes_next : (old mid new : End) (bytes : List ℕ) (i d : ℕ) → i < length bytes → ((before : List ℕ) → Gets old (map Byte (take i bytes)) before before mid) → new ≡ typed_byte mid (get_or bytes i d) → (before : List ℕ) → Gets old (map Byte (take (i + 1) bytes)) before before new
+pub bytes_next : (old mid new : End) (bytes : List ℕ) (i d : ℕ) → i < length bytes → ((before : List ℕ) → AdvancesAll old (map Byte (take i bytes)) before before mid) → new ≡ end_after_byte mid (get_or bytes i d) → (before : List ℕ) → AdvancesAll old (map Byte (take (i + 1) bytes)) before before new
 bytes_next old mid new bytes i d lt g is before =
     rw (taken_next bytes i d lt) (gets_both old mid new (map Byte (take i bytes)) (Byte (get_or bytes i d) ∷ []) before before before (g before) (gets_one mid new (Byte (get_or bytes i d)) before before (goes_byte mid new (get_or bytes i d) is before)))
 
 -- one of the bytes was refused
-pub bytes_stop : (old mid new : End) (bytes : List ℕ) (i d : ℕ) (f : PtyFault) → i < length bytes → ((before : List ℕ) → Gets old (map Byte (take i bytes)) before before mid) → IsShut mid new → IsKeyCause mid.terminal (role_typed mid (get_or bytes i d)) f → (before : List ℕ) → Stops old (map Byte bytes) (Pty f) before before new
+pub bytes_stop : (old mid new : End) (bytes : List ℕ) (i d : ℕ) (f : PtyFault) → i < length bytes → ((before : List ℕ) → AdvancesAll old (map Byte (take i bytes)) before before mid) → IsShut mid new → IsKeyCause mid.terminal (role_of_typed mid (get_or bytes i d)) f → (before : List ℕ) → StopsWithinItems old (map Byte bytes) (Pty f) before before new
 bytes_stop old mid new bytes i d f lt g shut' cause before =
     let rest = drop (i + 1) bytes in
     let parts : bytes ≡ take i bytes ++ get_or bytes i d ∷ rest = sym (take-append-drop i bytes) ∙ ap (λ (xs : List ℕ). take i bytes ++ xs) (drop_more bytes i d lt) in

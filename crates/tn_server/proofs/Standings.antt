@@ -5,7 +5,7 @@ use Rattle.tn_discipline.specs.Characters.{Characters}
 use Rattle.tn_discipline.specs.Keys.{roles_from}
 use Rattle.tn_discipline.specs.Entries.{entries_of}
 use Rattle.tn_discipline.specs.HalfLine.{HalfLine, line_after}
-use Rattle.tn_discipline.specs.Leaves.{Leaves}
+use Rattle.tn_discipline.specs.Advancing as discipline
 use Rattle.tn_discipline.specs.declared.keys.Role.{Role}
 use Rattle.tn_discipline.specs.declared.reads.Entry.{Entry}
 use Rattle.tn_discipline.specs.declared.echo.Symbol.{Symbol}
@@ -15,15 +15,15 @@ use Rattle.tn_discipline.proofs.lemmas.Lines.{advances}
 use Rattle.tn_linemode.specs.Modes.{Modes, edits}
 use Rattle.tn_nvt.specs.declared.items.Item.{Item}
 use Rattle.tn_option.specs.Options.{Options}
-use Rattle.tn_pty.specs.Terminal.{fitted}
+use Rattle.tn_pty.specs.Terminal.{queue_with}
 use Rattle.tn_pty.specs.Typing.{gain_of}
 use Rattle.tn_server.specs.Events.{History, next, got}
-use Rattle.tn_server.specs.Terms.{Terms, terms_after, asked_of, changes, mode_after, chars_after, payload_at, echoes}
+use Rattle.tn_server.specs.Terms.{Terms, terms_after, asked_mask_of, changes, mask_after, chars_after, payload_at, echoes}
 use Rattle.tn_server.specs.Lines.{roles, role_at, role_of_item}
 use Rattle.tn_server.specs.Screen.{shows, size_after}
-use Rattle.tn_server.specs.Replies.{replies, says, list_answered}
-use Rattle.tn_server.specs.Standing.{End, Stands}
-use Rattle.tn_server.specs.Steps.{after_got, says_got}
+use Rattle.tn_server.specs.Replies.{replies, items_at, list_replies}
+use Rattle.tn_server.specs.Calls.{End, LeadsTo}
+use Rattle.tn_server.specs.Steps.{end_after_item, says_got}
 use Rattle.tn_server.proofs.lemmas.Ends.{line_is}
 
 same_settings : (f g : Flags) (c d : Characters) (o p : Options) (item : Item) → f ≡ g → c ≡ d → o ≡ p → ◌≡◌ {A = Settings} (record { flags = f; chars = chars_after c (payload_at o item) }) (record { flags = g; chars = chars_after d (payload_at p item) })
@@ -36,7 +36,7 @@ same_terms : (f g : Flags) (t u : Terms) (item : Item) → f ≡ g → t ≡ u �
 same_terms f g t u item a b = ap (λ (x : Flags). terms_after x t (got item)) a ∙ ap (λ (x : Terms). terms_after g x (got item)) b
 
 abbrev modes_of : Options → Terms → ℕ → Option Payload → Modes
-modes_of o t current payload = record { asked = asked_of t.options t.wish; current = mode_after (changes o t.options) current payload }
+modes_of o t current payload = record { asked = asked_mask_of t.options t.wish; current = mask_after (changes o t.options) current payload }
 
 same_modes : (o p : Options) (t u : Terms) (m n : ℕ) (item : Item) → o ≡ p → t ≡ u → m ≡ n → modes_of o t m (payload_at o item) ≡ modes_of p u n (payload_at p item)
 same_modes o p t u m n item a b e = rw (a, b, e) refl
@@ -44,23 +44,23 @@ same_modes o p t u m n item a b e = rw (a, b, e) refl
 same_role : (s t : Settings) (m n : ℕ) (item : Item) → s ≡ t → m ≡ n → role_at s (edits m) item ≡ role_at t (edits n) item
 same_role s t m n item a b = rw (a, b) refl
 
-same_queue : (s t : Settings) (m n : ℕ) (o p : Options) (l k : HalfLine) (q r : List Symbol) (item : Item) → s ≡ t → m ≡ n → o ≡ p → l ≡ k → q ≡ r → fitted q (shows s (edits m) (echoes o) l item) ≡ fitted r (shows t (edits n) (echoes p) k item)
+same_queue : (s t : Settings) (m n : ℕ) (o p : Options) (l k : HalfLine) (q r : List Symbol) (item : Item) → s ≡ t → m ≡ n → o ≡ p → l ≡ k → q ≡ r → queue_with q (shows s (edits m) (echoes o) l item) ≡ queue_with r (shows t (edits n) (echoes p) k item)
 same_queue s t m n o p l k q r item a b c d e = rw (a, b, c, d, e) refl
 
 same_size : (z w : ℕ × ℕ) (o p : Options) (item : Item) → z ≡ w → o ≡ p → size_after z (payload_at o item) ≡ size_after w (payload_at p item)
 same_size z w o p item a b = rw (a, b) refl
 
-same_says : (f g : Flags) (c d : Characters) (t u : Terms) (item : Item) → f ≡ g → c ≡ d → t ≡ u → says f c t (got item) ++ list_answered c (payload_at t.options item) ≡ says g d u (got item) ++ list_answered d (payload_at u.options item)
+same_says : (f g : Flags) (c d : Characters) (t u : Terms) (item : Item) → f ≡ g → c ≡ d → t ≡ u → items_at f c t (got item) ++ list_replies c (payload_at t.options item) ≡ items_at g d u (got item) ++ list_replies d (payload_at u.options item)
 same_says f g c d t u item a b e =
-    ap (λ (x : Flags). says x c t (got item) ++ list_answered c (payload_at t.options item)) a
-    ∙ ap (λ (x : Characters). says g x t (got item) ++ list_answered x (payload_at t.options item)) b
-    ∙ ap (λ (x : Terms). says g d x (got item) ++ list_answered d (payload_at x.options item)) e
+    ap (λ (x : Flags). items_at x c t (got item) ++ list_replies c (payload_at t.options item)) a
+    ∙ ap (λ (x : Characters). items_at g x t (got item) ++ list_replies x (payload_at t.options item)) b
+    ∙ ap (λ (x : Terms). items_at g d x (got item) ++ list_replies d (payload_at x.options item)) e
 
 -- the role of the next item
-pub role_is : (h : History) (old : End) (item : Item) → Stands h old → role_at old.terminal.settings (edits old.modes.current) item ≡ role_of_item h item
+pub role_is : (h : History) (old : End) (item : Item) → LeadsTo h old → role_at old.terminal.settings (edits old.modes.current) item ≡ role_of_item h item
 role_is h old item s = same_role _ _ _ _ item s.settings (ap (λ (m : Modes). m.current) s.modes)
 
-pub stands_got : (h : History) (old : End) (item : Item) → Stands h old → Stands (next h (got item)) (after_got old item)
+pub stands_got : (h : History) (old : End) (item : Item) → LeadsTo h old → LeadsTo (next h (got item)) (end_after_item old item)
 stands_got h old item s =
     let is_flags = ap (λ (x : Settings). x.flags) s.settings in
     let is_options = ap (λ (t : Terms). t.options) s.terms in
@@ -76,7 +76,7 @@ stands_got h old item s =
       modes = same_modes _ _ _ _ _ _ item is_options is_terms is_mode;
       limit = moves.limit ∙ s.limit;
       leaves =
-          let P : Role → Type 0 = λ r. Leaves (roles h ++ roles_from r) (line_after old.terminal.line old_role) in
+          let P : Role → Type 0 = λ r. discipline.LeadsTo (roles h ++ roles_from r) (line_after old.terminal.line old_role) in
           subst P is_role (moves.half (roles h) s.leaves);
       ahead = omega (arith, moves.ahead, s.ahead);
       read = s.read;
@@ -93,5 +93,5 @@ stands_got h old item s =
       due = s.due;
     }
 
-pub replies_got : (h : History) (old : End) (item : Item) → Stands h old → replies h (got item) ≡ says_got old item
+pub replies_got : (h : History) (old : End) (item : Item) → LeadsTo h old → replies h (got item) ≡ says_got old item
 replies_got h old item s = sym (same_says _ _ _ _ _ _ item (ap (λ (x : Settings). x.flags) s.settings) s.table s.terms)

@@ -1,12 +1,12 @@
 -- What was done to a server end from outside: pieces of the stream, cut anywhere, and the calls of its owner.
 use Rattle.std.specs.Prelude.{◌≡◌, List, ℕ, [], ◌∷◌, ◌++◌, length}
 use Rattle.tn_discipline.specs.Canon.{Canon}
-use Rattle.tn_nvt.specs.Standing.{HasRead}
+use Rattle.tn_nvt.specs.Feeding as nvt
 use Rattle.tn_nvt.specs.declared.items.Item.{Item}
 use Rattle.tn_wire.specs.Fronts.{IsRead}
 use Rattle.tn_server.specs.Events.{Event, got, wrote, pulled, History, begun, next, items, gets}
 use Rattle.tn_server.specs.Screen.{queue}
-use Rattle.tn_server.specs.Standing.{End, Stands}
+use Rattle.tn_server.specs.Calls.{End, LeadsTo}
 
 pub data Course : Type 0 where
   started : Canon → Course
@@ -25,19 +25,19 @@ IsCall (got item) = ⊥
 IsCall _ = Unit {0}
 
 -- The course leads to this history: each piece brings the items that it adds to those of the stream before it.
-abbrev pub Leads : Course → History → Type 0
-Leads (started canon) h = h ≡ begun canon
-Leads (fed course piece) h =
+abbrev pub ReadsAs : Course → History → Type 0
+ReadsAs (started canon) h = h ≡ begun canon
+ReadsAs (fed course piece) h =
     (old : History) × (more : List Item)
-    × Leads course old × IsRead (stream course ++ piece) (items old ++ more) × (h ≡ gets old more)
-Leads (called course call) h = (old : History) × Leads course old × IsCall call × (h ≡ next old call)
+    × ReadsAs course old × IsRead (stream course ++ piece) (items old ++ more) × (h ≡ gets old more)
+ReadsAs (called course call) h = (old : History) × ReadsAs course old × IsCall call × (h ≡ next old call)
 
 -- The end is where the course leads.
-pub record IsAt (course : Course) (end : End) : Type 0 where
+pub record CourseLeadsTo (course : Course) (end : End) : Type 0 where
   pub history : History
-  pub leads : Leads course history
-  pub stands : Stands history end
-  pub reads : HasRead end.decoder (stream course) (items history)
+  pub leads : ReadsAs course history
+  pub stands : LeadsTo history end
+  pub reads : nvt.LeadsTo (stream course) (items history) end.decoder
 
 -- a text is written in these parts, and after each all symbols that wait are pulled
 abbrev pub in_parts : History → List (List ℕ) → History

@@ -4,7 +4,7 @@ pub mod Lines
 pub mod Screen
 pub mod Replies
 pub mod Faults
-pub mod Standing
+pub mod Calls
 pub mod Course
 pub mod Steps
 pub mod Lending

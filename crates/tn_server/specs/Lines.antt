@@ -45,11 +45,11 @@ abbrev pub line : History → HalfLine
 line h = record { held = half h; ahead = 0; limit = limit h }
 
 -- how many entries were taken
-abbrev pub taken : History → ℕ
-taken (begun canon) = 0
-taken (next h took) = if nat_lt (taken h) (length (entries h)) then taken h + 1 else taken h
-taken (next h _) = taken h
+abbrev pub taken_count : History → ℕ
+taken_count (begun canon) = 0
+taken_count (next h took) = if nat_lt (taken_count h) (length (entries h)) then taken_count h + 1 else taken_count h
+taken_count (next h _) = taken_count h
 
 -- the entries that nobody has taken yet
 abbrev pub waiting : History → List Entry
-waiting h = drop (taken h) (entries h)
+waiting h = drop (taken_count h) (entries h)

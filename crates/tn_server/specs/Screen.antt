@@ -8,17 +8,17 @@ use Rattle.tn_nvt.specs.declared.items.Item.{Item}
 use Rattle.tn_nvt.specs.declared.items.Item.TheVariants.{Byte, Newline, Cmd}
 use Rattle.tn_option.specs.Options.{Options, state_of, is_yes}
 use Rattle.tn_option.specs.declared.q_method.Side.TheVariants.{Us}
-use Rattle.tn_pty.specs.Terminal.{fitted, fits, outputs}
-use Rattle.tn_pty.specs.Typing.{echoed, command_shows}
+use Rattle.tn_pty.specs.Terminal.{queue_with, fitting_count, output_symbols}
+use Rattle.tn_pty.specs.Typing.{echo_symbols, command_shows}
 use Rattle.tn_server.specs.Events.{got, took, wrote, pulled, History, begun, next}
 use Rattle.tn_codes.specs.declared.payloads.Payload.{Payload}
 use Rattle.tn_codes.specs.declared.payloads.Payload.TheVariants.{Naws}
 use Rattle.tn_server.specs.Terms.{settings, mode, options, echoes, payload_at}
-use Rattle.tn_server.specs.Lines.{line, taken, entries}
+use Rattle.tn_server.specs.Lines.{line, taken_count, entries}
 
 -- a byte that was edited before was echoed before
 abbrev pub byte_shows : Settings → Bool → Bool → HalfLine → ℕ → List Symbol
-byte_shows s edit on half byte = echoed (not edit && on) s byte half
+byte_shows s edit on half byte = echo_symbols (not edit && on) s byte half
 
 -- what an item puts on the screen, where it fits
 abbrev pub shows : Settings → Bool → Bool → HalfLine → Item → List Symbol
@@ -31,8 +31,8 @@ shows s edit on half _ = []
 abbrev pub queue : History → List Symbol
 queue (begun canon) = []
 queue (next h (got item)) =
-    fitted (queue h) (shows (settings h) (edits (mode h)) (echoes (options h)) (line h) item)
-queue (next h (wrote bytes)) = queue h ++ outputs (settings h).flags (take (fits (queue h) bytes) bytes)
+    queue_with (queue h) (shows (settings h) (edits (mode h)) (echoes (options h)) (line h) item)
+queue (next h (wrote bytes)) = queue h ++ output_symbols (settings h).flags (take (fitting_count (queue h) bytes) bytes)
 queue (next h (pulled n)) = drop n (queue h)
 queue (next h _) = queue h
 
@@ -42,7 +42,7 @@ sends_ga none o due = none && (not (is_yes (state_of o Us 3)) && due)
 
 -- no entry waits
 abbrev pub none_waits : History → Bool
-none_waits h = not (nat_lt (taken h) (length (entries h)))
+none_waits h = not (nat_lt (taken_count h) (length (entries h)))
 
 -- symbols were pulled since the last GA
 abbrev pub due : History → Bool

@@ -10,21 +10,21 @@ use Rattle.tn_discipline.specs.HalfLine.{GivesText}
 use Rattle.tn_discipline.specs.Keys.{gives_entry}
 use Rattle.tn_discipline.specs.declared.keys.Role.{Role}
 use Rattle.tn_discipline.specs.declared.termios.Flags.{Flags}
-use Rattle.tn_linemode.specs.Modes.{Modes, no_mode, edits, sent_by_wish, after_wish, after_mode, wished_by}
+use Rattle.tn_linemode.specs.Modes.{Modes, no_mode, edits, mask_sent, modes_after_wish, modes_after_mode, wish_of_mask}
 use Rattle.tn_linemode.specs.Exchange.{server_after}
 use Rattle.tn_nvt.specs.declared.items.Item.{Item}
-use Rattle.tn_option.specs.Options.{after_word, reply_to}
-use Rattle.tn_pty.specs.Terminal.{Terminal, shut, most_waiting}
-use Rattle.tn_pty.specs.Typing.{typed, command_role, command_shows}
+use Rattle.tn_option.specs.Options.{options_after_word, reply_to}
+use Rattle.tn_pty.specs.Terminal.{Terminal, shut_terminal, most_waiting}
+use Rattle.tn_pty.specs.Typing.{terminal_after, command_role, command_shows}
 use Rattle.tn_pty.specs.declared.pty.PtyFault.{PtyFault}
 use Rattle.tn_pty.specs.declared.pty.PtyFault.TheVariants as pty
 use Rattle.tn_server.specs.Events.{Event, got}
-use Rattle.tn_wire.specs.Words.{IsList, differ, word, mode_told}
-use Rattle.tn_server.specs.Terms.{Terms, terms_after, payload_at, asked_of, changes, mode_after, chars_after, echoes, linemode, echo_asked, wants_echo, mask_for, editing}
+use Rattle.tn_wire.specs.Words.{IsList, differ, word_items, mode_items}
+use Rattle.tn_server.specs.Terms.{Terms, terms_after, payload_at, asked_mask_of, changes, mask_after, chars_after, echoes, linemode, options_with_echo, wants_echo, mask_for, editing}
 use Rattle.tn_server.specs.Lines.{role_at, role_of_byte}
 use Rattle.tn_server.specs.Screen.{shows, byte_shows, size_after}
-use Rattle.tn_server.specs.Replies.{says, list_answered, table_told, echo_told}
-use Rattle.tn_server.specs.Standing.{End}
+use Rattle.tn_server.specs.Replies.{items_at, list_replies, new_table_items, echo_items}
+use Rattle.tn_server.specs.Calls.{End}
 use Rattle.tn_server.specs.declared.terms.Negotiation.{Negotiation}
 
 -- the masks and options of an end after LINEMODE changed, a wish was made or the flag ECHO was set, with the new options
@@ -34,11 +34,11 @@ modes_before true m = no_mode
 modes_before false m = m
 
 abbrev pub modes_told : Bool → Modes → ℕ → Option ℕ
-modes_told true m wish = sent_by_wish m wish
+modes_told true m wish = mask_sent m wish
 modes_told false m wish = None
 
 abbrev pub modes_asked : Bool → Modes → ℕ → Modes
-modes_asked true m wish = after_wish m wish
+modes_asked true m wish = modes_after_wish m wish
 modes_asked false m wish = m
 
 abbrev pub told_now : Bool → Negotiation → Option ℕ
@@ -51,72 +51,72 @@ masks_by was n = modes_asked (linemode n.options) (modes_before (differ was (lin
 abbrev pub is_due : Bool → Bool → Negotiation → Bool
 is_due was set n = differ was (linemode n.options) || (is_some (told_now was n) || set)
 
-abbrev pub settled : Bool → Bool → Flags → Negotiation → Negotiation
-settled was set f n =
-    record n { modes = masks_by was n; options = echo_asked (is_due was set n) (wants_echo (masks_by was n).asked f) n.options }
+abbrev pub negotiation_after : Bool → Bool → Flags → Negotiation → Negotiation
+negotiation_after was set f n =
+    record n { modes = masks_by was n; options = options_with_echo (is_due was set n) (wants_echo (masks_by was n).asked f) n.options }
 
-abbrev pub settling : Bool → Bool → Flags → Characters → Negotiation → List Item
-settling was set f c n =
-    table_told was (linemode n.options) c
-    ++ (mode_told (told_now was n) ++ echo_told (is_due was set n) (wants_echo (masks_by was n).asked f) n.options)
+abbrev pub negotiation_items : Bool → Bool → Flags → Characters → Negotiation → List Item
+negotiation_items was set f c n =
+    new_table_items was (linemode n.options) c
+    ++ (mode_items (told_now was n) ++ echo_items (is_due was set n) (wants_echo (masks_by was n).asked f) n.options)
 
 -- the part of an end that it negotiates
-abbrev pub negotiated : End → Negotiation
-negotiated old = record { options = old.terms.options; modes = old.modes; wish = old.terms.wish }
+abbrev pub negotiation_of : End → Negotiation
+negotiation_of old = record { options = old.terms.options; modes = old.modes; wish = old.terms.wish }
 
 abbrev pub with_negotiated : End → Negotiation → End
 with_negotiated old n = record old { terms = record { options = n.options; wish = n.wish }; modes = n.modes }
 
 -- the end after an option word, and what it says to it
-abbrev pub heard_by : End → Verb → ℕ → Negotiation
-heard_by old verb option = record (negotiated old) { options = after_word old.terms.options verb option }
+abbrev pub negotiation_heard : End → Verb → ℕ → Negotiation
+negotiation_heard old verb option = record (negotiation_of old) { options = options_after_word old.terms.options verb option }
 
-abbrev pub after_words : End → Verb → ℕ → End
-after_words old verb option =
-    with_negotiated old (settled (linemode old.terms.options) false old.terminal.settings.flags (heard_by old verb option))
+abbrev pub end_after_word : End → Verb → ℕ → End
+end_after_word old verb option =
+    with_negotiated old (negotiation_after (linemode old.terms.options) false old.terminal.settings.flags (negotiation_heard old verb option))
 
 abbrev pub says_words : End → Verb → ℕ → List Item
 says_words old verb option =
-    word (reply_to old.terms.options verb option)
-    ++ settling (linemode old.terms.options) false old.terminal.settings.flags old.table (heard_by old verb option)
+    word_items (reply_to old.terms.options verb option)
+    ++ negotiation_items (linemode old.terms.options) false old.terminal.settings.flags old.table (negotiation_heard old verb option)
 
 -- the end after a wish that is allowed
-abbrev pub wishing : End → ℕ → Negotiation
-wishing old mask = record (negotiated old) { wish = mask }
+abbrev pub negotiation_wishing : End → ℕ → Negotiation
+negotiation_wishing old mask = record (negotiation_of old) { wish = mask }
 
-abbrev pub after_wished : End → Option ℕ → End
-after_wished old None = old
-after_wished old (Some mask) =
-    with_negotiated old (settled (linemode old.terms.options) false old.terminal.settings.flags (wishing old mask))
+abbrev pub end_after_wish : End → Option ℕ → End
+end_after_wish old None = old
+end_after_wish old (Some mask) =
+    with_negotiated old (negotiation_after (linemode old.terms.options) false old.terminal.settings.flags (negotiation_wishing old mask))
 
 abbrev pub says_wished : End → Option ℕ → List Item
 says_wished old None = []
 says_wished old (Some mask) =
-    settling (linemode old.terms.options) false old.terminal.settings.flags old.table (wishing old mask)
+    negotiation_items (linemode old.terms.options) false old.terminal.settings.flags old.table (negotiation_wishing old mask)
 
 -- a MODE is sent for it
 abbrev pub sends_wished : End → Option ℕ → Bool
 sends_wished old None = false
-sends_wished old (Some mask) = is_some (told_now (linemode old.terms.options) (wishing old mask))
+sends_wished old (Some mask) = is_some (told_now (linemode old.terms.options) (negotiation_wishing old mask))
 
 -- the mask of a client's wish
 abbrev pub mask_wished : End → Bool → Option ℕ
 mask_wished old edit = mask_for old.terminal.settings.flags (editing edit)
 
-abbrev pub after_mode_by : End → ℕ → Option Bool → End
-after_mode_by old mask None = record old { modes = after_mode old.modes mask }
-after_mode_by old mask (Some edit) = after_wished old (mask_wished old edit)
+abbrev pub end_after_mode_by : End → ℕ → Option Bool → End
+end_after_mode_by old mask None = record old { modes = modes_after_mode old.modes mask }
+end_after_mode_by old mask (Some edit) = end_after_wish old (mask_wished old edit)
 
 abbrev pub says_mode_by : End → Option Bool → List Item
 says_mode_by old None = []
 says_mode_by old (Some edit) = says_wished old (mask_wished old edit)
 
 -- the end after a MODE of the client
-abbrev pub after_mode_got : End → ℕ → End
-after_mode_got old mask = after_mode_by old mask (wished_by mask)
+abbrev pub end_after_mode : End → ℕ → End
+end_after_mode old mask = end_after_mode_by old mask (wish_of_mask mask)
 
 abbrev pub says_mode_got : End → ℕ → List Item
-says_mode_got old mask = says_mode_by old (wished_by mask)
+says_mode_got old mask = says_mode_by old (wish_of_mask mask)
 
 -- the end with other characters
 abbrev pub with_chars : End → Characters → End
@@ -124,24 +124,24 @@ with_chars old c =
     record old { table = c; terminal = record (old.terminal) { settings = record { flags = old.terminal.settings.flags; chars = c } } }
 
 -- the end after a list of local characters
-abbrev pub after_list : End → List Triple → End
-after_list old triples = with_chars old (server_after old.table triples)
+abbrev pub end_after_list : End → List Triple → End
+end_after_list old triples = with_chars old (server_after old.table triples)
 
 -- the end after a payload, and what it says to it
-abbrev pub after_sub : End → Option Payload → End
-after_sub old (Some (Naws width height)) = record old { terminal = record (old.terminal) { width = width; height = height } }
-after_sub old (Some (Mode mask)) = after_mode_got old mask
-after_sub old (Some (Slc triples)) = after_list old triples
-after_sub old _ = old
+abbrev pub end_after_payload : End → Option Payload → End
+end_after_payload old (Some (Naws width height)) = record old { terminal = record (old.terminal) { width = width; height = height } }
+end_after_payload old (Some (Mode mask)) = end_after_mode old mask
+end_after_payload old (Some (Slc triples)) = end_after_list old triples
+end_after_payload old _ = old
 
 abbrev pub says_sub : End → Option Payload → List Item
 says_sub old (Some (Mode mask)) = says_mode_got old mask
-says_sub old (Some (Slc triples)) = list_answered old.table (Some (Slc triples))
+says_sub old (Some (Slc triples)) = list_replies old.table (Some (Slc triples))
 says_sub old _ = []
 
 -- a key or command was refused: it had no effect but that the terminal may be shut
 abbrev pub IsShut : End → End → Type 0
-IsShut old new = (new ≡ old) ⊎ (new ≡ record old { terminal = shut old.terminal })
+IsShut old new = (new ≡ old) ⊎ (new ≡ record old { terminal = shut_terminal old.terminal })
 
 -- why the terminal refuses a key or command of this role
 abbrev pub IsKeyCause : Terminal → Role → PtyFault → Type 0
@@ -150,50 +150,50 @@ IsKeyCause t r pty.Memory = GivesText t.line r
 IsKeyCause t r pty.Closed = t.closed ≡ true
 
 -- memory may be wanted for a payload
-abbrev pub CanGrow : End → Option Payload → Type 0
-CanGrow old payload = (says_sub old payload ≢ []) ⊎ IsList payload
+abbrev pub MayWantMemory : End → Option Payload → Type 0
+MayWantMemory old payload = (says_sub old payload ≢ []) ⊎ IsList payload
 
 -- the end after a byte, and after a command
-abbrev pub role_typed : End → ℕ → Role
-role_typed old byte = role_of_byte old.terminal.settings (edits old.modes.current) byte
+abbrev pub role_of_typed : End → ℕ → Role
+role_of_typed old byte = role_of_byte old.terminal.settings (edits old.modes.current) byte
 
-abbrev pub typed_byte : End → ℕ → End
-typed_byte old byte =
+abbrev pub end_after_byte : End → ℕ → End
+end_after_byte old byte =
     let t = old.terminal in
     let edit = edits old.modes.current in
-    record old { terminal = typed t (role_typed old byte) (byte_shows t.settings edit (echoes old.terms.options) t.line byte) }
+    record old { terminal = terminal_after t (role_of_typed old byte) (byte_shows t.settings edit (echoes old.terms.options) t.line byte) }
 
-abbrev pub typed_command : End → Command → End
-typed_command old command = record old { terminal = typed old.terminal (command_role command) (command_shows command) }
+abbrev pub end_after_command : End → Command → End
+end_after_command old command = record old { terminal = terminal_after old.terminal (command_role command) (command_shows command) }
 
 -- what an item does to the terminal
-abbrev pub terminal_after : End → Item → Option Payload → Terminal
-terminal_after old item payload =
+abbrev pub terminal_after_item : End → Item → Option Payload → Terminal
+terminal_after_item old item payload =
     let t = old.terminal in
     let edit = edits old.modes.current in
-    record (typed t (role_at t.settings edit item) (shows t.settings edit (echoes old.terms.options) t.line item)) {
+    record (terminal_after t (role_at t.settings edit item) (shows t.settings edit (echoes old.terms.options) t.line item)) {
       settings = record { flags = t.settings.flags; chars = chars_after old.table payload };
       width = (size_after (t.width, t.height) payload).0;
       height = (size_after (t.width, t.height) payload).1;
     }
 
 -- the terms after an event
-abbrev pub agreed : End → Event → Terms
-agreed old e = terms_after old.terminal.settings.flags old.terms e
+abbrev pub terms_of_event : End → Event → Terms
+terms_of_event old e = terms_after old.terminal.settings.flags old.terms e
 
 -- the end after an item
-abbrev pub after_got : End → Item → End
-after_got old item =
-    let t = agreed old (got item) in
+abbrev pub end_after_item : End → Item → End
+end_after_item old item =
+    let t = terms_of_event old (got item) in
     let payload = payload_at old.terms.options item in
     record old {
       terms = t;
-      modes = record { asked = asked_of t.options t.wish; current = mode_after (changes old.terms.options t.options) old.modes.current payload };
+      modes = record { asked = asked_mask_of t.options t.wish; current = mask_after (changes old.terms.options t.options) old.modes.current payload };
       table = chars_after old.table payload;
-      terminal = terminal_after old item payload;
+      terminal = terminal_after_item old item payload;
     }
 
 -- what it says to the item
 abbrev pub says_got : End → Item → List Item
 says_got old item =
-    says old.terminal.settings.flags old.table old.terms (got item) ++ list_answered old.table (payload_at old.terms.options item)
+    items_at old.terminal.settings.flags old.table old.terms (got item) ++ list_replies old.table (payload_at old.terms.options item)

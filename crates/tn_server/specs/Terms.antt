@@ -5,11 +5,11 @@ use Rattle.tn_codes.specs.declared.payloads.Payload.TheVariants.{Mode, Slc}
 use Rattle.tn_discipline.specs.Characters.{Characters, with_slot}
 use Rattle.tn_discipline.specs.declared.termios.Flags.{Flags}
 use Rattle.tn_discipline.specs.declared.termios.Settings.{Settings}
-use Rattle.tn_linemode.specs.Modes.{mode_of, is_acknowledged, edits, sent_by_wish, wished_by}
+use Rattle.tn_linemode.specs.Modes.{mode_of, is_acknowledged, edits, mask_sent, wish_of_mask}
 use Rattle.tn_linemode.specs.Exchange.{server_after}
 use Rattle.tn_nvt.specs.declared.items.Item.{Item}
 use Rattle.tn_nvt.specs.declared.items.Item.TheVariants.{Neg, Sub}
-use Rattle.tn_option.specs.Options.{Options, fresh, after_word, after_wish, state_of, is_yes}
+use Rattle.tn_option.specs.Options.{Options, new_options, options_after_word, options_after_wish, state_of, is_yes}
 use Rattle.tn_option.specs.declared.negotiation.Agree.{Agree}
 use Rattle.tn_option.specs.declared.q_method.Side.TheVariants.{Us, Them}
 use Rattle.tn_wire.specs.Words.{payload_under, differ}
@@ -18,14 +18,14 @@ use Rattle.tn_server.specs.declared.wishes.Editing.{Editing}
 use Rattle.tn_server.specs.declared.wishes.Editing.TheVariants.{Remote, Local}
 
 -- the client's LINEMODE, NAWS and SUPPRESS-GO-AHEAD are agreed to, and the server's own ECHO and SUPPRESS-GO-AHEAD
-abbrev pub agree : Agree
-agree =
+abbrev pub agreement : Agree
+agreement =
     record { us = true ∷ true ∷ false ∷ false ∷ []; them = false ∷ true ∷ true ∷ true ∷ [] }
 
 -- the options after the opening wishes, in their order
-abbrev pub opened : Options
-opened =
-    after_wish (after_wish (after_wish (after_wish (after_wish (fresh agree) Them 34 true) Them 31 true) Us 3 true) Them 3 true) Us 1 true
+abbrev pub opening_options : Options
+opening_options =
+    options_after_wish (options_after_wish (options_after_wish (options_after_wish (options_after_wish (new_options agreement) Them 34 true) Them 31 true) Us 3 true) Them 3 true) Us 1 true
 
 abbrev pub linemode : Options → Bool
 linemode o = is_yes (state_of o Them 34)
@@ -51,21 +51,21 @@ mask_or before None = before
 mask_or before (Some mask) = mask
 
 -- a wish that is not allowed changes nothing
-abbrev pub wished_after : Flags → ℕ → Option Editing → ℕ
-wished_after flags before None = before
-wished_after flags before (Some editing) = mask_or before (mask_for flags editing)
+abbrev pub wish_after : Flags → ℕ → Option Editing → ℕ
+wish_after flags before None = before
+wish_after flags before (Some editing) = mask_or before (mask_for flags editing)
 
 abbrev pub editing : Bool → Editing
 editing true = Local
 editing false = Remote
 
-abbrev pub editing_wished : Option Bool → Option Editing
-editing_wished None = None
-editing_wished (Some edit) = Some (editing edit)
+abbrev pub editing_of : Option Bool → Option Editing
+editing_of None = None
+editing_of (Some edit) = Some (editing edit)
 
 -- a MODE without acknowledgement is the client's wish
 abbrev pub wish_in : Option Payload → Option Editing
-wish_in (Some (Mode mask)) = editing_wished (wished_by mask)
+wish_in (Some (Mode mask)) = editing_of (wish_of_mask mask)
 wish_in _ = None
 
 abbrev pub wish_at : Options → Event → Option Editing
@@ -85,26 +85,26 @@ pub record Terms : Type 0 where
   pub wish : ℕ
 
 -- the mask that the client was asked for: that of the last wish, while LINEMODE is on
-abbrev pub asked_while : Bool → ℕ → ℕ
-asked_while true wish = mode_of wish
-asked_while false wish = 0
+abbrev pub asked_mask_while : Bool → ℕ → ℕ
+asked_mask_while true wish = mode_of wish
+asked_mask_while false wish = 0
 
-abbrev pub asked_of : Options → ℕ → ℕ
-asked_of o wish = asked_while (linemode o) wish
+abbrev pub asked_mask_of : Options → ℕ → ℕ
+asked_mask_of o wish = asked_mask_while (linemode o) wish
 
 -- the MODE that is sent where LINEMODE is on: the wish, unless it was asked already
 abbrev pub mode_sent : Bool → ℕ → ℕ → Option ℕ
-mode_sent true before wish = sent_by_wish (record { asked = before; current = 0 }) wish
+mode_sent true before wish = mask_sent (record { asked = before; current = 0 }) wish
 mode_sent false before wish = None
 
 -- the options after an option word
-abbrev pub heard : Options → Event → Options
-heard o (got (Neg verb option)) = after_word o verb option
-heard o _ = o
+abbrev pub options_after : Options → Event → Options
+options_after o (got (Neg verb option)) = options_after_word o verb option
+options_after o _ = o
 
 -- ECHO is the server's where the client does not edit, or where the flag ECHO is clear: then nobody echoes
 abbrev pub wants_echo : ℕ → Flags → Bool
-wants_echo asked flags = not (edits asked) || not flags.echo
+wants_echo asked_mask flags = not (edits asked_mask) || not flags.echo
 
 abbrev pub is_echo_set : Event → Bool
 is_echo_set (echo_set on) = true
@@ -118,29 +118,29 @@ changes old new = differ (linemode old) (linemode new)
 abbrev pub asks_echo : Options → Options → Option ℕ → Bool → Bool
 asks_echo old new told set = changes old new || (is_some told || set)
 
-abbrev pub echo_asked : Bool → Bool → Options → Options
-echo_asked true wanted o = after_wish o Us 1 wanted
-echo_asked false wanted o = o
+abbrev pub options_with_echo : Bool → Bool → Options → Options
+options_with_echo true wanted o = options_after_wish o Us 1 wanted
+options_with_echo false wanted o = o
 
 -- the MODE that is sent once these are the options and this is the wish
-abbrev pub told_by : Terms → Options → ℕ → Option ℕ
-told_by t o wish = mode_sent (linemode o) (asked_of t.options t.wish) wish
+abbrev pub mask_told : Terms → Options → ℕ → Option ℕ
+mask_told t o wish = mode_sent (linemode o) (asked_mask_of t.options t.wish) wish
 
 -- the terms once the options and perhaps a wish are new, or the flag ECHO was set
 abbrev pub terms_by : Flags → Terms → Options → Option Editing → Bool → Terms
 terms_by f t o editing set =
-    let wish = wished_after f t.wish editing in
+    let wish = wish_after f t.wish editing in
     record {
-      options = echo_asked (asks_echo t.options o (told_by t o wish) set) (wants_echo (asked_of o wish) f) o;
+      options = options_with_echo (asks_echo t.options o (mask_told t o wish) set) (wants_echo (asked_mask_of o wish) f) o;
       wish = wish;
     }
 
 -- the terms after an event, with the flags after it
 abbrev pub terms_after : Flags → Terms → Event → Terms
-terms_after f t e = terms_by f t (heard t.options e) (wish_at t.options e) (is_echo_set e)
+terms_after f t e = terms_by f t (options_after t.options e) (wish_at t.options e) (is_echo_set e)
 
 abbrev pub terms : History → Terms
-terms (begun canon) = record { options = opened; wish = 0 }
+terms (begun canon) = record { options = opening_options; wish = 0 }
 terms (next h (got item)) = terms_after (flags h) (terms h) (got item)
 terms (next h (wished editing)) = terms_after (flags h) (terms h) (wished editing)
 terms (next h (echo_set on)) = terms_after (flags (next h (echo_set on))) (terms h) (echo_set on)
@@ -149,18 +149,18 @@ terms (next h _) = terms h
 abbrev pub options : History → Options
 options h = (terms h).options
 
-abbrev pub asked : History → ℕ
-asked h = asked_of (options h) (terms h).wish
+abbrev pub asked_mask : History → ℕ
+asked_mask h = asked_mask_of (options h) (terms h).wish
 
 -- the mask in force after an item: none after a change of LINEMODE, else that of a MODE which acknowledges
-abbrev pub mode_after : Bool → ℕ → Option Payload → ℕ
-mode_after true mode payload = 0
-mode_after false mode (Some (Mode mask)) = if is_acknowledged mask then mode_of mask else mode
-mode_after false mode _ = mode
+abbrev pub mask_after : Bool → ℕ → Option Payload → ℕ
+mask_after true mode payload = 0
+mask_after false mode (Some (Mode mask)) = if is_acknowledged mask then mode_of mask else mode
+mask_after false mode _ = mode
 
 abbrev pub mode : History → ℕ
 mode (begun canon) = 0
-mode (next h (got item)) = mode_after (changes (options h) (options (next h (got item)))) (mode h) (payload_at (options h) item)
+mode (next h (got item)) = mask_after (changes (options h) (options (next h (got item)))) (mode h) (payload_at (options h) item)
 mode (next h _) = mode h
 
 abbrev pub chars_after : Characters → Option Payload → Characters
@@ -179,4 +179,4 @@ settings h = record { flags = flags h; chars = chars h }
 
 -- a wish for this sends a MODE
 abbrev pub sends_mode : History → Editing → Bool
-sends_mode h editing = is_some (told_by (terms h) (options h) (wished_after (flags h) (terms h).wish (Some editing)))
+sends_mode h editing = is_some (mask_told (terms h) (options h) (wish_after (flags h) (terms h).wish (Some editing)))

@@ -4,19 +4,19 @@ ghost use Rattle.std.specs.Prelude.{◌≡◌, ◌≢◌, ◌↔◌, ◌⊎◌, 
 ghost use Rattle.tn_discipline.specs.Characters.{char_fault};
 ghost use Rattle.tn_discipline.specs.declared.characters.CharFault.{CharFault};
 ghost use Rattle.tn_nvt.specs.Spelling.{spells};
-ghost use Rattle.tn_nvt.specs.Standing.{HasRead};
+ghost use Rattle.tn_nvt.specs.Feeding as nvt;
 ghost use Rattle.tn_option.specs.Options.{state_of, is_yes};
 ghost use Rattle.tn_option.specs.declared.q_method.Side.TheVariants.{Us};
-ghost use Rattle.tn_pty.specs.Terminal.{fits, first_signal};
+ghost use Rattle.tn_pty.specs.Terminal.{fitting_count, first_signal};
 ghost use Rattle.tn_pty.specs.declared.pty.PtyFault.{PtyFault};
 ghost use Rattle.tn_pty.specs.declared.pty.PtyFault.TheVariants.{Closed};
 ghost use Rattle.tn_server.specs.Events.{History, begun, next, took, wrote, pulled, wished, char_set, echo_set};
 ghost use Rattle.tn_server.specs.Lines.{half, waiting};
 ghost use Rattle.tn_server.specs.Screen.{queue, size, sends_ga, none_waits, due};
-ghost use Rattle.tn_server.specs.Terms.{mode, asked, chars, options, sends_mode};
+ghost use Rattle.tn_server.specs.Terms.{mode, asked_mask, chars, options, sends_mode};
 ghost use Rattle.tn_server.specs.Replies.{opening};
 ghost use Rattle.tn_server.specs.Faults.{IsOfItem, IsFault, SaysSomething};
-ghost use Rattle.tn_server.specs.Standing.{Stands, Goes, Keeps, Feeds, Halts, call_fault, char_fault_at};
+ghost use Rattle.tn_server.specs.Calls.{LeadsTo, Advances, ReadsNothing, Feeds, StopsWithin, call_fault, char_fault_at};
 
 use crate::faults::ServerFault;
 use crate::screen::{SYMBOL_BYTES, spell_all};
@@ -53,7 +53,7 @@ pub struct ServerEnd {
 }
 
 impl Model for ServerEnd {
-    ghost use Rattle.tn_server.specs.Standing.{End};
+    ghost use Rattle.tn_server.specs.Calls.{End};
 
     ghost Value = { End };
 
@@ -69,8 +69,8 @@ impl ServerEnd {
         limit: Limit,
         out: &mut Vec<u8>,
     ) -> Result<ServerEnd, ServerFault>
-        ensures stands { IfOk result (λ end. Stands (begun (record { settings = settings; limit = limit })) end) }
-        ensures reads { IfOk result (λ end. HasRead end.decoder [] []) }
+        ensures stands { IfOk result (λ end. LeadsTo (begun (record { settings = settings; limit = limit })) end) }
+        ensures reads { IfOk result (λ end. nvt.LeadsTo [] [] end.decoder) }
         ensures runs { IfOk result (λ end. end.failed ≡ false) }
         ensures opens { IfOk result (λ end. end.terminal.closed ≡ false) }
         ensures out { OnOk result (out.new.items ≡ out.old.items ++ spells opening) }
@@ -105,7 +105,7 @@ impl ServerEnd {
         ensures failed { IsErrOf result ServerFault.Failed ↔ (self.old.failed ≡ true) }
         ensures failed_stays { IsErrOf result ServerFault.Failed → self.new ≡ self.old }
         ensures failed_appends { IsErrOf result ServerFault.Failed → out.new.items ≡ out.old.items }
-        ensures halts { IfErr result (λ fault. IsOfItem fault → Halts self.old piece.now fault out.old.items out.new.items self.new) }
+        ensures halts { IfErr result (λ fault. IsOfItem fault → StopsWithin self.old piece.now fault out.old.items out.new.items self.new) }
         ensures err { OnErr result (self.new.failed ≡ true) }
         ensures no_char { (fault : CharFault) → result ≢ Err (ServerFault.Char fault) }
         ensures shut { IsErrOf result (ServerFault.Pty Closed) → self.old.terminal.closed ≡ true }
@@ -133,22 +133,22 @@ impl ServerEnd {
 
     /// Writes output of a job to the terminal's screen: the first bytes, as many as fit.
     pub fn write(&mut self, bytes: &[u8]) -> usize
-        ensures goes { (before : List ℕ) → Goes self.old (wrote bytes.now) before before self.new }
-        ensures keeps { Keeps self.old self.new }
-        ensures count { (h : History) → Stands h self.old → result ≡ fits (queue h) bytes.now }
+        ensures goes { (before : List ℕ) → Advances self.old (wrote bytes.now) before before self.new }
+        ensures keeps { ReadsNothing self.old self.new }
+        ensures count { (h : History) → LeadsTo h self.old → result ≡ fitting_count (queue h) bytes.now }
     {
         self.pair.write(bytes)
     }
 
     /// Takes the first entry that waits. Where none waits it may append GA (RFC 858).
     pub fn take(&mut self, out: &mut Vec<u8>) -> Result<Option<Entry>, ServerFault>
-        ensures ok { OnOk result (Goes self.old took out.old.items out.new.items self.new) }
-        ensures keeps { OnOk result (Keeps self.old self.new) }
-        ensures entry { IfOk result (λ entry. (h : History) → Stands h self.old → MatchOption entry (waiting h ≡ []) (λ e. waiting h ≡ e ∷ waiting (next h took))) }
+        ensures ok { OnOk result (Advances self.old took out.old.items out.new.items self.new) }
+        ensures keeps { OnOk result (ReadsNothing self.old self.new) }
+        ensures entry { IfOk result (λ entry. (h : History) → LeadsTo h self.old → MatchOption entry (waiting h ≡ []) (λ e. waiting h ≡ e ∷ waiting (next h took))) }
         ensures err { OnErr result (self.new ≡ self.old) }
         ensures err_appends { OnErr result (out.new.items ≡ out.old.items) }
         ensures fault { IfErr result (λ fault. fault ≡ ServerFault.Memory) }
-        ensures grows { OnErr result ((h : History) → Stands h self.old → SaysSomething h took) }
+        ensures grows { OnErr result ((h : History) → LeadsTo h self.old → SaysSomething h took) }
     {
         if let Some(entry) = self.pair.take() {
             return Ok(Some(entry));
@@ -175,10 +175,10 @@ impl ServerEnd {
     /// Appends the first symbols of the screen in their spelling, at most `max` of them, and answers
     /// how many symbols.
     pub fn pull(&mut self, max: usize, out: &mut Vec<u8>) -> Result<usize, ServerFault>
-        ensures ok { IfOk result (λ n. Goes self.old (pulled n) out.old.items out.new.items self.new) }
-        ensures keeps { OnOk result (Keeps self.old self.new) }
-        ensures grows { OnErr result ((h : History) → Stands h self.old → SaysSomething h (pulled max)) }
-        ensures count { IfOk result (λ n. (h : History) → Stands h self.old → n ≡ min max (length (queue h))) }
+        ensures ok { IfOk result (λ n. Advances self.old (pulled n) out.old.items out.new.items self.new) }
+        ensures keeps { OnOk result (ReadsNothing self.old self.new) }
+        ensures grows { OnErr result ((h : History) → LeadsTo h self.old → SaysSomething h (pulled max)) }
+        ensures count { IfOk result (λ n. (h : History) → LeadsTo h self.old → n ≡ min max (length (queue h))) }
         ensures err { OnErr result (self.new ≡ self.old) }
         ensures err_appends { OnErr result (out.new.items ≡ out.old.items) }
         ensures fault { IfErr result (λ fault. fault ≡ ServerFault.Memory) }
@@ -206,10 +206,10 @@ impl ServerEnd {
     /// mask is not asked for already. Answers whether one was sent. The client acknowledges it before
     /// it is in force.
     pub fn wish(&mut self, editing: Editing, out: &mut Vec<u8>) -> Result<bool, ServerFault>
-        ensures ok { OnOk result (Goes self.old (wished editing) out.old.items out.new.items self.new) }
-        ensures keeps { OnOk result (Keeps self.old self.new) }
-        ensures grows { IsErrOf result ServerFault.Memory → (h : History) → Stands h self.old → SaysSomething h (wished editing) }
-        ensures sent { IfOk result (λ sent. (h : History) → Stands h self.old → sent ≡ sends_mode h editing) }
+        ensures ok { OnOk result (Advances self.old (wished editing) out.old.items out.new.items self.new) }
+        ensures keeps { OnOk result (ReadsNothing self.old self.new) }
+        ensures grows { IsErrOf result ServerFault.Memory → (h : History) → LeadsTo h self.old → SaysSomething h (wished editing) }
+        ensures sent { IfOk result (λ sent. (h : History) → LeadsTo h self.old → sent ≡ sends_mode h editing) }
         ensures accepted { OnOk result (call_fault self.old ≡ None) }
         ensures err { OnErr result (self.new ≡ self.old) }
         ensures err_appends { OnErr result (out.new.items ≡ out.old.items) }
@@ -236,9 +236,9 @@ impl ServerEnd {
         value: Option<u8>,
         out: &mut Vec<u8>,
     ) -> Result<(), ServerFault>
-        ensures ok { OnOk result (Goes self.old (char_set func value) out.old.items out.new.items self.new) }
-        ensures keeps { OnOk result (Keeps self.old self.new) }
-        ensures grows { IsErrOf result ServerFault.Memory → (h : History) → Stands h self.old → SaysSomething h (char_set func value) }
+        ensures ok { OnOk result (Advances self.old (char_set func value) out.old.items out.new.items self.new) }
+        ensures keeps { OnOk result (ReadsNothing self.old self.new) }
+        ensures grows { IsErrOf result ServerFault.Memory → (h : History) → LeadsTo h self.old → SaysSomething h (char_set func value) }
         ensures accepted { OnOk result (char_fault_at self.old func value ≡ None) }
         ensures fault { IfErr result (IsFault (char_fault_at self.old func value)) }
         ensures err { OnErr result (self.new ≡ self.old) }
@@ -266,9 +266,9 @@ impl ServerEnd {
 
     /// Sets or clears the terminal's flag ECHO, and appends the word for the option ECHO, if one is due.
     pub fn set_echo(&mut self, on: bool, out: &mut Vec<u8>) -> Result<(), ServerFault>
-        ensures ok { OnOk result (Goes self.old (echo_set on) out.old.items out.new.items self.new) }
-        ensures keeps { OnOk result (Keeps self.old self.new) }
-        ensures grows { IsErrOf result ServerFault.Memory → (h : History) → Stands h self.old → SaysSomething h (echo_set on) }
+        ensures ok { OnOk result (Advances self.old (echo_set on) out.old.items out.new.items self.new) }
+        ensures keeps { OnOk result (ReadsNothing self.old self.new) }
+        ensures grows { IsErrOf result ServerFault.Memory → (h : History) → LeadsTo h self.old → SaysSomething h (echo_set on) }
         ensures accepted { OnOk result (call_fault self.old ≡ None) }
         ensures err { OnErr result (self.new ≡ self.old) }
         ensures err_appends { OnErr result (out.new.items ≡ out.old.items) }
@@ -292,56 +292,56 @@ impl ServerEnd {
 
     /// An entry that waits, by its place from the first on.
     pub fn waiting(&self, index: usize) -> Option<&Entry>
-        ensures { (h : History) → Stands h self.now → option_copied result ≡ slice_get (waiting h) index }
+        ensures { (h : History) → LeadsTo h self.now → option_copied result ≡ slice_get (waiting h) index }
     {
         self.pair.waiting(index)
     }
 
     /// The first signal among the entries that wait.
     pub fn signal_waiting(&self) -> Option<Sig>
-        ensures { (h : History) → Stands h self.now → result ≡ first_signal (waiting h) }
+        ensures { (h : History) → LeadsTo h self.now → result ≡ first_signal (waiting h) }
     {
         self.pair.signal_waiting()
     }
 
     /// The window's width and height in characters; 0 is unspecified (RFC 1073).
     pub fn size(&self) -> (u16, u16)
-        ensures { (h : History) → Stands h self.now → result ≡ size h }
+        ensures { (h : History) → LeadsTo h self.now → result ≡ size h }
     {
         self.pair.size()
     }
 
     /// The mask in force: the bits EDIT and TRAPSIG of the MODE that the client acknowledged last.
     pub fn mode(&self) -> u8
-        ensures { (h : History) → Stands h self.now → result ≡ mode h }
+        ensures { (h : History) → LeadsTo h self.now → result ≡ mode h }
     {
         self.terms.modes.current()
     }
 
     /// The mask that the client was asked for.
     pub fn asked(&self) -> u8
-        ensures { (h : History) → Stands h self.now → result ≡ asked h }
+        ensures { (h : History) → LeadsTo h self.now → result ≡ asked_mask h }
     {
         self.terms.modes.asked()
     }
 
     /// The half line that the terminal holds.
     pub fn half(&self) -> &[u8]
-        ensures { (h : History) → Stands h self.now → result.now ≡ half h }
+        ensures { (h : History) → LeadsTo h self.now → result.now ≡ half h }
     {
         self.pair.half()
     }
 
     /// The special characters in force.
     pub fn chars(&self) -> Chars
-        ensures { (h : History) → Stands h self.now → result ≡ chars h }
+        ensures { (h : History) → LeadsTo h self.now → result ≡ chars h }
     {
         self.table.chars()
     }
 
     /// Where an option stands.
     pub fn option(&self, side: Side, option: u8) -> QState
-        ensures { (h : History) → Stands h self.now → result ≡ state_of (options h) side option }
+        ensures { (h : History) → LeadsTo h self.now → result ≡ state_of (options h) side option }
     {
         self.terms.options.q_state(side, option)
     }

@@ -9,12 +9,12 @@ ghost use Rattle.tn_pty.specs.Typing.{command_role};
 ghost use Rattle.tn_pty.specs.declared.pty.PtyFault.{PtyFault};
 ghost use Rattle.tn_server.specs.Events.{got};
 ghost use Rattle.tn_server.specs.Terms.{payload_at, mask_for};
-ghost use Rattle.tn_server.specs.Replies.{list_answered};
-ghost use Rattle.tn_server.specs.Standing.{Goes, Gets, Refuses, Stops};
+ghost use Rattle.tn_server.specs.Replies.{list_replies};
+ghost use Rattle.tn_server.specs.Calls.{Advances, AdvancesAll, RefusesItem, StopsWithinItems};
 ghost use Rattle.tn_server.specs.Faults.{IsOfItem};
 ghost use Rattle.tn_wire.specs.Words.{IsList};
-ghost use Rattle.tn_server.specs.Steps.{role_typed, typed_byte, typed_command, IsShut, IsKeyCause, CanGrow, after_words, says_words, after_wished, says_wished, sends_wished, after_mode_got, says_mode_got, after_list, after_sub, says_sub};
-ghost use Rattle.tn_wire.specs.Fronts.{Cuts};
+ghost use Rattle.tn_server.specs.Steps.{role_of_typed, end_after_byte, end_after_command, IsShut, IsKeyCause, MayWantMemory, end_after_word, says_words, end_after_wish, says_wished, sends_wished, end_after_mode, says_mode_got, end_after_list, end_after_payload, says_sub};
+ghost use Rattle.tn_wire.specs.Fronts.{AppendsFront};
 
 use crate::end::ServerEnd;
 use crate::faults::ServerFault;
@@ -32,9 +32,9 @@ impl ServerEnd {
     /// Takes bytes of data, one after another.
     pub(crate) fn bytes(&mut self, bytes: &[u8]) -> Result<(), PtyFault>
         ensures ok { OnOk result
-            ((before : List ℕ) → Gets self.old (map item.Byte bytes.now) before before self.new) }
+            ((before : List ℕ) → AdvancesAll self.old (map item.Byte bytes.now) before before self.new) }
         ensures err { IfErr result (λ fault. (before : List ℕ) →
-            Stops self.old (map item.Byte bytes.now) (ServerFault.Pty fault) before before self.new) }
+            StopsWithinItems self.old (map item.Byte bytes.now) (ServerFault.Pty fault) before before self.new) }
         ensures failed { self.new.failed ≡ self.old.failed }
         ensures shut { IsErrOf result PtyFault.Closed → self.old.terminal.closed ≡ true }
     {
@@ -46,8 +46,8 @@ impl ServerEnd {
 
     /// Takes one item.
     pub(crate) fn item(&mut self, item: Item, out: &mut Vec<u8>) -> Result<(), ServerFault>
-        ensures ok { OnOk result (Goes self.old (got item) out.old.items out.new.items self.new) }
-        ensures err { IfErr result (λ fault. Refuses self.old item fault out.old.items out.new.items self.new) }
+        ensures ok { OnOk result (Advances self.old (got item) out.old.items out.new.items self.new) }
+        ensures err { IfErr result (λ fault. RefusesItem self.old item fault out.old.items out.new.items self.new) }
         ensures fault { IfErr result IsOfItem }
         ensures failed { self.new.failed ≡ self.old.failed }
         ensures shut { IsErrOf result (ServerFault.Pty PtyFault.Closed) → self.old.terminal.closed ≡ true }
@@ -78,9 +78,9 @@ impl ServerEnd {
 
     // A byte of data: a key, or a byte of a line that the client edited.
     fn byte(&mut self, byte: u8) -> Result<(), PtyFault>
-        ensures ok { OnOk result (self.new ≡ typed_byte self.old byte) }
+        ensures ok { OnOk result (self.new ≡ end_after_byte self.old byte) }
         ensures err { OnErr result (IsShut self.old self.new) }
-        ensures cause { IfErr result (λ fault. IsKeyCause self.old.terminal (role_typed self.old byte) fault) }
+        ensures cause { IfErr result (λ fault. IsKeyCause self.old.terminal (role_of_typed self.old byte) fault) }
     {
         if self.terms.modes.current() & EDIT != 0 {
             return self.pair.edited_byte(byte);
@@ -90,7 +90,7 @@ impl ServerEnd {
     }
 
     fn command(&mut self, command: Command) -> Result<(), PtyFault>
-        ensures ok { OnOk result (self.new ≡ typed_command self.old command) }
+        ensures ok { OnOk result (self.new ≡ end_after_command self.old command) }
         ensures err { OnErr result (IsShut self.old self.new) }
         ensures cause { IfErr result (λ fault. IsKeyCause self.old.terminal (command_role command) fault) }
     {
@@ -99,9 +99,9 @@ impl ServerEnd {
 
     // An option word: it is answered, and what follows from it is said.
     fn word(&mut self, verb: Verb, option: u8, out: &mut Vec<u8>) -> Result<(), AllocError>
-        ensures ok { OnOk result (self.new ≡ after_words self.old verb option) }
+        ensures ok { OnOk result (self.new ≡ end_after_word self.old verb option) }
         ensures out { OnOk result (out.new.items ≡ out.old.items ++ spells (says_words self.old verb option)) }
-        ensures cut { OnErr result (Cuts (says_words self.old verb option) out.old.items out.new.items) }
+        ensures cut { OnErr result (AppendsFront (says_words self.old verb option) out.old.items out.new.items) }
         ensures some { OnErr result (says_words self.old verb option ≢ []) }
         ensures err { OnErr result (self.new ≡ self.old) }
     {
@@ -122,10 +122,10 @@ impl ServerEnd {
         editing: Editing,
         out: &mut Vec<u8>,
     ) -> Result<bool, AllocError>
-        ensures ok { OnOk result (self.new ≡ after_wished self.old (mask_for self.old.terminal.settings.flags editing)) }
+        ensures ok { OnOk result (self.new ≡ end_after_wish self.old (mask_for self.old.terminal.settings.flags editing)) }
         ensures sent { IfOk result (λ sent. sent ≡ sends_wished self.old (mask_for self.old.terminal.settings.flags editing)) }
         ensures out { OnOk result (out.new.items ≡ out.old.items ++ spells (says_wished self.old (mask_for self.old.terminal.settings.flags editing))) }
-        ensures cut { OnErr result (Cuts (says_wished self.old (mask_for self.old.terminal.settings.flags editing)) out.old.items out.new.items) }
+        ensures cut { OnErr result (AppendsFront (says_wished self.old (mask_for self.old.terminal.settings.flags editing)) out.old.items out.new.items) }
         ensures some { OnErr result (says_wished self.old (mask_for self.old.terminal.settings.flags editing) ≢ []) }
         ensures err { OnErr result (self.new ≡ self.old) }
     {
@@ -143,9 +143,9 @@ impl ServerEnd {
 
     // A MODE of the client: an acknowledgement is in force from here on, and any other is a wish.
     fn mode_got(&mut self, mask: u8, out: &mut Vec<u8>) -> Result<(), AllocError>
-        ensures ok { OnOk result (self.new ≡ after_mode_got self.old mask) }
+        ensures ok { OnOk result (self.new ≡ end_after_mode self.old mask) }
         ensures out { OnOk result (out.new.items ≡ out.old.items ++ spells (says_mode_got self.old mask)) }
-        ensures cut { OnErr result (Cuts (says_mode_got self.old mask) out.old.items out.new.items) }
+        ensures cut { OnErr result (AppendsFront (says_mode_got self.old mask) out.old.items out.new.items) }
         ensures some { OnErr result (says_mode_got self.old mask ≢ []) }
         ensures err { OnErr result (self.new ≡ self.old) }
     {
@@ -169,9 +169,9 @@ impl ServerEnd {
     // A list of local characters: the answers in one list, and the whole table if it was asked for.
     fn list(&mut self, triples: &Triples, out: &mut Vec<u8>) -> Result<(), AllocError>
         requires { length triples.now ≤ 170 }
-        ensures ok { OnOk result (self.new ≡ after_list self.old triples.now) }
-        ensures out { OnOk result (out.new.items ≡ out.old.items ++ spells (list_answered self.old.table (Some (payload.Slc triples.now)))) }
-        ensures cut { OnErr result (Cuts (list_answered self.old.table (Some (payload.Slc triples.now))) out.old.items out.new.items) }
+        ensures ok { OnOk result (self.new ≡ end_after_list self.old triples.now) }
+        ensures out { OnOk result (out.new.items ≡ out.old.items ++ spells (list_replies self.old.table (Some (payload.Slc triples.now)))) }
+        ensures cut { OnErr result (AppendsFront (list_replies self.old.table (Some (payload.Slc triples.now))) out.old.items out.new.items) }
         ensures some { OnErr result (triples.now ≢ []) }
         ensures err { OnErr result (self.new ≡ self.old) }
     {
@@ -194,10 +194,10 @@ impl ServerEnd {
         params: &Params,
         out: &mut Vec<u8>,
     ) -> Result<(), AllocError>
-        ensures ok { OnOk result (self.new ≡ after_sub self.old (payload_at self.old.terms.options (item.Sub option params.now))) }
+        ensures ok { OnOk result (self.new ≡ end_after_payload self.old (payload_at self.old.terms.options (item.Sub option params.now))) }
         ensures out { OnOk result (out.new.items ≡ out.old.items ++ spells (says_sub self.old (payload_at self.old.terms.options (item.Sub option params.now)))) }
-        ensures cut { OnErr result (Cuts (says_sub self.old (payload_at self.old.terms.options (item.Sub option params.now))) out.old.items out.new.items) }
-        ensures some { OnErr result (CanGrow self.old (payload_at self.old.terms.options (item.Sub option params.now))) }
+        ensures cut { OnErr result (AppendsFront (says_sub self.old (payload_at self.old.terms.options (item.Sub option params.now))) out.old.items out.new.items) }
+        ensures some { OnErr result (MayWantMemory self.old (payload_at self.old.terms.options (item.Sub option params.now))) }
         ensures err { OnErr result (self.new ≡ self.old) }
     {
         let is_on = self.terms.options.is_on(Side::Them, option);

@@ -2,7 +2,7 @@
 
 ghost use Rattle.std.specs.Prelude.{◌≡◌, ◌++◌, true, OnOk, OnErr};
 ghost use Rattle.tn_nvt.specs.Spelling.{spells};
-ghost use Rattle.tn_server.specs.Replies.{triple_told};
+ghost use Rattle.tn_server.specs.Replies.{triple_items};
 
 use std::alloc::{AllocError, Global};
 use tn_codes::Func;
@@ -17,7 +17,7 @@ pub(crate) fn put_char(
     value: Option<u8>,
     out: &mut Vec<u8>,
 ) -> Result<(), AllocError>
-    ensures ok { OnOk result (out.new.items ≡ out.old.items ++ spells (triple_told is_told func value)) }
+    ensures ok { OnOk result (out.new.items ≡ out.old.items ++ spells (triple_items is_told func value)) }
     ensures err { OnErr result (out.new.items ≡ out.old.items) }
     ensures some { OnErr result (is_told ≡ true) }
 {

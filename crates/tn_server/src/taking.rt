@@ -14,11 +14,11 @@ pub(crate) struct Lent<'a> {
 }
 
 impl<'a> Sink for Lent<'a> {
-    ghost use Rattle.tn_server.specs.Lending.{Takes, RefusesOne};
+    ghost use Rattle.tn_server.specs.Lending.{TakesItems, RefusesItems};
 
-    ghost takes = { Takes };
+    ghost takes = { TakesItems };
 
-    ghost gives_up = { RefusesOne };
+    ghost gives_up = { RefusesItems };
 
     fn run(&mut self, bytes: &[u8]) -> Result<(), Refused> {
         match self.end.bytes(bytes) {

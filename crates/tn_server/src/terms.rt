@@ -3,12 +3,12 @@
 ghost use Rattle.std.specs.Prelude.{◌≡◌, ◌≢◌, [], ◌++◌, true, is_some, IfOk, OnOk, OnErr};
 ghost use Rattle.tn_linemode.specs.Modes.{no_mode};
 ghost use Rattle.tn_nvt.specs.Spelling.{spells};
-ghost use Rattle.tn_server.specs.Terms.{opened, linemode, echoes, echo_asked, wants_echo};
-ghost use Rattle.tn_server.specs.Replies.{table_told, echo_told};
-ghost use Rattle.tn_wire.specs.Words.{listed};
+ghost use Rattle.tn_server.specs.Terms.{opening_options, linemode, echoes, options_with_echo, wants_echo};
+ghost use Rattle.tn_server.specs.Replies.{new_table_items, echo_items};
+ghost use Rattle.tn_wire.specs.Words.{list_items};
 ghost use Rattle.tn_linemode.specs.Exchange.{announcement};
-ghost use Rattle.tn_server.specs.Steps.{told_now, masks_by, settled, settling};
-ghost use Rattle.tn_wire.specs.Fronts.{Cuts};
+ghost use Rattle.tn_server.specs.Steps.{told_now, masks_by, negotiation_after, negotiation_items};
+ghost use Rattle.tn_wire.specs.Fronts.{AppendsFront};
 
 use std::alloc::{AllocError, Global};
 use tn_discipline::Flags;
@@ -27,7 +27,7 @@ pub(crate) struct Negotiation {
 impl Negotiation {
     /// The opening wishes have been said.
     pub(crate) fn new() -> Negotiation
-        ensures options { result.options ≡ opened }
+        ensures options { result.options ≡ opening_options }
         ensures modes { result.modes ≡ no_mode }
         ensures wish { result.wish ≡ 0 }
     {
@@ -75,10 +75,10 @@ impl Negotiation {
         flags: &Flags,
         out: &mut Vec<u8>,
     ) -> Result<(), AllocError>
-        ensures options { OnOk result (self.new ≡ record self.old { options = echo_asked is_due (wants_echo self.old.modes.asked flags.now) self.old.options }) }
-        ensures out { OnOk result (out.new.items ≡ out.old.items ++ spells (echo_told is_due (wants_echo self.old.modes.asked flags.now) self.old.options)) }
+        ensures options { OnOk result (self.new ≡ record self.old { options = options_with_echo is_due (wants_echo self.old.modes.asked flags.now) self.old.options }) }
+        ensures out { OnOk result (out.new.items ≡ out.old.items ++ spells (echo_items is_due (wants_echo self.old.modes.asked flags.now) self.old.options)) }
         ensures err { OnErr result (out.new.items ≡ out.old.items) }
-        ensures some { OnErr result (echo_told is_due (wants_echo self.old.modes.asked flags.now) self.old.options ≢ []) }
+        ensures some { OnErr result (echo_items is_due (wants_echo self.old.modes.asked flags.now) self.old.options ≢ []) }
     {
         if !is_due {
             return Ok(());
@@ -105,10 +105,10 @@ impl Negotiation {
         out: &mut Vec<u8>,
     ) -> Result<bool, AllocError>
         ensures sent { IfOk result (λ sent. sent ≡ is_some (told_now was_on self.old)) }
-        ensures terms { OnOk result (self.new ≡ settled was_on is_set flags.now self.old) }
-        ensures out { OnOk result (out.new.items ≡ out.old.items ++ spells (settling was_on is_set flags.now table.now self.old)) }
-        ensures err { OnErr result (Cuts (settling was_on is_set flags.now table.now self.old) out.old.items out.new.items) }
-        ensures some { OnErr result (settling was_on is_set flags.now table.now self.old ≢ []) }
+        ensures terms { OnOk result (self.new ≡ negotiation_after was_on is_set flags.now self.old) }
+        ensures out { OnOk result (out.new.items ≡ out.old.items ++ spells (negotiation_items was_on is_set flags.now table.now self.old)) }
+        ensures err { OnErr result (AppendsFront (negotiation_items was_on is_set flags.now table.now self.old) out.old.items out.new.items) }
+        ensures some { OnErr result (negotiation_items was_on is_set flags.now table.now self.old ≢ []) }
     {
         let is_on = self.has_linemode();
         put_table(alloc, was_on, is_on, table, out)?;
@@ -128,9 +128,9 @@ fn put_table(
     table: &ServerTable,
     out: &mut Vec<u8>,
 ) -> Result<(), AllocError>
-    ensures ok { OnOk result (out.new.items ≡ out.old.items ++ spells (table_told was_on is_on table.now)) }
+    ensures ok { OnOk result (out.new.items ≡ out.old.items ++ spells (new_table_items was_on is_on table.now)) }
     ensures err { OnErr result (out.new.items ≡ out.old.items) }
-    ensures some { OnErr result (table_told was_on is_on table.now ≢ []) }
+    ensures some { OnErr result (new_table_items was_on is_on table.now ≢ []) }
 {
     if was_on || !is_on {
         return Ok(());
@@ -144,7 +144,7 @@ pub(crate) fn announce(
     table: &ServerTable,
     out: &mut Vec<u8>,
 ) -> Result<(), AllocError>
-    ensures ok { OnOk result (out.new.items ≡ out.old.items ++ spells (listed (announcement table.now))) }
+    ensures ok { OnOk result (out.new.items ≡ out.old.items ++ spells (list_items (announcement table.now))) }
     ensures err { OnErr result (out.new.items ≡ out.old.items) }
 {
     let mut triples = Vec::new(alloc);
@@ -153,7 +153,7 @@ pub(crate) fn announce(
 }
 
 fn opening_options() -> Engine
-    ensures { result ≡ opened }
+    ensures { result ≡ opening_options }
 {
     let mut options = Engine::new(Agree {
         us: [true, true, false, false],

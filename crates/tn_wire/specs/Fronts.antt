@@ -1,12 +1,12 @@
 -- Fronts: of what was to be said, and of a stream.
 use Rattle.std.specs.Prelude.{◌≡◌, ℕ, List, [], ◌∷◌, ◌++◌}
 use Rattle.tn_nvt.specs.Spelling.{spells}
-use Rattle.tn_nvt.specs.Standing.{Standing, KeepsParameter}
+use Rattle.tn_nvt.specs.Feeding.{DecoderState, KeepsParameter}
 use Rattle.tn_nvt.specs.Stream.{Reading}
 use Rattle.tn_nvt.specs.declared.items.Item.{Item}
 
 -- a front of these items was appended
-pub record Cuts (whole : List Item) (before after : List ℕ) : Type 0 where
+pub record AppendsFront (whole : List Item) (before after : List ℕ) : Type 0 where
   pub part : List Item
   pub rest : List Item
   pub whole_is : whole ≡ part ++ rest
@@ -17,6 +17,6 @@ abbrev pub IsRead : List ℕ → List Item → Type 0
 IsRead bytes xs = (rest : List ℕ) × Reading bytes xs rest
 
 -- the decoder wants memory for the next byte of the stream, a parameter
-abbrev pub WantsMemory : Standing → List ℕ → Type 0
+abbrev pub WantsMemory : DecoderState → List ℕ → Type 0
 WantsMemory here [] = ⊥
 WantsMemory here (byte ∷ bytes) = KeepsParameter here byte

@@ -1,7 +1,7 @@
 -- What either end says as items, and what a subnegotiation says to it.
 use Rattle.std.specs.Prelude.{◌≡◌, ◌≢◌, ℕ, Bool, true, false, not, ◌&&◌, nat_le, Option, Some, None, List, [], ◌∷◌, length, if◌then◌else◌}
 use Rattle.tn_codes.specs.PayloadOf.{payload_of}
-use Rattle.tn_codes.specs.Payloads.{option_of, written}
+use Rattle.tn_codes.specs.Payloads.{option_of, parameters_of}
 use Rattle.tn_codes.specs.declared.codes.Verb.{Verb}
 use Rattle.tn_codes.specs.declared.payloads.Payload.{Payload}
 use Rattle.tn_codes.specs.declared.payloads.Payload.TheVariants.{Mode, Slc}
@@ -10,22 +10,22 @@ use Rattle.tn_nvt.specs.declared.items.Item.{Item}
 use Rattle.tn_nvt.specs.declared.items.Item.TheVariants.{Neg, Sub}
 
 -- an option word (RFC 855)
-abbrev pub word : Option (Verb × ℕ) → List Item
-word None = []
-word (Some said) = Neg said.0 said.1 ∷ []
+abbrev pub word_items : Option (Verb × ℕ) → List Item
+word_items None = []
+word_items (Some said) = Neg said.0 said.1 ∷ []
 
 -- a payload, as a subnegotiation of its option
-abbrev pub subnegotiated : Payload → List Item
-subnegotiated payload = Sub (option_of payload) (written payload) ∷ []
+abbrev pub payload_items : Payload → List Item
+payload_items payload = Sub (option_of payload) (parameters_of payload) ∷ []
 
-abbrev pub mode_told : Option ℕ → List Item
-mode_told None = []
-mode_told (Some mask) = subnegotiated (Mode mask)
+abbrev pub mode_items : Option ℕ → List Item
+mode_items None = []
+mode_items (Some mask) = payload_items (Mode mask)
 
 -- an empty list is not sent
-abbrev pub listed : List Triple → List Item
-listed [] = []
-listed (triple ∷ triples) = subnegotiated (Slc (triple ∷ triples))
+abbrev pub list_items : List Triple → List Item
+list_items [] = []
+list_items (triple ∷ triples) = payload_items (Slc (triple ∷ triples))
 
 -- RFC 855: what a subnegotiation says where its option is on. None of a stream has more than 512 parameters
 abbrev pub payload_under : Bool → ℕ → List ℕ → Option Payload

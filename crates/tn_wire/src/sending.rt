@@ -3,7 +3,7 @@
 ghost use Rattle.std.specs.Prelude.{◌≡◌, ◌≢◌, ◌≤◌, [], ◌∷◌, ◌++◌, length, OnOk, OnErr};
 ghost use Rattle.tn_codes.specs.Payloads.{option_of, IsShort};
 ghost use Rattle.tn_nvt.specs.Spelling.{spells};
-ghost use Rattle.tn_wire.specs.Words.{word, subnegotiated, mode_told, listed};
+ghost use Rattle.tn_wire.specs.Words.{word_items, payload_items, mode_items, list_items};
 
 use std::alloc::{AllocError, Global};
 use tn_codes::{Payload, Triple, Triples, Verb, write_payload};
@@ -12,9 +12,9 @@ use tn_option::{LINEMODE, NAWS};
 
 /// Appends an option word, where there is one to say.
 pub fn put_word(said: Option<(Verb, u8)>, out: &mut Vec<u8>) -> Result<(), AllocError>
-    ensures ok { OnOk result (out.new.items ≡ out.old.items ++ spells (word said)) }
+    ensures ok { OnOk result (out.new.items ≡ out.old.items ++ spells (word_items said)) }
     ensures err { OnErr result (out.new.items ≡ out.old.items) }
-    ensures some { OnErr result (word said ≢ []) }
+    ensures some { OnErr result (word_items said ≢ []) }
 {
     match said {
         Some((verb, option)) => put_neg(verb, option, out),
@@ -25,7 +25,7 @@ pub fn put_word(said: Option<(Verb, u8)>, out: &mut Vec<u8>) -> Result<(), Alloc
 /// Appends a payload as a subnegotiation of its option.
 pub fn put_payload(alloc: Global, payload: &Payload, out: &mut Vec<u8>) -> Result<(), AllocError>
     requires { IsShort payload.now }
-    ensures ok { OnOk result (out.new.items ≡ out.old.items ++ spells (subnegotiated payload.now)) }
+    ensures ok { OnOk result (out.new.items ≡ out.old.items ++ spells (payload_items payload.now)) }
     ensures err { OnErr result (out.new.items ≡ out.old.items) }
 {
     let mut params = Vec::new(alloc);
@@ -48,9 +48,9 @@ fn option_of(payload: &Payload) -> u8
 
 /// Appends a MODE with this mask, where one is to be sent.
 pub fn put_mode(alloc: Global, mask: Option<u8>, out: &mut Vec<u8>) -> Result<(), AllocError>
-    ensures ok { OnOk result (out.new.items ≡ out.old.items ++ spells (mode_told mask)) }
+    ensures ok { OnOk result (out.new.items ≡ out.old.items ++ spells (mode_items mask)) }
     ensures err { OnErr result (out.new.items ≡ out.old.items) }
-    ensures some { OnErr result (mode_told mask ≢ []) }
+    ensures some { OnErr result (mode_items mask ≢ []) }
 {
     match mask {
         Some(mask) => put_payload(alloc, &Payload::Mode(mask), out),
@@ -61,7 +61,7 @@ pub fn put_mode(alloc: Global, mask: Option<u8>, out: &mut Vec<u8>) -> Result<()
 /// Appends a list of local characters, unless it is empty.
 pub fn put_list(alloc: Global, triples: Vec<Triple>, out: &mut Vec<u8>) -> Result<(), AllocError>
     requires { length triples.items ≤ 170 }
-    ensures ok { OnOk result (out.new.items ≡ out.old.items ++ spells (listed triples.items)) }
+    ensures ok { OnOk result (out.new.items ≡ out.old.items ++ spells (list_items triples.items)) }
     ensures err { OnErr result (out.new.items ≡ out.old.items) }
     ensures some { OnErr result (triples.items ≢ []) }
 {
@@ -73,7 +73,7 @@ pub fn put_list(alloc: Global, triples: Vec<Triple>, out: &mut Vec<u8>) -> Resul
 
 /// Appends a list of one triple.
 pub fn put_triple(alloc: Global, triple: Triple, out: &mut Vec<u8>) -> Result<(), AllocError>
-    ensures ok { OnOk result (out.new.items ≡ out.old.items ++ spells (listed (triple ∷ []))) }
+    ensures ok { OnOk result (out.new.items ≡ out.old.items ++ spells (list_items (triple ∷ []))) }
     ensures err { OnErr result (out.new.items ≡ out.old.items) }
 {
     let mut triples = Vec::new(alloc);

@@ -4,85 +4,85 @@ use Rattle.std.specs.Prelude.{Result, Ok, Err, OnOk, OnErr}
 use Rattle.tn_discipline.specs.Canon.{Canon}
 use Rattle.tn_discipline.specs.declared.reads.Entry.{Entry}
 use Rattle.tn_nvt.specs.Spelling.{spells}
-use Rattle.tn_nvt.specs.Standing.{HasRead}
+use Rattle.tn_nvt.specs.Feeding.{LeadsTo}
 use Rattle.tn_server.specs.Course as asked_course
 use Rattle.tn_server.specs.Events as asked
 use Rattle.tn_server.specs.Replies.{opening}
-use Rattle.tn_server.specs.Standing as server
+use Rattle.tn_server.specs.Calls as server
 use Rattle.tn_server.proofs.lemmas.Fitting.{sent-fit}
 use Rattle.tn_client.specs.Course as told_course
 use Rattle.tn_client.specs.Events as told
-use Rattle.tn_client.specs.Standing as client
+use Rattle.tn_client.specs.Calls as client
 use Rattle.tn_client.specs.Replies as client_says
 use Rattle.tn_client.specs.declared.faults.ClientFault.{ClientFault}
 use Rattle.tn_client.specs.declared.faults.ClientFault.TheVariants as broken
-use Rattle.tn_world.specs.Past.{IsSound}
+use Rattle.tn_world.specs.Past.{HasPast}
 use Rattle.tn_world.specs.Flight.{InFlight}
 use Rattle.tn_world.specs.Opened.{IsOpened}
-use Rattle.tn_world.specs.Worlds.{World, client_fault, RefusesTold}
+use Rattle.tn_world.specs.Worlds.{World, client_fault, ClientRefusesEvent}
 use Rattle.tn_world.specs.declared.events.Event.TheVariants.{Key, Resize}
 use Rattle.tn_world.proofs.Cut.{said_behind, start}
 use Rattle.tn_world.proofs.Soundness.{made, asked_sound, told_sound, sound_as, sound_reaches, sound_returns, propose_goes_on, breaks_sound, again_sound}
 
 -- a call of the client that is accepted
-pub tells_sound : (old : World) (end : client.End) (e : told.Event) (later : List ℕ) → told_course.IsCall e → client_fault old.client e ≡ None → client.Goes old.client e end → client.Keeps old.client end → client.Sends old.client e old.to_server later → IsSound old → IsSound (record old { client = end; to_server = later })
+pub tells_sound : (old : World) (end : client.End) (e : told.Event) (later : List ℕ) → told_course.IsCall e → client_fault old.client e ≡ None → client.Advances old.client e end → client.ReadsNothing old.client end → client.Sends old.client e old.to_server later → HasPast old → HasPast (record old { client = end; to_server = later })
 tells_sound old end e later call accepted goes keeps sends s =
     told_sound old (record old { client = end; to_server = later }) e call goes keeps sends (propose_goes_on old.client e accepted) s
 
-pub key_sound : (old : World) (end : client.End) (key : ℕ) (later seen keys : List ℕ) → client_fault old.client (told.typed key) ≡ None → client.Goes old.client (told.typed key) end → client.Keeps old.client end → client.Sends old.client (told.typed key) old.to_server later → IsSound old → IsSound (record old { client = end; to_server = later; echoed = seen; typed = keys })
+pub key_sound : (old : World) (end : client.End) (key : ℕ) (later seen keys : List ℕ) → client_fault old.client (told.typed key) ≡ None → client.Advances old.client (told.typed key) end → client.ReadsNothing old.client end → client.Sends old.client (told.typed key) old.to_server later → HasPast old → HasPast (record old { client = end; to_server = later; echoed = seen; typed = keys })
 key_sound old end key later seen keys accepted goes keeps sends s =
     sound_as (record old { client = end; to_server = later }) (record old { client = end; to_server = later; echoed = seen; typed = keys }) refl refl refl refl
     (tells_sound old end (told.typed key) later tt accepted goes keeps sends s)
 
 -- a call of the server that is accepted
-pub asks_sound : (old : World) (end : server.End) (e : asked.Event) (later : List ℕ) → asked_course.IsCall e → server.Goes old.server e old.to_client later end → server.Keeps old.server end → IsSound old → IsSound (record old { server = end; to_client = later })
+pub asks_sound : (old : World) (end : server.End) (e : asked.Event) (later : List ℕ) → asked_course.IsCall e → server.Advances old.server e old.to_client later end → server.ReadsNothing old.server end → HasPast old → HasPast (record old { server = end; to_client = later })
 asks_sound old end e later call goes keeps s = asked_sound old (record old { server = end; to_client = later }) e call goes keeps s
 
-pub takes_sound : (old : World) (end : server.End) (later : List ℕ) (entries : List Entry) → server.Goes old.server asked.took old.to_client later end → server.Keeps old.server end → IsSound old → IsSound (record old { server = end; to_client = later; taken = entries })
+pub takes_sound : (old : World) (end : server.End) (later : List ℕ) (entries : List Entry) → server.Advances old.server asked.took old.to_client later end → server.ReadsNothing old.server end → HasPast old → HasPast (record old { server = end; to_client = later; taken = entries })
 takes_sound old end later entries goes keeps s =
     sound_as (record old { server = end; to_client = later }) (record old { server = end; to_client = later; taken = entries }) refl refl refl refl
     (asks_sound old end asked.took later tt goes keeps s)
 
 -- deliveries
-pub reaches_sound : (old : World) (end : server.End) (n : ℕ) (piece left later : List ℕ) → server.call_fault old.server ≡ None → piece ≡ take n old.to_server → left ≡ drop n old.to_server → server.Feeds old.server piece old.to_client later end → IsSound old → IsSound (record old { server = end; to_server = left; to_client = later })
+pub reaches_sound : (old : World) (end : server.End) (n : ℕ) (piece left later : List ℕ) → server.call_fault old.server ≡ None → piece ≡ take n old.to_server → left ≡ drop n old.to_server → server.Feeds old.server piece old.to_client later end → HasPast old → HasPast (record old { server = end; to_server = left; to_client = later })
 reaches_sound old end n piece left later accepted is rest feeds s =
     sound_reaches old (record old { server = end; to_server = left; to_client = later }) n
     (record { accepted = accepted; feeds = subst (λ x. server.Feeds old.server x old.to_client later end) is feeds; rest = ap (λ x. record old { server = end; to_server = x; to_client = later }) rest }) s
 
-pub returns_sound : (old : World) (end : client.End) (n : ℕ) (piece left later seen : List ℕ) → client.call_fault old.client ≡ None → piece ≡ take n old.to_client → left ≡ drop n old.to_client → client.Feeds old.client piece old.to_server later old.shown seen end → IsSound old → IsSound (record old { client = end; to_client = left; to_server = later; shown = seen })
+pub returns_sound : (old : World) (end : client.End) (n : ℕ) (piece left later seen : List ℕ) → client.call_fault old.client ≡ None → piece ≡ take n old.to_client → left ≡ drop n old.to_client → client.Feeds old.client piece old.to_server later old.shown seen end → HasPast old → HasPast (record old { client = end; to_client = left; to_server = later; shown = seen })
 returns_sound old end n piece left later seen accepted is rest feeds s =
     sound_returns old (record old { client = end; to_client = left; to_server = later; shown = seen }) n
     (record { accepted = accepted; feeds = subst (λ x. client.Feeds old.client x old.to_server later old.shown seen end) is feeds; rest = ap (λ x. record old { client = end; to_client = x; to_server = later; shown = seen }) rest }) s
 
-pub breaks_or_again : (old : World) (end : client.End) (piece left later seen : List ℕ) (fault : ClientFault) → client.IsFault (client.call_fault old.client) fault → (fault ≡ broken.Memory → client.Breaks old.client piece old.to_server later old.shown seen) → (fault ≡ broken.Failed → end ≡ old.client) → (fault ≡ broken.Failed → later ≡ old.to_server) → end.failed ≡ true → IsSound old → IsSound (record old { client = end; to_client = left; to_server = later; shown = seen })
+pub breaks_or_again : (old : World) (end : client.End) (piece left later seen : List ℕ) (fault : ClientFault) → client.IsFault (client.call_fault old.client) fault → (fault ≡ broken.Memory → client.StopsWithin old.client piece old.to_server later old.shown seen) → (fault ≡ broken.Failed → end ≡ old.client) → (fault ≡ broken.Failed → later ≡ old.to_server) → end.failed ≡ true → HasPast old → HasPast (record old { client = end; to_client = left; to_server = later; shown = seen })
 breaks_or_again old end piece left later seen fault cause breaks stays none failed s = by_test old.client.failed refl cause
   where
-    by_test : (b : Bool) → old.client.failed ≡ b → client.IsFault (if b then Some broken.Failed else None) fault → IsSound (record old { client = end; to_client = left; to_server = later; shown = seen })
+    by_test : (b : Bool) → old.client.failed ≡ b → client.IsFault (if b then Some broken.Failed else None) fault → HasPast (record old { client = end; to_client = left; to_server = later; shown = seen })
     by_test true is f = sound_as (record old { to_client = left }) (record old { client = end; to_client = left; to_server = later; shown = seen }) refl (stays f) (none f) refl (again_sound old left is s)
     by_test false is f = breaks_sound old end piece left later seen is (breaks f) failed s
 
 -- a call of the client that is refused
-pub key_refused : (old : World) (end : client.End) (key : ℕ) (later seen keys : List ℕ) (fault : ClientFault) → old.client_stopped ≡ false → client.IsFault (client.call_fault old.client) fault → (fault ≡ broken.Memory → (h : told.History) → client.Stands h old.client → client.Grows h (told.typed key)) → end ≡ old.client → later ≡ old.to_server → seen ≡ old.echoed → keys ≡ old.typed → (w : World) → old ≡ w → RefusesTold w (Key key) fault × (record old { client = end; to_server = later; echoed = seen; typed = keys } ≡ w)
+pub key_refused : (old : World) (end : client.End) (key : ℕ) (later seen keys : List ℕ) (fault : ClientFault) → old.client_stopped ≡ false → client.IsFault (client.call_fault old.client) fault → (fault ≡ broken.Memory → (h : told.History) → client.LeadsTo h old.client → client.SaysOrShows h (told.typed key)) → end ≡ old.client → later ≡ old.to_server → seen ≡ old.echoed → keys ≡ old.typed → (w : World) → old ≡ w → ClientRefusesEvent w (Key key) fault × (record old { client = end; to_server = later; echoed = seen; typed = keys } ≡ w)
 key_refused old end key later seen keys fault goes cause grows a b c d w is =
-    subst (λ w. RefusesTold w (Key key) fault × (record old { client = end; to_server = later; echoed = seen; typed = keys } ≡ w)) is
+    subst (λ w. ClientRefusesEvent w (Key key) fault × (record old { client = end; to_server = later; echoed = seen; typed = keys } ≡ w)) is
     ((goes, record { cause = cause; grows = grows }), rw (a, b, c, d) refl)
 
-pub resize_refused : (old : World) (end : client.End) (width height : ℕ) (later : List ℕ) (fault : ClientFault) → old.client_stopped ≡ false → client.IsFault (client.call_fault old.client) fault → (fault ≡ broken.Memory → (h : told.History) → client.Stands h old.client → client_says.replies h (told.resized width height) ≢ []) → end ≡ old.client → later ≡ old.to_server → (w : World) → old ≡ w → RefusesTold w (Resize width height) fault × (record old { client = end; to_server = later } ≡ w)
+pub resize_refused : (old : World) (end : client.End) (width height : ℕ) (later : List ℕ) (fault : ClientFault) → old.client_stopped ≡ false → client.IsFault (client.call_fault old.client) fault → (fault ≡ broken.Memory → (h : told.History) → client.LeadsTo h old.client → client_says.replies h (told.resized width height) ≢ []) → end ≡ old.client → later ≡ old.to_server → (w : World) → old ≡ w → ClientRefusesEvent w (Resize width height) fault × (record old { client = end; to_server = later } ≡ w)
 resize_refused old end width height later fault goes cause grows a b w is =
-    subst (λ w. RefusesTold w (Resize width height) fault × (record old { client = end; to_server = later } ≡ w)) is
+    subst (λ w. ClientRefusesEvent w (Resize width height) fault × (record old { client = end; to_server = later } ≡ w)) is
     ((goes, record { cause = cause; grows = λ m h s. inl (grows m h s) }), rw (a, b) refl)
 
 -- a call that may be refused, and then changes nothing
-pub asks_or_not : {A E : Type 0} (old : World) (end : server.End) (e : asked.Event) (later : List ℕ) (r : Result A E) → asked_course.IsCall e → OnOk r (server.Goes old.server e old.to_client later end) → OnOk r (server.Keeps old.server end) → OnErr r (end ≡ old.server) → OnErr r (later ≡ old.to_client) → IsSound old → IsSound (record old { server = end; to_client = later })
+pub asks_or_not : {A E : Type 0} (old : World) (end : server.End) (e : asked.Event) (later : List ℕ) (r : Result A E) → asked_course.IsCall e → OnOk r (server.Advances old.server e old.to_client later end) → OnOk r (server.ReadsNothing old.server end) → OnErr r (end ≡ old.server) → OnErr r (later ≡ old.to_client) → HasPast old → HasPast (record old { server = end; to_client = later })
 asks_or_not old end e later (Ok x) call goes keeps same none s = asks_sound old end e later call goes keeps s
 asks_or_not old end e later (Err x) call goes keeps same none s = sound_as old (record old { server = end; to_client = later }) same refl refl none s
 
-pub tells_or_not : {A E : Type 0} (old : World) (end : client.End) (e : told.Event) (later : List ℕ) (r : Result A E) → told_course.IsCall e → OnOk r (client_fault old.client e ≡ None) → OnOk r (client.Goes old.client e end) → OnOk r (client.Keeps old.client end) → OnOk r (client.Sends old.client e old.to_server later) → OnErr r (end ≡ old.client) → OnErr r (later ≡ old.to_server) → IsSound old → IsSound (record old { client = end; to_server = later })
+pub tells_or_not : {A E : Type 0} (old : World) (end : client.End) (e : told.Event) (later : List ℕ) (r : Result A E) → told_course.IsCall e → OnOk r (client_fault old.client e ≡ None) → OnOk r (client.Advances old.client e end) → OnOk r (client.ReadsNothing old.client end) → OnOk r (client.Sends old.client e old.to_server later) → OnErr r (end ≡ old.client) → OnErr r (later ≡ old.to_server) → HasPast old → HasPast (record old { client = end; to_server = later })
 tells_or_not old end e later (Ok x) call accepted goes keeps sends same none s = tells_sound old end e later call accepted goes keeps sends s
 tells_or_not old end e later (Err x) call accepted goes keeps sends same none s = sound_as old (record old { client = end; to_server = later }) refl same none refl s
 
 -- just opened: both ends are where they start
-pub open_sound : (canon : Canon) (width height : ℕ) (w : World) → server.Stands (asked.begun canon) w.server → HasRead w.server.decoder [] [] → client.Stands (told.begun width height canon.limit) w.client → HasRead w.client.decoder [] [] → w.to_server ≡ [] → w.to_client ≡ spells opening → IsSound w
+pub open_sound : (canon : Canon) (width height : ℕ) (w : World) → server.LeadsTo (asked.begun canon) w.server → LeadsTo [] [] w.server.decoder → client.LeadsTo (told.begun width height canon.limit) w.client → LeadsTo [] [] w.client.decoder → w.to_server ≡ [] → w.to_client ≡ spells opening → HasPast w
 open_sound canon width height w stands reads begins began nothing said =
     made w (asked.begun canon) stands
     (λ r. (asked_course.started canon, record { history = asked.begun canon; leads = refl; stands = stands; reads = reads }))
@@ -92,7 +92,7 @@ open_sound canon width height w stands reads begins began nothing said =
     (λ r. (opening, said_behind w.client.decoder [] w.to_client [] opening said (sent-fit (asked.begun canon)) (start w.client.decoder began)))
 
 -- and so it was opened
-pub opened_world : (canon : Canon) (width height : ℕ) (end : server.End) (other : client.End) (there here typed shown echoed : List ℕ) (taken : List Entry) → server.Stands (asked.begun canon) end → HasRead end.decoder [] [] → end.failed ≡ false → end.terminal.closed ≡ false → client.Stands (told.begun width height canon.limit) other → HasRead other.decoder [] [] → other.failed ≡ false → there ≡ [] → here ≡ spells opening → typed ≡ [] → taken ≡ [] → shown ≡ [] → echoed ≡ [] → IsOpened canon width height (record { server = end; client = other; server_stopped = false; client_stopped = false; to_server = there; to_client = here; typed = typed; taken = taken; shown = shown; echoed = echoed })
+pub opened_world : (canon : Canon) (width height : ℕ) (end : server.End) (other : client.End) (there here typed shown echoed : List ℕ) (taken : List Entry) → server.LeadsTo (asked.begun canon) end → LeadsTo [] [] end.decoder → end.failed ≡ false → end.terminal.closed ≡ false → client.LeadsTo (told.begun width height canon.limit) other → LeadsTo [] [] other.decoder → other.failed ≡ false → there ≡ [] → here ≡ spells opening → typed ≡ [] → taken ≡ [] → shown ≡ [] → echoed ≡ [] → IsOpened canon width height (record { server = end; client = other; server_stopped = false; client_stopped = false; to_server = there; to_client = here; typed = typed; taken = taken; shown = shown; echoed = echoed })
 opened_world canon width height end other there here typed shown echoed taken stands reads runs opens begins began goes a b c d e f =
     record {
       server = record { history = asked.begun canon; leads = refl; stands = stands; reads = reads };

@@ -9,10 +9,10 @@ use Rattle.tn_discipline.specs.Steps.{half_after, half_next, gain_next}
 use Rattle.tn_discipline.specs.Keys.{role_of_mapped, role_of_key, roles_of}
 use Rattle.tn_discipline.specs.declared.termios.Settings.{Settings}
 use Rattle.tn_discipline.proofs.lemmas.Histories.{half_of-fits, length_by_test}
-use Rattle.tn_world.specs.relation.Machine.{Mode, Rules, Item, byte, mode_ack, other, Server, Client, Message, mode, forward_at, chatter, read, read_all, bytes, as_client, edit_key, remote_item, count_next, keyed, is_same, mode_taken, mode_came, came, allows_local, remote_mode, local_mode, IsAskable}
+use Rattle.tn_world.specs.relation.Machine.{Mode, Rules, Item, byte, mode_ack, other, Server, Client, Message, mode, forward_at, chatter, read, read_all, bytes, as_client, edit_key, remote_item, count_next, client_after_key, is_same, client_with_mode, client_after_mode, client_after_message, allows_local, remote_mode, local_mode, IsAskable}
 use Rattle.tn_world.proofs.Reading.{read-bytes_then, half-typed, entries-typed}
 use Rattle.tn_world.proofs.Typing.{Follows, literal_key, key-follows}
-use Rattle.tn_world.specs.relation.Relation.{Agrees, at}
+use Rattle.tn_world.specs.relation.Relation.{Agrees, server_at}
 
 pub local_of : (s : Settings) (m : Mode) → IsAskable s m → m.edit ≡ true → (allows_local s ≡ true) × (m ≡ local_mode s)
 local_of s m (inl p) e = absurd (let q : m.edit ≡ false = ap (λ (n : Mode). n.edit) p in cc)
@@ -61,7 +61,7 @@ count-step limit s key trapped plain half false isig allowed count =
     ∙ ap (λ n. length (if is_dropped limit n (role_of_key s key) then half else half_after half (role_of_key s key))) count
 
 -- a key
-pub key-agrees : (rules : Rules) (typed : List ℕ) (taken : List Entry) (v : Server) (c : Client) (key : ℕ) (e : Bool) → c.mask.edit ≡ e → Agrees rules typed taken v c → Agrees rules (typed ++ key ∷ []) taken (read_all rules.canon v (keyed rules e c key).items) (keyed rules e c key).client
+pub key-agrees : (rules : Rules) (typed : List ℕ) (taken : List Entry) (v : Server) (c : Client) (key : ℕ) (e : Bool) → c.mask.edit ≡ e → Agrees rules typed taken v c → Agrees rules (typed ++ key ∷ []) taken (read_all rules.canon v (client_after_key rules e c key).items) (client_after_key rules e c key).client
 key-agrees rules typed taken v c key true is_edit a =
     let ok = local_of rules.canon.settings c.mask a.askable is_edit in
     let same : role_of_key (as_client rules.canon.settings c.mask.trapsig) key ≡ role_of_key rules.canon.settings key =
@@ -73,10 +73,10 @@ key-agrees rules typed taken v c key true is_edit a =
       half = f.half;
       waiting = a.waiting ++ gain_next rules.canon.limit (a.half ++ c.held) (role_of_key rules.canon.settings key);
       is =
-          ap (λ x. read_all rules.canon x (keyed rules true c key).items) a.is
-          ∙ ap (λ e. read_all rules.canon (at e a.half a.waiting) (keyed rules true c key).items) is_edit
+          ap (λ x. read_all rules.canon x (client_after_key rules true c key).items) a.is
+          ∙ ap (λ e. read_all rules.canon (server_at e a.half a.waiting) (client_after_key rules true c key).items) is_edit
           ∙ f.reads
-          ∙ ap (λ e. at e f.half (a.waiting ++ gain_next rules.canon.limit (a.half ++ c.held) (role_of_key rules.canon.settings key))) (sym is_edit);
+          ∙ ap (λ e. server_at e f.half (a.waiting ++ gain_next rules.canon.limit (a.half ++ c.held) (role_of_key rules.canon.settings key))) (sym is_edit);
       entries =
           entries-typed rules.canon typed key
           ∙ ap (λ x. x ++ gain_next rules.canon.limit (typed_half rules.canon typed) (role_of_key rules.canon.settings key)) a.entries
@@ -98,10 +98,10 @@ key-agrees rules typed taken v c key false is_remote a =
       half = half_next rules.canon.limit a.half (role_of_key rules.canon.settings key);
       waiting = a.waiting ++ gain_next rules.canon.limit a.half (role_of_key rules.canon.settings key);
       is =
-          ap (λ x. read_all rules.canon x (keyed rules false c key).items) a.is
-          ∙ ap (λ i. read rules.canon (at c.mask.edit a.half a.waiting) i) item
-          ∙ ap (λ e. read rules.canon (at e a.half a.waiting) (byte key)) is_remote
-          ∙ ap (λ e. at e (half_next rules.canon.limit a.half (role_of_key rules.canon.settings key)) (a.waiting ++ gain_next rules.canon.limit a.half (role_of_key rules.canon.settings key))) (sym is_remote);
+          ap (λ x. read_all rules.canon x (client_after_key rules false c key).items) a.is
+          ∙ ap (λ i. read rules.canon (server_at c.mask.edit a.half a.waiting) i) item
+          ∙ ap (λ e. read rules.canon (server_at e a.half a.waiting) (byte key)) is_remote
+          ∙ ap (λ e. server_at e (half_next rules.canon.limit a.half (role_of_key rules.canon.settings key)) (a.waiting ++ gain_next rules.canon.limit a.half (role_of_key rules.canon.settings key))) (sym is_remote);
       entries =
           entries-typed rules.canon typed key
           ∙ ap (λ x. x ++ gain_next rules.canon.limit (typed_half rules.canon typed) (role_of_key rules.canon.settings key)) a.entries
@@ -134,16 +134,16 @@ resumed rules typed half c m false is local line count quiet =
     ap length (empty_left half c.held (sym line ∙ quiet is))
 
 -- a mode that changes something
-taken-agrees : (rules : Rules) (typed : List ℕ) (taken : List Entry) (v : Server) (c : Client) (m : Mode) (e f : Bool) → c.mask.edit ≡ e → m.edit ≡ f → Agrees rules typed taken v c → IsAskable rules.canon.settings m → (rules.resumes ≡ false → typed_half rules.canon typed ≡ []) → Agrees rules typed taken (read_all rules.canon v (mode_taken rules c m e f).items) (mode_taken rules c m e f).client
+taken-agrees : (rules : Rules) (typed : List ℕ) (taken : List Entry) (v : Server) (c : Client) (m : Mode) (e f : Bool) → c.mask.edit ≡ e → m.edit ≡ f → Agrees rules typed taken v c → IsAskable rules.canon.settings m → (rules.resumes ≡ false → typed_half rules.canon typed ≡ []) → Agrees rules typed taken (read_all rules.canon v (client_with_mode rules c m e f).items) (client_with_mode rules c m e f).client
 taken-agrees rules typed taken v c m true false before after a askable quiet =
     record {
       half = a.half ++ c.held;
       waiting = a.waiting;
       is =
           ap (λ x. read_all rules.canon x (bytes c.held ++ mode_ack m ∷ [])) a.is
-          ∙ ap (λ e. read_all rules.canon (at e a.half a.waiting) (bytes c.held ++ mode_ack m ∷ [])) before
+          ∙ ap (λ e. read_all rules.canon (server_at e a.half a.waiting) (bytes c.held ++ mode_ack m ∷ [])) before
           ∙ read-bytes_then rules.canon a.half a.waiting c.held (mode_ack m) a.plain (let fits = fits_at rules.canon typed a.half c.held a.line in omega (arith, length-append a.half c.held))
-          ∙ ap (λ x. at m.edit (a.half ++ c.held) x) (append-nil a.waiting);
+          ∙ ap (λ x. server_at m.edit (a.half ++ c.held) x) (append-nil a.waiting);
       entries = a.entries;
       line = a.line ∙ sym (append-nil (a.half ++ c.held));
       askable = askable;
@@ -159,7 +159,7 @@ taken-agrees rules typed taken v c m false true before after a askable quiet =
     record {
       half = a.half;
       waiting = a.waiting;
-      is = ap (λ x. read rules.canon x (mode_ack m)) a.is ∙ ap (λ x. at m.edit a.half x) (append-nil a.waiting);
+      is = ap (λ x. read rules.canon x (mode_ack m)) a.is ∙ ap (λ x. server_at m.edit a.half x) (append-nil a.waiting);
       entries = a.entries;
       line = a.line ∙ ap (λ x. a.half ++ x) (a.none before);
       askable = askable;
@@ -172,7 +172,7 @@ taken-agrees rules typed taken v c m true true before after a askable quiet =
     record {
       half = a.half;
       waiting = a.waiting;
-      is = ap (λ x. read rules.canon x (mode_ack m)) a.is ∙ ap (λ x. at m.edit a.half x) (append-nil a.waiting);
+      is = ap (λ x. read rules.canon x (mode_ack m)) a.is ∙ ap (λ x. server_at m.edit a.half x) (append-nil a.waiting);
       entries = a.entries;
       line = a.line;
       askable = askable;
@@ -185,7 +185,7 @@ taken-agrees rules typed taken v c m false false before after a askable quiet =
     record {
       half = a.half;
       waiting = a.waiting;
-      is = ap (λ x. read rules.canon x (mode_ack m)) a.is ∙ ap (λ x. at m.edit a.half x) (append-nil a.waiting);
+      is = ap (λ x. read rules.canon x (mode_ack m)) a.is ∙ ap (λ x. server_at m.edit a.half x) (append-nil a.waiting);
       entries = a.entries;
       line = a.line;
       askable = askable;
@@ -195,7 +195,7 @@ taken-agrees rules typed taken v c m false false before after a askable quiet =
       count = λ r e allowed. a.count r before allowed;
     }
 
-mode-agrees : (rules : Rules) (typed : List ℕ) (taken : List Entry) (v : Server) (c : Client) (m : Mode) (b : Bool) → is_same c.mask m ≡ b → Agrees rules typed taken v c → IsAskable rules.canon.settings m → (rules.resumes ≡ false → is_same c.mask m ≡ false → typed_half rules.canon typed ≡ []) → Agrees rules typed taken (read_all rules.canon v (mode_came rules c m b).items) (mode_came rules c m b).client
+mode-agrees : (rules : Rules) (typed : List ℕ) (taken : List Entry) (v : Server) (c : Client) (m : Mode) (b : Bool) → is_same c.mask m ≡ b → Agrees rules typed taken v c → IsAskable rules.canon.settings m → (rules.resumes ≡ false → is_same c.mask m ≡ false → typed_half rules.canon typed ≡ []) → Agrees rules typed taken (read_all rules.canon v (client_after_mode rules c m b).items) (client_after_mode rules c m b).client
 mode-agrees rules typed taken v c m true same a askable quiet = a
 mode-agrees rules typed taken v c m false differs a askable quiet =
     taken-agrees rules typed taken v c m c.mask.edit m.edit refl refl a askable (λ r. quiet r differs)
@@ -212,12 +212,12 @@ IsCalm rules typed c (forward_at f) = Unit
 IsCalm rules typed c chatter = Unit
 
 -- an item that has no role and changes no mode
-pub skipped : (rules : Rules) (typed : List ℕ) (taken : List Entry) (v : Server) (c new : Client) (item : Item) → ((e : Bool) (h : List ℕ) (w : List Entry) → read rules.canon (at e h w) item ≡ at e h (w ++ [])) → new ≡ record c { forward = new.forward } → Agrees rules typed taken v c → Agrees rules typed taken (read rules.canon v item) new
+pub skipped : (rules : Rules) (typed : List ℕ) (taken : List Entry) (v : Server) (c new : Client) (item : Item) → ((e : Bool) (h : List ℕ) (w : List Entry) → read rules.canon (server_at e h w) item ≡ server_at e h (w ++ [])) → new ≡ record c { forward = new.forward } → Agrees rules typed taken v c → Agrees rules typed taken (read rules.canon v item) new
 skipped rules typed taken v c new item silent same a =
     subst (λ x. Agrees rules typed taken (read rules.canon v item) x) (sym same) (record {
       half = a.half;
       waiting = a.waiting;
-      is = ap (λ x. read rules.canon x item) a.is ∙ silent c.mask.edit a.half a.waiting ∙ ap (λ x. at c.mask.edit a.half x) (append-nil a.waiting);
+      is = ap (λ x. read rules.canon x item) a.is ∙ silent c.mask.edit a.half a.waiting ∙ ap (λ x. server_at c.mask.edit a.half x) (append-nil a.waiting);
       entries = a.entries;
       line = a.line;
       askable = a.askable;
@@ -227,7 +227,7 @@ skipped rules typed taken v c new item silent same a =
       count = a.count;
     })
 
-pub message-agrees : (rules : Rules) (typed : List ℕ) (taken : List Entry) (v : Server) (c : Client) (m : Message) → Agrees rules typed taken v c → IsAskableMessage rules.canon.settings m → (rules.resumes ≡ false → IsCalm rules typed c m) → Agrees rules typed taken (read_all rules.canon v (came rules c m).items) (came rules c m).client
+pub message-agrees : (rules : Rules) (typed : List ℕ) (taken : List Entry) (v : Server) (c : Client) (m : Message) → Agrees rules typed taken v c → IsAskableMessage rules.canon.settings m → (rules.resumes ≡ false → IsCalm rules typed c m) → Agrees rules typed taken (read_all rules.canon v (client_after_message rules c m).items) (client_after_message rules c m).client
 message-agrees rules typed taken v c (mode m) a askable quiet = mode-agrees rules typed taken v c m (is_same c.mask m) refl a askable quiet
 message-agrees rules typed taken v c (forward_at f) a askable quiet = skipped rules typed taken v c (record c { forward = f }) other (λ e h w. refl) refl a
 message-agrees rules typed taken v c chatter a askable quiet = skipped rules typed taken v c c other (λ e h w. refl) refl a

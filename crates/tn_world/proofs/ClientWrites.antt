@@ -2,7 +2,7 @@
 use Rattle.std.proofs.Common.{◌≡◌, ◌≢◌, ◌⊎◌, inl, inr, ℕ, ◌==◌, Bool, true, false, not, ◌&&◌, Option, Some, None, List, [], ◌∷◌, ◌++◌, refl, sym, ap, ◌∙◌, if◌then◌else◌, subst, arith, append-nil}
 use Rattle.std.proofs.lemmas.List.{map-append}
 use Rattle.std.proofs.lemmas.List.Elements.{All-nil, All-cons, All-append}
-use Rattle.tn_codes.specs.Payloads.{written}
+use Rattle.tn_codes.specs.Payloads.{parameters_of}
 use Rattle.tn_codes.specs.PayloadOf.{payload_of}
 use Rattle.tn_codes.specs.declared.codes.Verb.{Verb}
 use Rattle.tn_codes.specs.declared.payloads.Payload.{Payload}
@@ -16,47 +16,47 @@ use Rattle.tn_linemode.specs.Modes.{is_acknowledged}
 use Rattle.tn_nvt.specs.Spelling.{Fits}
 use Rattle.tn_nvt.specs.declared.items.Item.{Item}
 use Rattle.tn_nvt.specs.declared.items.Item.TheVariants.{Byte, Neg, Sub}
-use Rattle.tn_option.specs.Options.{Options, after_word, reply_to, is_yes}
+use Rattle.tn_option.specs.Options.{Options, options_after_word, reply_to, is_yes}
 use Rattle.tn_option.specs.QMethod.{side_of, cause_of}
 use Rattle.tn_option.specs.declared.q_method.Side.TheVariants.{Us}
 use Rattle.tn_option.proofs.lemmas.OptionLaws.{LeavesOthers-moved}
 use Rattle.tn_client.specs.Terms.{linemode, tells_size, payload_at, mode_by, mode_at, chars_by}
-use Rattle.tn_wire.specs.Words.{differ, word, subnegotiated}
-use Rattle.tn_client.specs.Replies.{spelled, size_told, size_told_on, payload_answered, answered}
+use Rattle.tn_wire.specs.Words.{differ, word_items, payload_items}
+use Rattle.tn_client.specs.Replies.{byte_items, size_items, new_size_items, payload_answers, answer_items}
 use Rattle.tn_world.specs.relation.Machine as machine
 use Rattle.tn_world.specs.relation.Machine.{Mode, Rules, chatter, Server, read, read_item, read_all, byte, other, bytes, IsAskable}
-use Rattle.tn_world.specs.relation.Calm.{bits, IsCalmToServer, AsksCalmly, seen, heard_payload}
-use Rattle.tn_world.specs.relation.Ends.{seen_all, Writes}
+use Rattle.tn_world.specs.relation.Calm.{bits, IsCalmToServer, AsksCalmly, server_item, heard_payload}
+use Rattle.tn_world.specs.relation.Ends.{server_items, SaysItems}
 use Rattle.tn_world.proofs.Reading.{read_all-append}
 use Rattle.tn_world.proofs.ServerSteps.{Speaks, reply_speaks}
 
 -- WHAT IS WRITTEN
 -- what these items say to any server, part by part
-pub writes-none : (rules : Rules) → Writes rules [] []
+pub writes-none : (rules : Rules) → SaysItems rules [] []
 writes-none rules = record { fit = All-nil Fits; calm = All-nil IsCalmToServer; says_so = λ v. refl }
 
-pub writes-one : (rules : Rules) (item : Item) (says : machine.Item) → Fits item → IsCalmToServer item → seen rules.linemode item ≡ says → Writes rules (says ∷ []) (item ∷ [])
+pub writes-one : (rules : Rules) (item : Item) (says : machine.Item) → Fits item → IsCalmToServer item → server_item rules.linemode item ≡ says → SaysItems rules (says ∷ []) (item ∷ [])
 writes-one rules item says f calm e = record {
   fit = All-cons Fits item [] f (All-nil Fits);
   calm = All-cons IsCalmToServer item [] calm (All-nil IsCalmToServer);
   says_so = λ v. ap (λ (i : machine.Item). read rules.canon v i) e;
 }
 
-pub writes-append : (rules : Rules) (a b : List machine.Item) (x y : List Item) → Writes rules a x → Writes rules b y → Writes rules (a ++ b) (x ++ y)
+pub writes-append : (rules : Rules) (a b : List machine.Item) (x y : List Item) → SaysItems rules a x → SaysItems rules b y → SaysItems rules (a ++ b) (x ++ y)
 writes-append rules a b x y h k = record {
   fit = All-append Fits x y h.fit k.fit;
   calm = All-append IsCalmToServer x y h.calm k.calm;
   says_so = λ v.
-      ap (λ (xs : List machine.Item). read_all rules.canon v xs) (map-append (seen rules.linemode) x y)
-      ∙ read_all-append rules.canon v (seen_all rules x) (seen_all rules y)
-      ∙ k.says_so (read_all rules.canon v (seen_all rules x))
+      ap (λ (xs : List machine.Item). read_all rules.canon v xs) (map-append (server_item rules.linemode) x y)
+      ∙ read_all-append rules.canon v (server_items rules x) (server_items rules y)
+      ∙ k.says_so (read_all rules.canon v (server_items rules x))
       ∙ ap (λ (u : Server). read_all rules.canon u b) (h.says_so v)
       ∙ sym (read_all-append rules.canon v a b);
 }
 
-pub writes-bytes : (rules : Rules) (bs : List ℕ) → Writes rules (bytes bs) (spelled bs)
+pub writes-bytes : (rules : Rules) (bs : List ℕ) → SaysItems rules (bytes bs) (byte_items bs)
 writes-bytes rules [] = writes-none rules
-writes-bytes rules (b ∷ bs) = writes-append rules (byte b ∷ []) (bytes bs) (Byte b ∷ []) (spelled bs) (writes-one rules (Byte b) (byte b) tt tt refl) (writes-bytes rules bs)
+writes-bytes rules (b ∷ bs) = writes-append rules (byte b ∷ []) (bytes bs) (Byte b ∷ []) (byte_items bs) (writes-one rules (Byte b) (byte b) tt tt refl) (writes-bytes rules bs)
 
 -- what says nothing of lines leaves a server as it is
 read-other : (s : Canon) (v : Server) → read s v other ≡ v
@@ -66,13 +66,13 @@ read-other s v = by_test v.failed refl
     by_test true e = refl
     by_test false e = ap (λ (w : List Entry). record v { waiting = w; failed = false }) (append-nil v.waiting) ∙ ap (λ (f : Bool). record v { failed = f }) (sym e)
 
-writes-hushed : (rules : Rules) (out : List Item) → Writes rules (other ∷ []) out → Writes rules [] out
+writes-hushed : (rules : Rules) (out : List Item) → SaysItems rules (other ∷ []) out → SaysItems rules [] out
 writes-hushed rules out h = record { fit = h.fit; calm = h.calm; says_so = λ v. h.says_so v ∙ read-other rules.canon v }
 
-pub writes-other : (rules : Rules) (out : List Item) → Writes rules [] out → Writes rules (other ∷ []) out
+pub writes-other : (rules : Rules) (out : List Item) → SaysItems rules [] out → SaysItems rules (other ∷ []) out
 writes-other rules out h = record { fit = h.fit; calm = h.calm; says_so = λ v. h.says_so v ∙ sym (read-other rules.canon v) }
 
-pub writes-if : (rules : Rules) (b : Bool) (out : List Item) → Writes rules [] out → Writes rules [] (if b then out else [])
+pub writes-if : (rules : Rules) (b : Bool) (out : List Item) → SaysItems rules [] out → SaysItems rules [] (if b then out else [])
 writes-if rules true out h = h
 writes-if rules false out h = writes-none rules
 
@@ -81,29 +81,29 @@ writes-if rules false out h = writes-none rules
 another : (code : ℕ) → (code == 34) ≡ false → 34 ≢ code
 another code e = λ same. let f : (34 == 34) ≡ false = subst (λ (n : ℕ). (n == 34) ≡ false) (sym same) e in cc
 
-pub word-keeps : (o : Options) (verb : Verb) (code : ℕ) → (code == 34) ≡ false → linemode (after_word o verb code) ≡ linemode o
-unfolding after_word
+pub word-keeps : (o : Options) (verb : Verb) (code : ℕ) → (code == 34) ≡ false → linemode (options_after_word o verb code) ≡ linemode o
+unfolding options_after_word
 word-keeps o verb code e = ap is_yes (LeavesOthers-moved o (side_of verb) code (cause_of verb) Us 34 (inl (another code e)))
 
 -- and is answered on its own option
-word-writes : (rules : Rules) (code : ℕ) (w : Option (Verb × ℕ)) → (code == 34) ≡ false → Speaks code w → Writes rules [] (word w)
+word-writes : (rules : Rules) (code : ℕ) (w : Option (Verb × ℕ)) → (code == 34) ≡ false → Speaks code w → SaysItems rules [] (word_items w)
 word-writes rules code None e on = writes-none rules
-word-writes rules code (Some w) e on = writes-hushed rules (word (Some w)) (writes-one rules (Neg w.0 w.1) other tt (ap (λ (n : ℕ). n == 34) on ∙ e) refl)
+word-writes rules code (Some w) e on = writes-hushed rules (word_items (Some w)) (writes-one rules (Neg w.0 w.1) other tt (ap (λ (n : ℕ). n == 34) on ∙ e) refl)
 
-size-other : (on : Bool) (width height : ℕ) → seen on (Sub 31 (written (payload.Naws width height))) ≡ other
+size-other : (on : Bool) (width height : ℕ) → server_item on (Sub 31 (parameters_of (payload.Naws width height))) ≡ other
 size-other true width height = refl
 size-other false width height = refl
 
-pub size-writes : (rules : Rules) (z : ℕ × ℕ) → Writes rules [] (size_told z)
+pub size-writes : (rules : Rules) (z : ℕ × ℕ) → SaysItems rules [] (size_items z)
 size-writes rules (width, height) =
-    writes-hushed rules (size_told (width, height)) (writes-one rules (Sub 31 (written (payload.Naws width height))) other (omega arith) tt (size-other rules.linemode width height))
+    writes-hushed rules (size_items (width, height)) (writes-one rules (Sub 31 (parameters_of (payload.Naws width height))) other (omega arith) tt (size-other rules.linemode width height))
 
 -- what answers such a word says nothing of lines
-pub word-answered : (rules : Rules) (o : Options) (m : ℕ) (c : Characters) (z : ℕ × ℕ) (verb : Verb) (code : ℕ) → (code == 34) ≡ false → Writes rules [] (answered o m c z (Neg verb code))
+pub word-answered : (rules : Rules) (o : Options) (m : ℕ) (c : Characters) (z : ℕ × ℕ) (verb : Verb) (code : ℕ) → (code == 34) ≡ false → SaysItems rules [] (answer_items o m c z (Neg verb code))
 word-answered rules o m c z verb code e =
-    writes-append rules [] [] (word (reply_to o verb code)) (size_told_on (tells_size o) (tells_size (after_word o verb code)) z)
+    writes-append rules [] [] (word_items (reply_to o verb code)) (new_size_items (tells_size o) (tells_size (options_after_word o verb code)) z)
     (word-writes rules code (reply_to o verb code) e (reply_speaks o verb code))
-    (writes-if rules (tells_size (after_word o verb code) && not (tells_size o)) (size_told z) (size-writes rules z))
+    (writes-if rules (tells_size (options_after_word o verb code) && not (tells_size o)) (size_items z) (size-writes rules z))
 
 same_or_none : (was on : Bool) (m : ℕ) → on ≡ was → (if differ was on then 0 else m) ≡ m
 same_or_none true true m e = refl
@@ -112,7 +112,7 @@ same_or_none false true m e = cc
 same_or_none false false m e = refl
 
 pub word-mode : (o : Options) (m : ℕ) (verb : Verb) (code : ℕ) → (code == 34) ≡ false → mode_at o m (Neg verb code) ≡ m
-word-mode o m verb code e = same_or_none (linemode o) (linemode (after_word o verb code)) m (word-keeps o verb code e)
+word-mode o m verb code e = same_or_none (linemode o) (linemode (options_after_word o verb code)) m (word-keeps o verb code e)
 
 -- A SUBNEGOTIATION
 -- these payloads change nothing of lines
@@ -158,14 +158,14 @@ chatter-heard true (Some payload.ForwardNo) i = refl
 chatter-heard true (Some (payload.Slc triples)) i = absurd i
 
 -- a forward mask is refused, which says nothing of lines
-no-other : (on : Bool) → seen on (Sub 34 (written payload.ForwardNo)) ≡ other
+no-other : (on : Bool) → server_item on (Sub 34 (parameters_of payload.ForwardNo)) ≡ other
 no-other true = refl
 no-other false = refl
 
-no-writes : (rules : Rules) → Writes rules [] (subnegotiated payload.ForwardNo)
-no-writes rules = writes-hushed rules (subnegotiated payload.ForwardNo) (writes-one rules (Sub 34 (written payload.ForwardNo)) other (omega arith) tt (no-other rules.linemode))
+no-writes : (rules : Rules) → SaysItems rules [] (payload_items payload.ForwardNo)
+no-writes rules = writes-hushed rules (payload_items payload.ForwardNo) (writes-one rules (Sub 34 (parameters_of payload.ForwardNo)) other (omega arith) tt (no-other rules.linemode))
 
-pub chatter-answered : (rules : Rules) (m : ℕ) (c : Characters) (p : Option Payload) → IsChatter p → Writes rules [] (payload_answered m c p)
+pub chatter-answered : (rules : Rules) (m : ℕ) (c : Characters) (p : Option Payload) → IsChatter p → SaysItems rules [] (payload_answers m c p)
 chatter-answered rules m c None i = writes-none rules
 chatter-answered rules m c (Some (payload.Naws width height)) i = writes-none rules
 chatter-answered rules m c (Some (payload.Mode mask)) i = absurd i

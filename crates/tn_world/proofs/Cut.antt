@@ -5,16 +5,16 @@ use Rattle.std.proofs.lemmas.List.{take-append-drop, append_cancel_left}
 use Rattle.tn_nvt.specs.declared.items.Item.{Item}
 use Rattle.tn_nvt.specs.Spelling.{spells, Fits}
 use Rattle.tn_nvt.specs.Stream.{Reading}
-use Rattle.tn_nvt.specs.Standing.{Standing, HasRead, Adds}
+use Rattle.tn_nvt.specs.Feeding.{DecoderState, LeadsTo, Advances}
 use Rattle.tn_nvt.proofs.lemmas.Reading.{one_reading, reads_none, reads_all_written, delivers}
 use Rattle.tn_world.specs.Flight.{InFlight}
 
 -- nothing flies to who has read nothing
-pub start : (d : Standing) → HasRead d [] [] → InFlight d [] []
+pub start : (d : DecoderState) → LeadsTo [] [] d → InFlight d [] []
 start d h = record { stream = []; had = []; has_read = h; reads = reads_none }
 
 -- what was said flies behind
-pub behind : (d : Standing) (flight : List ℕ) (items said : List Item) → All Fits said → InFlight d flight items → InFlight d (flight ++ spells said) (items ++ said)
+pub behind : (d : DecoderState) (flight : List ℕ) (items said : List Item) → All Fits said → InFlight d flight items → InFlight d (flight ++ spells said) (items ++ said)
 behind d flight items said fit f = record {
   stream = f.stream;
   had = f.had;
@@ -26,17 +26,17 @@ behind d flight items said fit f = record {
 }
 
 -- the same, seen from what was appended
-pub said_behind : (d : Standing) (flight later : List ℕ) (items said : List Item) → later ≡ flight ++ spells said → All Fits said → InFlight d flight items → InFlight d later (items ++ said)
+pub said_behind : (d : DecoderState) (flight later : List ℕ) (items said : List Item) → later ≡ flight ++ spells said → All Fits said → InFlight d flight items → InFlight d later (items ++ said)
 said_behind d flight later items said is fit f =
     subst (λ x. InFlight d x (items ++ said)) (sym is) (behind d flight items said fit f)
 
 -- what a delivery leaves in flight
-pub record Delivered (new : Standing) (got items : List Item) (later : List ℕ) : Type 0 where
+pub record Delivered (new : DecoderState) (got items : List Item) (later : List ℕ) : Type 0 where
   pub left : List Item
   pub all : items ≡ got ++ left
   pub flight : InFlight new later left
 
-pub cut_at : (old new : Standing) (n : ℕ) (flight : List ℕ) (items got : List Item) → InFlight old flight items → Adds old (take n flight) got new → Delivered new got items (drop n flight)
+pub cut_at : (old new : DecoderState) (n : ℕ) (flight : List ℕ) (items got : List Item) → InFlight old flight items → Advances old (take n flight) got new → Delivered new got items (drop n flight)
 cut_at old new n flight items got f adds =
     let whole = subst (λ x. Reading (f.stream ++ x) (f.had ++ items) []) (sym (take-append-drop n flight)) f.reads in
     let d = delivers old new f.stream (take n flight) (drop n flight) f.had got items f.has_read adds whole in
@@ -47,6 +47,6 @@ cut_at old new n flight items got f adds =
     }
 
 -- no bytes are no items
-pub no_items : (d : Standing) (items : List Item) → InFlight d [] items → items ≡ []
+pub no_items : (d : DecoderState) (items : List Item) → InFlight d [] items → items ≡ []
 no_items d items h =
     append_cancel_left h.had items [] ((one_reading (h.stream ++ []) [] h.has_read.rest (h.had ++ items) h.had h.reads (subst (λ x. Reading x h.had h.has_read.rest) (sym (append-nil h.stream)) h.has_read.reading)).0 ∙ sym (append-nil h.had))

@@ -4,19 +4,19 @@ use Rattle.std.specs.Prelude.{All, option_to_list}
 use Rattle.std.proofs.lemmas.List.Elements.{All-nil, All-cons}
 use Rattle.tn_discipline.specs.Canon.{Canon}
 use Rattle.tn_nvt.specs.Spelling.{Fits}
-use Rattle.tn_nvt.specs.Standing.{Standing}
+use Rattle.tn_nvt.specs.Feeding.{DecoderState}
 use Rattle.tn_nvt.specs.Stream.{Segment, spelled, lone_cr, escaped, unread, cut, Splits, gives, Reading}
 use Rattle.tn_nvt.specs.declared.items.Item.{Item}
 use Rattle.tn_server.specs.Events as asked
 use Rattle.tn_client.specs.Events as told
-use Rattle.tn_world.specs.Past.{IsSound}
-use Rattle.tn_world.specs.Headline.{IsBetweenLines, Occurs, DeliversWhere, IsQuietEvent, Passes, NoneFailed}
+use Rattle.tn_world.specs.Past.{HasPast}
+use Rattle.tn_world.specs.Headline.{IsBetweenLines, RunsQuietly, DeliversModesWhere, IsQuietEvent, PassesQuietly, NoneFailed}
 use Rattle.tn_world.specs.relation.Calm.{IsCalmToServer, IsCalmToClient}
 use Rattle.tn_world.specs.relation.Ends as ends
-use Rattle.tn_world.specs.relation.Ends.{Replies, ServerFeeds, ServerSays, Took, Writes, ClientKeys, came_all, ClientFeeds, ClientSays, AreBetweenLines, seen_all, heard_all, Happens}
+use Rattle.tn_world.specs.relation.Ends.{AreReplies, ServerFeeds, ServerSays, TakesFirst, SaysItems, ClientKeys, client_after_messages, ClientFeeds, ClientSays, AreBetweenLines, server_items, client_messages, Happens}
 use Rattle.tn_world.specs.Flight.{InFlight}
 use Rattle.tn_world.specs.relation.Pictures.{server_core, server_picture, client_picture, ServerStays, ClientStays}
-use Rattle.tn_world.specs.Worlds.{World, Unless, Types, Tells, Reaches, Returns, Asks, Pulls, Takes, Does, Refuses}
+use Rattle.tn_world.specs.Worlds.{World, UnlessStopped, TypesKey, CallsClient, DeliversToServer, DeliversToClient, CallsServer, Pulls, TakesEntry, RunsEvent, Refuses}
 use Rattle.tn_world.specs.declared.events.Event.{Event}
 use Rattle.tn_world.specs.declared.events.Event.TheVariants.{Key, ToServer, ToClient, Write, Pull, Take, Wish, Resize, SetChar, Propose, Echo, ServerStops, ClientStops}
 use Rattle.tn_world.specs.declared.faults.Cause.{Cause}
@@ -26,7 +26,7 @@ use Rattle.tn_world.proofs.ServerSteps.{KeepsEntries, IsCall}
 use Rattle.tn_world.proofs.Soundness.{opposite, Refusal, unchanged, by_server, by_client, refusal_of, sound_does}
 use Rattle.tn_world.proofs.Cut.{cut_at}
 use Rattle.tn_world.proofs.Tied.{all_parts, happens-tied}
-use Rattle.tn_world.specs.relation.Relation.{Holds, Tied, picture, rules_of}
+use Rattle.tn_world.specs.relation.Relation.{IsRelated, IsTied, picture, rules_of}
 
 -- a call that makes no entry and takes none changes no character either
 calls : (e : asked.Event) → KeepsEntries e → IsCall e
@@ -50,11 +50,11 @@ segments_fit (cut bytes next ∷ segments) rest stream h = segments_fit segments
 reading_fits : (stream : List ℕ) (items : List Item) (rest : List ℕ) → Reading stream items rest → All Fits items
 reading_fits stream items rest r = subst (λ l. All Fits l) (sym r.read) (segments_fit r.segments rest stream r.splits)
 
-flight_fits : (d : Standing) (flight : List ℕ) (items : List Item) → InFlight d flight items → All Fits items
+flight_fits : (d : DecoderState) (flight : List ℕ) (items : List Item) → InFlight d flight items → All Fits items
 flight_fits d flight items f = (all_parts Fits f.had items (reading_fits (f.stream ++ flight) (f.had ++ items) [] f.reads)).1
 
 -- a key
-holds_types : (s : Canon) (old new : World) (key : ℕ) → NoneFailed old → IsSound new → Types old key new → Holds s old → Holds s new
+holds_types : (s : Canon) (old new : World) (key : ℕ) → NoneFailed old → HasPast new → TypesKey old key new → IsRelated s old → IsRelated s new
 holds_types s old new key none sound t h =
     let rules = rules_of s h.linemode in
     let c = (h.sound.told none.1).1 in
@@ -75,7 +75,7 @@ holds_types s old new key none sound t h =
     }
 
 -- the window's size
-holds_resizes : (s : Canon) (old new : World) (width height : ℕ) → NoneFailed old → IsSound new → Tells old (told.resized width height) new → Holds s old → Holds s new
+holds_resizes : (s : Canon) (old new : World) (width height : ℕ) → NoneFailed old → HasPast new → CallsClient old (told.resized width height) new → IsRelated s old → IsRelated s new
 holds_resizes s old new width height none sound t h =
     let rules = rules_of s h.linemode in
     let c = (h.sound.told none.1).1 in
@@ -95,7 +95,7 @@ holds_resizes s old new width height none sound t h =
     }
 
 -- a call of the server that makes no entry and takes none
-holds_asks : (s : Canon) (old new : World) (e : asked.Event) → KeepsEntries e → IsSound new → Asks old e new → Holds s old → Holds s new
+holds_asks : (s : Canon) (old new : World) (e : asked.Event) → KeepsEntries e → HasPast new → CallsServer old e new → IsRelated s old → IsRelated s new
 holds_asks s old new e plain sound t h =
     let rules = rules_of s h.linemode in
     record {
@@ -118,7 +118,7 @@ holds_asks s old new e plain sound t h =
     }
 
 -- an entry is asked for
-holds_takes : (s : Canon) (old new : World) → IsSound new → Takes old new → Holds s old → Holds s new
+holds_takes : (s : Canon) (old new : World) → HasPast new → TakesEntry old new → IsRelated s old → IsRelated s new
 holds_takes s old new sound t h =
     let rules = rules_of s h.linemode in
     record {
@@ -139,7 +139,7 @@ holds_takes s old new sound t h =
     }
 
 -- a delivery to the server
-holds_reaches : (s : Canon) (old new : World) (n : ℕ) → NoneFailed old → IsSound new → Reaches old n new → Holds s old → Holds s new
+holds_reaches : (s : Canon) (old new : World) (n : ℕ) → NoneFailed old → HasPast new → DeliversToServer old n new → IsRelated s old → IsRelated s new
 holds_reaches s old new n none sound t h =
     let rules = rules_of s h.linemode in
     let gains = t.feeds.reads in
@@ -167,7 +167,7 @@ holds_reaches s old new n none sound t h =
     }
 
 -- what a quiet delivery is to the relation
-quiet_there : (s : Canon) (old : World) (n : ℕ) → NoneFailed old → (h : Holds s old) → DeliversWhere (IsBetweenLines s) old n → ends.IsQuietEvent (rules_of s h.linemode) (picture old h.trapped h.plain) (ends.to_client n)
+quiet_there : (s : Canon) (old : World) (n : ℕ) → NoneFailed old → (h : IsRelated s old) → DeliversModesWhere (IsBetweenLines s) old n → ends.IsQuietEvent (rules_of s h.linemode) (picture old h.trapped h.plain) (ends.to_client n)
 quiet_there s old n none h quiet = λ got next gains.
     let rules = rules_of s h.linemode in
     let c = (h.sound.told none.1).1 in
@@ -176,7 +176,7 @@ quiet_there s old n none h quiet = λ got next gains.
     client_steps.feeds_quiet rules c.history old.client old.typed h.trapped h.plain got refl c.stands h.client none.1 calm (quiet got next gains)
 
 -- a delivery to the client
-holds_returns : (s : Canon) (old new : World) (n : ℕ) → NoneFailed old → IsSound new → DeliversWhere (IsBetweenLines s) old n → Returns old n new → Holds s old → Holds s new
+holds_returns : (s : Canon) (old new : World) (n : ℕ) → NoneFailed old → HasPast new → DeliversModesWhere (IsBetweenLines s) old n → DeliversToClient old n new → IsRelated s old → IsRelated s new
 holds_returns s old new n none sound quiet t h =
     let rules = rules_of s h.linemode in
     let c = (h.sound.told none.1).1 in
@@ -199,46 +199,46 @@ holds_returns s old new n none sound quiet t h =
       sound = sound;
     }
 
-holds_as : (s : Canon) (old new : World) → new ≡ old → Holds s old → Holds s new
-holds_as s old new is h = subst (λ w. Holds s w) (sym is) h
+holds_as : (s : Canon) (old new : World) → new ≡ old → IsRelated s old → IsRelated s new
+holds_as s old new is h = subst (λ w. IsRelated s w) (sym is) h
 
-unless : (s : Canon) (stopped : Bool) (old new : World) (happens : Type 0) → (happens → Holds s old → Holds s new) → Unless stopped old new happens → Holds s old → Holds s new
+unless : (s : Canon) (stopped : Bool) (old new : World) (happens : Type 0) → (happens → IsRelated s old → IsRelated s new) → UnlessStopped stopped old new happens → IsRelated s old → IsRelated s new
 unless s true old new happens done is h = holds_as s old new is h
 unless s false old new happens done is h = done is h
 
 -- a delivery to a client that may have been stopped
-holds_delivered : (s : Canon) (old new : World) (n : ℕ) (stopped : Bool) → old.client_stopped ≡ stopped → NoneFailed old → IsSound new → IsQuietEvent (IsBetweenLines s) old (ToClient n) → Unless stopped old new (Returns old n new) → Holds s old → Holds s new
+holds_delivered : (s : Canon) (old new : World) (n : ℕ) (stopped : Bool) → old.client_stopped ≡ stopped → NoneFailed old → HasPast new → IsQuietEvent (IsBetweenLines s) old (ToClient n) → UnlessStopped stopped old new (DeliversToClient old n new) → IsRelated s old → IsRelated s new
 holds_delivered s old new n true stopped none sound quiet is h = holds_as s old new is h
 holds_delivered s old new n false goes none sound quiet t h = holds_returns s old new n none sound (quiet goes none.1) t h
 
 -- an end that stops changes nothing of it
-holds_stops : (s : Canon) (old new : World) (a b : Bool) → new ≡ record old { server_stopped = a; client_stopped = b } → IsSound new → Holds s old → Holds s new
+holds_stops : (s : Canon) (old new : World) (a b : Bool) → new ≡ record old { server_stopped = a; client_stopped = b } → HasPast new → IsRelated s old → IsRelated s new
 holds_stops s old new a b is sound h =
     record {
       linemode = h.linemode;
       trapped = h.trapped;
       plain = h.plain;
-      tied = subst (λ w. Tied (rules_of s h.linemode) (picture w h.trapped h.plain)) (sym is) h.tied;
+      tied = subst (λ w. IsTied (rules_of s h.linemode) (picture w h.trapped h.plain)) (sym is) h.tied;
       server = subst (λ (w : World). ServerStays (rules_of s h.linemode) w.server) (sym is) h.server;
       client = subst (λ (w : World). ClientStays (rules_of s h.linemode) w.client) (sym is) h.client;
       sound = sound;
     }
 
 -- an event that is done
-pub holds_does : (s : Canon) (old new : World) (e : Event) → NoneFailed old → IsSound new → IsQuietEvent (IsBetweenLines s) old e → Does old e new → Holds s old → Holds s new
-holds_does s old new (Key key) none sound quiet d h = unless s old.client_stopped old new (Types old key new) (holds_types s old new key none sound) d h
-holds_does s old new (ToServer n) none sound quiet d h = unless s old.server_stopped old new (Reaches old n new) (holds_reaches s old new n none sound) d h
+pub holds_does : (s : Canon) (old new : World) (e : Event) → NoneFailed old → HasPast new → IsQuietEvent (IsBetweenLines s) old e → RunsEvent old e new → IsRelated s old → IsRelated s new
+holds_does s old new (Key key) none sound quiet d h = unless s old.client_stopped old new (TypesKey old key new) (holds_types s old new key none sound) d h
+holds_does s old new (ToServer n) none sound quiet d h = unless s old.server_stopped old new (DeliversToServer old n new) (holds_reaches s old new n none sound) d h
 holds_does s old new (ToClient n) none sound quiet d h = holds_delivered s old new n old.client_stopped refl none sound quiet d h
-holds_does s old new (Write bytes) none sound quiet d h = unless s old.server_stopped old new (Asks old (asked.wrote bytes) new) (holds_asks s old new (asked.wrote bytes) tt sound) d h
+holds_does s old new (Write bytes) none sound quiet d h = unless s old.server_stopped old new (CallsServer old (asked.wrote bytes) new) (holds_asks s old new (asked.wrote bytes) tt sound) d h
 holds_does s old new (Pull n) none sound quiet d h =
     unless s old.server_stopped old new (Pulls old n new) (λ p. holds_asks s old new (asked.pulled p.count) tt sound p.asks) d h
 holds_does s old new Take none sound quiet d h = holds_takes s old new sound d h
-holds_does s old new (Wish editing) none sound quiet d h = unless s old.server_stopped old new (Asks old (asked.wished editing) new) (holds_asks s old new (asked.wished editing) tt sound) d h
+holds_does s old new (Wish editing) none sound quiet d h = unless s old.server_stopped old new (CallsServer old (asked.wished editing) new) (holds_asks s old new (asked.wished editing) tt sound) d h
 holds_does s old new (Resize width height) none sound quiet d h =
-    unless s old.client_stopped old new (Tells old (told.resized width height) new) (holds_resizes s old new width height none sound) d h
+    unless s old.client_stopped old new (CallsClient old (told.resized width height) new) (holds_resizes s old new width height none sound) d h
 holds_does s old new (SetChar func value) none sound quiet d h = absurd (quiet)
 holds_does s old new (Propose func value) none sound quiet d h = absurd (quiet)
-holds_does s old new (Echo on) none sound quiet d h = unless s old.server_stopped old new (Asks old (asked.echo_set on) new) (holds_asks s old new (asked.echo_set on) tt sound) d h
+holds_does s old new (Echo on) none sound quiet d h = unless s old.server_stopped old new (CallsServer old (asked.echo_set on) new) (holds_asks s old new (asked.echo_set on) tt sound) d h
 holds_does s old new ServerStops none sound quiet d h = holds_stops s old new true old.client_stopped d sound h
 holds_does s old new ClientStops none sound quiet d h = holds_stops s old new old.server_stopped true d sound h
 
@@ -249,28 +249,28 @@ FailsNone old new = (new.server.failed ≡ old.server.failed) × (new.client.fai
 as_before : (old new : World) → new ≡ old → FailsNone old new
 as_before old new is = (ap (λ (w : World). w.server.failed) is, ap (λ (w : World). w.client.failed) is)
 
-unless_keeps : (stopped : Bool) (old new : World) (happens : Type 0) → (happens → FailsNone old new) → Unless stopped old new happens → FailsNone old new
+unless_keeps : (stopped : Bool) (old new : World) (happens : Type 0) → (happens → FailsNone old new) → UnlessStopped stopped old new happens → FailsNone old new
 unless_keeps true old new happens done is = as_before old new is
 unless_keeps false old new happens done is = done is
 
-asks_keeps : (old new : World) (e : asked.Event) → Asks old e new → FailsNone old new
+asks_keeps : (old new : World) (e : asked.Event) → CallsServer old e new → FailsNone old new
 asks_keeps old new e t = (t.keeps.failed, ap (λ (w : World). w.client.failed) t.rest)
 
-tells_keeps : (old new : World) (e : told.Event) → Tells old e new → FailsNone old new
+tells_keeps : (old new : World) (e : told.Event) → CallsClient old e new → FailsNone old new
 tells_keeps old new e t = (ap (λ (w : World). w.server.failed) t.rest, t.keeps.failed)
 
-pub does_keeps : (old new : World) (e : Event) → Does old e new → FailsNone old new
-does_keeps old new (Key key) d = unless_keeps old.client_stopped old new (Types old key new) (λ t. (ap (λ (w : World). w.server.failed) t.rest, t.keeps.failed)) d
-does_keeps old new (ToServer n) d = unless_keeps old.server_stopped old new (Reaches old n new) (λ t. (t.feeds.failed, ap (λ (w : World). w.client.failed) t.rest)) d
-does_keeps old new (ToClient n) d = unless_keeps old.client_stopped old new (Returns old n new) (λ t. (ap (λ (w : World). w.server.failed) t.rest, t.feeds.failed)) d
-does_keeps old new (Write bytes) d = unless_keeps old.server_stopped old new (Asks old (asked.wrote bytes) new) (asks_keeps old new (asked.wrote bytes)) d
+pub does_keeps : (old new : World) (e : Event) → RunsEvent old e new → FailsNone old new
+does_keeps old new (Key key) d = unless_keeps old.client_stopped old new (TypesKey old key new) (λ t. (ap (λ (w : World). w.server.failed) t.rest, t.keeps.failed)) d
+does_keeps old new (ToServer n) d = unless_keeps old.server_stopped old new (DeliversToServer old n new) (λ t. (t.feeds.failed, ap (λ (w : World). w.client.failed) t.rest)) d
+does_keeps old new (ToClient n) d = unless_keeps old.client_stopped old new (DeliversToClient old n new) (λ t. (ap (λ (w : World). w.server.failed) t.rest, t.feeds.failed)) d
+does_keeps old new (Write bytes) d = unless_keeps old.server_stopped old new (CallsServer old (asked.wrote bytes) new) (asks_keeps old new (asked.wrote bytes)) d
 does_keeps old new (Pull n) d = unless_keeps old.server_stopped old new (Pulls old n new) (λ p. asks_keeps old new (asked.pulled p.count) p.asks) d
 does_keeps old new Take d = (d.keeps.failed, ap (λ (w : World). w.client.failed) d.rest)
-does_keeps old new (Wish editing) d = unless_keeps old.server_stopped old new (Asks old (asked.wished editing) new) (asks_keeps old new (asked.wished editing)) d
-does_keeps old new (Resize width height) d = unless_keeps old.client_stopped old new (Tells old (told.resized width height) new) (tells_keeps old new (told.resized width height)) d
-does_keeps old new (SetChar func value) d = unless_keeps old.server_stopped old new (Asks old (asked.char_set func value) new) (asks_keeps old new (asked.char_set func value)) d
-does_keeps old new (Propose func value) d = unless_keeps old.client_stopped old new (Tells old (told.proposed func value) new) (tells_keeps old new (told.proposed func value)) d
-does_keeps old new (Echo on) d = unless_keeps old.server_stopped old new (Asks old (asked.echo_set on) new) (asks_keeps old new (asked.echo_set on)) d
+does_keeps old new (Wish editing) d = unless_keeps old.server_stopped old new (CallsServer old (asked.wished editing) new) (asks_keeps old new (asked.wished editing)) d
+does_keeps old new (Resize width height) d = unless_keeps old.client_stopped old new (CallsClient old (told.resized width height) new) (tells_keeps old new (told.resized width height)) d
+does_keeps old new (SetChar func value) d = unless_keeps old.server_stopped old new (CallsServer old (asked.char_set func value) new) (asks_keeps old new (asked.char_set func value)) d
+does_keeps old new (Propose func value) d = unless_keeps old.client_stopped old new (CallsClient old (told.proposed func value) new) (tells_keeps old new (told.proposed func value)) d
+does_keeps old new (Echo on) d = unless_keeps old.server_stopped old new (CallsServer old (asked.echo_set on) new) (asks_keeps old new (asked.echo_set on)) d
 does_keeps old new ServerStops d = (ap (λ (w : World). w.server.failed) d, ap (λ (w : World). w.client.failed) d)
 does_keeps old new ClientStops d = (ap (λ (w : World). w.server.failed) d, ap (λ (w : World). w.client.failed) d)
 
@@ -286,19 +286,19 @@ unrefused old new e (by_client n fault is r) none = opposite new.client.failed (
 refused_same : (old new : World) (e : Event) (c : Cause) → Refuses old e c new → NoneFailed new → new ≡ old
 refused_same old new e c r none = unrefused old new e (refusal_of old new e c r) none
 
-occurs_ran : (may : List ℕ → Type 0) (old new : World) (e : Event) → Occurs may old e new → NoneFailed new → NoneFailed old
+occurs_ran : (may : List ℕ → Type 0) (old new : World) (e : Event) → RunsQuietly may old e new → NoneFailed new → NoneFailed old
 occurs_ran may old new e (inl d) none = both_ran old new (does_keeps old new e d.1) none
 occurs_ran may old new e (inr r) none = both_ran old new (as_before old new (refused_same old new e r.0 r.1 none)) none
 
-pub passes_ran : (may : List ℕ → Type 0) (old new : World) (events : List Event) → Passes may old events new → NoneFailed new → NoneFailed old
+pub passes_ran : (may : List ℕ → Type 0) (old new : World) (events : List Event) → PassesQuietly may old events new → NoneFailed new → NoneFailed old
 passes_ran may old new [] p none = both_ran old new (as_before old new p) none
 passes_ran may old new (e ∷ events) p none = occurs_ran may old p.0 e p.1 (passes_ran may p.0 new events p.2 none)
 
-holds_occurs : (s : Canon) (old new : World) (e : Event) → NoneFailed new → Occurs (IsBetweenLines s) old e new → Holds s old → Holds s new
+holds_occurs : (s : Canon) (old new : World) (e : Event) → NoneFailed new → RunsQuietly (IsBetweenLines s) old e new → IsRelated s old → IsRelated s new
 holds_occurs s old new e none (inl d) h = holds_does s old new e (both_ran old new (does_keeps old new e d.1) none) (sound_does old new e d.1 h.sound) d.0 d.1 h
 holds_occurs s old new e none (inr r) h = holds_as s old new (refused_same old new e r.0 r.1 none) h
 
-pub holds_passes : (s : Canon) (old new : World) (events : List Event) → NoneFailed new → Passes (IsBetweenLines s) old events new → Holds s old → Holds s new
+pub holds_passes : (s : Canon) (old new : World) (events : List Event) → NoneFailed new → PassesQuietly (IsBetweenLines s) old events new → IsRelated s old → IsRelated s new
 holds_passes s old new [] none p h = holds_as s old new p h
 holds_passes s old new (e ∷ events) none p h =
     holds_passes s p.0 new events none p.2 (holds_occurs s old p.0 e (passes_ran (IsBetweenLines s) p.0 new events p.2 none) p.1 h)

@@ -9,7 +9,7 @@ use Rattle.tn_linemode.specs.Modes.{Modes, edits, mode_of}
 use Rattle.tn_option.specs.Options.{is_yes}
 use Rattle.tn_server.specs.Events.{History, begun, next, got, took, wrote, pulled, wished, char_set, echo_set}
 use Rattle.tn_server.specs.Terms as terms
-use Rattle.tn_server.specs.Terms.{mask_for, wished_after, asked_while}
+use Rattle.tn_server.specs.Terms.{mask_for, wish_after, asked_mask_while}
 use Rattle.tn_server.specs.declared.wishes.Editing.{Editing}
 use Rattle.tn_server.specs.declared.wishes.Editing.TheVariants.{Remote, Local}
 use Rattle.tn_client.specs.Terms as client_terms
@@ -21,7 +21,7 @@ use Rattle.tn_world.specs.relation.Pictures.{server_core}
 use Rattle.tn_world.specs.Worlds.{World}
 use Rattle.tn_world.proofs.Cut.{no_items}
 use Rattle.tn_world.proofs.Tied.{rest-agrees}
-use Rattle.tn_world.specs.relation.Relation.{Agrees, Holds, at, picture, rules_of}
+use Rattle.tn_world.specs.relation.Relation.{Agrees, IsRelated, server_at, picture, rules_of}
 
 -- a wish that was allowed
 abbrev IsAllowed : Flags → ℕ → Type 0
@@ -31,7 +31,7 @@ allowed_or : (f : Flags) (before : ℕ) (mask : Option ℕ) → mask_for f Local
 allowed_or f before None is h = h
 allowed_or f before (Some mask) is h = inr is
 
-allowed_after : (f : Flags) (before : ℕ) (editing : Option Editing) → IsAllowed f before → IsAllowed f (wished_after f before editing)
+allowed_after : (f : Flags) (before : ℕ) (editing : Option Editing) → IsAllowed f before → IsAllowed f (wish_after f before editing)
 allowed_after f before None h = h
 allowed_after f before (Some Remote) h = inl refl
 allowed_after f before (Some Local) h = allowed_or f before (mask_for f Local) refl h
@@ -62,7 +62,7 @@ askable_wish : (s : Settings) (wish : ℕ) → IsAllowed s.flags wish → IsAska
 askable_wish s wish (inl is) = inl (ap (λ (n : ℕ). bits (mode_of n)) is)
 askable_wish s wish (inr is) = local_askable s s.flags.isig (allows_local s) wish refl refl is
 
-askable_while : (s : Settings) (linemode : Bool) (wish : ℕ) → IsAllowed s.flags wish → IsAskable s (bits (asked_while linemode wish))
+askable_while : (s : Settings) (linemode : Bool) (wish : ℕ) → IsAllowed s.flags wish → IsAskable s (bits (asked_mask_while linemode wish))
 askable_while s true wish h = askable_wish s wish h
 askable_while s false wish h = inl refl
 
@@ -72,7 +72,7 @@ mark_askable s w m =
     let stands = m.sound.server in
     let h = m.sound.history in
     let flags : terms.flags h ≡ s.settings.flags = ap (λ (x : Settings). x.flags) (sym stands.settings ∙ ap (λ (x : Canon). x.settings) m.rules) in
-    let mask : terms.asked h ≡ w.client.mode = sym (ap (λ (x : Modes). x.asked) stands.modes) ∙ m.settled.agreed.mask.0 ∙ m.settled.agreed.mask.1 in
+    let mask : terms.asked_mask h ≡ w.client.mode = sym (ap (λ (x : Modes). x.asked) stands.modes) ∙ m.settled.agreed.mask.0 ∙ m.settled.agreed.mask.1 in
     subst (λ (n : ℕ). IsAskable s.settings (bits n)) mask
     (askable_while s.settings (terms.linemode (terms.options h)) (terms.terms h).wish (subst (λ f. IsAllowed f (terms.terms h).wish) flags (wish_allowed h)))
 
@@ -80,7 +80,7 @@ agreed_linemode : (w : World) → AgreeOnLinemode w.server.terms.options w.clien
 agreed_linemode w (inl p) = ap is_yes p.1 ∙ sym (ap is_yes p.0)
 agreed_linemode w (inr p) = ap is_yes p.1 ∙ sym (ap is_yes p.0)
 
-core_is : (e f b : Bool) (half : List ℕ) (entries : List Entry) → e ≡ f → half ≡ [] → entries ≡ [] → b ≡ false → record { edit = e; half = half; waiting = entries; failed = b } ≡ at f [] []
+core_is : (e f b : Bool) (half : List ℕ) (entries : List Entry) → e ≡ f → half ≡ [] → entries ≡ [] → b ≡ false → record { edit = e; half = half; waiting = entries; failed = b } ≡ server_at f [] []
 core_is e f b half entries p q r t =
     ap (λ x. record { edit = x; half = half; waiting = entries; failed = b }) p
     ∙ ap (λ x. record { edit = f; half = x; waiting = entries; failed = b }) q
@@ -95,12 +95,12 @@ mark_agrees s linemode w m =
     subst (λ x. Agrees rules x w.taken (server_core w.server) c) (sym m.typed)
     (subst (λ x. Agrees rules [] x (server_core w.server) c) (sym m.taken)
     (subst (λ x. Agrees rules [] [] x c) (sym (core_is (edits w.server.modes.current) (edits w.client.mode) w.server.failed w.server.terminal.line.held w.server.terminal.entries (ap edits settled.agreed.mask.1) settled.empty.half settled.empty.waiting settled.idle.server_failed))
-    (subst (λ (x : List ℕ). Agrees rules [] [] (at (edits w.client.mode) [] []) (record c { held = x })) (sym settled.empty.held)
-    (subst (λ (x : ℕ). Agrees rules [] [] (at (edits w.client.mode) [] []) (record c { held = []; ahead = x })) (sym settled.empty.ahead)
-    (subst (λ (x : Bool). Agrees rules [] [] (at (edits w.client.mode) [] []) (record c { held = []; ahead = 0; failed = x })) (sym settled.idle.client_failed)
+    (subst (λ (x : List ℕ). Agrees rules [] [] (server_at (edits w.client.mode) [] []) (record c { held = x })) (sym settled.empty.held)
+    (subst (λ (x : ℕ). Agrees rules [] [] (server_at (edits w.client.mode) [] []) (record c { held = []; ahead = x })) (sym settled.empty.ahead)
+    (subst (λ (x : Bool). Agrees rules [] [] (server_at (edits w.client.mode) [] []) (record c { held = []; ahead = 0; failed = x })) (sym settled.idle.client_failed)
     (rest-agrees rules (bits w.client.mode) (λ b. false) (mark_askable s w m)))))))
 
-pub mark_holds : (s : Canon) (w : World) → IsMark s w → Holds s w
+pub mark_holds : (s : Canon) (w : World) → IsMark s w → IsRelated s w
 mark_holds s w m =
     let lm = terms.linemode w.server.terms.options in
     let stands = m.sound.server in

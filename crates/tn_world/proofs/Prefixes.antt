@@ -5,7 +5,7 @@ use Rattle.tn_discipline.specs.Canon.{Canon, typed_entries}
 use Rattle.tn_discipline.specs.Steps.{gain_next}
 use Rattle.tn_world.specs.relation.Machine.{Rules, Item, Server, item_role, read, read_item, read_all, Client}
 use Rattle.tn_world.specs.Headline.{IsPrefixOf}
-use Rattle.tn_world.specs.relation.Relation.{Agrees, at}
+use Rattle.tn_world.specs.relation.Relation.{Agrees, server_at}
 
 -- prefixes
 pub prefix_trans : (xs ys zs : List Entry) → IsPrefixOf xs ys → IsPrefixOf ys zs → IsPrefixOf xs zs
@@ -49,7 +49,7 @@ popped s v items x entries is =
 pub take-agrees : (rules : Rules) (typed : List ℕ) (taken : List Entry) (v : Server) (c : Client) (items : List Item) (x : Entry) (entries : List Entry) → v.waiting ≡ x ∷ entries → Agrees rules typed taken (read_all rules.canon v items) c → Agrees rules typed (taken ++ x ∷ []) (read_all rules.canon (record v { waiting = entries }) items) c
 take-agrees rules typed taken v c items x entries is a =
     let later = read_all rules.canon (record v { waiting = entries }) items in
-    let front_is : fronted x later ≡ at c.mask.edit a.half a.waiting = sym (popped rules.canon v items x entries is) ∙ a.is in
+    let front_is : fronted x later ≡ server_at c.mask.edit a.half a.waiting = sym (popped rules.canon v items x entries is) ∙ a.is in
     record {
       half = a.half;
       waiting = later.waiting;

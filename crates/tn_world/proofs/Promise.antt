@@ -5,13 +5,13 @@ use Rattle.std.proofs.Math.Seq.{drop-cons}
 use Rattle.std.proofs.lemmas.List.{take_more, take_all, take-append-drop, length-take-le}
 use Rattle.tn_discipline.specs.declared.reads.Entry.{Entry}
 use Rattle.tn_discipline.specs.Canon.{Canon}
-use Rattle.tn_world.specs.Past.{IsSound}
-use Rattle.tn_world.specs.Headline.{IsPrefixOf, local_entries, IsBetweenLines, Nowhere, Occurs, Passes, IsQuietEvent, AreQuiet, IsQuiet, IsMark, Follows, NoneFailed, NothingFlies, ComeWhere, IsSettled, made, Headline}
-use Rattle.tn_world.specs.Opened.{anew}
-use Rattle.tn_world.specs.Worlds.{World, Does, Refuses, Runs, Ends, canon_of}
+use Rattle.tn_world.specs.Past.{HasPast}
+use Rattle.tn_world.specs.Headline.{IsPrefixOf, local_entries, IsBetweenLines, Nowhere, RunsQuietly, PassesQuietly, IsQuietEvent, AreQuiet, IsQuiet, IsMark, FollowsMark, NoneFailed, NothingInFlight, ChangeModeWhere, IsSettled, entries_made, Headline}
+use Rattle.tn_world.specs.Opened.{with_new_lists}
+use Rattle.tn_world.specs.Worlds.{World, RunsEvent, Refuses, Runs, StopsWithin, canon_of}
 use Rattle.tn_nvt.specs.declared.items.Item.{Item}
 use Rattle.tn_option.specs.Options.{Options}
-use Rattle.tn_client.specs.Terms.{heard, mode_at}
+use Rattle.tn_client.specs.Terms.{options_after, mode_at}
 use Rattle.tn_world.specs.declared.events.Event.{Event}
 use Rattle.tn_world.specs.declared.events.Event.TheVariants.{Key, ToServer, ToClient, Write, Pull, Take, Wish, Resize, SetChar, Propose, Echo, ServerStops, ClientStops}
 use Rattle.tn_world.specs.declared.faults.Cause.{Cause}
@@ -21,55 +21,55 @@ use Rattle.tn_world.proofs.Tied.{tied-prefix, tied-complete}
 use Rattle.tn_world.specs.relation.Relation.{picture, rules_of}
 
 -- the headline
-pub passes_prefix : (s : Canon) (start new : World) (events : List Event) → IsMark s start → Passes (IsBetweenLines s) start events new → NoneFailed new → IsPrefixOf (made new) (local_entries s new.typed)
+pub passes_prefix : (s : Canon) (start new : World) (events : List Event) → IsMark s start → PassesQuietly (IsBetweenLines s) start events new → NoneFailed new → IsPrefixOf (entries_made new) (local_entries s new.typed)
 passes_prefix s start new events m p none =
     let h = holds_passes s start new events none p (mark_holds s start m) in
     tied-prefix (rules_of s h.linemode) (picture new h.trapped h.plain) h.tied
 
-pub passes_complete : (s : Canon) (start new : World) (events : List Event) → IsMark s start → Passes (IsBetweenLines s) start events new → NoneFailed new → NothingFlies new → made new ≡ local_entries s new.typed
+pub passes_complete : (s : Canon) (start new : World) (events : List Event) → IsMark s start → PassesQuietly (IsBetweenLines s) start events new → NoneFailed new → NothingInFlight new → entries_made new ≡ local_entries s new.typed
 passes_complete s start new events m p none nothing =
     let h = holds_passes s start new events none p (mark_holds s start m) in
     tied-complete (rules_of s h.linemode) (picture new h.trapped h.plain) h.tied nothing.0
 
-pub headline : (s : Canon) (w : World) → Follows s w → Headline s w
+pub headline : (s : Canon) (w : World) → FollowsMark s w → Headline s w
 headline s w f = record {
   prefix = λ none. passes_prefix s f.start w f.events f.mark f.passes none;
   complete = λ none nothing. passes_complete s f.start w f.events f.mark f.passes none nothing;
 }
 
-passes_on : (may : List ℕ → Type 0) (old mid new : World) (xs ys : List Event) → Passes may old xs mid → Passes may mid ys new → Passes may old (xs ++ ys) new
-passes_on may old mid new [] ys p q = subst (λ w. Passes may w ys new) p q
+passes_on : (may : List ℕ → Type 0) (old mid new : World) (xs ys : List Event) → PassesQuietly may old xs mid → PassesQuietly may mid ys new → PassesQuietly may old (xs ++ ys) new
+passes_on may old mid new [] ys p q = subst (λ w. PassesQuietly may w ys new) p q
 passes_on may old mid new (e ∷ xs) ys p q = (p.0, p.1, passes_on may p.0 mid new xs ys p.2 q)
 
-pub follows_on : (s : Canon) (old new : World) (events : List Event) → Follows s old → Passes (IsBetweenLines s) old events new → Follows s new
+pub follows_on : (s : Canon) (old new : World) (events : List Event) → FollowsMark s old → PassesQuietly (IsBetweenLines s) old events new → FollowsMark s new
 follows_on s old new events f p = record { start = f.start; mark = f.mark; events = f.events ++ events; passes = passes_on (IsBetweenLines s) f.start old new f.events events f.passes p }
 
 -- a run of quiet events
-runs_pass : (may : List ℕ → Type 0) (old new : World) (events : List Event) → AreQuiet may old events → Runs old events new → Passes may old events new
+runs_pass : (may : List ℕ → Type 0) (old new : World) (events : List Event) → AreQuiet may old events → Runs old events new → PassesQuietly may old events new
 runs_pass may old new [] quiet r = r
 runs_pass may old new (e ∷ events) quiet r =
     let here = quiet r.0 r.1 in
     (r.0, inl (here.0, r.1), runs_pass may r.0 new events here.1 r.2)
 
 -- a run up to the event that was refused
-ends_pass : (may : List ℕ → Type 0) (old mid new : World) (done left : List Event) (e : Event) (cause : Cause) → AreQuiet may old (done ++ e ∷ left) → Runs old done mid → Refuses mid e cause new → Passes may old (done ++ e ∷ []) new
-ends_pass may old mid new [] left e cause quiet r refused = subst (λ w. Passes may w (e ∷ []) new) r (new, inr (cause, refused), refl)
+ends_pass : (may : List ℕ → Type 0) (old mid new : World) (done left : List Event) (e : Event) (cause : Cause) → AreQuiet may old (done ++ e ∷ left) → Runs old done mid → Refuses mid e cause new → PassesQuietly may old (done ++ e ∷ []) new
+ends_pass may old mid new [] left e cause quiet r refused = subst (λ w. PassesQuietly may w (e ∷ []) new) r (new, inr (cause, refused), refl)
 ends_pass may old mid new (d ∷ done) left e cause quiet r refused =
     let here = quiet r.0 r.1 in
     (r.0, inl (here.0, r.1), ends_pass may r.0 mid new done left e cause here.1 r.2 refused)
 
-pub follows_runs : (s : Canon) (old new : World) (events : List Event) → Follows s old → IsQuiet s old events → Runs old events new → Follows s new
+pub follows_runs : (s : Canon) (old new : World) (events : List Event) → FollowsMark s old → IsQuiet s old events → Runs old events new → FollowsMark s new
 follows_runs s old new events f quiet r = follows_on s old new events f (runs_pass (IsBetweenLines s) old new events quiet r)
 
-pub follows_ends : (s : Canon) (old new : World) (events : List Event) (at : ℕ) (cause : Cause) → Follows s old → IsQuiet s old events → Ends old events at cause new → Follows s new
+pub follows_ends : (s : Canon) (old new : World) (events : List Event) (at : ℕ) (cause : Cause) → FollowsMark s old → IsQuiet s old events → StopsWithin old events at cause new → FollowsMark s new
 follows_ends s old new events at cause f quiet e =
     follows_on s old new (e.done ++ e.event ∷ []) f
     (ends_pass (IsBetweenLines s) old e.mid new e.done e.left e.event cause (subst (λ l. IsQuiet s old l) e.whole quiet) e.runs e.refuses)
 
 -- a mode that changes nowhere is one that changes between lines alone
-come_nowhere : (may : Type 0) (o : Options) (mode : ℕ) (items : List Item) → ComeWhere ⊥ o mode items → ComeWhere may o mode items
+come_nowhere : (may : Type 0) (o : Options) (mode : ℕ) (items : List Item) → ChangeModeWhere ⊥ o mode items → ChangeModeWhere may o mode items
 come_nowhere may o mode [] h = tt
-come_nowhere may o mode (item ∷ items) h = (λ differs. absurd (h.0 differs), come_nowhere may (heard o item) (mode_at o mode item) items h.1)
+come_nowhere may o mode (item ∷ items) h = (λ differs. absurd (h.0 differs), come_nowhere may (options_after o item) (mode_at o mode item) items h.1)
 
 quiet_nowhere : (s : Canon) (w : World) (e : Event) → IsQuietEvent Nowhere w e → IsQuietEvent (IsBetweenLines s) w e
 quiet_nowhere s w (Key key) q = tt
@@ -86,16 +86,16 @@ quiet_nowhere s w (Echo on) q = tt
 quiet_nowhere s w ServerStops q = tt
 quiet_nowhere s w ClientStops q = tt
 
-occurs_nowhere : (s : Canon) (old new : World) (e : Event) → Occurs Nowhere old e new → Occurs (IsBetweenLines s) old e new
+occurs_nowhere : (s : Canon) (old new : World) (e : Event) → RunsQuietly Nowhere old e new → RunsQuietly (IsBetweenLines s) old e new
 occurs_nowhere s old new e (inl d) = inl (quiet_nowhere s old e d.0, d.1)
 occurs_nowhere s old new e (inr r) = inr r
 
-pub passes_nowhere : (s : Canon) (old new : World) (events : List Event) → Passes Nowhere old events new → Passes (IsBetweenLines s) old events new
+pub passes_nowhere : (s : Canon) (old new : World) (events : List Event) → PassesQuietly Nowhere old events new → PassesQuietly (IsBetweenLines s) old events new
 passes_nowhere s old new [] p = p
 passes_nowhere s old new (e ∷ events) p = (p.0, occurs_nowhere s old p.0 e p.1, passes_nowhere s p.0 new events p.2)
 
 -- the world whose lists begin anew
-pub anew_settled : (w : World) → IsSettled w → IsSettled (anew w)
+pub anew_settled : (w : World) → IsSettled w → IsSettled (with_new_lists w)
 anew_settled w m =
     record {
       idle = record { to_server = m.idle.to_server; to_client = m.idle.to_client; server_stopped = m.idle.server_stopped; server_failed = m.idle.server_failed; client_stopped = m.idle.client_stopped; client_failed = m.idle.client_failed };
@@ -103,7 +103,7 @@ anew_settled w m =
       empty = record { half = m.empty.half; held = m.empty.held; ahead = m.empty.ahead; waiting = m.empty.waiting };
     }
 
-pub anew_sound : (w : World) → IsSound w → IsSound (anew w)
+pub anew_sound : (w : World) → HasPast w → HasPast (with_new_lists w)
 anew_sound w s =
     record {
       history = s.history;
@@ -115,34 +115,34 @@ anew_sound w s =
       to_client = s.to_client;
     }
 
-pub mark_follows : (w : World) → IsSound w → IsSettled w → Follows (canon_of w) (anew w)
+pub mark_follows : (w : World) → HasPast w → IsSettled w → FollowsMark (canon_of w) (with_new_lists w)
 mark_follows w s m =
     record {
-      start = anew w;
+      start = with_new_lists w;
       mark = record { sound = anew_sound w s; settled = anew_settled w m; rules = refl; typed = refl; taken = refl };
       events = [];
       passes = refl;
     }
 
-pub marked : (old w : World) (typed : List ℕ) (taken : List Entry) → w ≡ old → IsSound w → IsSettled old → typed ≡ [] → taken ≡ [] → Follows (canon_of old) (record w { typed = typed; taken = taken })
+pub marked : (old w : World) (typed : List ℕ) (taken : List Entry) → w ≡ old → HasPast w → IsSettled old → typed ≡ [] → taken ≡ [] → FollowsMark (canon_of old) (record w { typed = typed; taken = taken })
 marked old w typed taken is sound settled no_keys no_entries =
-    subst (λ x. Follows (canon_of old) (record w { typed = x; taken = taken })) (sym no_keys)
-    (subst (λ x. Follows (canon_of old) (record w { typed = []; taken = x })) (sym no_entries)
-    (subst (λ x. Follows (canon_of x) (anew w)) is (mark_follows w sound (subst (λ x. IsSettled x) (sym is) settled))))
+    subst (λ x. FollowsMark (canon_of old) (record w { typed = x; taken = taken })) (sym no_keys)
+    (subst (λ x. FollowsMark (canon_of old) (record w { typed = []; taken = x })) (sym no_entries)
+    (subst (λ x. FollowsMark (canon_of x) (with_new_lists w)) is (mark_follows w sound (subst (λ x. IsSettled x) (sym is) settled))))
 
 -- the run goes on
-runs_on : (old mid new : World) (xs : List Event) (e : Event) → Runs old xs mid → Does mid e new → Runs old (xs ++ e ∷ []) new
-runs_on old mid new [] e r d = (new, subst (λ w. Does w e new) r d, refl)
+runs_on : (old mid new : World) (xs : List Event) (e : Event) → Runs old xs mid → RunsEvent mid e new → Runs old (xs ++ e ∷ []) new
+runs_on old mid new [] e r d = (new, subst (λ w. RunsEvent w e new) r d, refl)
 runs_on old mid new (x ∷ xs) e r d = (r.0, r.1, runs_on r.0 mid new xs e r.2 d)
 
-pub runs_more : (old mid new : World) (events : List Event) (n : ℕ) (e : Event) → n < length events → e ≡ get_or events n e → Runs old (take n events) mid → Does mid e new → Runs old (take (n + 1) events) new
+pub runs_more : (old mid new : World) (events : List Event) (n : ℕ) (e : Event) → n < length events → e ≡ get_or events n e → Runs old (take n events) mid → RunsEvent mid e new → Runs old (take (n + 1) events) new
 runs_more old mid new events n e within is r d =
     subst (λ l. Runs old l new) (ap (λ x. take n events ++ x ∷ []) is ∙ sym (take_more events n e within)) (runs_on old mid new (take n events) e r d)
 
 pub runs_whole : (old new : World) (events : List Event) (n : ℕ) → length events ≤ n → Runs old (take n events) new → Runs old events new
 runs_whole old new events n over r = subst (λ l. Runs old l new) (take_all n events over) r
 
-pub runs_stop : (old mid new : World) (events : List Event) (n : ℕ) (e : Event) (cause : Cause) → n < length events → e ≡ get_or events n e → Runs old (take n events) mid → Refuses mid e cause new → Ends old events n cause new
+pub runs_stop : (old mid new : World) (events : List Event) (n : ℕ) (e : Event) (cause : Cause) → n < length events → e ≡ get_or events n e → Runs old (take n events) mid → Refuses mid e cause new → StopsWithin old events n cause new
 runs_stop old mid new events n e cause within is r refuses =
     record {
       done = take n events;
@@ -156,8 +156,8 @@ runs_stop old mid new events n e cause within is r refuses =
     }
 
 -- the promises of a run
-pub run_follows : (old new : World) (events : List Event) → Runs old events new → (s : Canon) → Follows s old → IsQuiet s old events → Follows s new
+pub run_follows : (old new : World) (events : List Event) → Runs old events new → (s : Canon) → FollowsMark s old → IsQuiet s old events → FollowsMark s new
 run_follows old new events r s f quiet = follows_runs s old new events f quiet r
 
-pub end_follows : (old new : World) (events : List Event) (at : ℕ) (cause : Cause) → Ends old events at cause new → (s : Canon) → Follows s old → IsQuiet s old events → Follows s new
+pub end_follows : (old new : World) (events : List Event) (at : ℕ) (cause : Cause) → StopsWithin old events at cause new → (s : Canon) → FollowsMark s old → IsQuiet s old events → FollowsMark s new
 end_follows old new events at cause e s f quiet = follows_ends s old new events at cause f quiet e

@@ -5,13 +5,13 @@ use Rattle.std.specs.Option.{option_eq}
 use Rattle.tn_discipline.specs.Characters.{Characters}
 use Rattle.tn_discipline.specs.declared.reads.Entry.{Entry}
 use Rattle.std.specs.List.{list_all}
-use Rattle.tn_option.specs.Options.{Options, known, state_or_no, state_of}
+use Rattle.tn_option.specs.Options.{Options, known_option, state_or_no, state_of}
 use Rattle.tn_option.specs.declared.known.Known.{Known}
 use Rattle.tn_option.specs.declared.known.Known.TheVariants.{Echo, SuppressGoAhead, Naws, Linemode}
 use Rattle.tn_option.specs.declared.q_method.QState.{QState}
 use Rattle.tn_option.specs.declared.q_method.Side.{Side}
 use Rattle.tn_option.specs.declared.q_method.Side.TheVariants.{Us, Them}
-use Rattle.tn_world.specs.Headline.{in_order, IsSteady}
+use Rattle.tn_world.specs.Headline.{is_in_order, IsSteady}
 
 abbrev pub states : Options → List QState
 states o =
@@ -26,46 +26,46 @@ and_from : (a b : Bool) → a ≡ true → b ≡ true → (a && b) ≡ true
 and_from true b p q = q
 and_from false b p q = absurd (cc)
 
-at_known : (o : Options) (side : Side) → in_order (state_or_no o side (Some Echo)) ≡ true → in_order (state_or_no o side (Some SuppressGoAhead)) ≡ true → in_order (state_or_no o side (Some Naws)) ≡ true → in_order (state_or_no o side (Some Linemode)) ≡ true → (option : Option Known) → in_order (state_or_no o side option) ≡ true
+at_known : (o : Options) (side : Side) → is_in_order (state_or_no o side (Some Echo)) ≡ true → is_in_order (state_or_no o side (Some SuppressGoAhead)) ≡ true → is_in_order (state_or_no o side (Some Naws)) ≡ true → is_in_order (state_or_no o side (Some Linemode)) ≡ true → (option : Option Known) → is_in_order (state_or_no o side option) ≡ true
 at_known o side a b c d None = refl
 at_known o side a b c d (Some Echo) = a
 at_known o side a b c d (Some SuppressGoAhead) = b
 at_known o side a b c d (Some Naws) = c
 at_known o side a b c d (Some Linemode) = d
 
-all_steady : (o : Options) → list_all in_order (states o) ≡ true → IsSteady o
+all_steady : (o : Options) → list_all is_in_order (states o) ≡ true → IsSteady o
 unfolding state_of
 all_steady o h Us option =
-    let p = and_both (in_order (state_of o Us 1)) _ h in
-    let q = and_both (in_order (state_of o Us 3)) _ p.1 in
-    let r = and_both (in_order (state_of o Us 31)) _ q.1 in
-    let s = and_both (in_order (state_of o Us 34)) _ r.1 in
-    at_known o Us p.0 q.0 r.0 s.0 (known option)
+    let p = and_both (is_in_order (state_of o Us 1)) _ h in
+    let q = and_both (is_in_order (state_of o Us 3)) _ p.1 in
+    let r = and_both (is_in_order (state_of o Us 31)) _ q.1 in
+    let s = and_both (is_in_order (state_of o Us 34)) _ r.1 in
+    at_known o Us p.0 q.0 r.0 s.0 (known_option option)
 all_steady o h Them option =
-    let p = and_both (in_order (state_of o Us 1)) _ h in
-    let q = and_both (in_order (state_of o Us 3)) _ p.1 in
-    let r = and_both (in_order (state_of o Us 31)) _ q.1 in
-    let s = and_both (in_order (state_of o Us 34)) _ r.1 in
-    let t = and_both (in_order (state_of o Them 1)) _ s.1 in
-    let u = and_both (in_order (state_of o Them 3)) _ t.1 in
-    let v = and_both (in_order (state_of o Them 31)) _ u.1 in
-    let w = and_both (in_order (state_of o Them 34)) _ v.1 in
-    at_known o Them t.0 u.0 v.0 w.0 (known option)
+    let p = and_both (is_in_order (state_of o Us 1)) _ h in
+    let q = and_both (is_in_order (state_of o Us 3)) _ p.1 in
+    let r = and_both (is_in_order (state_of o Us 31)) _ q.1 in
+    let s = and_both (is_in_order (state_of o Us 34)) _ r.1 in
+    let t = and_both (is_in_order (state_of o Them 1)) _ s.1 in
+    let u = and_both (is_in_order (state_of o Them 3)) _ t.1 in
+    let v = and_both (is_in_order (state_of o Them 31)) _ u.1 in
+    let w = and_both (is_in_order (state_of o Them 34)) _ v.1 in
+    at_known o Them t.0 u.0 v.0 w.0 (known_option option)
 
-steady_all : (o : Options) → IsSteady o → list_all in_order (states o) ≡ true
+steady_all : (o : Options) → IsSteady o → list_all is_in_order (states o) ≡ true
 steady_all o h =
-    and_from (in_order (state_of o Us 1)) _ (h Us 1)
-    (and_from (in_order (state_of o Us 3)) _ (h Us 3)
-    (and_from (in_order (state_of o Us 31)) _ (h Us 31)
-    (and_from (in_order (state_of o Us 34)) _ (h Us 34)
-    (and_from (in_order (state_of o Them 1)) _ (h Them 1)
-    (and_from (in_order (state_of o Them 3)) _ (h Them 3)
-    (and_from (in_order (state_of o Them 31)) _ (h Them 31)
-    (and_from (in_order (state_of o Them 34)) _ (h Them 34) refl)))))))
+    and_from (is_in_order (state_of o Us 1)) _ (h Us 1)
+    (and_from (is_in_order (state_of o Us 3)) _ (h Us 3)
+    (and_from (is_in_order (state_of o Us 31)) _ (h Us 31)
+    (and_from (is_in_order (state_of o Us 34)) _ (h Us 34)
+    (and_from (is_in_order (state_of o Them 1)) _ (h Them 1)
+    (and_from (is_in_order (state_of o Them 3)) _ (h Them 3)
+    (and_from (is_in_order (state_of o Them 31)) _ (h Them 31)
+    (and_from (is_in_order (state_of o Them 34)) _ (h Them 34) refl)))))))
 
-pub steady_where : (o : Options) (r : Bool) (found : List QState) → r ≡ list_all in_order found → found ≡ states o → r ≡ true ↔ IsSteady o
+pub steady_where : (o : Options) (r : Bool) (found : List QState) → r ≡ list_all is_in_order found → found ≡ states o → r ≡ true ↔ IsSteady o
 steady_where o r found is same =
-    let all : r ≡ list_all in_order (states o) = is ∙ ap (list_all in_order) same in
+    let all : r ≡ list_all is_in_order (states o) = is ∙ ap (list_all is_in_order) same in
     (λ t. all_steady o (sym all ∙ t), λ s. all ∙ steady_all o s)
 
 pub same_states : (o : Options) (a b c d e f g h : QState) → a ≡ state_of o Us 1 → b ≡ state_of o Us 3 → c ≡ state_of o Us 31 → d ≡ state_of o Us 34 → e ≡ state_of o Them 1 → f ≡ state_of o Them 3 → g ≡ state_of o Them 31 → h ≡ state_of o Them 34 → a ∷ b ∷ c ∷ d ∷ e ∷ f ∷ g ∷ h ∷ [] ≡ states o

@@ -25,8 +25,8 @@ use Rattle.tn_linemode.specs.Modes.{Modes, mode_of, is_acknowledged, edits}
 use Rattle.tn_nvt.specs.Spelling.{Fits}
 use Rattle.tn_nvt.specs.declared.items.Item.{Item}
 use Rattle.tn_nvt.specs.declared.items.Item.TheVariants.{Byte, Newline, Cmd, Neg, Sub}
-use Rattle.tn_option.specs.QMethod.{side_of, cause_of, said, answered, wish_for}
-use Rattle.tn_option.specs.Options.{Options, known, cell_now, refused, said_now, answered_now, after_word, reply_to, answer_to, state_of, is_yes}
+use Rattle.tn_option.specs.QMethod.{side_of, cause_of, word_of_answer, result_of_answer, wish_for}
+use Rattle.tn_option.specs.Options.{Options, known_option, cell_now, refusal_word, word_now, answer_now, options_after_word, reply_to, answer_to, state_of, is_yes}
 use Rattle.tn_option.specs.declared.known.Known.{Known}
 use Rattle.tn_option.specs.declared.q_method.Answer.{Answer}
 use Rattle.tn_option.specs.declared.q_method.Answer.TheVariants as answer
@@ -37,18 +37,18 @@ use Rattle.tn_option.specs.declared.q_method.Side.{Side}
 use Rattle.tn_option.specs.declared.q_method.Side.TheVariants.{Us, Them}
 use Rattle.tn_option.proofs.lemmas.OptionLaws.{LeavesOthers-moved}
 use Rattle.tn_server.specs.Events.{Event, History, next, got, took, wrote, pulled, wished, char_set, echo_set, gets, limit}
-use Rattle.tn_server.specs.Terms.{Terms, terms, options, flags, chars, settings, mode, linemode, payload_at, heard, wish_in, wished_after, mask_for, mask_or, asked_of, asked_while, mode_sent, told_by, asks_echo, wants_echo, terms_by, mode_after, chars_after}
-use Rattle.tn_wire.specs.Words.{differ, word, subnegotiated, mode_told}
-use Rattle.tn_server.specs.Lines.{role_at, roles, entries, half, taken, waiting}
+use Rattle.tn_server.specs.Terms.{Terms, terms, options, flags, chars, settings, mode, linemode, payload_at, options_after, wish_in, wish_after, mask_for, mask_or, asked_mask_of, asked_mask_while, mode_sent, mask_told, asks_echo, wants_echo, terms_by, mask_after, chars_after}
+use Rattle.tn_wire.specs.Words.{differ, word_items, payload_items, mode_items}
+use Rattle.tn_server.specs.Lines.{role_at, roles, entries, half, taken_count, waiting}
 use Rattle.tn_server.specs.Screen.{queue, sends_ga, none_waits, due}
-use Rattle.tn_server.specs.Replies.{asked_word, word_back, table_told, echo_told, says_by, list_answered, data_of, replies, sent}
-use Rattle.tn_server.specs.Standing.{End, Stands, Goes, Keeps, Feeds}
+use Rattle.tn_server.specs.Replies.{asked_word_items, reply_items, new_table_items, echo_items, items_by, list_replies, data_of, replies, items_said}
+use Rattle.tn_server.specs.Calls.{End, LeadsTo, Advances, ReadsNothing, Feeds}
 use Rattle.tn_server.specs.declared.wishes.Editing.{Editing}
 use Rattle.tn_server.specs.declared.wishes.Editing.TheVariants.{Remote, Local}
 use Rattle.tn_server.proofs.lemmas.Ends.{line_is, waits_are}
 use Rattle.tn_server.proofs.lemmas.Terms.{differ_self, told_again, table_again, echo_keeps_linemode}
-use Rattle.tn_world.specs.relation.Calm.{bits, SaysCalmly, IsCalmToServer, IsCalmToClient, seen_payload, seen}
-use Rattle.tn_world.specs.relation.Ends.{seen_all, Replies, Took}
+use Rattle.tn_world.specs.relation.Calm.{bits, SaysCalmly, IsCalmToServer, IsCalmToClient, seen_payload, server_item}
+use Rattle.tn_world.specs.relation.Ends.{server_items, AreReplies, TakesFirst}
 use Rattle.tn_world.specs.relation.Machine as machine
 use Rattle.tn_world.specs.relation.Machine.{Rules, Server, item_role, edit_after, read, read_all, allows_local, local_mode, IsAskable}
 use Rattle.tn_world.specs.relation.Pictures.{server_core, server_picture, ServerStays}
@@ -66,28 +66,28 @@ both : (P : Item → Type 0) (xs ys : List Item) → All P xs → All P ys → A
 both P xs ys a b = All-append P xs ys a b
 
 -- nothing, seen otherwise
-none_made : (P : Item → Type 0) (said : List Item) → said ≡ [] → All P said
-none_made P said e = subst (All P) (sym e) (nothing P)
+none_made : (P : Item → Type 0) (word_of_answer : List Item) → word_of_answer ≡ [] → All P word_of_answer
+none_made P word_of_answer e = subst (All P) (sym e) (nothing P)
 
-replies_of : (rules : Rules) (said : List Item) → All Fits said → All (IsCalmToClient rules.canon.settings) said → Replies rules said
-replies_of rules said fit calm = record { fit = fit; calm = calm }
+replies_of : (rules : Rules) (word_of_answer : List Item) → All Fits word_of_answer → All (IsCalmToClient rules.canon.settings) word_of_answer → AreReplies rules word_of_answer
+replies_of rules word_of_answer fit calm = record { fit = fit; calm = calm }
 
 -- OPTION WORDS answer with the option that they were asked about
 abbrev pub Speaks : ℕ → Option (Verb × ℕ) → Type 0
 Speaks option None = Unit {0}
-Speaks option (Some word) = word.1 ≡ option
+Speaks option (Some word_items) = word_items.1 ≡ option
 
 abbrev pub SpeaksAsked : ℕ → Result (Option (Verb × ℕ)) AskFault → Type 0
-SpeaksAsked option (Ok word) = Speaks option word
+SpeaksAsked option (Ok word_items) = Speaks option word_items
 SpeaksAsked option (Err fault) = Unit {0}
 
-refused_speaks : (side : Side) (option : ℕ) (cause : Cause) → Speaks option (refused side option cause)
+refused_speaks : (side : Side) (option : ℕ) (cause : Cause) → Speaks option (refusal_word side option cause)
 refused_speaks side option HeardOn = refl
 refused_speaks side option HeardOff = tt
 refused_speaks side option WishOn = tt
 refused_speaks side option WishOff = tt
 
-said_speaks : (side : Side) (option : ℕ) (a : Answer) → Speaks option (said side option a)
+said_speaks : (side : Side) (option : ℕ) (a : Answer) → Speaks option (word_of_answer side option a)
 said_speaks side option answer.Nothing = tt
 said_speaks side option answer.SayOn = refl
 said_speaks side option answer.SayOff = refl
@@ -95,15 +95,15 @@ said_speaks side option answer.AlreadySo = tt
 said_speaks side option answer.AlreadyAsked = tt
 said_speaks side option answer.AlreadyQueued = tt
 
-now_speaks : (o : Options) (side : Side) (option : ℕ) (cause : Cause) (k : Option Known) → Speaks option (said_now o side option cause k)
+now_speaks : (o : Options) (side : Side) (option : ℕ) (cause : Cause) (k : Option Known) → Speaks option (word_now o side option cause k)
 now_speaks o side option cause None = refused_speaks side option cause
 now_speaks o side option cause (Some k) = said_speaks side option (cell_now o side k cause).1
 
 pub reply_speaks : (o : Options) (verb : Verb) (option : ℕ) → Speaks option (reply_to o verb option)
 unfolding reply_to
-reply_speaks o verb option = now_speaks o (side_of verb) option (cause_of verb) (known option)
+reply_speaks o verb option = now_speaks o (side_of verb) option (cause_of verb) (known_option option)
 
-answered_speaks : (side : Side) (option : ℕ) (a : Answer) → SpeaksAsked option (answered side option a)
+answered_speaks : (side : Side) (option : ℕ) (a : Answer) → SpeaksAsked option (result_of_answer side option a)
 answered_speaks side option answer.Nothing = tt
 answered_speaks side option answer.SayOn = refl
 answered_speaks side option answer.SayOff = refl
@@ -111,38 +111,38 @@ answered_speaks side option answer.AlreadySo = tt
 answered_speaks side option answer.AlreadyAsked = tt
 answered_speaks side option answer.AlreadyQueued = tt
 
-asked_speaks : (o : Options) (side : Side) (option : ℕ) (cause : Cause) (k : Option Known) → SpeaksAsked option (answered_now o side option cause k)
+asked_speaks : (o : Options) (side : Side) (option : ℕ) (cause : Cause) (k : Option Known) → SpeaksAsked option (answer_now o side option cause k)
 asked_speaks o side option cause None = tt
 asked_speaks o side option cause (Some k) = answered_speaks side option (cell_now o side k cause).1
 
 pub wish_speaks : (o : Options) (side : Side) (option : ℕ) (on : Bool) → SpeaksAsked option (answer_to o side option on)
 unfolding answer_to
-wish_speaks o side option on = asked_speaks o side option (wish_for on) (known option)
+wish_speaks o side option on = asked_speaks o side option (wish_for on) (known_option option)
 
-pub word_made : (P : Item → Type 0) (option : ℕ) (w : Option (Verb × ℕ)) → Speaks option w → ((verb : Verb) → P (Neg verb option)) → All P (word w)
+pub word_made : (P : Item → Type 0) (option : ℕ) (w : Option (Verb × ℕ)) → Speaks option w → ((verb : Verb) → P (Neg verb option)) → All P (word_items w)
 word_made P option None s p = nothing P
-word_made P option (Some said) s p = one P (Neg said.0 said.1) (subst (λ (c : ℕ). P (Neg said.0 c)) (sym s) (p said.0))
+word_made P option (Some word_of_answer) s p = one P (Neg word_of_answer.0 word_of_answer.1) (subst (λ (c : ℕ). P (Neg word_of_answer.0 c)) (sym s) (p word_of_answer.0))
 
-pub asked_made : (P : Item → Type 0) (option : ℕ) (w : Result (Option (Verb × ℕ)) AskFault) → SpeaksAsked option w → ((verb : Verb) → P (Neg verb option)) → All P (asked_word w)
+pub asked_made : (P : Item → Type 0) (option : ℕ) (w : Result (Option (Verb × ℕ)) AskFault) → SpeaksAsked option w → ((verb : Verb) → P (Neg verb option)) → All P (asked_word_items w)
 asked_made P option (Ok w) s p = word_made P option w s p
 asked_made P option (Err fault) s p = nothing P
 
-pub echo_made : (P : Item → Type 0) (due wanted : Bool) (o : Options) → ((verb : Verb) → P (Neg verb 1)) → All P (echo_told due wanted o)
+pub echo_made : (P : Item → Type 0) (due wanted : Bool) (o : Options) → ((verb : Verb) → P (Neg verb 1)) → All P (echo_items due wanted o)
 echo_made P true wanted o p = asked_made P 1 (answer_to o Us 1 wanted) (wish_speaks o Us 1 wanted) p
 echo_made P false wanted o p = nothing P
 
 -- what is said once the options and perhaps a wish are new: the table, the mode, the server's ECHO
-pub settled_made : (P : Item → Type 0) (f : Flags) (c : Characters) (t : Terms) (o : Options) (ed : Option Editing) (set : Bool) → All P (table_told (linemode t.options) (linemode o) c) → All P (mode_told (told_by t o (wished_after f t.wish ed))) → ((verb : Verb) → P (Neg verb 1)) → All P (says_by f c t o ed set)
+pub settled_made : (P : Item → Type 0) (f : Flags) (c : Characters) (t : Terms) (o : Options) (ed : Option Editing) (set : Bool) → All P (new_table_items (linemode t.options) (linemode o) c) → All P (mode_items (mask_told t o (wish_after f t.wish ed))) → ((verb : Verb) → P (Neg verb 1)) → All P (items_by f c t o ed set)
 settled_made P f c t o ed set table told p =
-    let wish = wished_after f t.wish ed in
-    both P _ _ table (both P _ _ told (echo_made P (asks_echo t.options o (told_by t o wish) set) (wants_echo (asked_of o wish) f) o p))
+    let wish = wish_after f t.wish ed in
+    both P _ _ table (both P _ _ told (echo_made P (asks_echo t.options o (mask_told t o wish) set) (wants_echo (asked_mask_of o wish) f) o p))
 
 -- an option word on another option leaves LINEMODE as it is
 other_code : (option : ℕ) → (option == 34) ≡ false → 34 ≢ option
 other_code option e same = eqb-false option 34 e (sym same)
 
-pub words_keep_linemode : (o : Options) (verb : Verb) (option : ℕ) → (option == 34) ≡ false → linemode (after_word o verb option) ≡ linemode o
-unfolding after_word
+pub words_keep_linemode : (o : Options) (verb : Verb) (option : ℕ) → (option == 34) ≡ false → linemode (options_after_word o verb option) ≡ linemode o
+unfolding options_after_word
 words_keep_linemode o verb option e =
     ap is_yes (LeavesOthers-moved o (side_of verb) option (cause_of verb) Them 34 (inl (other_code option e)))
 
@@ -152,9 +152,9 @@ pub record IsKept (rules : Rules) (h : History) : Type 0 where
   pub characters : chars h ≡ rules.canon.settings.chars
   pub others : flags h ≡ record (rules.canon.settings.flags) { echo = (flags h).echo }
   pub line : limit h ≡ rules.canon.limit
-  pub fits : taken h ≤ length (entries h)
+  pub fits : taken_count h ≤ length (entries h)
 
-pub kept_at : (rules : Rules) (h : History) (end : End) → Stands h end → ServerStays rules end → IsKept rules h
+pub kept_at : (rules : Rules) (h : History) (end : End) → LeadsTo h end → ServerStays rules end → IsKept rules h
 kept_at rules h end s k = record {
   on = ap (λ (t : Terms). linemode t.options) (sym s.terms) ∙ k.linemode;
   characters = sym s.table ∙ k.chars;
@@ -165,7 +165,7 @@ kept_at rules h end s k = record {
   fits = let e = ap length s.waits in omega (arith, e, s.count, length-append s.read end.terminal.entries);
 }
 
-pub stays_at : (rules : Rules) (h : History) (end : End) → Stands h end → IsKept rules h → ServerStays rules end
+pub stays_at : (rules : Rules) (h : History) (end : End) → LeadsTo h end → IsKept rules h → ServerStays rules end
 stays_at rules h end s k = record {
   linemode = ap (λ (t : Terms). linemode t.options) s.terms ∙ k.on;
   chars = s.table ∙ k.characters;
@@ -179,7 +179,7 @@ stays_at rules h end s k = record {
 abbrev pub core_of : History → Bool → Server
 core_of h failed = record { edit = edits (mode h); half = half h; waiting = waiting h; failed = failed }
 
-pub core_at : (h : History) (end : End) → Stands h end → server_core end ≡ core_of h end.failed
+pub core_at : (h : History) (end : End) → LeadsTo h end → server_core end ≡ core_of h end.failed
 core_at h end s =
     ap (λ (m : Modes). record { edit = edits m.current; half = end.terminal.line.held; waiting = end.terminal.entries; failed = end.failed }) s.modes
     ∙ ap (λ (held : List ℕ). record { edit = edits (mode h); half = held; waiting = end.terminal.entries; failed = end.failed }) (ap (λ l. l.held) (line_is h end s))
@@ -208,12 +208,12 @@ same_characters cs None c = refl
 same_characters cs (Some (payload.Slc triples)) c = absurd c
 same_characters cs (Some p) c = refl
 
-no_answers : (cs : Characters) (p : Option Payload) → SaysCalmly p → list_answered cs p ≡ []
+no_answers : (cs : Characters) (p : Option Payload) → SaysCalmly p → list_replies cs p ≡ []
 no_answers cs None c = refl
 no_answers cs (Some (payload.Slc triples)) c = absurd c
 no_answers cs (Some p) c = refl
 
-pub heard_keeps : (o : Options) (item : Item) → IsCalmToServer item → linemode (heard o (got item)) ≡ linemode o
+pub heard_keeps : (o : Options) (item : Item) → IsCalmToServer item → linemode (options_after o (got item)) ≡ linemode o
 heard_keeps o (Byte b) c = refl
 heard_keeps o Newline c = refl
 heard_keeps o (Cmd command) c = refl
@@ -224,13 +224,13 @@ heard_keeps o (Sub option params) c = refl
 terms_quiet : (f : Flags) (t : Terms) (o : Options) → linemode o ≡ linemode t.options → terms_by f t o None false ≡ record { options = o; wish = t.wish }
 terms_quiet f t o e = rw (e, told_again (linemode t.options) t.wish, differ_self (linemode t.options)) refl
 
-says_quiet : (f : Flags) (c : Characters) (t : Terms) (o : Options) → linemode o ≡ linemode t.options → says_by f c t o None false ≡ []
+says_quiet : (f : Flags) (c : Characters) (t : Terms) (o : Options) → linemode o ≡ linemode t.options → items_by f c t o None false ≡ []
 says_quiet f c t o e = rw (e, told_again (linemode t.options) t.wish, differ_self (linemode t.options), table_again (linemode t.options) c) refl
 
-terms_got : (h : History) (item : Item) → IsCalmToServer item → terms (next h (got item)) ≡ record { options = heard (options h) (got item); wish = (terms h).wish }
+terms_got : (h : History) (item : Item) → IsCalmToServer item → terms (next h (got item)) ≡ record { options = options_after (options h) (got item); wish = (terms h).wish }
 terms_got h item c =
-    ap (λ (w : Option Editing). terms_by (flags h) (terms h) (heard (options h) (got item)) w false) (wish_none (payload_at (options h) item) (calm_at (options h) item c))
-    ∙ terms_quiet (flags h) (terms h) (heard (options h) (got item)) (heard_keeps (options h) item c)
+    ap (λ (w : Option Editing). terms_by (flags h) (terms h) (options_after (options h) (got item)) w false) (wish_none (payload_at (options h) item) (calm_at (options h) item c))
+    ∙ terms_quiet (flags h) (terms h) (options_after (options h) (got item)) (heard_keeps (options h) item c)
 
 pub linemode_got : (h : History) (item : Item) → IsCalmToServer item → linemode (options (next h (got item))) ≡ linemode (options h)
 linemode_got h item c = ap (λ (t : Terms). linemode t.options) (terms_got h item c) ∙ heard_keeps (options h) item c
@@ -256,14 +256,14 @@ sub_role s edit true (Some (payload.Mode mask)) = refl
 sub_role s edit true (Some p) = refl
 sub_role s edit false p = refl
 
-role_seen : (s : Settings) (echo edit on : Bool) (item : Item) → role_at (record { flags = record (s.flags) { echo = echo }; chars = s.chars }) edit item ≡ item_role s edit (seen on item)
+role_seen : (s : Settings) (echo edit on : Bool) (item : Item) → role_at (record { flags = record (s.flags) { echo = echo }; chars = s.chars }) edit item ≡ item_role s edit (server_item on item)
 role_seen s echo edit on (Byte b) = refl
 role_seen s echo edit on Newline = refl
 role_seen s echo edit on (Cmd command) = refl
 role_seen s echo edit on (Neg verb option) = refl
 role_seen s echo edit on (Sub option params) = sub_role s edit on (payload_of option params)
 
-pub role_is : (rules : Rules) (h : History) (item : Item) → IsKept rules h → role_at (settings h) (edits (mode h)) item ≡ item_role rules.canon.settings (edits (mode h)) (seen rules.linemode item)
+pub role_is : (rules : Rules) (h : History) (item : Item) → IsKept rules h → role_at (settings h) (edits (mode h)) item ≡ item_role rules.canon.settings (edits (mode h)) (server_item rules.linemode item)
 role_is rules h item k =
     ap (λ (f : Flags). role_at (record { flags = f; chars = chars h }) (edits (mode h)) item) k.others
     ∙ ap (λ (c : Characters). role_at (record { flags = record (rules.canon.settings.flags) { echo = (flags h).echo }; chars = c }) (edits (mode h)) item) k.characters
@@ -274,7 +274,7 @@ abbrev IsNoMode : Payload → Type 0
 IsNoMode (payload.Mode mask) = ⊥
 IsNoMode _ = Unit {0}
 
-same_mask : (b : Bool) (m : ℕ) (p : Payload) → IsNoMode p → mode_after false m (if b then Some p else None) ≡ m
+same_mask : (b : Bool) (m : ℕ) (p : Payload) → IsNoMode p → mask_after false m (if b then Some p else None) ≡ m
 same_mask false m p n = refl
 same_mask true m (payload.Mode mask) n = absurd n
 same_mask true m p n = refl
@@ -284,7 +284,7 @@ other_seen false p n = refl
 other_seen true (payload.Mode mask) n = absurd n
 other_seen true p n = refl
 
-no_payload : (b : Bool) (m : ℕ) → mode_after false m (if b then None else None) ≡ m
+no_payload : (b : Bool) (m : ℕ) → mask_after false m (if b then None else None) ≡ m
 no_payload true m = refl
 no_payload false m = refl
 
@@ -296,7 +296,7 @@ pub edits-mode_of : (mask : ℕ) → edits (mode_of mask) ≡ edits mask
 edits-mode_of mask = ap (λ (n : ℕ). not (n == 0)) (and_assoc 1 mask 3)
 
 -- a mask that acknowledges counts where LINEMODE is on
-mask_seen : (on : Bool) (m mask : ℕ) → is_acknowledged mask ≡ true → edits (mode_after false m (if on then Some (payload.Mode mask) else None)) ≡ edit_after (edits m) (seen_payload on (Some (payload.Mode mask)))
+mask_seen : (on : Bool) (m mask : ℕ) → is_acknowledged mask ≡ true → edits (mask_after false m (if on then Some (payload.Mode mask) else None)) ≡ edit_after (edits m) (seen_payload on (Some (payload.Mode mask)))
 mask_seen true m mask acked = ap (λ (b : Bool). edits (if b then mode_of mask else m)) acked ∙ edits-mode_of mask
 mask_seen false m mask acked = refl
 
@@ -307,43 +307,43 @@ and_is : (a b c : Bool) → a ≡ c → b ≡ true → (a && b) ≡ c
 and_is true b c e f = f ∙ e
 and_is false b c e f = e
 
-sub_seen : (on : Bool) (o : Options) (m option : ℕ) (params : List ℕ) (p : Option Payload) → payload_of option params ≡ p → linemode o ≡ on → length params ≤ 512 → SaysCalmly p → edits (mode_after false m (if is_yes (state_of o Them option) && nat_le (length params) 512 then p else None)) ≡ edit_after (edits m) (seen_payload on p)
+sub_seen : (on : Bool) (o : Options) (m option : ℕ) (params : List ℕ) (p : Option Payload) → payload_of option params ≡ p → linemode o ≡ on → length params ≤ 512 → SaysCalmly p → edits (mask_after false m (if is_yes (state_of o Them option) && nat_le (length params) 512 then p else None)) ≡ edit_after (edits m) (seen_payload on p)
 sub_seen on o m option params None e l fits c =
     ap edits (no_payload (is_yes (state_of o Them option) && nat_le (length params) 512) m) ∙ sym (ap (edit_after (edits m)) (none_seen on))
 sub_seen on o m option params (Some (payload.Mode mask)) e l fits c =
     let is : option ≡ 34 = (says option params (payload.Mode mask) e).0 in
     let counts : (is_yes (state_of o Them option) && nat_le (length params) 512) ≡ on =
     and_is (is_yes (state_of o Them option)) (nat_le (length params) 512) on (ap (λ (n : ℕ). is_yes (state_of o Them n)) is ∙ l) (short_enough (length params) fits) in
-    ap (λ (b : Bool). edits (mode_after false m (if b then Some (payload.Mode mask) else None))) counts ∙ mask_seen on m mask c
+    ap (λ (b : Bool). edits (mask_after false m (if b then Some (payload.Mode mask) else None))) counts ∙ mask_seen on m mask c
 sub_seen on o m option params (Some p) e l fits c =
     ap edits (same_mask (is_yes (state_of o Them option) && nat_le (length params) 512) m p tt) ∙ sym (ap (edit_after (edits m)) (other_seen on p tt))
 
-item_seen : (on : Bool) (o : Options) (m : ℕ) (item : Item) → linemode o ≡ on → Fits item → IsCalmToServer item → edits (mode_after false m (payload_at o item)) ≡ edit_after (edits m) (seen on item)
+item_seen : (on : Bool) (o : Options) (m : ℕ) (item : Item) → linemode o ≡ on → Fits item → IsCalmToServer item → edits (mask_after false m (payload_at o item)) ≡ edit_after (edits m) (server_item on item)
 item_seen on o m (Byte b) l f c = refl
 item_seen on o m Newline l f c = refl
 item_seen on o m (Cmd command) l f c = refl
 item_seen on o m (Neg verb option) l f c = refl
 item_seen on o m (Sub option params) l f c = sub_seen on o m option params (payload_of option params) refl l f c
 
-edit_got : (rules : Rules) (h : History) (item : Item) → IsKept rules h → Fits item → IsCalmToServer item → edits (mode (next h (got item))) ≡ edit_after (edits (mode h)) (seen rules.linemode item)
+edit_got : (rules : Rules) (h : History) (item : Item) → IsKept rules h → Fits item → IsCalmToServer item → edits (mode (next h (got item))) ≡ edit_after (edits (mode h)) (server_item rules.linemode item)
 edit_got rules h item k f c =
-    ap (λ (on : Bool). edits (mode_after (differ (linemode (options h)) on) (mode h) (payload_at (options h) item))) (linemode_got h item c)
-    ∙ ap (λ (b : Bool). edits (mode_after b (mode h) (payload_at (options h) item))) (differ_self (linemode (options h)))
+    ap (λ (on : Bool). edits (mask_after (differ (linemode (options h)) on) (mode h) (payload_at (options h) item))) (linemode_got h item c)
+    ∙ ap (λ (b : Bool). edits (mask_after b (mode h) (payload_at (options h) item))) (differ_self (linemode (options h)))
     ∙ item_seen rules.linemode (options h) (mode h) item k.on f c
 
 -- A calm item is read as what it says.
-pub core_got : (rules : Rules) (h : History) (item : Item) → IsKept rules h → Fits item → IsCalmToServer item → core_of (next h (got item)) false ≡ read rules.canon (core_of h false) (seen rules.linemode item)
+pub core_got : (rules : Rules) (h : History) (item : Item) → IsKept rules h → Fits item → IsCalmToServer item → core_of (next h (got item)) false ≡ read rules.canon (core_of h false) (server_item rules.linemode item)
 core_got rules h item k f c =
     let r = role_at (settings h) (edits (mode h)) item in
     let same = role_is rules h item k in
-    let e = edit_after (edits (mode h)) (seen rules.linemode item) in
-    let i : Role = item_role rules.canon.settings (edits (mode h)) (seen rules.linemode item) in
+    let e = edit_after (edits (mode h)) (server_item rules.linemode item) in
+    let i : Role = item_role rules.canon.settings (edits (mode h)) (server_item rules.linemode item) in
     let n = rules.canon.limit in
     let line : half (next h (got item)) ≡ half_next n (half h) i =
     half-role (limit h) (roles h) r ∙ ap (λ (x : Role). half_next (limit h) (half h) x) same ∙ ap (λ (m : ℕ). half_next m (half h) i) k.line in
     let waits : waiting (next h (got item)) ≡ waiting h ++ gain_next n (half h) i =
-    ap (λ (es : List Entry). drop (taken h) es) (entries-role (limit h) (roles h) r)
-    ∙ drop-append-le (taken h) (entries h) (gain_next (limit h) (half h) r) k.fits
+    ap (λ (es : List Entry). drop (taken_count h) es) (entries-role (limit h) (roles h) r)
+    ∙ drop-append-le (taken_count h) (entries h) (gain_next (limit h) (half h) r) k.fits
     ∙ ap (λ (x : Role). waiting h ++ gain_next (limit h) (half h) x) same
     ∙ ap (λ (m : ℕ). waiting h ++ gain_next m (half h) i) k.line in
     ap (λ (b : Bool). record { edit = b; half = half (next h (got item)); waiting = waiting (next h (got item)); failed = false }) (edit_got rules h item k f c)
@@ -351,17 +351,17 @@ core_got rules h item k f c =
     ∙ ap (λ (es : List Entry). record { edit = e; half = half_next n (half h) i; waiting = es; failed = false }) waits
 
 -- and only an option word is answered
-pub replies_word : (h : History) (item : Item) → IsCalmToServer item → replies h (got item) ≡ word_back (options h) (got item)
+pub replies_word : (h : History) (item : Item) → IsCalmToServer item → replies h (got item) ≡ reply_items (options h) (got item)
 replies_word h item c =
     let o = options h in
-    let back = word_back o (got item) in
+    let back = reply_items o (got item) in
     let p = payload_at o item in
-    ap (λ (w : Option Editing). (back ++ says_by (flags h) (chars h) (terms h) (heard o (got item)) w false) ++ list_answered (chars h) p) (wish_none p (calm_at o item c))
-    ∙ ap (λ (xs : List Item). (back ++ xs) ++ list_answered (chars h) p) (says_quiet (flags h) (chars h) (terms h) (heard o (got item)) (heard_keeps o item c))
+    ap (λ (w : Option Editing). (back ++ items_by (flags h) (chars h) (terms h) (options_after o (got item)) w false) ++ list_replies (chars h) p) (wish_none p (calm_at o item c))
+    ∙ ap (λ (xs : List Item). (back ++ xs) ++ list_replies (chars h) p) (says_quiet (flags h) (chars h) (terms h) (options_after o (got item)) (heard_keeps o item c))
     ∙ ap (λ (xs : List Item). (back ++ []) ++ xs) (no_answers (chars h) p (calm_at o item c))
     ∙ append-nil (back ++ []) ∙ append-nil back
 
-back_calm : (s : Settings) (o : Options) (item : Item) → IsCalmToServer item → All (IsCalmToClient s) (word_back o (got item))
+back_calm : (s : Settings) (o : Options) (item : Item) → IsCalmToServer item → All (IsCalmToClient s) (reply_items o (got item))
 back_calm s o (Byte b) c = nothing (IsCalmToClient s)
 back_calm s o Newline c = nothing (IsCalmToClient s)
 back_calm s o (Cmd command) c = nothing (IsCalmToClient s)
@@ -374,9 +374,9 @@ calm_got rules h item c = subst (All (IsCalmToClient rules.canon.settings)) (sym
 -- CALM ITEMS, one after another
 pub record After (rules : Rules) (h : History) (items : List Item) : Type 0 where
   pub kept : IsKept rules (gets h items)
-  pub core : core_of (gets h items) false ≡ read_all rules.canon (core_of h false) (seen_all rules items)
+  pub core : core_of (gets h items) false ≡ read_all rules.canon (core_of h false) (server_items rules items)
   pub said : List Item
-  pub sends : sent (gets h items) ≡ sent h ++ said
+  pub sends : items_said (gets h items) ≡ items_said h ++ said
   pub made : All (IsCalmToClient rules.canon.settings) said
 
 pub goes_on : (rules : Rules) (h : History) (items : List Item) → IsKept rules h → All Fits items → All IsCalmToServer items → After rules h items
@@ -384,7 +384,7 @@ goes_on rules h [] k f c = record {
   kept = k;
   core = refl;
   said = [];
-  sends = sym (append-nil (sent h));
+  sends = sym (append-nil (items_said h));
   made = nothing (IsCalmToClient rules.canon.settings);
 }
 goes_on rules h (item ∷ items) k f c =
@@ -392,30 +392,30 @@ goes_on rules h (item ∷ items) k f c =
     let later = goes_on rules (next h (got item)) items (kept_got rules h item k calm) (All-tail Fits item items f) (All-tail IsCalmToServer item items c) in
     record {
       kept = later.kept;
-      core = later.core ∙ ap (λ (v : Server). read_all rules.canon v (seen_all rules items)) (core_got rules h item k (All-head Fits item items f) calm);
+      core = later.core ∙ ap (λ (v : Server). read_all rules.canon v (server_items rules items)) (core_got rules h item k (All-head Fits item items f) calm);
       said = replies h (got item) ++ later.said;
-      sends = later.sends ∙ append_assoc (sent h) (replies h (got item)) later.said;
+      sends = later.sends ∙ append_assoc (items_said h) (replies h (got item)) later.said;
       made = both (IsCalmToClient rules.canon.settings) (replies h (got item)) later.said (calm_got rules h item calm) later.made;
     }
 
 -- THE LEMMAS ON A PIECE of calm items
-pub feeds_core : (rules : Rules) (h : History) (old new : End) (piece before after : List ℕ) → Stands h old → ServerStays rules old → old.failed ≡ false → (f : Feeds old piece before after new) → All Fits f.items → All IsCalmToServer f.items → server_core new ≡ read_all rules.canon (server_core old) (seen_all rules f.items)
+pub feeds_core : (rules : Rules) (h : History) (old new : End) (piece before after : List ℕ) → LeadsTo h old → ServerStays rules old → old.failed ≡ false → (f : Feeds old piece before after new) → All Fits f.items → All IsCalmToServer f.items → server_core new ≡ read_all rules.canon (server_core old) (server_items rules f.items)
 feeds_core rules h old new piece before after s stays works f fit calm =
     let later = goes_on rules h f.items (kept_at rules h old s stays) fit calm in
     core_at (gets h f.items) new (f.stands h s)
     ∙ ap (core_of (gets h f.items)) (f.failed ∙ works)
     ∙ later.core
-    ∙ ap (λ (v : Server). read_all rules.canon v (seen_all rules f.items)) (sym (core_at h old s ∙ ap (core_of h) works))
+    ∙ ap (λ (v : Server). read_all rules.canon v (server_items rules f.items)) (sym (core_at h old s ∙ ap (core_of h) works))
 
-pub feeds_stays : (rules : Rules) (h : History) (old new : End) (piece before after : List ℕ) → Stands h old → ServerStays rules old → old.failed ≡ false → (f : Feeds old piece before after new) → All Fits f.items → All IsCalmToServer f.items → ServerStays rules new
+pub feeds_stays : (rules : Rules) (h : History) (old new : End) (piece before after : List ℕ) → LeadsTo h old → ServerStays rules old → old.failed ≡ false → (f : Feeds old piece before after new) → All Fits f.items → All IsCalmToServer f.items → ServerStays rules new
 feeds_stays rules h old new piece before after s stays works f fit calm =
     stays_at rules (gets h f.items) new (f.stands h s) (goes_on rules h f.items (kept_at rules h old s stays) fit calm).kept
 
-pub feeds_replies : (rules : Rules) (h : History) (old new : End) (piece before after : List ℕ) → Stands h old → ServerStays rules old → old.failed ≡ false → (f : Feeds old piece before after new) → All Fits f.items → All IsCalmToServer f.items → Replies rules f.said
+pub feeds_replies : (rules : Rules) (h : History) (old new : End) (piece before after : List ℕ) → LeadsTo h old → ServerStays rules old → old.failed ≡ false → (f : Feeds old piece before after new) → All Fits f.items → All IsCalmToServer f.items → AreReplies rules f.said
 feeds_replies rules h old new piece before after s stays works f fit calm =
     let later = goes_on rules h f.items (kept_at rules h old s stays) fit calm in
     replies_of rules f.said (feeds_fit h old new piece before after s f)
-    (subst (All (IsCalmToClient rules.canon.settings)) (append_cancel_left (sent h) later.said f.said (sym later.sends ∙ f.sends h s)) later.made)
+    (subst (All (IsCalmToClient rules.canon.settings)) (append_cancel_left (items_said h) later.said f.said (sym later.sends ∙ f.sends h s)) later.made)
 
 -- THE OWNER'S CALLS that change no character
 abbrev pub IsCall : Event → Type 0
@@ -450,28 +450,28 @@ mask_by s echo Local mask e = local_mask s (allows_local s) s.flags.isig mask re
 mask_asked : (s : Settings) (f : Flags) (ed : Editing) (mask : ℕ) → f ≡ record (s.flags) { echo = f.echo } → mask_for f ed ≡ Some mask → IsAskedMask s mask
 mask_asked s f ed mask same e = mask_by s f.echo ed mask (ap (λ (g : Flags). mask_for g ed) (sym same) ∙ e)
 
-pub mode_made : (P : Item → Type 0) (mask : ℕ) → P (Sub 34 (1 ∷ mask ∷ [])) → All P (subnegotiated (payload.Mode mask))
+pub mode_made : (P : Item → Type 0) (mask : ℕ) → P (Sub 34 (1 ∷ mask ∷ [])) → All P (payload_items (payload.Mode mask))
 mode_made P mask p = one P (Sub 34 (1 ∷ mask ∷ [])) p
 
-unless_made : (P : Item → Type 0) (b : Bool) (mask : ℕ) → P (Sub 34 (1 ∷ mask ∷ [])) → All P (mode_told (if b then None else Some mask))
+unless_made : (P : Item → Type 0) (b : Bool) (mask : ℕ) → P (Sub 34 (1 ∷ mask ∷ [])) → All P (mode_items (if b then None else Some mask))
 unless_made P true mask p = nothing P
 unless_made P false mask p = mode_made P mask p
 
 -- the MODE that is sent for a wish
-told_made : (P : Item → Type 0) (on : Bool) (before : ℕ) (mask : Option ℕ) → ((m : ℕ) → mask ≡ Some m → P (Sub 34 (1 ∷ mode_of m ∷ []))) → All P (mode_told (mode_sent on (asked_while on before) (mask_or before mask)))
-told_made P on before None p = none_made P _ (ap mode_told (told_again on before))
+told_made : (P : Item → Type 0) (on : Bool) (before : ℕ) (mask : Option ℕ) → ((m : ℕ) → mask ≡ Some m → P (Sub 34 (1 ∷ mode_of m ∷ []))) → All P (mode_items (mode_sent on (asked_mask_while on before) (mask_or before mask)))
+told_made P on before None p = none_made P _ (ap mode_items (told_again on before))
 told_made P true before (Some m) p = unless_made P (mode_of m == mode_of before) (mode_of m) (p m refl)
 told_made P false before (Some m) p = nothing P
 
-wish_calm : (rules : Rules) (h : History) (ed : Editing) → IsKept rules h → All (IsCalmToClient rules.canon.settings) (mode_told (told_by (terms h) (options h) (wished_after (flags h) (terms h).wish (Some ed))))
+wish_calm : (rules : Rules) (h : History) (ed : Editing) → IsKept rules h → All (IsCalmToClient rules.canon.settings) (mode_items (mask_told (terms h) (options h) (wish_after (flags h) (terms h).wish (Some ed))))
 wish_calm rules h ed k =
     told_made (IsCalmToClient rules.canon.settings) (linemode (options h)) (terms h).wish (mask_for (flags h) ed) (λ m e. mask_asked rules.canon.settings (flags h) ed m k.others e)
 
 -- where no wish is new, no MODE is sent
-pub unwished_made : (P : Item → Type 0) (t : Terms) → All P (mode_told (told_by t t.options t.wish))
-unwished_made P t = none_made P _ (ap mode_told (told_again (linemode t.options) t.wish))
+pub unwished_made : (P : Item → Type 0) (t : Terms) → All P (mode_items (mask_told t t.options t.wish))
+unwished_made P t = none_made P _ (ap mode_items (told_again (linemode t.options) t.wish))
 
-pub untold_made : (P : Item → Type 0) (t : Terms) (c : Characters) → All P (table_told (linemode t.options) (linemode t.options) c)
+pub untold_made : (P : Item → Type 0) (t : Terms) (c : Characters) → All P (new_table_items (linemode t.options) (linemode t.options) c)
 untold_made P t c = none_made P _ (table_again (linemode t.options) c)
 
 -- symbols that are pulled
@@ -500,8 +500,8 @@ calm_call rules h (echo_set on) is k =
 -- a wish and the flag ECHO change nothing at LINEMODE
 terms_keep : (f : Flags) (t : Terms) (ed : Option Editing) (set : Bool) → linemode (terms_by f t t.options ed set).options ≡ linemode t.options
 terms_keep f t ed set =
-    let wish = wished_after f t.wish ed in
-    echo_keeps_linemode (asks_echo t.options t.options (told_by t t.options wish) set) (wants_echo (asked_of t.options wish) f) t.options
+    let wish = wish_after f t.wish ed in
+    echo_keeps_linemode (asks_echo t.options t.options (mask_told t t.options wish) set) (wants_echo (asked_mask_of t.options wish) f) t.options
 
 one_more_fits : (b : Bool) (n m : ℕ) → nat_lt n m ≡ b → n ≤ m → (if b then n + 1 else n) ≤ m
 one_more_fits true n m e fits = let less = ltb-true n m e in omega (arith, less)
@@ -510,7 +510,7 @@ one_more_fits false n m e fits = fits
 pub kept_call : (rules : Rules) (h : History) (e : Event) → IsCall e → IsKept rules h → IsKept rules (next h e)
 kept_call rules h (got item) is k = absurd is
 kept_call rules h (char_set func value) is k = absurd is
-kept_call rules h took is k = record { on = k.on; characters = k.characters; others = k.others; line = k.line; fits = one_more_fits (nat_lt (taken h) (length (entries h))) (taken h) (length (entries h)) refl k.fits }
+kept_call rules h took is k = record { on = k.on; characters = k.characters; others = k.others; line = k.line; fits = one_more_fits (nat_lt (taken_count h) (length (entries h))) (taken_count h) (length (entries h)) refl k.fits }
 kept_call rules h (wrote bytes) is k = record { on = k.on; characters = k.characters; others = k.others; line = k.line; fits = k.fits }
 kept_call rules h (pulled n) is k = record { on = k.on; characters = k.characters; others = k.others; line = k.line; fits = k.fits }
 kept_call rules h (wished ed) is k = record {
@@ -538,15 +538,15 @@ core_call h (wished ed) failed is = refl
 core_call h (echo_set on) failed is = refl
 
 -- THE LEMMAS ON A CALL
-pub says_replies : (rules : Rules) (h : History) (old new : End) (e : Event) (before after : List ℕ) → IsCall e → Stands h old → ServerStays rules old → (g : Goes old e before after new) → Replies rules g.said
+pub says_replies : (rules : Rules) (h : History) (old new : End) (e : Event) (before after : List ℕ) → IsCall e → LeadsTo h old → ServerStays rules old → (g : Advances old e before after new) → AreReplies rules g.said
 says_replies rules h old new e before after is s stays g =
     replies_of rules g.said (goes_fit h old new e before after s g) (subst (All (IsCalmToClient rules.canon.settings)) (g.replies h s) (calm_call rules h e is (kept_at rules h old s stays)))
 
-pub says_stays : (rules : Rules) (h : History) (old new : End) (e : Event) (before after : List ℕ) → IsCall e → Stands h old → ServerStays rules old → Goes old e before after new → ServerStays rules new
+pub says_stays : (rules : Rules) (h : History) (old new : End) (e : Event) (before after : List ℕ) → IsCall e → LeadsTo h old → ServerStays rules old → Advances old e before after new → ServerStays rules new
 says_stays rules h old new e before after is s stays g =
     stays_at rules (next h e) new (g.stands h s) (kept_call rules h e is (kept_at rules h old s stays))
 
-pub says_core : (h : History) (old new : End) (e : Event) (before after : List ℕ) → KeepsEntries e → Stands h old → Goes old e before after new → Keeps old new → server_core new ≡ server_core old
+pub says_core : (h : History) (old new : End) (e : Event) (before after : List ℕ) → KeepsEntries e → LeadsTo h old → Advances old e before after new → ReadsNothing old new → server_core new ≡ server_core old
 says_core h old new e before after is s g k =
     core_at (next h e) new (g.stands h s)
     ∙ ap (core_of (next h e)) k.failed
@@ -562,16 +562,16 @@ still_none false n es e = e
 abbrev pub GivesEntry : History → Option Entry → Type 0
 GivesEntry h entry = MatchOption entry (waiting h ≡ []) (λ e. waiting h ≡ e ∷ waiting (next h took))
 
-took_picture : (h : History) (old new : End) (before after : List ℕ) → Stands h old → Goes old took before after new → Keeps old new → server_picture new ≡ record { decoder = old.decoder; core = core_of (next h took) old.failed }
+took_picture : (h : History) (old new : End) (before after : List ℕ) → LeadsTo h old → Advances old took before after new → ReadsNothing old new → server_picture new ≡ record { decoder = old.decoder; core = core_of (next h took) old.failed }
 took_picture h old new before after s g k =
     ap (λ d. record { decoder = d; core = server_core new }) k.decoder
     ∙ ap (λ (v : Server). record { decoder = old.decoder; core = v }) (core_at (next h took) new (g.stands h s) ∙ ap (core_of (next h took)) k.failed)
 
-pub took_core : (h : History) (old new : End) (before after : List ℕ) (entry : Option Entry) → Stands h old → Goes old took before after new → Keeps old new → GivesEntry h entry → Took (server_picture old) (option_to_list entry) (server_picture new)
+pub took_core : (h : History) (old new : End) (before after : List ℕ) (entry : Option Entry) → LeadsTo h old → Advances old took before after new → ReadsNothing old new → GivesEntry h entry → TakesFirst (server_picture old) (option_to_list entry) (server_picture new)
 took_core h old new before after None s g k gives = (
   sym (waits_are h old s) ∙ gives,
   took_picture h old new before after s g k
-      ∙ ap (λ (w : List Entry). record { decoder = old.decoder; core = record (core_of h old.failed) { waiting = w } }) (still_none (nat_lt (taken h) (length (entries h))) (taken h) (entries h) gives ∙ sym gives)
+      ∙ ap (λ (w : List Entry). record { decoder = old.decoder; core = record (core_of h old.failed) { waiting = w } }) (still_none (nat_lt (taken_count h) (length (entries h))) (taken_count h) (entries h) gives ∙ sym gives)
       ∙ ap (λ (v : Server). record { decoder = old.decoder; core = v }) (sym (core_at h old s)),
 )
 took_core h old new before after (Some e) s g k gives = (

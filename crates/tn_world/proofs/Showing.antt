@@ -8,24 +8,24 @@ use Rattle.std.proofs.lemmas.List.Elements.{All-nil}
 use Rattle.tn_discipline.specs.declared.echo.Symbol.{Symbol}
 use Rattle.tn_discipline.specs.declared.echo.Symbol.TheVariants as symbol
 use Rattle.tn_nvt.specs.Spelling.{spells, Fits}
-use Rattle.tn_nvt.specs.Standing.{Standing, HasRead}
+use Rattle.tn_nvt.specs.Feeding.{DecoderState, LeadsTo}
 use Rattle.tn_nvt.specs.declared.items.Item.{Item}
 use Rattle.tn_server.specs.Events as asked
 use Rattle.tn_server.specs.Faults.{IsOfItem}
 use Rattle.tn_server.specs.Replies.{opening, data_of}
 use Rattle.tn_server.specs.Screen.{queue}
-use Rattle.tn_server.specs.Standing as server
+use Rattle.tn_server.specs.Calls as server
 use Rattle.tn_server.specs.declared.faults.ServerFault.{ServerFault}
 use Rattle.tn_server.specs.declared.faults.ServerFault.TheVariants as refused
 use Rattle.tn_server.proofs.lemmas.Fitting.{opening-fits}
 use Rattle.tn_client.specs.Events as told
-use Rattle.tn_client.specs.Screen.{item_shown, shown as shown_of}
-use Rattle.tn_client.specs.Standing as client
-use Rattle.tn_world.specs.Past.{IsSound}
+use Rattle.tn_client.specs.Screen.{item_shown, text_shown as shown_of}
+use Rattle.tn_client.specs.Calls as client
+use Rattle.tn_world.specs.Past.{HasPast}
 use Rattle.tn_world.specs.Headline.{IsPrefixOf}
 use Rattle.tn_world.specs.Flight.{InFlight}
-use Rattle.tn_world.specs.Output.{symbol_shown, screen, text_of, IsOutput, Queues, IsNoneAt, Grows, GrowsTo, GrowsAll, GrowsBefore}
-use Rattle.tn_world.specs.Worlds.{World, Unless, Types, Tells, Reaches, Returns, Asks, Pulls, Takes, Does, Runs, Ends, ServerRefuses, IsDeliveryFault}
+use Rattle.tn_world.specs.Output.{symbol_shown, screen, text_of, IsOutput, Queues, IsNoneAt, OutputGrows, OutputGrowsTo, OutputGrowsAll, OutputGrowsBefore}
+use Rattle.tn_world.specs.Worlds.{World, UnlessStopped, TypesKey, CallsClient, DeliversToServer, DeliversToClient, CallsServer, Pulls, TakesEntry, RunsEvent, Runs, StopsWithin, ServerRefusesDelivery, IsDeliveryFault}
 use Rattle.tn_world.specs.declared.events.Event.{Event}
 use Rattle.tn_world.specs.declared.events.Event.TheVariants.{Key, ToServer, ToClient, Write, Pull, Take, Wish, Resize, SetChar, Propose, Echo, ServerStops, ClientStops}
 use Rattle.tn_world.specs.declared.faults.Cause.{Cause}
@@ -38,7 +38,7 @@ shown-items h [] = sym (append-nil (shown_of h))
 shown-items h (item ∷ items) = shown-items (told.next h (told.got item)) items ∙ append_assoc (shown_of h) (item_shown item) (flat_map item_shown items)
 
 -- what is shown for a piece is what the server wrote
-feeds_text : (h : told.History) (old new : client.End) (piece before after seen now : List ℕ) → client.Stands h old → (f : client.Feeds old piece before after seen now new) → f.text ≡ flat_map item_shown f.items
+feeds_text : (h : told.History) (old new : client.End) (piece before after seen now : List ℕ) → client.LeadsTo h old → (f : client.Feeds old piece before after seen now new) → f.text ≡ flat_map item_shown f.items
 feeds_text h old new piece before after seen now s f =
     append_cancel_left (shown_of h) f.text (flat_map item_shown f.items) (sym (f.shows h s) ∙ shown-items h f.items)
 
@@ -57,7 +57,7 @@ says_output old new text said more fit silent decoder shown appended took o =
     record {
       items = o.items ++ said;
       flight =
-          subst (λ (d : Standing). InFlight d new.to_client (o.items ++ said)) (sym decoder)
+          subst (λ (d : DecoderState). InFlight d new.to_client (o.items ++ said)) (sym decoder)
           (said_behind old.client.decoder old.to_client new.to_client o.items said appended fit o.flight);
       is =
           joined text old.shown (text_of o.items) (screen old.server.terminal.queue) (screen more) o.is
@@ -81,19 +81,19 @@ none_at (Pull n) = refl
 none_at (ToClient n) = refl
 none_at e = tt
 
-still_grows : (old new : World) (e : Event) (text : List ℕ) → new.client.decoder ≡ old.client.decoder → new.shown ≡ old.shown → new.to_client ≡ old.to_client → new.server.terminal.queue ≡ old.server.terminal.queue → IsOutput old text → Grows old e new text
+still_grows : (old new : World) (e : Event) (text : List ℕ) → new.client.decoder ≡ old.client.decoder → new.shown ≡ old.shown → new.to_client ≡ old.to_client → new.server.terminal.queue ≡ old.server.terminal.queue → IsOutput old text → OutputGrows old e new text
 still_grows old new e text decoder shown said took o =
     record { symbols = []; took = none_queued old new e took; none = none_at e; output = still_output old new text decoder shown said took o }
 
-same_grows : (old new : World) (e : Event) (text : List ℕ) → new ≡ old → IsOutput old text → Grows old e new text
+same_grows : (old new : World) (e : Event) (text : List ℕ) → new ≡ old → IsOutput old text → OutputGrows old e new text
 same_grows old new e text is o =
     still_grows old new e text (ap (λ (w : World). w.client.decoder) is) (ap (λ (w : World). w.shown) is) (ap (λ (w : World). w.to_client) is) (ap (λ (w : World). w.server.terminal.queue) is) o
 
-types_grows : (old new : World) (key : ℕ) (text : List ℕ) → Types old key new → IsOutput old text → Grows old (Key key) new text
+types_grows : (old new : World) (key : ℕ) (text : List ℕ) → TypesKey old key new → IsOutput old text → OutputGrows old (Key key) new text
 types_grows old new key text t o =
     still_grows old new (Key key) text t.keeps.decoder (ap (λ (w : World). w.shown) t.rest) (ap (λ (w : World). w.to_client) t.rest) (ap (λ (w : World). w.server.terminal.queue) t.rest) o
 
-tells_grows : (old new : World) (call : told.Event) (e : Event) (text : List ℕ) → Tells old call new → IsOutput old text → Grows old e new text
+tells_grows : (old new : World) (call : told.Event) (e : Event) (text : List ℕ) → CallsClient old call new → IsOutput old text → OutputGrows old e new text
 tells_grows old new call e text t o =
     still_grows old new e text t.keeps.decoder (ap (λ (w : World). w.shown) t.rest) (ap (λ (w : World). w.to_client) t.rest) (ap (λ (w : World). w.server.terminal.queue) t.rest) o
 
@@ -103,7 +103,7 @@ pub record Took (old new : World) (text : List ℕ) : Type 0 where
   pub took : new.server.terminal.queue ≡ old.server.terminal.queue ++ symbols
   pub output : IsOutput new (text ++ screen symbols)
 
-goes_took : (old new : World) (e : asked.Event) (text : List ℕ) → IsUnpulled e → IsSound old → server.Goes old.server e old.to_client new.to_client new.server → new.client.decoder ≡ old.client.decoder → new.shown ≡ old.shown → IsOutput old text → Took old new text
+goes_took : (old new : World) (e : asked.Event) (text : List ℕ) → IsUnpulled e → HasPast old → server.Advances old.server e old.to_client new.to_client new.server → new.client.decoder ≡ old.client.decoder → new.shown ≡ old.shown → IsOutput old text → Took old new text
 goes_took old new e text is s g decoder shown o =
     let more = goes_queue s.history old.server new.server e old.to_client new.to_client is s.server g in
     record {
@@ -112,14 +112,14 @@ goes_took old new e text is s g decoder shown o =
       output = says_output old new text g.said more.0 (goes_fit s.history old.server new.server e old.to_client new.to_client s.server g) (ap text_of (sym (g.replies s.history s.server)) ∙ replies_none s.history e is) decoder shown g.appended more.1 o;
     }
 
-asks_took : (old new : World) (e : asked.Event) (text : List ℕ) → IsUnpulled e → IsSound old → Asks old e new → IsOutput old text → Took old new text
+asks_took : (old new : World) (e : asked.Event) (text : List ℕ) → IsUnpulled e → HasPast old → CallsServer old e new → IsOutput old text → Took old new text
 asks_took old new e text is s a o = goes_took old new e text is s a.goes (ap (λ (w : World). w.client.decoder) a.rest) (ap (λ (w : World). w.shown) a.rest) o
 
-takes_took : (old new : World) (text : List ℕ) → IsSound old → Takes old new → IsOutput old text → Took old new text
+takes_took : (old new : World) (text : List ℕ) → HasPast old → TakesEntry old new → IsOutput old text → Took old new text
 takes_took old new text s a o = goes_took old new asked.took text tt s a.goes (ap (λ (w : World). w.client.decoder) a.rest) (ap (λ (w : World). w.shown) a.rest) o
 
 -- a delivery to the server
-reaches_took : (old new : World) (n : ℕ) (text : List ℕ) → IsSound old → Reaches old n new → IsOutput old text → Took old new text
+reaches_took : (old new : World) (n : ℕ) (text : List ℕ) → HasPast old → DeliversToServer old n new → IsOutput old text → Took old new text
 reaches_took old new n text s r o =
     let more = feeds_queue s.history old.server new.server (take n old.to_server) old.to_client new.to_client s.server r.feeds in
     record {
@@ -141,7 +141,7 @@ moved flying waiting front back is = ap (λ (x : List ℕ). flying ++ x) (sym is
 cut_screen : (n : ℕ) (symbols : List Symbol) → screen (take n symbols) ++ screen (drop n symbols) ≡ screen symbols
 cut_screen n symbols = sym (flat_map-append symbol_shown (take n symbols) (drop n symbols)) ∙ ap screen (take-append-drop n symbols)
 
-pulls_grows : (old new : World) (n : ℕ) (text : List ℕ) → IsSound old → Pulls old n new → IsOutput old text → Grows old (Pull n) new text
+pulls_grows : (old new : World) (n : ℕ) (text : List ℕ) → HasPast old → Pulls old n new → IsOutput old text → OutputGrows old (Pull n) new text
 pulls_grows old new n text s p o =
     let h = s.history in
     let g = p.asks.goes in
@@ -154,7 +154,7 @@ pulls_grows old new n text s p o =
       output = record {
         items = o.items ++ g.said;
         flight =
-            subst (λ (d : Standing). InFlight d new.to_client (o.items ++ g.said)) (sym (ap (λ (w : World). w.client.decoder) p.asks.rest))
+            subst (λ (d : DecoderState). InFlight d new.to_client (o.items ++ g.said)) (sym (ap (λ (w : World). w.client.decoder) p.asks.rest))
             (said_behind old.client.decoder old.to_client new.to_client o.items g.said g.appended (goes_fit h old.server new.server (asked.pulled p.count) old.to_client new.to_client s.server g) o.flight);
         is =
             append-nil text ∙ o.is
@@ -170,7 +170,7 @@ pulls_grows old new n text s p o =
 shown_more : (shown got left waiting : List ℕ) → shown ++ ((got ++ left) ++ waiting) ≡ (shown ++ got) ++ (left ++ waiting)
 shown_more shown got left waiting = ap (λ (x : List ℕ). shown ++ x) (append_assoc got left waiting) ∙ sym (append_assoc shown got (left ++ waiting))
 
-returns_grows : (old new : World) (n : ℕ) (text : List ℕ) → IsSound old → old.client.failed ≡ false → Returns old n new → IsOutput old text → Grows old (ToClient n) new text
+returns_grows : (old new : World) (n : ℕ) (text : List ℕ) → HasPast old → old.client.failed ≡ false → DeliversToClient old n new → IsOutput old text → OutputGrows old (ToClient n) new text
 returns_grows old new n text s runs r o =
     let f = r.feeds in
     let at = (s.told runs).1 in
@@ -194,29 +194,29 @@ returns_grows old new n text s runs r o =
     }
 
 -- EVERY EVENT
-unless : (stopped : Bool) (old new : World) (e : Event) (text : List ℕ) (happens : Type 0) → (happens → Grows old e new text) → IsOutput old text → Unless stopped old new happens → Grows old e new text
+unless : (stopped : Bool) (old new : World) (e : Event) (text : List ℕ) (happens : Type 0) → (happens → OutputGrows old e new text) → IsOutput old text → UnlessStopped stopped old new happens → OutputGrows old e new text
 unless true old new e text happens done o is = same_grows old new e text is o
 unless false old new e text happens done o is = done is
 
-pub output_grows : (old new : World) (e : Event) (text : List ℕ) → IsSound old → old.client.failed ≡ false → Does old e new → IsOutput old text → Grows old e new text
-output_grows old new (Key key) text s runs d o = unless old.client_stopped old new (Key key) text (Types old key new) (λ t. types_grows old new key text t o) o d
+pub output_grows : (old new : World) (e : Event) (text : List ℕ) → HasPast old → old.client.failed ≡ false → RunsEvent old e new → IsOutput old text → OutputGrows old e new text
+output_grows old new (Key key) text s runs d o = unless old.client_stopped old new (Key key) text (TypesKey old key new) (λ t. types_grows old new key text t o) o d
 output_grows old new (ToServer n) text s runs d o =
-    unless old.server_stopped old new (ToServer n) text (Reaches old n new) (λ r. let t = reaches_took old new n text s r o in record { symbols = t.symbols; took = t.took; none = tt; output = t.output }) o d
-output_grows old new (ToClient n) text s runs d o = unless old.client_stopped old new (ToClient n) text (Returns old n new) (λ r. returns_grows old new n text s runs r o) o d
+    unless old.server_stopped old new (ToServer n) text (DeliversToServer old n new) (λ r. let t = reaches_took old new n text s r o in record { symbols = t.symbols; took = t.took; none = tt; output = t.output }) o d
+output_grows old new (ToClient n) text s runs d o = unless old.client_stopped old new (ToClient n) text (DeliversToClient old n new) (λ r. returns_grows old new n text s runs r o) o d
 output_grows old new (Write bytes) text s runs d o =
-    unless old.server_stopped old new (Write bytes) text (Asks old (asked.wrote bytes) new) (λ a. let t = asks_took old new (asked.wrote bytes) text tt s a o in record { symbols = t.symbols; took = t.took; none = tt; output = t.output }) o d
+    unless old.server_stopped old new (Write bytes) text (CallsServer old (asked.wrote bytes) new) (λ a. let t = asks_took old new (asked.wrote bytes) text tt s a o in record { symbols = t.symbols; took = t.took; none = tt; output = t.output }) o d
 output_grows old new (Pull n) text s runs d o = unless old.server_stopped old new (Pull n) text (Pulls old n new) (λ p. pulls_grows old new n text s p o) o d
 output_grows old new Take text s runs d o = let t = takes_took old new text s d o in record { symbols = t.symbols; took = t.took; none = tt; output = t.output }
 output_grows old new (Wish editing) text s runs d o =
-    unless old.server_stopped old new (Wish editing) text (Asks old (asked.wished editing) new) (λ a. let t = asks_took old new (asked.wished editing) text tt s a o in record { symbols = t.symbols; took = t.took; none = tt; output = t.output }) o d
+    unless old.server_stopped old new (Wish editing) text (CallsServer old (asked.wished editing) new) (λ a. let t = asks_took old new (asked.wished editing) text tt s a o in record { symbols = t.symbols; took = t.took; none = tt; output = t.output }) o d
 output_grows old new (Resize width height) text s runs d o =
-    unless old.client_stopped old new (Resize width height) text (Tells old (told.resized width height) new) (λ t. tells_grows old new (told.resized width height) (Resize width height) text t o) o d
+    unless old.client_stopped old new (Resize width height) text (CallsClient old (told.resized width height) new) (λ t. tells_grows old new (told.resized width height) (Resize width height) text t o) o d
 output_grows old new (SetChar func value) text s runs d o =
-    unless old.server_stopped old new (SetChar func value) text (Asks old (asked.char_set func value) new) (λ a. let t = asks_took old new (asked.char_set func value) text tt s a o in record { symbols = t.symbols; took = t.took; none = tt; output = t.output }) o d
+    unless old.server_stopped old new (SetChar func value) text (CallsServer old (asked.char_set func value) new) (λ a. let t = asks_took old new (asked.char_set func value) text tt s a o in record { symbols = t.symbols; took = t.took; none = tt; output = t.output }) o d
 output_grows old new (Propose func value) text s runs d o =
-    unless old.client_stopped old new (Propose func value) text (Tells old (told.proposed func value) new) (λ t. tells_grows old new (told.proposed func value) (Propose func value) text t o) o d
+    unless old.client_stopped old new (Propose func value) text (CallsClient old (told.proposed func value) new) (λ t. tells_grows old new (told.proposed func value) (Propose func value) text t o) o d
 output_grows old new (Echo on) text s runs d o =
-    unless old.server_stopped old new (Echo on) text (Asks old (asked.echo_set on) new) (λ a. let t = asks_took old new (asked.echo_set on) text tt s a o in record { symbols = t.symbols; took = t.took; none = tt; output = t.output }) o d
+    unless old.server_stopped old new (Echo on) text (CallsServer old (asked.echo_set on) new) (λ a. let t = asks_took old new (asked.echo_set on) text tt s a o in record { symbols = t.symbols; took = t.took; none = tt; output = t.output }) o d
 output_grows old new ServerStops text s runs d o =
     still_grows old new ServerStops text (ap (λ (w : World). w.client.decoder) d) (ap (λ (w : World). w.shown) d) (ap (λ (w : World). w.to_client) d) (ap (λ (w : World). w.server.terminal.queue) d) o
 output_grows old new ClientStops text s runs d o =
@@ -226,30 +226,30 @@ output_grows old new ClientStops text s runs d o =
 abbrev pub KeepsOn : World → World → Type 0
 KeepsOn old new = new.client.failed ≡ old.client.failed
 
-on_unless : (stopped : Bool) (old new : World) (happens : Type 0) → (happens → KeepsOn old new) → Unless stopped old new happens → KeepsOn old new
+on_unless : (stopped : Bool) (old new : World) (happens : Type 0) → (happens → KeepsOn old new) → UnlessStopped stopped old new happens → KeepsOn old new
 on_unless true old new happens done is = ap (λ (w : World). w.client.failed) is
 on_unless false old new happens done is = done is
 
-asks_on : (old new : World) (e : asked.Event) → Asks old e new → KeepsOn old new
+asks_on : (old new : World) (e : asked.Event) → CallsServer old e new → KeepsOn old new
 asks_on old new e a = ap (λ (w : World). w.client.failed) a.rest
 
-pub goes_on : (old new : World) (e : Event) → Does old e new → KeepsOn old new
-goes_on old new (Key key) d = on_unless old.client_stopped old new (Types old key new) (λ t. t.keeps.failed) d
-goes_on old new (ToServer n) d = on_unless old.server_stopped old new (Reaches old n new) (λ r. ap (λ (w : World). w.client.failed) r.rest) d
-goes_on old new (ToClient n) d = on_unless old.client_stopped old new (Returns old n new) (λ r. r.feeds.failed) d
-goes_on old new (Write bytes) d = on_unless old.server_stopped old new (Asks old (asked.wrote bytes) new) (asks_on old new (asked.wrote bytes)) d
+pub goes_on : (old new : World) (e : Event) → RunsEvent old e new → KeepsOn old new
+goes_on old new (Key key) d = on_unless old.client_stopped old new (TypesKey old key new) (λ t. t.keeps.failed) d
+goes_on old new (ToServer n) d = on_unless old.server_stopped old new (DeliversToServer old n new) (λ r. ap (λ (w : World). w.client.failed) r.rest) d
+goes_on old new (ToClient n) d = on_unless old.client_stopped old new (DeliversToClient old n new) (λ r. r.feeds.failed) d
+goes_on old new (Write bytes) d = on_unless old.server_stopped old new (CallsServer old (asked.wrote bytes) new) (asks_on old new (asked.wrote bytes)) d
 goes_on old new (Pull n) d = on_unless old.server_stopped old new (Pulls old n new) (λ p. asks_on old new (asked.pulled p.count) p.asks) d
 goes_on old new Take d = ap (λ (w : World). w.client.failed) d.rest
-goes_on old new (Wish editing) d = on_unless old.server_stopped old new (Asks old (asked.wished editing) new) (asks_on old new (asked.wished editing)) d
-goes_on old new (Resize width height) d = on_unless old.client_stopped old new (Tells old (told.resized width height) new) (λ t. t.keeps.failed) d
-goes_on old new (SetChar func value) d = on_unless old.server_stopped old new (Asks old (asked.char_set func value) new) (asks_on old new (asked.char_set func value)) d
-goes_on old new (Propose func value) d = on_unless old.client_stopped old new (Tells old (told.proposed func value) new) (λ t. t.keeps.failed) d
-goes_on old new (Echo on) d = on_unless old.server_stopped old new (Asks old (asked.echo_set on) new) (asks_on old new (asked.echo_set on)) d
+goes_on old new (Wish editing) d = on_unless old.server_stopped old new (CallsServer old (asked.wished editing) new) (asks_on old new (asked.wished editing)) d
+goes_on old new (Resize width height) d = on_unless old.client_stopped old new (CallsClient old (told.resized width height) new) (λ t. t.keeps.failed) d
+goes_on old new (SetChar func value) d = on_unless old.server_stopped old new (CallsServer old (asked.char_set func value) new) (asks_on old new (asked.char_set func value)) d
+goes_on old new (Propose func value) d = on_unless old.client_stopped old new (CallsClient old (told.proposed func value) new) (λ t. t.keeps.failed) d
+goes_on old new (Echo on) d = on_unless old.server_stopped old new (CallsServer old (asked.echo_set on) new) (asks_on old new (asked.echo_set on)) d
 goes_on old new ServerStops d = ap (λ (w : World). w.client.failed) d
 goes_on old new ClientStops d = ap (λ (w : World). w.client.failed) d
 
 -- A REFUSED EVENT adds to it as long as the client does not fail
-halted : (old new : World) (n : ℕ) (fault : ServerFault) (text : List ℕ) → IsSound old → ServerRefuses old n fault new → IsOutput old text → server.Halts old.server (take n old.to_server) fault old.to_client new.to_client new.server → Took old new text
+halted : (old new : World) (n : ℕ) (fault : ServerFault) (text : List ℕ) → HasPast old → ServerRefusesDelivery old n fault new → IsOutput old text → server.StopsWithin old.server (take n old.to_server) fault old.to_client new.to_client new.server → Took old new text
 halted old new n fault text s r o x =
     let more = halts_queue s.history old.server new.server (take n old.to_server) old.to_client new.to_client fault s.server x in
     record {
@@ -258,7 +258,7 @@ halted old new n fault text s r o x =
       output = says_output old new text (x.said ++ x.part) more.0 (halts_fit s.history old.server new.server (take n old.to_server) old.to_client new.to_client fault s.server x) (halts_none s.history old.server new.server (take n old.to_server) old.to_client new.to_client fault s.server x) (ap (λ (w : World). w.client.decoder) r.rest) (ap (λ (w : World). w.shown) r.rest) x.appended more.1 o;
     }
 
-halts_took : (old new : World) (n : ℕ) (fault : ServerFault) (text : List ℕ) → IsSound old → ServerRefuses old n fault new → IsOutput old text → (f : ServerFault) → fault ≡ f → Took old new text
+halts_took : (old new : World) (n : ℕ) (fault : ServerFault) (text : List ℕ) → HasPast old → ServerRefusesDelivery old n fault new → IsOutput old text → (f : ServerFault) → fault ≡ f → Took old new text
 halts_took old new n fault text s r o refused.Failed e =
     let same = (r.again e).1 in
     record {
@@ -270,15 +270,15 @@ halts_took old new n fault text s r o (refused.Char f) e = absurd (subst IsDeliv
 halts_took old new n fault text s r o (refused.Pty f) e = halted old new n fault text s r o (r.halts (subst IsOfItem (sym e) tt))
 halts_took old new n fault text s r o refused.Memory e = halted old new n fault text s r o (r.halts (subst IsOfItem (sym e) tt))
 
-refused_grows : (old new : World) (e : Event) (text : List ℕ) → IsSound old → Refusal old e new → IsOutput old text → new.client.failed ≡ false → Grows old e new text
+refused_grows : (old new : World) (e : Event) (text : List ℕ) → HasPast old → Refusal old e new → IsOutput old text → new.client.failed ≡ false → OutputGrows old e new text
 refused_grows old new e text s (unchanged is) o runs = same_grows old new e text is o
 refused_grows old new e text s (by_server n fault is r) o runs =
     let t = halts_took old new n fault text s r o fault refl in
-    subst (λ (x : Event). Grows old x new text) (sym is) (record { symbols = t.symbols; took = t.took; none = tt; output = t.output })
+    subst (λ (x : Event). OutputGrows old x new text) (sym is) (record { symbols = t.symbols; took = t.took; none = tt; output = t.output })
 refused_grows old new e text s (by_client n fault is r) o runs = opposite new.client.failed _ r.failed runs
 
 -- one event after another
-pub runs_grow : (old new : World) (events : List Event) (text : List ℕ) → IsSound old → old.client.failed ≡ false → Runs old events new → IsOutput old text → GrowsAll old events new text
+pub runs_grow : (old new : World) (events : List Event) (text : List ℕ) → HasPast old → old.client.failed ≡ false → Runs old events new → IsOutput old text → OutputGrowsAll old events new text
 runs_grow old new [] text s runs r o = (text, (r, refl))
 runs_grow old new (e ∷ events) text s runs r o =
     let g = output_grows old r.0 e text s runs r.1 o in
@@ -286,17 +286,17 @@ runs_grow old new (e ∷ events) text s runs r o =
     (later.0, (r.0, r.1, g, later.1))
 
 -- where they lead
-runs_sound : (old new : World) (events : List Event) → Runs old events new → IsSound old → IsSound new
-runs_sound old new [] r s = subst IsSound (sym r) s
+runs_sound : (old new : World) (events : List Event) → Runs old events new → HasPast old → HasPast new
+runs_sound old new [] r s = subst HasPast (sym r) s
 runs_sound old new (e ∷ events) r s = runs_sound r.0 new events r.2 (sound_does old r.0 e r.1 s)
 
-last_output : (old new : World) (events : List Event) (text last : List ℕ) → GrowsTo old events new text last → IsOutput old text → IsOutput new last
+last_output : (old new : World) (events : List Event) (text last : List ℕ) → OutputGrowsTo old events new text last → IsOutput old text → IsOutput new last
 last_output old new [] text last g o = subst (λ (x : List ℕ). IsOutput new x) (sym g.1) (subst (λ (w : World). IsOutput w text) (sym g.0) o)
 last_output old new (e ∷ events) text last g o =
     let first = g.2 in
     last_output g.0 new events (text ++ screen first.symbols) last g.3 first.output
 
-pub ends_grow : (old new : World) (events : List Event) (at : ℕ) (cause : Cause) (text : List ℕ) → IsSound old → old.client.failed ≡ false → Ends old events at cause new → IsOutput old text → GrowsBefore old events at cause new text
+pub ends_grow : (old new : World) (events : List Event) (at : ℕ) (cause : Cause) (text : List ℕ) → HasPast old → old.client.failed ≡ false → StopsWithin old events at cause new → IsOutput old text → OutputGrowsBefore old events at cause new text
 ends_grow old new events at cause text s runs e o =
     let g = runs_grow old e.mid e.done text s runs e.runs o in
     record {
@@ -311,7 +311,7 @@ pub shown_begins : (w : World) (text : List ℕ) → IsOutput w text → IsPrefi
 shown_begins w text o = (text_of o.items ++ screen w.server.terminal.queue, sym o.is)
 
 -- a new world shows nothing, and its opening words are silent
-pub opened_output : (w : World) → HasRead w.client.decoder [] [] → w.to_client ≡ spells opening → w.shown ≡ [] → w.server.terminal.queue ≡ [] → IsOutput w []
+pub opened_output : (w : World) → LeadsTo [] [] w.client.decoder → w.to_client ≡ spells opening → w.shown ≡ [] → w.server.terminal.queue ≡ [] → IsOutput w []
 opened_output w began said shown none =
     record {
       items = opening;

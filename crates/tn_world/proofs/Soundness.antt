@@ -4,12 +4,12 @@ use Rattle.std.specs.Prelude.{All}
 use Rattle.std.proofs.lemmas.List.Elements.{All-nil, All-append}
 use Rattle.tn_nvt.specs.declared.items.Item.{Item}
 use Rattle.tn_nvt.specs.Spelling.{spells, Fits}
-use Rattle.tn_nvt.specs.Standing.{Standing, HasRead}
+use Rattle.tn_nvt.specs.Feeding.{DecoderState, LeadsTo}
 use Rattle.tn_server.specs.Course as asked_course
 use Rattle.tn_server.specs.Events as asked
 use Rattle.tn_server.specs.Faults.{IsOfItem}
 use Rattle.tn_server.specs.Replies as server_says
-use Rattle.tn_server.specs.Standing as server
+use Rattle.tn_server.specs.Calls as server
 use Rattle.tn_server.specs.declared.faults.ServerFault.{ServerFault}
 use Rattle.tn_server.specs.declared.faults.ServerFault.TheVariants as refused
 use Rattle.tn_server.proofs.lemmas.Courses as asked_on
@@ -19,14 +19,14 @@ use Rattle.tn_client.specs.Course as told_course
 use Rattle.tn_client.specs.Events as told
 use Rattle.tn_client.specs.Lines.{line_limit}
 use Rattle.tn_client.specs.Replies as client_says
-use Rattle.tn_client.specs.Standing as client
+use Rattle.tn_client.specs.Calls as client
 use Rattle.tn_client.specs.declared.faults.ClientFault.{ClientFault}
 use Rattle.tn_client.specs.declared.faults.ClientFault.TheVariants as broken
 use Rattle.tn_client.proofs.lemmas.Courses as told_on
 use Rattle.tn_client.proofs.lemmas.Fitting as client_fits
-use Rattle.tn_world.specs.Past.{IsSound}
+use Rattle.tn_world.specs.Past.{HasPast}
 use Rattle.tn_world.specs.Flight.{InFlight}
-use Rattle.tn_world.specs.Worlds.{World, Unless, Types, Tells, Reaches, Returns, Asks, Pulls, Takes, Does, ServerRefuses, ClientRefuses, Refuses, client_fault}
+use Rattle.tn_world.specs.Worlds.{World, UnlessStopped, TypesKey, CallsClient, DeliversToServer, DeliversToClient, CallsServer, Pulls, TakesEntry, RunsEvent, ServerRefusesDelivery, ClientRefusesDelivery, Refuses, client_fault}
 use Rattle.tn_world.specs.declared.events.Event.{Event}
 use Rattle.tn_world.specs.declared.events.Event.TheVariants.{Key, ToServer, ToClient, Write, Pull, Take, Wish, Resize, SetChar, Propose, Echo, ServerStops, ClientStops}
 use Rattle.tn_world.specs.declared.faults.Cause.{Cause}
@@ -39,7 +39,7 @@ pub opposite : (b : Bool) (A : Type 0) → b ≡ true → b ≡ false → A
 opposite b A p q = absurd (cc)
 
 -- WHAT IS SAID FITS A STREAM
-pub goes_fit : (h : asked.History) (old new : server.End) (e : asked.Event) (before after : List ℕ) → server.Stands h old → (g : server.Goes old e before after new) → All Fits g.said
+pub goes_fit : (h : asked.History) (old new : server.End) (e : asked.Event) (before after : List ℕ) → server.LeadsTo h old → (g : server.Advances old e before after new) → All Fits g.said
 goes_fit h old new e before after s g = subst (All Fits) (g.replies h s) (server_fits.replies-fit h e)
 
 later_fit : (all before said : List Item) → all ≡ before ++ said → All Fits all → All Fits said
@@ -48,34 +48,34 @@ later_fit all before said is fit = (all_parts Fits before said (subst (All Fits)
 front_fit : (all part rest : List Item) → all ≡ part ++ rest → All Fits all → All Fits part
 front_fit all part rest is fit = (all_parts Fits part rest (subst (All Fits) is fit)).0
 
-pub feeds_fit : (h : asked.History) (old new : server.End) (piece before after : List ℕ) → server.Stands h old → (f : server.Feeds old piece before after new) → All Fits f.said
-feeds_fit h old new piece before after s f = later_fit (server_says.sent (asked.gets h f.items)) (server_says.sent h) f.said (f.sends h s) (server_fits.sent-fit (asked.gets h f.items))
+pub feeds_fit : (h : asked.History) (old new : server.End) (piece before after : List ℕ) → server.LeadsTo h old → (f : server.Feeds old piece before after new) → All Fits f.said
+feeds_fit h old new piece before after s f = later_fit (server_says.items_said (asked.gets h f.items)) (server_says.items_said h) f.said (f.sends h s) (server_fits.sent-fit (asked.gets h f.items))
 
 first_fit : (h : asked.History) (left part rest : List Item) → server.first_replies h left ≡ part ++ rest → All Fits part
 first_fit h [] part rest is = front_fit [] part rest is (All-nil Fits)
 first_fit h (item ∷ left) part rest is = front_fit (server_says.replies h (asked.got item)) part rest is (server_fits.replies-fit h (asked.got item))
 
-pub halts_fit : (h : asked.History) (old new : server.End) (piece before after : List ℕ) (fault : ServerFault) → server.Stands h old → (x : server.Halts old piece fault before after new) → All Fits (x.said ++ x.part)
+pub halts_fit : (h : asked.History) (old new : server.End) (piece before after : List ℕ) (fault : ServerFault) → server.LeadsTo h old → (x : server.StopsWithin old piece fault before after new) → All Fits (x.said ++ x.part)
 halts_fit h old new piece before after fault s x =
     let b = x.begins h s in
     All-append Fits x.said x.part
-    (later_fit (server_says.sent (asked.gets h x.done)) (server_says.sent h) x.said (x.sends h s) (server_fits.sent-fit (asked.gets h x.done)))
+    (later_fit (server_says.items_said (asked.gets h x.done)) (server_says.items_said h) x.said (x.sends h s) (server_fits.sent-fit (asked.gets h x.done)))
     (first_fit (asked.gets h x.done) x.left x.part b.0 b.1)
 
-pub sends_fit : (h : told.History) (old : client.End) (e : told.Event) (before after : List ℕ) → client.Stands h old → (g : client.Sends old e before after) → All Fits g.said
+pub sends_fit : (h : told.History) (old : client.End) (e : told.Event) (before after : List ℕ) → client.LeadsTo h old → (g : client.Sends old e before after) → All Fits g.said
 sends_fit h old e before after s g = subst (All Fits) (g.replies h s) (client_fits.replies-fit h e)
 
-pub came_fit : (h : told.History) (old new : client.End) (piece before after seen now : List ℕ) → client.Stands h old → (f : client.Feeds old piece before after seen now new) → All Fits f.said
-came_fit h old new piece before after seen now s f = later_fit (client_says.sent (told.gets h f.items)) (client_says.sent h) f.said (f.sends h s) (client_fits.sent-fits (told.gets h f.items))
+pub came_fit : (h : told.History) (old new : client.End) (piece before after seen now : List ℕ) → client.LeadsTo h old → (f : client.Feeds old piece before after seen now new) → All Fits f.said
+came_fit h old new piece before after seen now s f = later_fit (client_says.items_said (told.gets h f.items)) (client_says.items_said h) f.said (f.sends h s) (client_fits.sent-fits (told.gets h f.items))
 
-gave_fit : (h : told.History) (left part : List Item) (here : Standing) (back : List ℕ) → client.GivesUp h left part here back → All Fits part
+gave_fit : (h : told.History) (left part : List Item) (here : DecoderState) (back : List ℕ) → client.IsStopCause h left part here back → All Fits part
 gave_fit h [] part here back g = subst (All Fits) (sym g.0) (All-nil Fits)
 gave_fit h (item ∷ later) part here back g = front_fit (client_says.replies h (told.got item)) part g.rest g.whole (client_fits.replies-fit h (told.got item))
 
-pub breaks_fit : (h : told.History) (old : client.End) (piece before after seen now stream : List ℕ) (had : List Item) → client.Stands h old → HasRead old.decoder stream had → (x : client.Breaks old piece before after seen now) → All Fits (x.said ++ x.part)
+pub breaks_fit : (h : told.History) (old : client.End) (piece before after seen now stream : List ℕ) (had : List Item) → client.LeadsTo h old → LeadsTo stream had old.decoder → (x : client.StopsWithin old piece before after seen now) → All Fits (x.said ++ x.part)
 breaks_fit h old piece before after seen now stream had s r x =
     All-append Fits x.said x.part
-    (later_fit (client_says.sent (told.gets h x.done)) (client_says.sent h) x.said (x.sends h s) (client_fits.sent-fits (told.gets h x.done)))
+    (later_fit (client_says.items_said (told.gets h x.done)) (client_says.items_said h) x.said (x.sends h s) (client_fits.sent-fits (told.gets h x.done)))
     (gave_fit (told.gets h x.done) x.left x.part x.here x.back (x.why h stream had s r))
 
 -- WHO IS ASKED GOES ON
@@ -98,17 +98,17 @@ propose_goes_on end (told.resized width height) e = call_goes_on end e
 
 -- EACH CALL AND DELIVERY
 -- the invariant of a world, part by part
-pub made : (w : World) (h : asked.History) → server.Stands h w.server
-    → (w.server.failed ≡ false → (c : asked_course.Course) × asked_course.IsAt c w.server)
-    → (w.client.failed ≡ false → (c : told_course.Course) × told_course.IsAt c w.client)
+pub made : (w : World) (h : asked.History) → server.LeadsTo h w.server
+    → (w.server.failed ≡ false → (c : asked_course.Course) × asked_course.CourseLeadsTo c w.server)
+    → (w.client.failed ≡ false → (c : told_course.Course) × told_course.CourseLeadsTo c w.client)
     → (w.client.failed ≡ false → w.client.line.limit ≡ w.server.terminal.line.limit)
     → (w.server.failed ≡ false → (items : List Item) × InFlight w.server.decoder w.to_server items)
-    → (w.client.failed ≡ false → (items : List Item) × InFlight w.client.decoder w.to_client items) → IsSound w
+    → (w.client.failed ≡ false → (items : List Item) × InFlight w.client.decoder w.to_client items) → HasPast w
 made w h stands asked told limit there here = record { history = h; server = stands; asked = asked; told = told; limit = limit; to_server = there; to_client = here }
 
 -- a call of the client
-module _ (old new : World) (e : told.Event) (call : told_course.IsCall e) (g : client.Goes old.client e new.client) (k : client.Keeps old.client new.client) (sends : client.Sends old.client e old.to_server new.to_server) (runs : old.client.failed ≡ false) (s : IsSound old) where
-  told_now : (c : told_course.Course) × told_course.IsAt c new.client
+module _ (old new : World) (e : told.Event) (call : told_course.IsCall e) (g : client.Advances old.client e new.client) (k : client.ReadsNothing old.client new.client) (sends : client.Sends old.client e old.to_server new.to_server) (runs : old.client.failed ≡ false) (s : HasPast old) where
+  told_now : (c : told_course.Course) × told_course.CourseLeadsTo c new.client
   told_now = let before = s.told runs in (told_course.called before.0 e, told_on.called_at before.0 old.client new.client e before.1 call g k)
 
   pub told_limit : new.client.line.limit ≡ old.client.line.limit
@@ -118,7 +118,7 @@ module _ (old new : World) (e : told.Event) (call : told_course.IsCall e) (g : c
       let before = at.stands in
       after.limit ∙ sym before.limit
 
-  pub told_sound : IsSound (record old { client = new.client; to_server = new.to_server })
+  pub told_sound : HasPast (record old { client = new.client; to_server = new.to_server })
   told_sound =
       let at = (s.told runs).1 in
       made (record old { client = new.client; to_server = new.to_server }) s.history s.server s.asked (λ b. told_now)
@@ -127,36 +127,36 @@ module _ (old new : World) (e : told.Event) (call : told_course.IsCall e) (g : c
       (λ b. let f = s.to_client runs in (f.0, subst (λ d. InFlight d old.to_client f.0) (sym k.decoder) f.1))
 
 -- what no part of the invariant looks at
-pub sound_as : (old new : World) → new.server ≡ old.server → new.client ≡ old.client → new.to_server ≡ old.to_server → new.to_client ≡ old.to_client → IsSound old → IsSound new
+pub sound_as : (old new : World) → new.server ≡ old.server → new.client ≡ old.client → new.to_server ≡ old.to_server → new.to_client ≡ old.to_client → HasPast old → HasPast new
 sound_as old new a b c d s =
-    made new s.history (subst (server.Stands s.history) (sym a) s.server)
-    (λ r. let x = s.asked (sym (ap (λ e. e.failed) a) ∙ r) in (x.0, subst (asked_course.IsAt x.0) (sym a) x.1))
-    (λ r. let x = s.told (sym (ap (λ e. e.failed) b) ∙ r) in (x.0, subst (told_course.IsAt x.0) (sym b) x.1))
+    made new s.history (subst (server.LeadsTo s.history) (sym a) s.server)
+    (λ r. let x = s.asked (sym (ap (λ e. e.failed) a) ∙ r) in (x.0, subst (asked_course.CourseLeadsTo x.0) (sym a) x.1))
+    (λ r. let x = s.told (sym (ap (λ e. e.failed) b) ∙ r) in (x.0, subst (told_course.CourseLeadsTo x.0) (sym b) x.1))
     (λ r. ap (λ e. e.line.limit) b ∙ s.limit (sym (ap (λ e. e.failed) b) ∙ r) ∙ sym (ap (λ e. e.terminal.line.limit) a))
     (λ r. let f = s.to_server (sym (ap (λ e. e.failed) a) ∙ r) in (f.0, subst (λ x. InFlight new.server.decoder x f.0) (sym c) (subst (λ e. InFlight e.decoder old.to_server f.0) (sym a) f.1)))
     (λ r. let f = s.to_client (sym (ap (λ e. e.failed) b) ∙ r) in (f.0, subst (λ x. InFlight new.client.decoder x f.0) (sym d) (subst (λ e. InFlight e.decoder old.to_client f.0) (sym b) f.1)))
 
-pub sound_types : (old new : World) (key : ℕ) → Types old key new → IsSound old → IsSound new
+pub sound_types : (old new : World) (key : ℕ) → TypesKey old key new → HasPast old → HasPast new
 sound_types old new key t s =
     let runs = propose_goes_on old.client (told.typed key) t.accepted in
-    subst (λ w. IsSound w) (sym t.rest)
+    subst (λ w. HasPast w) (sym t.rest)
     (sound_as (record old { client = new.client; to_server = new.to_server }) (record old { client = new.client; to_server = new.to_server; echoed = new.echoed; typed = old.typed ++ key ∷ [] }) refl refl refl refl
     (told_sound old new (told.typed key) tt t.goes t.keeps t.sends runs s))
 
-pub sound_tells : (old new : World) (e : told.Event) → told_course.IsCall e → Tells old e new → IsSound old → IsSound new
+pub sound_tells : (old new : World) (e : told.Event) → told_course.IsCall e → CallsClient old e new → HasPast old → HasPast new
 sound_tells old new e call t s =
     let runs = propose_goes_on old.client e t.accepted in
-    subst (λ w. IsSound w) (sym t.rest) (told_sound old new e call t.goes t.keeps t.sends runs s)
+    subst (λ w. HasPast w) (sym t.rest) (told_sound old new e call t.goes t.keeps t.sends runs s)
 
 -- a call of the server
-module _ (old new : World) (e : asked.Event) (call : asked_course.IsCall e) (g : server.Goes old.server e old.to_client new.to_client new.server) (k : server.Keeps old.server new.server) (s : IsSound old) where
+module _ (old new : World) (e : asked.Event) (call : asked_course.IsCall e) (g : server.Advances old.server e old.to_client new.to_client new.server) (k : server.ReadsNothing old.server new.server) (s : HasPast old) where
   asked_limit : new.server.terminal.line.limit ≡ old.server.terminal.line.limit
   asked_limit =
       let after = g.stands s.history s.server in
       let before = s.server in
       after.limit ∙ sym before.limit
 
-  pub asked_sound : IsSound (record old { server = new.server; to_client = new.to_client })
+  pub asked_sound : HasPast (record old { server = new.server; to_client = new.to_client })
   asked_sound =
       made (record old { server = new.server; to_client = new.to_client }) (asked.next s.history e) (g.stands s.history s.server)
       (λ r. let x = s.asked (sym k.failed ∙ r) in (asked_course.called x.0 e, asked_on.called_on x.0 old.server new.server e old.to_client new.to_client x.1 call g k))
@@ -165,23 +165,23 @@ module _ (old new : World) (e : asked.Event) (call : asked_course.IsCall e) (g :
       (λ a. let f = s.to_server (sym k.failed ∙ a) in (f.0, subst (λ d. InFlight d old.to_server f.0) (sym k.decoder) f.1))
       (λ b. let f = s.to_client b in (f.0 ++ g.said, said_behind old.client.decoder old.to_client new.to_client f.0 g.said g.appended (goes_fit s.history old.server new.server e old.to_client new.to_client s.server g) f.1))
 
-pub sound_asks : (old new : World) (e : asked.Event) → asked_course.IsCall e → Asks old e new → IsSound old → IsSound new
-sound_asks old new e call t s = subst (λ w. IsSound w) (sym t.rest) (asked_sound old new e call t.goes t.keeps s)
+pub sound_asks : (old new : World) (e : asked.Event) → asked_course.IsCall e → CallsServer old e new → HasPast old → HasPast new
+sound_asks old new e call t s = subst (λ w. HasPast w) (sym t.rest) (asked_sound old new e call t.goes t.keeps s)
 
-pub sound_takes : (old new : World) → Takes old new → IsSound old → IsSound new
+pub sound_takes : (old new : World) → TakesEntry old new → HasPast old → HasPast new
 sound_takes old new t s =
-    subst (λ w. IsSound w) (sym t.rest)
+    subst (λ w. HasPast w) (sym t.rest)
     (sound_as (record old { server = new.server; to_client = new.to_client }) _ refl refl refl refl (asked_sound old new asked.took tt t.goes t.keeps s))
 
 -- a delivery to the server
-pub sound_reaches : (old new : World) (n : ℕ) → Reaches old n new → IsSound old → IsSound new
+pub sound_reaches : (old new : World) (n : ℕ) → DeliversToServer old n new → HasPast old → HasPast new
 sound_reaches old new n t s =
     let f = t.feeds in
     let piece = take n old.to_server in
     let after = f.stands s.history s.server in
     let before = s.server in
     let runs : new.server.failed ≡ false → old.server.failed ≡ false = λ r. sym f.failed ∙ r in
-    subst (λ w. IsSound w) (sym t.rest)
+    subst (λ w. HasPast w) (sym t.rest)
     (made (record old { server = new.server; to_server = drop n old.to_server; to_client = new.to_client }) (asked.gets s.history f.items) after
     (λ r. let x = s.asked (runs r) in (asked_course.fed x.0 piece, asked_on.fed_on x.0 old.server new.server piece old.to_client new.to_client x.1 f))
     s.told
@@ -194,7 +194,7 @@ line_limit-gets : (h : told.History) (items : List Item) → line_limit (told.ge
 line_limit-gets h [] = refl
 line_limit-gets h (item ∷ items) = line_limit-gets (told.next h (told.got item)) items
 
-pub sound_returns : (old new : World) (n : ℕ) → Returns old n new → IsSound old → IsSound new
+pub sound_returns : (old new : World) (n : ℕ) → DeliversToClient old n new → HasPast old → HasPast new
 sound_returns old new n t s =
     let f = t.feeds in
     let piece = take n old.to_client in
@@ -202,7 +202,7 @@ sound_returns old new n t s =
     let at = (s.told runs).1 in
     let before = at.stands in
     let after = f.stands at.history at.stands in
-    subst (λ w. IsSound w) (sym t.rest)
+    subst (λ w. HasPast w) (sym t.rest)
     (made (record old { client = new.client; to_client = drop n old.to_client; to_server = new.to_server; shown = new.shown }) s.history s.server
     s.asked
     (λ r. let x = s.told runs in (told_course.fed x.0 piece, told_on.fed_at x.0 old.client new.client piece old.to_server new.to_server old.shown new.shown x.1 f))
@@ -210,35 +210,35 @@ sound_returns old new n t s =
     (λ a. let x = s.to_server a in (x.0 ++ f.said, said_behind old.server.decoder old.to_server new.to_server x.0 f.said f.appended (came_fit at.history old.client new.client piece old.to_server new.to_server old.shown new.shown at.stands f) x.1))
     (λ b. let x = s.to_client runs in let d = cut_at old.client.decoder new.client.decoder n old.to_client x.0 f.items x.1 f.reads in (d.left, d.flight)))
 
-unless : (stopped : Bool) (old new : World) (happens : Type 0) → (happens → IsSound old → IsSound new) → Unless stopped old new happens → IsSound old → IsSound new
-unless true old new happens done is s = subst (λ w. IsSound w) (sym is) s
+unless : (stopped : Bool) (old new : World) (happens : Type 0) → (happens → HasPast old → HasPast new) → UnlessStopped stopped old new happens → HasPast old → HasPast new
+unless true old new happens done is s = subst (λ w. HasPast w) (sym is) s
 unless false old new happens done is s = done is s
 
-pub sound_does : (old new : World) (e : Event) → Does old e new → IsSound old → IsSound new
-sound_does old new (Key key) d s = unless old.client_stopped old new (Types old key new) (sound_types old new key) d s
-sound_does old new (ToServer n) d s = unless old.server_stopped old new (Reaches old n new) (sound_reaches old new n) d s
-sound_does old new (ToClient n) d s = unless old.client_stopped old new (Returns old n new) (sound_returns old new n) d s
-sound_does old new (Write bytes) d s = unless old.server_stopped old new (Asks old (asked.wrote bytes) new) (sound_asks old new (asked.wrote bytes) tt) d s
+pub sound_does : (old new : World) (e : Event) → RunsEvent old e new → HasPast old → HasPast new
+sound_does old new (Key key) d s = unless old.client_stopped old new (TypesKey old key new) (sound_types old new key) d s
+sound_does old new (ToServer n) d s = unless old.server_stopped old new (DeliversToServer old n new) (sound_reaches old new n) d s
+sound_does old new (ToClient n) d s = unless old.client_stopped old new (DeliversToClient old n new) (sound_returns old new n) d s
+sound_does old new (Write bytes) d s = unless old.server_stopped old new (CallsServer old (asked.wrote bytes) new) (sound_asks old new (asked.wrote bytes) tt) d s
 sound_does old new (Pull n) d s =
     unless old.server_stopped old new (Pulls old n new) (λ p. sound_asks old new (asked.pulled p.count) tt p.asks) d s
 sound_does old new Take d s = sound_takes old new d s
-sound_does old new (Wish editing) d s = unless old.server_stopped old new (Asks old (asked.wished editing) new) (sound_asks old new (asked.wished editing) tt) d s
+sound_does old new (Wish editing) d s = unless old.server_stopped old new (CallsServer old (asked.wished editing) new) (sound_asks old new (asked.wished editing) tt) d s
 sound_does old new (Resize width height) d s =
-    unless old.client_stopped old new (Tells old (told.resized width height) new) (sound_tells old new (told.resized width height) tt) d s
+    unless old.client_stopped old new (CallsClient old (told.resized width height) new) (sound_tells old new (told.resized width height) tt) d s
 sound_does old new (SetChar func value) d s =
-    unless old.server_stopped old new (Asks old (asked.char_set func value) new) (sound_asks old new (asked.char_set func value) tt) d s
+    unless old.server_stopped old new (CallsServer old (asked.char_set func value) new) (sound_asks old new (asked.char_set func value) tt) d s
 sound_does old new (Propose func value) d s =
-    unless old.client_stopped old new (Tells old (told.proposed func value) new) (sound_tells old new (told.proposed func value) tt) d s
-sound_does old new (Echo on) d s = unless old.server_stopped old new (Asks old (asked.echo_set on) new) (sound_asks old new (asked.echo_set on) tt) d s
-sound_does old new ServerStops d s = subst (λ w. IsSound w) (sym d) (sound_as old _ refl refl refl refl s)
-sound_does old new ClientStops d s = subst (λ w. IsSound w) (sym d) (sound_as old _ refl refl refl refl s)
+    unless old.client_stopped old new (CallsClient old (told.proposed func value) new) (sound_tells old new (told.proposed func value) tt) d s
+sound_does old new (Echo on) d s = unless old.server_stopped old new (CallsServer old (asked.echo_set on) new) (sound_asks old new (asked.echo_set on) tt) d s
+sound_does old new ServerStops d s = subst (λ w. HasPast w) (sym d) (sound_as old _ refl refl refl refl s)
+sound_does old new ClientStops d s = subst (λ w. HasPast w) (sym d) (sound_as old _ refl refl refl refl s)
 
 -- REFUSALS
 -- the server stood where the items that were done lead, or failed before
-pub stood : (old : server.End) (new : server.End) (piece before after : List ℕ) (fault : ServerFault) (h : asked.History) → server.Stands h old → (fault ≡ refused.Failed → new ≡ old) → (IsOfItem fault → server.Halts old piece fault before after new) → ((f : _) → fault ≡ refused.Char f → ⊥) → (items : List Item) × server.Stands (asked.gets h items) new
+pub stood : (old : server.End) (new : server.End) (piece before after : List ℕ) (fault : ServerFault) (h : asked.History) → server.LeadsTo h old → (fault ≡ refused.Failed → new ≡ old) → (IsOfItem fault → server.StopsWithin old piece fault before after new) → ((f : _) → fault ≡ refused.Char f → ⊥) → (items : List Item) × server.LeadsTo (asked.gets h items) new
 stood old new piece before after (refused.Pty f) h s again halts no_char = let x = halts tt in (x.done, x.stands h s)
 stood old new piece before after refused.Memory h s again halts no_char = let x = halts tt in (x.done, x.stands h s)
-stood old new piece before after refused.Failed h s again halts no_char = ([], subst (server.Stands h) (sym (again refl)) s)
+stood old new piece before after refused.Failed h s again halts no_char = ([], subst (server.LeadsTo h) (sym (again refl)) s)
 stood old new piece before after (refused.Char f) h s again halts no_char = absurd (no_char f refl)
 
 -- what it said before it failed
@@ -247,14 +247,14 @@ pub record SaidOn (before after : List ℕ) : Type 0 where
   pub appended : after ≡ before ++ spells said
   pub fit : All Fits said
 
-pub said_on : (old new : server.End) (piece before after : List ℕ) (fault : ServerFault) (h : asked.History) → server.Stands h old → (fault ≡ refused.Failed → after ≡ before) → (IsOfItem fault → server.Halts old piece fault before after new) → ((f : _) → fault ≡ refused.Char f → ⊥) → SaidOn before after
+pub said_on : (old new : server.End) (piece before after : List ℕ) (fault : ServerFault) (h : asked.History) → server.LeadsTo h old → (fault ≡ refused.Failed → after ≡ before) → (IsOfItem fault → server.StopsWithin old piece fault before after new) → ((f : _) → fault ≡ refused.Char f → ⊥) → SaidOn before after
 said_on old new piece before after (refused.Pty f) h s again halts no_char = let x = halts tt in record { said = x.said ++ x.part; appended = x.appended; fit = halts_fit h old new piece before after (refused.Pty f) s x }
 said_on old new piece before after refused.Memory h s again halts no_char = let x = halts tt in record { said = x.said ++ x.part; appended = x.appended; fit = halts_fit h old new piece before after refused.Memory s x }
 said_on old new piece before after refused.Failed h s again halts no_char = record { said = []; appended = again refl ∙ sym (append-nil before); fit = All-nil Fits }
 said_on old new piece before after (refused.Char f) h s again halts no_char = absurd (no_char f refl)
 
 -- the server failed, at a piece or before
-pub halts_sound : (old : World) (end : server.End) (piece left later : List ℕ) (fault : ServerFault) → (fault ≡ refused.Failed → end ≡ old.server) → (fault ≡ refused.Failed → later ≡ old.to_client) → (IsOfItem fault → server.Halts old.server piece fault old.to_client later end) → ((f : _) → fault ≡ refused.Char f → ⊥) → end.failed ≡ true → IsSound old → IsSound (record old { server = end; to_server = left; to_client = later })
+pub halts_sound : (old : World) (end : server.End) (piece left later : List ℕ) (fault : ServerFault) → (fault ≡ refused.Failed → end ≡ old.server) → (fault ≡ refused.Failed → later ≡ old.to_client) → (IsOfItem fault → server.StopsWithin old.server piece fault old.to_client later end) → ((f : _) → fault ≡ refused.Char f → ⊥) → end.failed ≡ true → HasPast old → HasPast (record old { server = end; to_server = left; to_client = later })
 halts_sound old end piece left later fault again none halts no_char failed s =
     let at = stood old.server end piece old.to_client later fault s.history s.server again halts no_char in
     let more = said_on old.server end piece old.to_client later fault s.history s.server none halts no_char in
@@ -267,7 +267,7 @@ halts_sound old end piece left later fault again none halts no_char failed s =
     (λ b. let f = s.to_client b in (f.0 ++ more.said, said_behind old.client.decoder old.to_client later f.0 more.said more.appended more.fit f.1))
 
 -- the client failed
-pub breaks_sound : (old : World) (end : client.End) (piece left later seen : List ℕ) → old.client.failed ≡ false → client.Breaks old.client piece old.to_server later old.shown seen → end.failed ≡ true → IsSound old → IsSound (record old { client = end; to_client = left; to_server = later; shown = seen })
+pub breaks_sound : (old : World) (end : client.End) (piece left later seen : List ℕ) → old.client.failed ≡ false → client.StopsWithin old.client piece old.to_server later old.shown seen → end.failed ≡ true → HasPast old → HasPast (record old { client = end; to_client = left; to_server = later; shown = seen })
 breaks_sound old end piece left later seen runs x failed s =
     let at = s.told runs in
     let here = at.1 in
@@ -281,15 +281,15 @@ breaks_sound old end piece left later seen runs x failed s =
     (λ r. opposite end.failed _ failed r)
 
 -- the client had failed before
-pub again_sound : (old : World) (left : List ℕ) → old.client.failed ≡ true → IsSound old → IsSound (record old { to_client = left })
+pub again_sound : (old : World) (left : List ℕ) → old.client.failed ≡ true → HasPast old → HasPast (record old { to_client = left })
 again_sound old left failed s =
     made (record old { to_client = left }) s.history s.server s.asked s.told s.limit s.to_server (λ r. opposite old.client.failed _ failed r)
 
 -- A refusal changed nothing, or it was of a delivery.
 pub data Refusal (old : World) (e : Event) (new : World) : Type 0 where
   unchanged : new ≡ old → Refusal old e new
-  by_server : (n : ℕ) (fault : ServerFault) → e ≡ ToServer n → ServerRefuses old n fault new → Refusal old e new
-  by_client : (n : ℕ) (fault : ClientFault) → e ≡ ToClient n → ClientRefuses old n fault new → Refusal old e new
+  by_server : (n : ℕ) (fault : ServerFault) → e ≡ ToServer n → ServerRefusesDelivery old n fault new → Refusal old e new
+  by_client : (n : ℕ) (fault : ClientFault) → e ≡ ToClient n → ClientRefusesDelivery old n fault new → Refusal old e new
 
 pub refusal_of : (old new : World) (e : Event) (c : Cause) → Refuses old e c new → Refusal old e new
 refusal_of old new e cause.Memory r = unchanged r.1

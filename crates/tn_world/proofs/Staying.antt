@@ -10,24 +10,24 @@ use Rattle.tn_discipline.specs.Canon.{Canon}
 use Rattle.tn_nvt.specs.Spelling.{spells, Fits}
 use Rattle.tn_nvt.specs.declared.items.Item.{Item}
 use Rattle.tn_nvt.specs.declared.items.Item.TheVariants.{Byte, Newline, Cmd, Neg, Sub}
-use Rattle.tn_option.specs.Options.{Options, after_word, reply_to}
+use Rattle.tn_option.specs.Options.{Options, options_after_word, reply_to}
 use Rattle.tn_server.specs.Events as asked
 use Rattle.tn_server.specs.Events.{History, next, got, took, wrote, pulled, wished, char_set, echo_set, gets}
-use Rattle.tn_server.specs.Replies.{word_back, replies, sent}
+use Rattle.tn_server.specs.Replies.{reply_items, replies, items_said}
 use Rattle.tn_server.specs.Screen.{queue, sends_ga, none_waits, due}
-use Rattle.tn_server.specs.Standing as server
+use Rattle.tn_server.specs.Calls as server
 use Rattle.tn_server.specs.Terms.{options, chars, flags, terms}
 use Rattle.tn_client.specs.Terms as client_terms
 use Rattle.tn_client.specs.Terms.{mode_by, mode_at, linemode}
 use Rattle.tn_wire.specs.Words.{differ}
 use Rattle.tn_world.specs.Flight.{InFlight}
-use Rattle.tn_world.specs.Headline.{IsBetweenLines, ComeWhere, DeliversWhere, IsQuietEvent, AreQuiet, KeepsTheMode, EachKeepsTheMode, IsMark, NoneFailed}
-use Rattle.tn_world.specs.Past.{IsSound}
-use Rattle.tn_world.specs.Worlds.{World, Unless, Types, Tells, Reaches, Returns, Asks, Pulls, Takes, Does}
+use Rattle.tn_world.specs.Headline.{IsBetweenLines, ChangeModeWhere, DeliversModesWhere, IsQuietEvent, AreQuiet, KeepsTheMode, EachKeepsTheMode, IsMark, NoneFailed}
+use Rattle.tn_world.specs.Past.{HasPast}
+use Rattle.tn_world.specs.Worlds.{World, UnlessStopped, TypesKey, CallsClient, DeliversToServer, DeliversToClient, CallsServer, Pulls, TakesEntry, RunsEvent}
 use Rattle.tn_world.specs.declared.events.Event.{Event}
 use Rattle.tn_world.specs.declared.events.Event.TheVariants.{Key, ToServer, ToClient, Write, Pull, Take, Wish, Resize, SetChar, Propose, Echo, ServerStops, ClientStops}
 use Rattle.tn_world.specs.relation.Calm.{IsCalmToServer}
-use Rattle.tn_world.specs.relation.Relation.{Holds}
+use Rattle.tn_world.specs.relation.Relation.{IsRelated}
 use Rattle.tn_world.proofs.ClientWrites.{word-keeps}
 use Rattle.tn_world.proofs.Cut.{said_behind, cut_at, no_items}
 use Rattle.tn_world.proofs.Following.{holds_does, does_keeps}
@@ -64,33 +64,33 @@ still_mode o m (Neg verb option) s =
     ap (λ (b : Bool). if differ (linemode o) b then 0 else m) (word-keeps o verb option s) ∙ ap (λ (b : Bool). if b then 0 else m) (as_it_was (linemode o))
 still_mode o m (Sub option params) s = still_payload _ m (payload_of option params) s
 
-still_come : (may : Type 0) (o : Options) (m : ℕ) (items : List Item) → All IsStill items → ComeWhere may o m items
+still_come : (may : Type 0) (o : Options) (m : ℕ) (items : List Item) → All IsStill items → ChangeModeWhere may o m items
 still_come may o m [] a = tt
 still_come may o m (item ∷ items) a = (
   λ other. absurd (other (still_mode o m item (All-head IsStill item items a))),
-  still_come may (client_terms.heard o item) (mode_at o m item) items (All-tail IsStill item items a),
+  still_come may (client_terms.options_after o item) (mode_at o m item) items (All-tail IsStill item items a),
 )
 
 -- WHAT A SERVER SAYS to calm items, and at calls that are no wish
-back_still : (o : Options) (item : Item) → IsCalmToServer item → All IsStill (word_back o (got item))
+back_still : (o : Options) (item : Item) → IsCalmToServer item → All IsStill (reply_items o (got item))
 back_still o (Byte b) c = All-nil IsStill
 back_still o Newline c = All-nil IsStill
 back_still o (Cmd command) c = All-nil IsStill
 back_still o (Neg verb option) c = word_made IsStill option (reply_to o verb option) (reply_speaks o verb option) (λ v. c)
 back_still o (Sub option params) c = All-nil IsStill
 
-gets_still : (h : History) (items : List Item) → All IsCalmToServer items → (said : List Item) × (sent (gets h items) ≡ sent h ++ said) × All IsStill said
-gets_still h [] c = ([], sym (append-nil (sent h)), All-nil IsStill)
+gets_still : (h : History) (items : List Item) → All IsCalmToServer items → (said : List Item) × (items_said (gets h items) ≡ items_said h ++ said) × All IsStill said
+gets_still h [] c = ([], sym (append-nil (items_said h)), All-nil IsStill)
 gets_still h (item ∷ items) c =
     let calm = All-head IsCalmToServer item items c in
     let here = subst (All IsStill) (sym (replies_word h item calm)) (back_still (options h) item calm) in
     let later = gets_still (next h (got item)) items (All-tail IsCalmToServer item items c) in
-    (replies h (got item) ++ later.0, later.1 ∙ append_assoc (sent h) (replies h (got item)) later.0, All-append IsStill (replies h (got item)) later.0 here later.2)
+    (replies h (got item) ++ later.0, later.1 ∙ append_assoc (items_said h) (replies h (got item)) later.0, All-append IsStill (replies h (got item)) later.0 here later.2)
 
-feeds_still : (h : History) (old new : server.End) (piece before after : List ℕ) → server.Stands h old → (f : server.Feeds old piece before after new) → All IsCalmToServer f.items → All IsStill f.said
+feeds_still : (h : History) (old new : server.End) (piece before after : List ℕ) → server.LeadsTo h old → (f : server.Feeds old piece before after new) → All IsCalmToServer f.items → All IsStill f.said
 feeds_still h old new piece before after s f calm =
     let all = gets_still h f.items calm in
-    subst (All IsStill) (append_cancel_left (sent h) all.0 f.said (sym all.1 ∙ f.sends h s)) all.2
+    subst (All IsStill) (append_cancel_left (items_said h) all.0 f.said (sym all.1 ∙ f.sends h s)) all.2
 
 abbrev IsStillCall : asked.Event → Type 0
 IsStillCall (got item) = ⊥
@@ -123,16 +123,16 @@ back_more old new said d t fit still b = (
   All-append IsStill b.0 said b.2 still,
 )
 
-back_goes : (old new : World) (e : asked.Event) → IsStillCall e → IsSound old → (g : server.Goes old.server e old.to_client new.to_client new.server) → new.client.decoder ≡ old.client.decoder → Back old → Back new
+back_goes : (old new : World) (e : asked.Event) → IsStillCall e → HasPast old → (g : server.Advances old.server e old.to_client new.to_client new.server) → new.client.decoder ≡ old.client.decoder → Back old → Back new
 back_goes old new e is sound g d b =
     let h = sound.history in
     back_more old new g.said d g.appended (goes_fit h old.server new.server e old.to_client new.to_client sound.server g)
     (subst (All IsStill) (g.replies h sound.server) (call_still h e is)) b
 
-back_asks : (old new : World) (e : asked.Event) → IsStillCall e → IsSound old → Asks old e new → Back old → Back new
+back_asks : (old new : World) (e : asked.Event) → IsStillCall e → HasPast old → CallsServer old e new → Back old → Back new
 back_asks old new e is sound t b = back_goes old new e is sound t.goes (ap (λ (w : World). w.client.decoder) t.rest) b
 
-back_reaches : (s : Canon) (old new : World) (n : ℕ) → Holds s old → Reaches old n new → Back old → Back new
+back_reaches : (s : Canon) (old new : World) (n : ℕ) → IsRelated s old → DeliversToServer old n new → Back old → Back new
 back_reaches s old new n h t b =
     let p = h.sound.history in
     let d = cut_at old.server.decoder new.server.decoder n old.to_server h.tied.items t.feeds.items h.tied.flight t.feeds.reads in
@@ -141,7 +141,7 @@ back_reaches s old new n h t b =
     (feeds_fit p old.server new.server (take n old.to_server) old.to_client new.to_client h.sound.server t.feeds)
     (feeds_still p old.server new.server (take n old.to_server) old.to_client new.to_client h.sound.server t.feeds calm) b
 
-back_returns : (old new : World) (n : ℕ) → Returns old n new → Back old → Back new
+back_returns : (old new : World) (n : ℕ) → DeliversToClient old n new → Back old → Back new
 back_returns old new n t b =
     let d = cut_at old.client.decoder new.client.decoder n old.to_client b.0 t.feeds.items b.1 t.feeds.reads in (
       d.left,
@@ -149,16 +149,16 @@ back_returns old new n t b =
       (all_parts IsStill t.feeds.items d.left (subst (λ l. All IsStill l) d.all b.2)).1,
     )
 
-unless_back : (stopped : Bool) (old new : World) (happens : Type 0) → (happens → Back old → Back new) → Unless stopped old new happens → Back old → Back new
+unless_back : (stopped : Bool) (old new : World) (happens : Type 0) → (happens → Back old → Back new) → UnlessStopped stopped old new happens → Back old → Back new
 unless_back true old new happens done is b = subst Back (sym is) b
 unless_back false old new happens done is b = done is b
 
-back_does : (s : Canon) (old new : World) (e : Event) → KeepsTheMode e → Holds s old → Does old e new → Back old → Back new
+back_does : (s : Canon) (old new : World) (e : Event) → KeepsTheMode e → IsRelated s old → RunsEvent old e new → Back old → Back new
 back_does s old new (Key key) k h d b =
-    unless_back old.client_stopped old new (Types old key new) (λ t. back_same old new t.keeps.decoder (ap (λ (w : World). w.to_client) t.rest)) d b
-back_does s old new (ToServer n) k h d b = unless_back old.server_stopped old new (Reaches old n new) (back_reaches s old new n h) d b
-back_does s old new (ToClient n) k h d b = unless_back old.client_stopped old new (Returns old n new) (back_returns old new n) d b
-back_does s old new (Write bytes) k h d b = unless_back old.server_stopped old new (Asks old (wrote bytes) new) (back_asks old new (wrote bytes) tt h.sound) d b
+    unless_back old.client_stopped old new (TypesKey old key new) (λ t. back_same old new t.keeps.decoder (ap (λ (w : World). w.to_client) t.rest)) d b
+back_does s old new (ToServer n) k h d b = unless_back old.server_stopped old new (DeliversToServer old n new) (back_reaches s old new n h) d b
+back_does s old new (ToClient n) k h d b = unless_back old.client_stopped old new (DeliversToClient old n new) (back_returns old new n) d b
+back_does s old new (Write bytes) k h d b = unless_back old.server_stopped old new (CallsServer old (wrote bytes) new) (back_asks old new (wrote bytes) tt h.sound) d b
 back_does s old new (Pull n) k h d b =
     unless_back old.server_stopped old new (Pulls old n new) (λ p. back_asks old new (pulled p.count) tt h.sound p.asks) d b
 back_does s old new Take k h d b = back_goes old new took tt h.sound d.goes (ap (λ (w : World). w.client.decoder) d.rest) b
@@ -167,17 +167,17 @@ back_does s old new (Resize width height) k h d b =
     unless_back old.client_stopped old new _ (λ t. back_same old new t.keeps.decoder (ap (λ (w : World). w.to_client) t.rest)) d b
 back_does s old new (SetChar func value) k h d b = absurd k
 back_does s old new (Propose func value) k h d b = absurd k
-back_does s old new (Echo on) k h d b = unless_back old.server_stopped old new (Asks old (echo_set on) new) (back_asks old new (echo_set on) tt h.sound) d b
+back_does s old new (Echo on) k h d b = unless_back old.server_stopped old new (CallsServer old (echo_set on) new) (back_asks old new (echo_set on) tt h.sound) d b
 back_does s old new ServerStops k h d b = subst Back (sym d) b
 back_does s old new ClientStops k h d b = subst Back (sym d) b
 
 -- A WORLD IN WHICH THE MODE STAYS
 record Stays (s : Canon) (w : World) : Type 0 where
   none : NoneFailed w
-  holds : Holds s w
+  holds : IsRelated s w
   back : Back w
 
-delivers_quiet : (s : Canon) (w : World) (n : ℕ) → Back w → DeliversWhere (IsBetweenLines s) w n
+delivers_quiet : (s : Canon) (w : World) (n : ℕ) → Back w → DeliversModesWhere (IsBetweenLines s) w n
 delivers_quiet s w n b = λ items next reads.
     let d = cut_at w.client.decoder next n w.to_client b.0 items b.1 reads in
     still_come (IsBetweenLines s w.typed) w.client.options w.client.mode items (all_parts IsStill items d.left (subst (λ l. All IsStill l) d.all b.2)).0
@@ -197,7 +197,7 @@ event_quiet s w (Echo on) k b = tt
 event_quiet s w ServerStops k b = tt
 event_quiet s w ClientStops k b = tt
 
-stays_on : (s : Canon) (old new : World) (e : Event) → KeepsTheMode e → Does old e new → Stays s old → Stays s new
+stays_on : (s : Canon) (old new : World) (e : Event) → KeepsTheMode e → RunsEvent old e new → Stays s old → Stays s new
 stays_on s old new e k d x =
     let same = does_keeps old new e d in
     record {

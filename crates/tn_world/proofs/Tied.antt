@@ -12,18 +12,18 @@ use Rattle.tn_nvt.specs.declared.items.Item.TheVariants.{Byte, Newline, Cmd, Neg
 use Rattle.tn_nvt.specs.Spelling.{spells}
 use Rattle.tn_discipline.specs.declared.reads.Entry.{Entry}
 use Rattle.tn_discipline.specs.declared.termios.Settings.{Settings}
-use Rattle.tn_world.specs.relation.Calm.{IsCalmToServer, AsksCalmly, IsCalmToClient, seen, heard_payload, heard}
+use Rattle.tn_world.specs.relation.Calm.{IsCalmToServer, AsksCalmly, IsCalmToClient, server_item, heard_payload, client_message}
 use Rattle.tn_world.specs.Flight.{InFlight}
 use Rattle.tn_world.specs.Headline.{IsPrefixOf, local_entries}
 use Rattle.tn_world.specs.relation.Machine as machine
-use Rattle.tn_world.specs.relation.Machine.{Mode, Rules, Message, mode, forward_at, chatter, Server, read_all, Client, keyed, came, IsAskable}
+use Rattle.tn_world.specs.relation.Machine.{Mode, Rules, Message, mode, forward_at, chatter, Server, read_all, Client, client_after_key, client_after_message, IsAskable}
 use Rattle.tn_world.proofs.Cut.{behind, cut_at, no_items}
 use Rattle.tn_world.proofs.Reading.{read_all-append}
 use Rattle.tn_world.proofs.Changing as was
 use Rattle.tn_world.proofs.Changing.{key-agrees, message-agrees}
 use Rattle.tn_world.proofs.Prefixes.{take-agrees, agreed, prefix_after, prefix_same, prefix_trans, read-more}
-use Rattle.tn_world.specs.relation.Ends.{ServerEnd, ClientEnd, seen_all, heard_all, Replies, ServerFeeds, without, Took, Writes, ClientKeys, came_all, ClientFeeds, ClientSays, IsCalm, AreBetweenLines, IsQuietEvent, World, Event, key, to_server, to_client, take_entry, server_call, client_call, Happens, made}
-use Rattle.tn_world.specs.relation.Relation.{Agrees, Tied, at}
+use Rattle.tn_world.specs.relation.Ends.{ServerEnd, ClientEnd, server_items, client_messages, AreReplies, ServerFeeds, with_waiting, TakesFirst, SaysItems, ClientKeys, client_after_messages, ClientFeeds, ClientSays, IsCalm, AreBetweenLines, IsQuietEvent, World, Event, key, to_server, to_client, take_entry, server_call, client_call, Happens, made}
+use Rattle.tn_world.specs.relation.Relation.{Agrees, IsTied, server_at}
 
 -- both parts
 pub all_parts : {X : Type 0} (P : X → Type 0) (xs ys : List X) → All P (xs ++ ys) → All P xs × All P ys
@@ -33,11 +33,11 @@ all_parts P (x ∷ xs) ys h =
     (All-cons P x xs (All-head P x (xs ++ ys) h) rest.0, rest.1)
 
 -- the server after items that the client sends
-sent : (rules : Rules) (v : Server) (items new : List Item) (says : List machine.Item) → ((u : Server) → read_all rules.canon u (seen_all rules new) ≡ read_all rules.canon u says) → read_all rules.canon v (seen_all rules (items ++ new)) ≡ read_all rules.canon (read_all rules.canon v (seen_all rules items)) says
+sent : (rules : Rules) (v : Server) (items new : List Item) (says : List machine.Item) → ((u : Server) → read_all rules.canon u (server_items rules new) ≡ read_all rules.canon u says) → read_all rules.canon v (server_items rules (items ++ new)) ≡ read_all rules.canon (read_all rules.canon v (server_items rules items)) says
 sent rules v items new says is =
-    ap (λ x. read_all rules.canon v x) (map-append (seen rules.linemode) items new)
-    ∙ read_all-append rules.canon v (seen_all rules items) (seen_all rules new)
-    ∙ is (read_all rules.canon v (seen_all rules items))
+    ap (λ x. read_all rules.canon v x) (map-append (server_item rules.linemode) items new)
+    ∙ read_all-append rules.canon v (server_items rules items) (server_items rules new)
+    ∙ is (read_all rules.canon v (server_items rules items))
 
 askable_payload : (s : Settings) (linemode : Bool) (p : Option Payload) → AsksCalmly s p → was.IsAskableMessage s (heard_payload linemode p)
 askable_payload s true (Some (payload.Mode mask)) h = h.1
@@ -50,7 +50,7 @@ askable_payload s true (Some (payload.Slc triples)) h = tt
 askable_payload s true None h = tt
 askable_payload s false p h = tt
 
-askable_as : (s : Settings) (linemode : Bool) (item : Item) → IsCalmToClient s item → was.IsAskableMessage s (heard linemode item)
+askable_as : (s : Settings) (linemode : Bool) (item : Item) → IsCalmToClient s item → was.IsAskableMessage s (client_message linemode item)
 askable_as s linemode (Byte b) h = tt
 askable_as s linemode Newline h = tt
 askable_as s linemode (Cmd c) h = tt
@@ -63,18 +63,18 @@ calm_as rules typed c (forward_at f) h = tt
 calm_as rules typed c chatter h = tt
 
 -- messages that come one after another
-all-agree : (rules : Rules) (typed : List ℕ) (taken : List Entry) (v : Server) (c : Client) (items : List Item) → (rules.resumes ≡ false → AreBetweenLines rules typed c (heard_all rules items)) → Agrees rules typed taken v c → All (IsCalmToClient rules.canon.settings) items → Agrees rules typed taken (read_all rules.canon v (came_all rules c (heard_all rules items)).items) (came_all rules c (heard_all rules items)).client
+all-agree : (rules : Rules) (typed : List ℕ) (taken : List Entry) (v : Server) (c : Client) (items : List Item) → (rules.resumes ≡ false → AreBetweenLines rules typed c (client_messages rules items)) → Agrees rules typed taken v c → All (IsCalmToClient rules.canon.settings) items → Agrees rules typed taken (read_all rules.canon v (client_after_messages rules c (client_messages rules items)).items) (client_after_messages rules c (client_messages rules items)).client
 all-agree rules typed taken v c [] quiet a calm = a
 all-agree rules typed taken v c (item ∷ items) quiet a calm =
-    let m = heard rules.linemode item in
-    subst (λ x. Agrees rules typed taken x (came_all rules (came rules c m).client (heard_all rules items)).client)
-    (sym (read_all-append rules.canon v (came rules c m).items (came_all rules (came rules c m).client (heard_all rules items)).items))
-    (all-agree rules typed taken (read_all rules.canon v (came rules c m).items) (came rules c m).client items (λ r. (quiet r).1)
+    let m = client_message rules.linemode item in
+    subst (λ x. Agrees rules typed taken x (client_after_messages rules (client_after_message rules c m).client (client_messages rules items)).client)
+    (sym (read_all-append rules.canon v (client_after_message rules c m).items (client_after_messages rules (client_after_message rules c m).client (client_messages rules items)).items))
+    (all-agree rules typed taken (read_all rules.canon v (client_after_message rules c m).items) (client_after_message rules c m).client items (λ r. (quiet r).1)
     (message-agrees rules typed taken v c m a (askable_as rules.canon.settings rules.linemode item (All-head (IsCalmToClient rules.canon.settings) item items calm)) (λ r. calm_as rules typed c m (quiet r).0))
     (All-tail (IsCalmToClient rules.canon.settings) item items calm))
 
 -- the flight to the server, once the client has written
-writes-tied : (rules : Rules) (w : World) (t : Tied rules w) (says : List machine.Item) (said : List Item) (typed : List ℕ) (client : ClientEnd) (messages : List Item) (later : List ℕ) → Writes rules says said → InFlight client.decoder later messages → All (IsCalmToClient rules.canon.settings) messages → Agrees rules typed w.taken (read_all rules.canon (read_all rules.canon w.server.core (seen_all rules t.items)) says) client.core → Tied rules (record w { typed = typed; client = client; to_client = later; to_server = w.to_server ++ spells said })
+writes-tied : (rules : Rules) (w : World) (t : IsTied rules w) (says : List machine.Item) (said : List Item) (typed : List ℕ) (client : ClientEnd) (messages : List Item) (later : List ℕ) → SaysItems rules says said → InFlight client.decoder later messages → All (IsCalmToClient rules.canon.settings) messages → Agrees rules typed w.taken (read_all rules.canon (read_all rules.canon w.server.core (server_items rules t.items)) says) client.core → IsTied rules (record w { typed = typed; client = client; to_client = later; to_server = w.to_server ++ spells said })
 writes-tied rules w t says said typed client messages later h back asked agrees =
     record {
       items = t.items ++ said;
@@ -86,27 +86,27 @@ writes-tied rules w t says said typed client messages later h back asked agrees 
       agrees = subst (λ v. Agrees rules typed w.taken v client.core) (sym (sent rules w.server.core t.items said says h.says_so)) agrees;
     }
 
-key-tied : (rules : Rules) (w : World) (k : ℕ) (client : ClientEnd) (said : List Item) → ClientKeys rules w.client k said client → Tied rules w → Tied rules (record w { typed = w.typed ++ k ∷ []; client = client; to_server = w.to_server ++ spells said })
+key-tied : (rules : Rules) (w : World) (k : ℕ) (client : ClientEnd) (said : List Item) → ClientKeys rules w.client k said client → IsTied rules w → IsTied rules (record w { typed = w.typed ++ k ∷ []; client = client; to_server = w.to_server ++ spells said })
 key-tied rules w k client said h t =
-    writes-tied rules w t (keyed rules w.client.core.mask.edit w.client.core k).items said (w.typed ++ k ∷ []) client t.messages w.to_client h.writes (subst (λ d. InFlight d w.to_client t.messages) (sym h.decoder) t.back) t.asked
-    (subst (λ c. Agrees rules (w.typed ++ k ∷ []) w.taken (read_all rules.canon (read_all rules.canon w.server.core (seen_all rules t.items)) (keyed rules w.client.core.mask.edit w.client.core k).items) c) (sym h.core)
-    (key-agrees rules w.typed w.taken (read_all rules.canon w.server.core (seen_all rules t.items)) w.client.core k w.client.core.mask.edit refl t.agrees))
+    writes-tied rules w t (client_after_key rules w.client.core.mask.edit w.client.core k).items said (w.typed ++ k ∷ []) client t.messages w.to_client h.writes (subst (λ d. InFlight d w.to_client t.messages) (sym h.decoder) t.back) t.asked
+    (subst (λ c. Agrees rules (w.typed ++ k ∷ []) w.taken (read_all rules.canon (read_all rules.canon w.server.core (server_items rules t.items)) (client_after_key rules w.client.core.mask.edit w.client.core k).items) c) (sym h.core)
+    (key-agrees rules w.typed w.taken (read_all rules.canon w.server.core (server_items rules t.items)) w.client.core k w.client.core.mask.edit refl t.agrees))
 
-client-tied : (rules : Rules) (w : World) (n : ℕ) (client : ClientEnd) (said : List Item) → (rules.resumes ≡ false → IsQuietEvent rules w (to_client n)) → ClientFeeds rules w.client (take n w.to_client) said client → Tied rules w → Tied rules (record w { client = client; to_client = drop n w.to_client; to_server = w.to_server ++ spells said })
+client-tied : (rules : Rules) (w : World) (n : ℕ) (client : ClientEnd) (said : List Item) → (rules.resumes ≡ false → IsQuietEvent rules w (to_client n)) → ClientFeeds rules w.client (take n w.to_client) said client → IsTied rules w → IsTied rules (record w { client = client; to_client = drop n w.to_client; to_server = w.to_server ++ spells said })
 client-tied rules w n client said quiet h t =
     let d = cut_at w.client.decoder client.decoder n w.to_client t.messages h.got t.back h.reads in
     let parts = all_parts (IsCalmToClient rules.canon.settings) h.got d.left (subst (λ l. All (IsCalmToClient rules.canon.settings) l) d.all t.asked) in
-    writes-tied rules w t (came_all rules w.client.core (heard_all rules h.got)).items said w.typed client d.left (drop n w.to_client) h.writes d.flight parts.1
-    (subst (λ c. Agrees rules w.typed w.taken (read_all rules.canon (read_all rules.canon w.server.core (seen_all rules t.items)) (came_all rules w.client.core (heard_all rules h.got)).items) c) (sym h.core)
-    (all-agree rules w.typed w.taken (read_all rules.canon w.server.core (seen_all rules t.items)) w.client.core h.got (λ r. quiet r h.got client.decoder h.reads) t.agrees parts.0))
+    writes-tied rules w t (client_after_messages rules w.client.core (client_messages rules h.got)).items said w.typed client d.left (drop n w.to_client) h.writes d.flight parts.1
+    (subst (λ c. Agrees rules w.typed w.taken (read_all rules.canon (read_all rules.canon w.server.core (server_items rules t.items)) (client_after_messages rules w.client.core (client_messages rules h.got)).items) c) (sym h.core)
+    (all-agree rules w.typed w.taken (read_all rules.canon w.server.core (server_items rules t.items)) w.client.core h.got (λ r. quiet r h.got client.decoder h.reads) t.agrees parts.0))
 
-client-says : (rules : Rules) (w : World) (client : ClientEnd) (said : List Item) → ClientSays rules w.client said client → Tied rules w → Tied rules (record w { client = client; to_server = w.to_server ++ spells said })
+client-says : (rules : Rules) (w : World) (client : ClientEnd) (said : List Item) → ClientSays rules w.client said client → IsTied rules w → IsTied rules (record w { client = client; to_server = w.to_server ++ spells said })
 client-says rules w client said h t =
-    subst (λ c. Tied rules (record w { client = c; to_server = w.to_server ++ spells said })) (sym h.same)
+    subst (λ c. IsTied rules (record w { client = c; to_server = w.to_server ++ spells said })) (sym h.same)
     (writes-tied rules w t [] said w.typed w.client t.messages w.to_client h.writes t.back t.asked t.agrees)
 
 -- the flight to the client, once the server has written
-says-tied : (rules : Rules) (w : World) (said : List Item) → Replies rules said → Tied rules w → Tied rules (record w { to_client = w.to_client ++ spells said })
+says-tied : (rules : Rules) (w : World) (said : List Item) → AreReplies rules said → IsTied rules w → IsTied rules (record w { to_client = w.to_client ++ spells said })
 says-tied rules w said h t =
     record {
       items = t.items;
@@ -118,7 +118,7 @@ says-tied rules w said h t =
       agrees = t.agrees;
     }
 
-server-tied : (rules : Rules) (w : World) (n : ℕ) (server : ServerEnd) (said : List Item) → ServerFeeds rules w.server (take n w.to_server) said server → Tied rules w → Tied rules (record w { server = server; to_server = drop n w.to_server; to_client = w.to_client ++ spells said })
+server-tied : (rules : Rules) (w : World) (n : ℕ) (server : ServerEnd) (said : List Item) → ServerFeeds rules w.server (take n w.to_server) said server → IsTied rules w → IsTied rules (record w { server = server; to_server = drop n w.to_server; to_client = w.to_client ++ spells said })
 server-tied rules w n server said h t =
     let d = cut_at w.server.decoder server.decoder n w.to_server t.items h.got t.flight h.reads in
     says-tied rules (record w { server = server; to_server = drop n w.to_server }) said h.replies (record {
@@ -130,20 +130,20 @@ server-tied rules w n server said h t =
       asked = t.asked;
       agrees =
           subst (λ v. Agrees rules w.typed w.taken v w.client.core)
-          (ap (λ x. read_all rules.canon w.server.core x) (ap (seen_all rules) d.all ∙ map-append (seen rules.linemode) h.got d.left)
-          ∙ read_all-append rules.canon w.server.core (seen_all rules h.got) (seen_all rules d.left)
-          ∙ ap (λ v. read_all rules.canon v (seen_all rules d.left)) (sym h.core))
+          (ap (λ x. read_all rules.canon w.server.core x) (ap (server_items rules) d.all ∙ map-append (server_item rules.linemode) h.got d.left)
+          ∙ read_all-append rules.canon w.server.core (server_items rules h.got) (server_items rules d.left)
+          ∙ ap (λ v. read_all rules.canon v (server_items rules d.left)) (sym h.core))
           t.agrees;
     })
 
 -- an entry is taken
-took-tied : (rules : Rules) (w : World) (entry : List Entry) (server : ServerEnd) → Took w.server entry server → Tied rules w → Tied rules (record w { taken = w.taken ++ entry; server = server })
+took-tied : (rules : Rules) (w : World) (entry : List Entry) (server : ServerEnd) → TakesFirst w.server entry server → IsTied rules w → IsTied rules (record w { taken = w.taken ++ entry; server = server })
 took-tied rules w [] server h t =
-    subst (λ v. Tied rules (record w { taken = w.taken ++ []; server = v })) (sym h.1)
-    (subst (λ x. Tied rules (record w { taken = x })) (sym (append-nil w.taken)) t)
+    subst (λ v. IsTied rules (record w { taken = w.taken ++ []; server = v })) (sym h.1)
+    (subst (λ x. IsTied rules (record w { taken = x })) (sym (append-nil w.taken)) t)
 took-tied rules w (x ∷ none) server h t =
-    subst (λ v. Tied rules (record w { taken = w.taken ++ x ∷ none; server = v })) (sym h.3)
-    (subst (λ l. Tied rules (record w { taken = w.taken ++ x ∷ l; server = record w.server { core = without w.server.core h.0 } })) (sym h.2)
+    subst (λ v. IsTied rules (record w { taken = w.taken ++ x ∷ none; server = v })) (sym h.3)
+    (subst (λ l. IsTied rules (record w { taken = w.taken ++ x ∷ l; server = record w.server { core = with_waiting w.server.core h.0 } })) (sym h.2)
     (record {
       items = t.items;
       flight = t.flight;
@@ -151,26 +151,26 @@ took-tied rules w (x ∷ none) server h t =
       messages = t.messages;
       back = t.back;
       asked = t.asked;
-      agrees = take-agrees rules w.typed w.taken w.server.core w.client.core (seen_all rules t.items) x h.0 h.1 t.agrees;
+      agrees = take-agrees rules w.typed w.taken w.server.core w.client.core (server_items rules t.items) x h.0 h.1 t.agrees;
     }))
 
 -- every event keeps the relation
-pub happens-tied : (rules : Rules) (w new : World) (e : Event) → (rules.resumes ≡ false → IsQuietEvent rules w e) → Happens rules w e new → Tied rules w → Tied rules new
-happens-tied rules w new (key k) quiet h t = subst (λ x. Tied rules x) (sym h.3) (key-tied rules w k h.0 h.1 h.2 t)
-happens-tied rules w new (to_server n) quiet h t = subst (λ x. Tied rules x) (sym h.3) (server-tied rules w n h.0 h.1 h.2 t)
-happens-tied rules w new (to_client n) quiet h t = subst (λ x. Tied rules x) (sym h.3) (client-tied rules w n h.0 h.1 quiet h.2 t)
+pub happens-tied : (rules : Rules) (w new : World) (e : Event) → (rules.resumes ≡ false → IsQuietEvent rules w e) → Happens rules w e new → IsTied rules w → IsTied rules new
+happens-tied rules w new (key k) quiet h t = subst (λ x. IsTied rules x) (sym h.3) (key-tied rules w k h.0 h.1 h.2 t)
+happens-tied rules w new (to_server n) quiet h t = subst (λ x. IsTied rules x) (sym h.3) (server-tied rules w n h.0 h.1 h.2 t)
+happens-tied rules w new (to_client n) quiet h t = subst (λ x. IsTied rules x) (sym h.3) (client-tied rules w n h.0 h.1 quiet h.2 t)
 happens-tied rules w new take_entry quiet h t =
-    subst (λ x. Tied rules x) (sym h.5) (says-tied rules (record w { taken = w.taken ++ h.2; server = h.0 }) h.1 h.4 (took-tied rules w h.2 h.0 h.3 t))
+    subst (λ x. IsTied rules x) (sym h.5) (says-tied rules (record w { taken = w.taken ++ h.2; server = h.0 }) h.1 h.4 (took-tied rules w h.2 h.0 h.3 t))
 happens-tied rules w new server_call quiet h t =
-    subst (λ x. Tied rules x) (sym h.3) (subst (λ v. Tied rules (record w { server = v; to_client = w.to_client ++ spells h.1 })) (sym h.2.same) (says-tied rules w h.1 h.2.replies t))
-happens-tied rules w new client_call quiet h t = subst (λ x. Tied rules x) (sym h.3) (client-says rules w h.0 h.1 h.2 t)
+    subst (λ x. IsTied rules x) (sym h.3) (subst (λ v. IsTied rules (record w { server = v; to_client = w.to_client ++ spells h.1 })) (sym h.2.same) (says-tied rules w h.1 h.2.replies t))
+happens-tied rules w new client_call quiet h t = subst (λ x. IsTied rules x) (sym h.3) (client-says rules w h.0 h.1 h.2 t)
 
 no_count : (b : Bool) (n : ℕ) → (if b then n else n) ≡ n
 no_count true n = refl
 no_count false n = refl
 
 -- the ends at rest under this mode
-pub rest-agrees : (rules : Rules) (m : Mode) (f : ℕ → Bool) → IsAskable rules.canon.settings m → Agrees rules [] [] (at m.edit [] []) (record { mask = m; held = []; ahead = 0; forward = f; trapped = 0; plain = 0; failed = false })
+pub rest-agrees : (rules : Rules) (m : Mode) (f : ℕ → Bool) → IsAskable rules.canon.settings m → Agrees rules [] [] (server_at m.edit [] []) (record { mask = m; held = []; ahead = 0; forward = f; trapped = 0; plain = 0; failed = false })
 rest-agrees rules m f askable =
     record {
       half = [];
@@ -185,13 +185,13 @@ rest-agrees rules m f askable =
       count = λ r e allowed. no_count rules.canon.settings.flags.isig 0;
     }
 
-pub tied-prefix : (rules : Rules) (w : World) → Tied rules w → IsPrefixOf (made w) (local_entries rules.canon w.typed)
+pub tied-prefix : (rules : Rules) (w : World) → IsTied rules w → IsPrefixOf (made w) (local_entries rules.canon w.typed)
 tied-prefix rules w t =
-    prefix_trans (made w) (w.taken ++ (read_all rules.canon w.server.core (seen_all rules t.items)).waiting) (local_entries rules.canon w.typed)
-    (prefix_after w.taken w.server.core.waiting (read_all rules.canon w.server.core (seen_all rules t.items)).waiting (read-more rules.canon w.server.core (seen_all rules t.items)))
-    (prefix_same _ _ (agreed rules w.typed w.taken (read_all rules.canon w.server.core (seen_all rules t.items)) w.client.core t.agrees))
+    prefix_trans (made w) (w.taken ++ (read_all rules.canon w.server.core (server_items rules t.items)).waiting) (local_entries rules.canon w.typed)
+    (prefix_after w.taken w.server.core.waiting (read_all rules.canon w.server.core (server_items rules t.items)).waiting (read-more rules.canon w.server.core (server_items rules t.items)))
+    (prefix_same _ _ (agreed rules w.typed w.taken (read_all rules.canon w.server.core (server_items rules t.items)) w.client.core t.agrees))
 
-pub tied-complete : (rules : Rules) (w : World) → Tied rules w → w.to_server ≡ [] → made w ≡ local_entries rules.canon w.typed
+pub tied-complete : (rules : Rules) (w : World) → IsTied rules w → w.to_server ≡ [] → made w ≡ local_entries rules.canon w.typed
 tied-complete rules w t nothing =
     let none : t.items ≡ [] = no_items w.server.decoder t.items (subst (λ x. InFlight w.server.decoder x t.items) nothing t.flight) in
-    ap (λ l. w.taken ++ (read_all rules.canon w.server.core (seen_all rules l)).waiting) (sym none) ∙ agreed rules w.typed w.taken (read_all rules.canon w.server.core (seen_all rules t.items)) w.client.core t.agrees
+    ap (λ l. w.taken ++ (read_all rules.canon w.server.core (server_items rules l)).waiting) (sym none) ∙ agreed rules w.typed w.taken (read_all rules.canon w.server.core (server_items rules t.items)) w.client.core t.agrees

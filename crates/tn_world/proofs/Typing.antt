@@ -17,7 +17,7 @@ use Rattle.tn_codes.specs.declared.codes.Command.TheVariants.{Eof}
 use Rattle.tn_pty.specs.Typing.{command_role}
 use Rattle.tn_world.specs.relation.Machine.{byte, newline, command, Client, Part, read_all, command_of, ordinary_key, erase_key, kill_key, edit_key}
 use Rattle.tn_world.proofs.Reading.{ordinary-append, ordinary-take, read-bytes, read-bytes_then}
-use Rattle.tn_world.specs.relation.Relation.{AreOrdinary, at}
+use Rattle.tn_world.specs.relation.Relation.{AreOrdinary, server_at}
 
 -- a role of a byte that would close or be kept is that of the byte as it is
 abbrev pub IsLiteral : Characters → Role → Type 0
@@ -67,7 +67,7 @@ literal_key s key = by_mapped s (mapped_key s.flags key)
 -- to what the client holds, and the client knows its length.
 pub record Follows (s : Canon) (h : List ℕ) (w : List Entry) (held : List ℕ) (r : Role) (p : Part) : Type 0 where
   pub half : List ℕ
-  pub reads : read_all s (at true h w) p.items ≡ at true half (w ++ gain_next s.limit (h ++ held) r)
+  pub reads : read_all s (server_at true h w) p.items ≡ server_at true half (w ++ gain_next s.limit (h ++ held) r)
   pub line : half_next s.limit (h ++ held) r ≡ half ++ p.held
   pub ahead : length half ≡ p.ahead
   pub plain : AreOrdinary s.settings.chars p.held
@@ -95,7 +95,7 @@ ordinary-follows s h w c b true f test literal plain count fits =
     let is_full = full s.limit h c.held c.ahead true count test in
     record {
       half = h;
-      reads = ap (λ x. at true h x) (sym (ap (λ (t : Bool). w ++ (if t then [] else [])) is_full ∙ append-nil w));
+      reads = ap (λ x. server_at true h x) (sym (ap (λ (t : Bool). w ++ (if t then [] else [])) is_full ∙ append-nil w));
       line = ap (λ (t : Bool). if t then h ++ c.held else (h ++ c.held) ++ b ∷ []) is_full;
       ahead = count;
       plain = plain;
@@ -107,7 +107,7 @@ ordinary-follows s h w c b false true test literal plain count fits =
       half = h ++ (c.held ++ b ∷ []);
       reads =
           read-bytes s h w (c.held ++ b ∷ []) more (room (most_counted s.limit) h c.held b fits is_full)
-          ∙ ap (λ x. at true (h ++ (c.held ++ b ∷ [])) x) (sym (ap (λ (t : Bool). w ++ (if t then [] else [])) is_full ∙ append-nil w));
+          ∙ ap (λ x. server_at true (h ++ (c.held ++ b ∷ [])) x) (sym (ap (λ (t : Bool). w ++ (if t then [] else [])) is_full ∙ append-nil w));
       line = ap (λ (t : Bool). if t then h ++ c.held else (h ++ c.held) ++ b ∷ []) is_full ∙ append_assoc h c.held (b ∷ []) ∙ sym (append-nil (h ++ (c.held ++ b ∷ [])));
       ahead = length-append h (c.held ++ b ∷ []) ∙ ap (λ n. n + length (c.held ++ b ∷ [])) count;
       plain = tt;
@@ -116,7 +116,7 @@ ordinary-follows s h w c b false false test literal plain count fits =
     let is_full = full s.limit h c.held c.ahead false count test in
     record {
       half = h;
-      reads = ap (λ x. at true h x) (sym (ap (λ (t : Bool). w ++ (if t then [] else [])) is_full ∙ append-nil w));
+      reads = ap (λ x. server_at true h x) (sym (ap (λ (t : Bool). w ++ (if t then [] else [])) is_full ∙ append-nil w));
       line = ap (λ (t : Bool). if t then h ++ c.held else (h ++ c.held) ++ b ∷ []) is_full ∙ append_assoc h c.held (b ∷ []);
       ahead = count;
       plain = ordinary-append s.settings.chars c.held (b ∷ []) plain (literal, tt);
@@ -137,7 +137,7 @@ erase-follows : (s : Canon) (h : List ℕ) (w : List Entry) (c : Client) (t f : 
 erase-follows s h w c true f some further plain count =
     record {
       half = h;
-      reads = ap (λ x. at true h x) (sym (append-nil w));
+      reads = ap (λ x. server_at true h x) (sym (append-nil w));
       line = front-append h c.held (some_of (length c.held) some);
       ahead = count;
       plain = ordinary-take s.settings.chars (length c.held - 1) c.held plain;
@@ -157,7 +157,7 @@ erase-follows s h w c false false none nowhere plain count =
     let both : h ++ c.held ≡ [] = ap (λ held. h ++ held) nothing ∙ append-nil h ∙ start in
     record {
       half = h;
-      reads = ap (λ x. at true h x) (sym (append-nil w));
+      reads = ap (λ x. server_at true h x) (sym (append-nil w));
       line = ap front both ∙ sym both;
       ahead = count;
       plain = plain;
@@ -168,7 +168,7 @@ kill-follows s h w c true some count = record { half = []; reads = refl; line = 
 kill-follows s h w c false nowhere count =
     record {
       half = [];
-      reads = ap (λ x. at true x w) (empty_of h (count ∙ none_of c.ahead nowhere)) ∙ ap (λ x. at true [] x) (sym (append-nil w));
+      reads = ap (λ x. server_at true x w) (empty_of h (count ∙ none_of c.ahead nowhere)) ∙ ap (λ x. server_at true [] x) (sym (append-nil w));
       line = refl;
       ahead = refl;
       plain = tt;
@@ -184,7 +184,7 @@ key-follows s h w c (role.Eol b) literal plain count fits =
       half = [];
       reads =
           read-bytes_then s h w c.held (byte b) plain (omega (arith, length-append h c.held))
-          ∙ ap (λ r. at true (half_next s.limit (h ++ c.held) r) (w ++ gain_next s.limit (h ++ c.held) r)) literal;
+          ∙ ap (λ r. server_at true (half_next s.limit (h ++ c.held) r) (w ++ gain_next s.limit (h ++ c.held) r)) literal;
       line = refl;
       ahead = refl;
       plain = tt;
@@ -194,7 +194,7 @@ key-follows s h w c (role.Eol2 b) literal plain count fits =
       half = [];
       reads =
           read-bytes_then s h w c.held (byte b) plain (omega (arith, length-append h c.held))
-          ∙ ap (λ r. at true (half_next s.limit (h ++ c.held) r) (w ++ gain_next s.limit (h ++ c.held) r)) literal;
+          ∙ ap (λ r. server_at true (half_next s.limit (h ++ c.held) r) (w ++ gain_next s.limit (h ++ c.held) r)) literal;
       line = refl;
       ahead = refl;
       plain = tt;
@@ -202,9 +202,9 @@ key-follows s h w c (role.Eol2 b) literal plain count fits =
 key-follows s h w c role.Eof literal plain count fits =
     record { half = []; reads = read-bytes_then s h w c.held (command Eof) plain (omega (arith, length-append h c.held)); line = refl; ahead = refl; plain = tt }
 key-follows s h w c (role.Signal sig) literal plain count fits =
-    record { half = h; reads = ap (λ r. at true (half_next s.limit h r) (w ++ gain_next s.limit h r)) (command-role sig); line = refl; ahead = count; plain = plain }
+    record { half = h; reads = ap (λ r. server_at true (half_next s.limit h r) (w ++ gain_next s.limit h r)) (command-role sig); line = refl; ahead = count; plain = plain }
 key-follows s h w c role.Erase literal plain count fits =
     erase-follows s h w c (nat_lt 0 (length c.held)) (nat_lt 0 c.ahead) refl refl plain count
 key-follows s h w c role.Kill literal plain count fits = kill-follows s h w c (nat_lt 0 c.ahead) refl count
 key-follows s h w c role.Ignored literal plain count fits =
-    record { half = h; reads = ap (λ x. at true h x) (sym (append-nil w)); line = refl; ahead = count; plain = plain }
+    record { half = h; reads = ap (λ x. server_at true h x) (sym (append-nil w)); line = refl; ahead = count; plain = plain }

@@ -4,16 +4,16 @@
 use Rattle.std.specs.Prelude.{◌≡◌, ◌≢◌, ◌⊎◌, ℕ, Bool, true, false, List, [], ◌∷◌, ◌++◌, take}
 use Rattle.tn_discipline.specs.Canon.{Canon, typed_entries, typed_half}
 use Rattle.tn_discipline.specs.declared.reads.Entry.{Entry}
-use Rattle.tn_nvt.specs.Standing.{Standing, Adds}
+use Rattle.tn_nvt.specs.Feeding.{DecoderState, Advances}
 use Rattle.tn_nvt.specs.declared.items.Item.{Item}
 use Rattle.tn_option.specs.Options.{Options, state_of}
 use Rattle.tn_option.specs.declared.q_method.Side.{Side}
 use Rattle.tn_option.specs.declared.q_method.Side.TheVariants.{Us, Them}
 use Rattle.tn_option.specs.declared.q_method.QState.{QState}
 use Rattle.tn_option.specs.declared.q_method.QState.TheVariants.{No, Yes, WantNoEmpty, WantNoOpposite, WantYesEmpty, WantYesOpposite}
-use Rattle.tn_client.specs.Terms.{heard, mode_at}
-use Rattle.tn_world.specs.Past.{IsSound}
-use Rattle.tn_world.specs.Worlds.{World, Does, Refuses, canon_of}
+use Rattle.tn_client.specs.Terms.{options_after, mode_at}
+use Rattle.tn_world.specs.Past.{HasPast}
+use Rattle.tn_world.specs.Worlds.{World, RunsEvent, Refuses, canon_of}
 use Rattle.tn_world.specs.declared.events.Event.{Event}
 use Rattle.tn_world.specs.declared.events.Event.TheVariants.{ToClient, Wish, SetChar, Propose}
 use Rattle.tn_world.specs.declared.faults.Cause.{Cause}
@@ -21,16 +21,16 @@ use Rattle.tn_world.specs.declared.faults.Cause.{Cause}
 -- A SETTLED MOMENT AT REST: what `mark` finds.
 
 -- RFC 1143: no wish waits behind another
-abbrev pub in_order : QState → Bool
-in_order WantNoOpposite = false
-in_order WantYesOpposite = false
-in_order No = true
-in_order Yes = true
-in_order WantNoEmpty = true
-in_order WantYesEmpty = true
+abbrev pub is_in_order : QState → Bool
+is_in_order WantNoOpposite = false
+is_in_order WantYesOpposite = false
+is_in_order No = true
+is_in_order Yes = true
+is_in_order WantNoEmpty = true
+is_in_order WantYesEmpty = true
 
 abbrev pub IsSteady : Options → Type 0
-IsSteady o = (side : Side) (option : ℕ) → in_order (state_of o side option) ≡ true
+IsSteady o = (side : Side) (option : ℕ) → is_in_order (state_of o side option) ≡ true
 
 -- LINEMODE is on at both ends, or off at both
 abbrev pub AgreeOnLinemode : Options → Options → Type 0
@@ -72,7 +72,7 @@ pub record IsSettled (w : World) : Type 0 where
 
 -- A settled moment, from which lists begin anew.
 pub record IsMark (canon : Canon) (w : World) : Type 0 where
-  pub sound : IsSound w
+  pub sound : HasPast w
   pub settled : IsSettled w
   pub rules : canon_of w ≡ canon
   pub typed : w.typed ≡ []
@@ -81,42 +81,42 @@ pub record IsMark (canon : Canon) (w : World) : Type 0 where
 -- QUIET LISTS OF EVENTS: no special character changes, and the mode changes between lines alone.
 
 -- Each of these items that gives a client of these options another mask comes where that may be.
-abbrev pub ComeWhere : Type 0 → Options → ℕ → List Item → Type 0
-ComeWhere may o mode [] = Unit {0}
-ComeWhere may o mode (item ∷ items) = (mode_at o mode item ≢ mode → may) × ComeWhere may (heard o item) (mode_at o mode item) items
+abbrev pub ChangeModeWhere : Type 0 → Options → ℕ → List Item → Type 0
+ChangeModeWhere may o mode [] = Unit {0}
+ChangeModeWhere may o mode (item ∷ items) = (mode_at o mode item ≢ mode → may) × ChangeModeWhere may (options_after o item) (mode_at o mode item) items
 
 -- the typed keys leave no half line
 abbrev pub IsBetweenLines : Canon → List ℕ → Type 0
 IsBetweenLines canon typed = typed_half canon typed ≡ []
 
-abbrev pub ComeBetweenLines : Canon → List ℕ → Options → ℕ → List Item → Type 0
-ComeBetweenLines canon typed o mode items = ComeWhere (IsBetweenLines canon typed) o mode items
+abbrev pub ChangeModeBetweenLines : Canon → List ℕ → Options → ℕ → List Item → Type 0
+ChangeModeBetweenLines canon typed o mode items = ChangeModeWhere (IsBetweenLines canon typed) o mode items
 
 -- the first bytes in flight change the client's mask only where that may be
-abbrev pub DeliversWhere : (List ℕ → Type 0) → World → ℕ → Type 0
-DeliversWhere may w n =
-    (items : List Item) (next : Standing) → Adds w.client.decoder (take n w.to_client) items next → ComeWhere (may w.typed) w.client.options w.client.mode items
+abbrev pub DeliversModesWhere : (List ℕ → Type 0) → World → ℕ → Type 0
+DeliversModesWhere may w n =
+    (items : List Item) (next : DecoderState) → Advances w.client.decoder (take n w.to_client) items next → ChangeModeWhere (may w.typed) w.client.options w.client.mode items
 
 -- no special character is set or proposed, and a client that goes on gets another mask only where that may be
 abbrev pub IsQuietEvent : (List ℕ → Type 0) → World → Event → Type 0
-IsQuietEvent may w (ToClient n) = w.client_stopped ≡ false → w.client.failed ≡ false → DeliversWhere may w n
+IsQuietEvent may w (ToClient n) = w.client_stopped ≡ false → w.client.failed ≡ false → DeliversModesWhere may w n
 IsQuietEvent may w (SetChar func value) = ⊥
 IsQuietEvent may w (Propose func value) = ⊥
 IsQuietEvent may w e = Unit {0}
 
 -- the event is done, and quiet, or it is refused
-abbrev pub Occurs : (List ℕ → Type 0) → World → Event → World → Type 0
-Occurs may old e new = (IsQuietEvent may old e × Does old e new) ⊎ ((cause : Cause) × Refuses old e cause new)
+abbrev pub RunsQuietly : (List ℕ → Type 0) → World → Event → World → Type 0
+RunsQuietly may old e new = (IsQuietEvent may old e × RunsEvent old e new) ⊎ ((cause : Cause) × Refuses old e cause new)
 
 -- these events, each quiet where it is done, lead from one world to the other
-abbrev pub Passes : (List ℕ → Type 0) → World → List Event → World → Type 0
-Passes may old [] new = new ≡ old
-Passes may old (e ∷ events) new = (mid : World) × Occurs may old e mid × Passes may mid events new
+abbrev pub PassesQuietly : (List ℕ → Type 0) → World → List Event → World → Type 0
+PassesQuietly may old [] new = new ≡ old
+PassesQuietly may old (e ∷ events) new = (mid : World) × RunsQuietly may old e mid × PassesQuietly may mid events new
 
 -- the list is quiet, as far as its events are done
 abbrev pub AreQuiet : (List ℕ → Type 0) → World → List Event → Type 0
 AreQuiet may w [] = Unit {0}
-AreQuiet may w (e ∷ events) = (mid : World) → Does w e mid → IsQuietEvent may w e × AreQuiet may mid events
+AreQuiet may w (e ∷ events) = (mid : World) → RunsEvent w e mid → IsQuietEvent may w e × AreQuiet may mid events
 
 -- the mode changes between lines alone
 abbrev pub IsQuiet : Canon → World → List Event → Type 0
@@ -128,11 +128,11 @@ Nowhere typed = ⊥
 
 -- This world came from a settled moment at rest, at which the server had these settings and this limit, by a quiet list
 -- of events.
-pub record Follows (canon : Canon) (w : World) : Type 0 where
+pub record FollowsMark (canon : Canon) (w : World) : Type 0 where
   pub start : World
   pub mark : IsMark canon start
   pub events : List Event
-  pub passes : Passes (IsBetweenLines canon) start events w
+  pub passes : PassesQuietly (IsBetweenLines canon) start events w
 
 -- The owner neither wishes for another mode nor changes a special character.
 abbrev pub KeepsTheMode : Event → Type 0
@@ -150,12 +150,12 @@ EachKeepsTheMode (e ∷ events) = KeepsTheMode e × EachKeepsTheMode events
 abbrev pub NoneFailed : World → Type 0
 NoneFailed w = (w.server.failed ≡ false) × (w.client.failed ≡ false)
 
-abbrev pub NothingFlies : World → Type 0
-NothingFlies w = (w.to_server ≡ []) × (w.to_client ≡ [])
+abbrev pub NothingInFlight : World → Type 0
+NothingInFlight w = (w.to_server ≡ []) × (w.to_client ≡ [])
 
 -- what jobs took, and what waits for them
-abbrev pub made : World → List Entry
-made w = w.taken ++ w.server.terminal.entries
+abbrev pub entries_made : World → List Entry
+entries_made w = w.taken ++ w.server.terminal.entries
 
 -- the entries of these keys at a local terminal
 abbrev pub local_entries : Canon → List ℕ → List Entry
@@ -166,5 +166,5 @@ IsPrefixOf {A} xs ys = (rest : List A) × (xs ++ rest ≡ ys)
 
 -- What holds of a world that follows a mark, at which the server had these settings and this limit.
 pub record Headline (canon : Canon) (w : World) : Type 0 where
-  pub prefix : NoneFailed w → IsPrefixOf (made w) (local_entries canon w.typed)
-  pub complete : NoneFailed w → NothingFlies w → made w ≡ local_entries canon w.typed
+  pub prefix : NoneFailed w → IsPrefixOf (entries_made w) (local_entries canon w.typed)
+  pub complete : NoneFailed w → NothingInFlight w → entries_made w ≡ local_entries canon w.typed

@@ -14,8 +14,8 @@ use Rattle.tn_world.specs.declared.faults.WorldFault.{WorldFault}
 -- Both ends are where they start, with lines of the same limit, and have read nothing; the terminal takes keys, and the
 -- opening words are in flight.
 pub record IsOpened (canon : Canon) (width height : ℕ) (w : World) : Type 0 where
-  pub server : asked.IsAt (asked.started canon) w.server
-  pub client : told.IsAt (told.started width height canon.limit) w.client
+  pub server : asked.CourseLeadsTo (asked.started canon) w.server
+  pub client : told.CourseLeadsTo (told.started width height canon.limit) w.client
   pub takes_keys : w.server.terminal.closed ≡ false
   pub server_runs : w.server.failed ≡ false
   pub client_runs : w.client.failed ≡ false
@@ -25,5 +25,5 @@ pub record IsOpened (canon : Canon) (width height : ℕ) (w : World) : Type 0 wh
 abbrev pub IsOpenFault : WorldFault → Type 0
 IsOpenFault fault = (fault.at ≡ 0) × ((fault.cause ≡ cause.Server refused.Memory) ⊎ (fault.cause ≡ cause.Client broken.Memory))
 
-abbrev pub anew : World → World
-anew w = record w { typed = []; taken = [] }
+abbrev pub with_new_lists : World → World
+with_new_lists w = record w { typed = []; taken = [] }

@@ -6,7 +6,7 @@ use Rattle.tn_discipline.specs.declared.echo.Symbol.TheVariants as symbol
 use Rattle.tn_nvt.specs.declared.items.Item.{Item}
 use Rattle.tn_client.specs.Screen.{item_shown}
 use Rattle.tn_world.specs.Flight.{InFlight}
-use Rattle.tn_world.specs.Worlds.{World, Does, Ends}
+use Rattle.tn_world.specs.Worlds.{World, RunsEvent, StopsWithin}
 use Rattle.tn_world.specs.declared.events.Event.{Event}
 use Rattle.tn_world.specs.declared.events.Event.TheVariants.{ToClient, Pull}
 use Rattle.tn_world.specs.declared.faults.Cause.{Cause}
@@ -41,24 +41,24 @@ IsNoneAt (ToClient n) symbols = symbols ≡ []
 IsNoneAt e symbols = Unit {0}
 
 -- What the terminal's queue took in the event is what it adds to this Output.
-pub record Grows (old : World) (e : Event) (new : World) (text : List ℕ) : Type 0 where
+pub record OutputGrows (old : World) (e : Event) (new : World) (text : List ℕ) : Type 0 where
   pub symbols : List Symbol
   pub took : Queues old e symbols new
   pub none : IsNoneAt e symbols
   pub output : IsOutput new (text ++ screen symbols)
 
 -- each of these events does so, and this Output is the last
-abbrev pub GrowsTo : World → List Event → World → List ℕ → List ℕ → Type 0
-GrowsTo old [] new text last = (new ≡ old) × (last ≡ text)
-GrowsTo old (e ∷ events) new text last =
-    (mid : World) × Does old e mid × (grows : Grows old e mid text) × GrowsTo mid events new (text ++ screen grows.symbols) last
+abbrev pub OutputGrowsTo : World → List Event → World → List ℕ → List ℕ → Type 0
+OutputGrowsTo old [] new text last = (new ≡ old) × (last ≡ text)
+OutputGrowsTo old (e ∷ events) new text last =
+    (mid : World) × RunsEvent old e mid × (grows : OutputGrows old e mid text) × OutputGrowsTo mid events new (text ++ screen grows.symbols) last
 
-abbrev pub GrowsAll : World → List Event → World → List ℕ → Type 0
-GrowsAll old events new text = (last : List ℕ) × GrowsTo old events new text last
+abbrev pub OutputGrowsAll : World → List Event → World → List ℕ → Type 0
+OutputGrowsAll old events new text = (last : List ℕ) × OutputGrowsTo old events new text last
 
 -- The event at this place is refused, and each of those before it does so; and so does this one, unless the client fails.
-pub record GrowsBefore (old : World) (events : List Event) (at : ℕ) (cause : Cause) (new : World) (text : List ℕ) : Type 0 where
-  pub ends : Ends old events at cause new
+pub record OutputGrowsBefore (old : World) (events : List Event) (at : ℕ) (cause : Cause) (new : World) (text : List ℕ) : Type 0 where
+  pub ends : StopsWithin old events at cause new
   pub last : List ℕ
-  pub grows : GrowsTo old ends.done ends.mid text last
-  pub refused : new.client.failed ≡ false → Grows ends.mid ends.event new last
+  pub grows : OutputGrowsTo old ends.done ends.mid text last
+  pub refused : new.client.failed ≡ false → OutputGrows ends.mid ends.event new last

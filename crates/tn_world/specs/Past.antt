@@ -3,18 +3,18 @@ use Rattle.std.specs.Prelude.{◌≡◌, false, List}
 use Rattle.tn_nvt.specs.declared.items.Item.{Item}
 use Rattle.tn_server.specs.Course as asked_course
 use Rattle.tn_server.specs.Events as asked
-use Rattle.tn_server.specs.Standing as server
+use Rattle.tn_server.specs.Calls as server
 use Rattle.tn_client.specs.Course as told_course
 use Rattle.tn_world.specs.Flight.{InFlight}
 use Rattle.tn_world.specs.Worlds.{World}
 
 -- Whatever happened since the world was opened: the server stands where some history leads; as long as an end has not
 -- failed, it is where some pieces and calls lead, and what flies to it are whole items; both ends have lines of one limit.
-pub record IsSound (w : World) : Type 0 where
+pub record HasPast (w : World) : Type 0 where
   pub history : asked.History
-  pub server : server.Stands history w.server
-  pub asked : w.server.failed ≡ false → (course : asked_course.Course) × asked_course.IsAt course w.server
-  pub told : w.client.failed ≡ false → (course : told_course.Course) × told_course.IsAt course w.client
+  pub server : server.LeadsTo history w.server
+  pub asked : w.server.failed ≡ false → (course : asked_course.Course) × asked_course.CourseLeadsTo course w.server
+  pub told : w.client.failed ≡ false → (course : told_course.Course) × told_course.CourseLeadsTo course w.client
   pub limit : w.client.failed ≡ false → w.client.line.limit ≡ w.server.terminal.line.limit
   pub to_server : w.server.failed ≡ false → (items : List Item) × InFlight w.server.decoder w.to_server items
   pub to_client : w.client.failed ≡ false → (items : List Item) × InFlight w.client.decoder w.to_client items

@@ -7,11 +7,11 @@ use Rattle.tn_server.specs.Faults as faults
 use Rattle.tn_server.specs.Faults.{IsOfItem, SaysSomething}
 use Rattle.tn_server.specs.Lines.{waiting}
 use Rattle.tn_server.specs.Screen.{queue}
-use Rattle.tn_server.specs.Standing as server
+use Rattle.tn_server.specs.Calls as server
 use Rattle.tn_server.specs.declared.faults.ServerFault.{ServerFault}
 use Rattle.tn_server.specs.declared.faults.ServerFault.TheVariants as refused
 use Rattle.tn_client.specs.Events as told
-use Rattle.tn_client.specs.Standing as client
+use Rattle.tn_client.specs.Calls as client
 use Rattle.tn_client.specs.declared.faults.ClientFault.{ClientFault}
 use Rattle.tn_client.specs.declared.faults.ClientFault.TheVariants as broken
 use Rattle.tn_world.specs.declared.events.Event.{Event}
@@ -50,76 +50,76 @@ client_fault end (told.proposed func value) = client.propose_fault end func valu
 client_fault end _ = client.call_fault end
 
 -- an end that was stopped does nothing
-abbrev pub Unless : Bool → World → World → Type 0 → Type 0
-Unless true old new happens = new ≡ old
-Unless false old new happens = happens
+abbrev pub UnlessStopped : Bool → World → World → Type 0 → Type 0
+UnlessStopped true old new happens = new ≡ old
+UnlessStopped false old new happens = happens
 
 -- A key is typed: what the client says joins the flight.
-pub record Types (old : World) (key : ℕ) (new : World) : Type 0 where
+pub record TypesKey (old : World) (key : ℕ) (new : World) : Type 0 where
   pub accepted : client_fault old.client (told.typed key) ≡ None
-  pub goes : client.Goes old.client (told.typed key) new.client
-  pub keeps : client.Keeps old.client new.client
+  pub goes : client.Advances old.client (told.typed key) new.client
+  pub keeps : client.ReadsNothing old.client new.client
   pub sends : client.Sends old.client (told.typed key) old.to_server new.to_server
   pub shows : client.Shows old.client (told.typed key) old.echoed new.echoed
   pub rest : new ≡ record old { client = new.client; to_server = new.to_server; echoed = new.echoed; typed = old.typed ++ key ∷ [] }
 
 -- Any other call of the client.
-pub record Tells (old : World) (e : told.Event) (new : World) : Type 0 where
+pub record CallsClient (old : World) (e : told.Event) (new : World) : Type 0 where
   pub accepted : client_fault old.client e ≡ None
-  pub goes : client.Goes old.client e new.client
-  pub keeps : client.Keeps old.client new.client
+  pub goes : client.Advances old.client e new.client
+  pub keeps : client.ReadsNothing old.client new.client
   pub sends : client.Sends old.client e old.to_server new.to_server
   pub rest : new ≡ record old { client = new.client; to_server = new.to_server }
 
 -- The first bytes in flight arrive at the server, and its replies join the other flight.
-pub record Reaches (old : World) (n : ℕ) (new : World) : Type 0 where
+pub record DeliversToServer (old : World) (n : ℕ) (new : World) : Type 0 where
   pub accepted : server.call_fault old.server ≡ None
   pub feeds : server.Feeds old.server (take n old.to_server) old.to_client new.to_client new.server
   pub rest : new ≡ record old { server = new.server; to_server = drop n old.to_server; to_client = new.to_client }
 
 -- The first bytes in flight arrive at the client.
-pub record Returns (old : World) (n : ℕ) (new : World) : Type 0 where
+pub record DeliversToClient (old : World) (n : ℕ) (new : World) : Type 0 where
   pub accepted : client.call_fault old.client ≡ None
   pub feeds : client.Feeds old.client (take n old.to_client) old.to_server new.to_server old.shown new.shown new.client
   pub rest : new ≡ record old { client = new.client; to_client = drop n old.to_client; to_server = new.to_server; shown = new.shown }
 
 -- Any other call of the server: what it says joins the flight.
-pub record Asks (old : World) (e : asked.Event) (new : World) : Type 0 where
+pub record CallsServer (old : World) (e : asked.Event) (new : World) : Type 0 where
   pub accepted : server_fault old.server e ≡ None
-  pub goes : server.Goes old.server e old.to_client new.to_client new.server
-  pub keeps : server.Keeps old.server new.server
+  pub goes : server.Advances old.server e old.to_client new.to_client new.server
+  pub keeps : server.ReadsNothing old.server new.server
   pub rest : new ≡ record old { server = new.server; to_client = new.to_client }
 
 -- Symbols are sent: as many as there are, and no more than were asked for.
 pub record Pulls (old : World) (n : ℕ) (new : World) : Type 0 where
   pub count : ℕ
-  pub is_count : (h : asked.History) → server.Stands h old.server → count ≡ min n (length (queue h))
-  pub asks : Asks old (asked.pulled count) new
+  pub is_count : (h : asked.History) → server.LeadsTo h old.server → count ≡ min n (length (queue h))
+  pub asks : CallsServer old (asked.pulled count) new
 
 -- The job takes the first entry that waits, if one does.
-pub record Takes (old : World) (new : World) : Type 0 where
+pub record TakesEntry (old : World) (new : World) : Type 0 where
   pub entry : Option Entry
-  pub is_first : (h : asked.History) → server.Stands h old.server
+  pub is_first : (h : asked.History) → server.LeadsTo h old.server
       → MatchOption entry (waiting h ≡ []) (λ e. waiting h ≡ e ∷ waiting (asked.next h asked.took))
-  pub goes : server.Goes old.server asked.took old.to_client new.to_client new.server
-  pub keeps : server.Keeps old.server new.server
+  pub goes : server.Advances old.server asked.took old.to_client new.to_client new.server
+  pub keeps : server.ReadsNothing old.server new.server
   pub rest : new ≡ record old { server = new.server; to_client = new.to_client; taken = old.taken ++ option_to_list entry }
 
 -- the event is done
-abbrev pub Does : World → Event → World → Type 0
-Does old (Key key) new = Unless old.client_stopped old new (Types old key new)
-Does old (ToServer n) new = Unless old.server_stopped old new (Reaches old n new)
-Does old (ToClient n) new = Unless old.client_stopped old new (Returns old n new)
-Does old (Write bytes) new = Unless old.server_stopped old new (Asks old (asked.wrote bytes) new)
-Does old (Pull n) new = Unless old.server_stopped old new (Pulls old n new)
-Does old Take new = Takes old new
-Does old (Wish editing) new = Unless old.server_stopped old new (Asks old (asked.wished editing) new)
-Does old (Resize width height) new = Unless old.client_stopped old new (Tells old (told.resized width height) new)
-Does old (SetChar func value) new = Unless old.server_stopped old new (Asks old (asked.char_set func value) new)
-Does old (Propose func value) new = Unless old.client_stopped old new (Tells old (told.proposed func value) new)
-Does old (Echo on) new = Unless old.server_stopped old new (Asks old (asked.echo_set on) new)
-Does old ServerStops new = new ≡ record old { server_stopped = true }
-Does old ClientStops new = new ≡ record old { client_stopped = true }
+abbrev pub RunsEvent : World → Event → World → Type 0
+RunsEvent old (Key key) new = UnlessStopped old.client_stopped old new (TypesKey old key new)
+RunsEvent old (ToServer n) new = UnlessStopped old.server_stopped old new (DeliversToServer old n new)
+RunsEvent old (ToClient n) new = UnlessStopped old.client_stopped old new (DeliversToClient old n new)
+RunsEvent old (Write bytes) new = UnlessStopped old.server_stopped old new (CallsServer old (asked.wrote bytes) new)
+RunsEvent old (Pull n) new = UnlessStopped old.server_stopped old new (Pulls old n new)
+RunsEvent old Take new = TakesEntry old new
+RunsEvent old (Wish editing) new = UnlessStopped old.server_stopped old new (CallsServer old (asked.wished editing) new)
+RunsEvent old (Resize width height) new = UnlessStopped old.client_stopped old new (CallsClient old (told.resized width height) new)
+RunsEvent old (SetChar func value) new = UnlessStopped old.server_stopped old new (CallsServer old (asked.char_set func value) new)
+RunsEvent old (Propose func value) new = UnlessStopped old.client_stopped old new (CallsClient old (told.proposed func value) new)
+RunsEvent old (Echo on) new = UnlessStopped old.server_stopped old new (CallsServer old (asked.echo_set on) new)
+RunsEvent old ServerStops new = new ≡ record old { server_stopped = true }
+RunsEvent old ClientStops new = new ≡ record old { client_stopped = true }
 
 -- no delivery is refused for a character
 abbrev pub IsDeliveryFault : ServerFault → Type 0
@@ -127,49 +127,49 @@ IsDeliveryFault (refused.Char fault) = ⊥
 IsDeliveryFault fault = Unit {0}
 
 -- A delivery that the server refused: its bytes have left the flight. An end that failed before did nothing more.
-pub record ServerRefuses (old : World) (n : ℕ) (fault : ServerFault) (new : World) : Type 0 where
+pub record ServerRefusesDelivery (old : World) (n : ℕ) (fault : ServerFault) (new : World) : Type 0 where
   pub goes_on : old.server_stopped ≡ false
   pub first : (old.server.failed ≡ true) → fault ≡ refused.Failed
   pub is_fault : IsDeliveryFault fault
   pub again : (fault ≡ refused.Failed) → (old.server.failed ≡ true) × (new ≡ record old { to_server = drop n old.to_server })
-  pub halts : IsOfItem fault → server.Halts old.server (take n old.to_server) fault old.to_client new.to_client new.server
+  pub halts : IsOfItem fault → server.StopsWithin old.server (take n old.to_server) fault old.to_client new.to_client new.server
   pub failed : new.server.failed ≡ true
   pub rest : new ≡ record old { server = new.server; to_server = drop n old.to_server; to_client = new.to_client }
 
 -- The same at the client.
-pub record ClientRefuses (old : World) (n : ℕ) (fault : ClientFault) (new : World) : Type 0 where
+pub record ClientRefusesDelivery (old : World) (n : ℕ) (fault : ClientFault) (new : World) : Type 0 where
   pub goes_on : old.client_stopped ≡ false
   pub is_fault : client.IsFault (client.call_fault old.client) fault
   pub again : (fault ≡ broken.Failed) → new ≡ record old { to_client = drop n old.to_client }
-  pub breaks : (fault ≡ broken.Memory) → client.Breaks old.client (take n old.to_client) old.to_server new.to_server old.shown new.shown
+  pub breaks : (fault ≡ broken.Memory) → client.StopsWithin old.client (take n old.to_client) old.to_server new.to_server old.shown new.shown
   pub failed : new.client.failed ≡ true
   pub rest : new ≡ record old { client = new.client; to_client = drop n old.to_client; to_server = new.to_server; shown = new.shown }
 
 -- A call of the server is refused for its cause, or for want of memory for what it says.
-pub record ServerFaults (end : server.End) (e : asked.Event) (fault : ServerFault) : Type 0 where
+pub record ServerRefusesCall (end : server.End) (e : asked.Event) (fault : ServerFault) : Type 0 where
   pub cause : faults.IsFault (server_fault end e) fault
-  pub grows : (fault ≡ refused.Memory) → (h : asked.History) → server.Stands h end → SaysSomething h e
+  pub grows : (fault ≡ refused.Memory) → (h : asked.History) → server.LeadsTo h end → SaysSomething h e
 
 -- The same of the client.
-pub record ClientFaults (end : client.End) (e : told.Event) (fault : ClientFault) : Type 0 where
+pub record ClientRefusesCall (end : client.End) (e : told.Event) (fault : ClientFault) : Type 0 where
   pub cause : client.IsFault (client_fault end e) fault
-  pub grows : (fault ≡ broken.Memory) → (h : told.History) → client.Stands h end → client.Grows h e
+  pub grows : (fault ≡ broken.Memory) → (h : told.History) → client.LeadsTo h end → client.SaysOrShows h e
 
 -- the event calls an end, other than by a delivery, and the call is refused for this fault: entries are taken from a
 -- server that was stopped, too
-abbrev pub RefusesAsked : World → Event → ServerFault → Type 0
-RefusesAsked w (Pull n) fault = (w.server_stopped ≡ false) × ServerFaults w.server (asked.pulled n) fault
-RefusesAsked w Take fault = ServerFaults w.server asked.took fault
-RefusesAsked w (Wish editing) fault = (w.server_stopped ≡ false) × ServerFaults w.server (asked.wished editing) fault
-RefusesAsked w (SetChar func value) fault = (w.server_stopped ≡ false) × ServerFaults w.server (asked.char_set func value) fault
-RefusesAsked w (Echo on) fault = (w.server_stopped ≡ false) × ServerFaults w.server (asked.echo_set on) fault
-RefusesAsked w e fault = ⊥
+abbrev pub ServerRefusesEvent : World → Event → ServerFault → Type 0
+ServerRefusesEvent w (Pull n) fault = (w.server_stopped ≡ false) × ServerRefusesCall w.server (asked.pulled n) fault
+ServerRefusesEvent w Take fault = ServerRefusesCall w.server asked.took fault
+ServerRefusesEvent w (Wish editing) fault = (w.server_stopped ≡ false) × ServerRefusesCall w.server (asked.wished editing) fault
+ServerRefusesEvent w (SetChar func value) fault = (w.server_stopped ≡ false) × ServerRefusesCall w.server (asked.char_set func value) fault
+ServerRefusesEvent w (Echo on) fault = (w.server_stopped ≡ false) × ServerRefusesCall w.server (asked.echo_set on) fault
+ServerRefusesEvent w e fault = ⊥
 
-abbrev pub RefusesTold : World → Event → ClientFault → Type 0
-RefusesTold w (Key key) fault = (w.client_stopped ≡ false) × ClientFaults w.client (told.typed key) fault
-RefusesTold w (Resize width height) fault = (w.client_stopped ≡ false) × ClientFaults w.client (told.resized width height) fault
-RefusesTold w (Propose func value) fault = (w.client_stopped ≡ false) × ClientFaults w.client (told.proposed func value) fault
-RefusesTold w e fault = ⊥
+abbrev pub ClientRefusesEvent : World → Event → ClientFault → Type 0
+ClientRefusesEvent w (Key key) fault = (w.client_stopped ≡ false) × ClientRefusesCall w.client (told.typed key) fault
+ClientRefusesEvent w (Resize width height) fault = (w.client_stopped ≡ false) × ClientRefusesCall w.client (told.resized width height) fault
+ClientRefusesEvent w (Propose func value) fault = (w.client_stopped ≡ false) × ClientRefusesCall w.client (told.proposed func value) fault
+ClientRefusesEvent w e fault = ⊥
 
 -- the world wants memory of its own: for a typed key, for the rest of a flight that is cut, for a taken entry
 abbrev pub WantsMemory : World → Event → Type 0
@@ -182,18 +182,18 @@ WantsMemory w e = ⊥
 -- the event is refused: where it is no delivery, nothing changes
 abbrev pub Refuses : World → Event → Cause → World → Type 0
 Refuses old e cause.Memory new = WantsMemory old e × (new ≡ old)
-Refuses old (ToServer n) (cause.Server fault) new = ServerRefuses old n fault new
-Refuses old (ToClient n) (cause.Client fault) new = ClientRefuses old n fault new
-Refuses old e (cause.Server fault) new = RefusesAsked old e fault × (new ≡ old)
-Refuses old e (cause.Client fault) new = RefusesTold old e fault × (new ≡ old)
+Refuses old (ToServer n) (cause.Server fault) new = ServerRefusesDelivery old n fault new
+Refuses old (ToClient n) (cause.Client fault) new = ClientRefusesDelivery old n fault new
+Refuses old e (cause.Server fault) new = ServerRefusesEvent old e fault × (new ≡ old)
+Refuses old e (cause.Client fault) new = ClientRefusesEvent old e fault × (new ≡ old)
 
 -- each of these events is done
 abbrev pub Runs : World → List Event → World → Type 0
 Runs old [] new = new ≡ old
-Runs old (e ∷ events) new = (mid : World) × Does old e mid × Runs mid events new
+Runs old (e ∷ events) new = (mid : World) × RunsEvent old e mid × Runs mid events new
 
 -- The event at this place is refused, and those before it are done.
-pub record Ends (old : World) (events : List Event) (at : ℕ) (cause : Cause) (new : World) : Type 0 where
+pub record StopsWithin (old : World) (events : List Event) (at : ℕ) (cause : Cause) (new : World) : Type 0 where
   pub done : List Event
   pub event : Event
   pub left : List Event

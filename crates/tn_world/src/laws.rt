@@ -4,26 +4,26 @@
 
 ghost use Rattle.std.specs.Prelude.{◌≡◌, ℕ, false, List};
 ghost use Rattle.tn_discipline.specs.Canon.{Canon};
-ghost use Rattle.tn_world.specs.Past.{IsSound};
-ghost use Rattle.tn_world.specs.Headline.{IsPrefixOf, local_entries, IsMark, IsQuiet, EachKeepsTheMode, Passes, Nowhere, IsBetweenLines, NoneFailed, NothingFlies, made};
-ghost use Rattle.tn_world.specs.Output.{IsOutput, Grows};
-ghost use Rattle.tn_world.specs.Worlds.{World, Does};
+ghost use Rattle.tn_world.specs.Past.{HasPast};
+ghost use Rattle.tn_world.specs.Headline.{IsPrefixOf, local_entries, IsMark, IsQuiet, EachKeepsTheMode, PassesQuietly, Nowhere, IsBetweenLines, NoneFailed, NothingInFlight, entries_made};
+ghost use Rattle.tn_world.specs.Output.{IsOutput, OutputGrows};
+ghost use Rattle.tn_world.specs.Worlds.{World, RunsEvent};
 ghost use Rattle.tn_world.specs.declared.events.Event.{Event};
 
 /// Under a mode that stays, what was made is a prefix of what the keys give.
 pub fn headline_prefix()
-    ensures { (s : Canon) (start end : World) (events : List Event) → IsMark s start → Passes Nowhere start events end → NoneFailed end → IsPrefixOf (made end) (local_entries s end.typed) }
+    ensures { (s : Canon) (start end : World) (events : List Event) → IsMark s start → PassesQuietly Nowhere start events end → NoneFailed end → IsPrefixOf (entries_made end) (local_entries s end.typed) }
 {}
 
 /// Under a mode that stays, it is all of it where nothing is in flight.
 pub fn headline_complete()
-    ensures { (s : Canon) (start end : World) (events : List Event) → IsMark s start → Passes Nowhere start events end → NoneFailed end → NothingFlies end → made end ≡ local_entries s end.typed }
+    ensures { (s : Canon) (start end : World) (events : List Event) → IsMark s start → PassesQuietly Nowhere start events end → NoneFailed end → NothingInFlight end → entries_made end ≡ local_entries s end.typed }
 {}
 
 /// The same where the mode changes between lines.
 pub fn headline_mode_changes()
-    ensures prefix { (s : Canon) (start end : World) (events : List Event) → IsMark s start → Passes (IsBetweenLines s) start events end → NoneFailed end → IsPrefixOf (made end) (local_entries s end.typed) }
-    ensures complete { (s : Canon) (start end : World) (events : List Event) → IsMark s start → Passes (IsBetweenLines s) start events end → NoneFailed end → NothingFlies end → made end ≡ local_entries s end.typed }
+    ensures prefix { (s : Canon) (start end : World) (events : List Event) → IsMark s start → PassesQuietly (IsBetweenLines s) start events end → NoneFailed end → IsPrefixOf (entries_made end) (local_entries s end.typed) }
+    ensures complete { (s : Canon) (start end : World) (events : List Event) → IsMark s start → PassesQuietly (IsBetweenLines s) start events end → NoneFailed end → NothingInFlight end → entries_made end ≡ local_entries s end.typed }
 {}
 
 /// After a mark every list of keys, deliveries, writes, pulls, takes, sizes, settings of ECHO and stops is
@@ -36,7 +36,7 @@ pub fn quiet_lists()
 /// While the client has not failed, an event adds to Output the symbols that the terminal's queue took in
 /// it, and nothing else; when they are sent or shown nothing is added.
 pub fn output()
-    ensures { (old new : World) (e : Event) (text : List ℕ) → IsSound old → old.client.failed ≡ false → Does old e new → IsOutput old text → Grows old e new text }
+    ensures { (old new : World) (e : Event) (text : List ℕ) → HasPast old → old.client.failed ≡ false → RunsEvent old e new → IsOutput old text → OutputGrows old e new text }
 {}
 
 /// What is shown on the client's screen comes first in Output.

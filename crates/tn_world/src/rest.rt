@@ -2,7 +2,7 @@
 
 ghost use Rattle.std.specs.Prelude.{◌≡◌, ◌↔◌, true};
 ghost use Rattle.std.specs.List.{list_all};
-ghost use Rattle.tn_world.specs.Headline.{IsSettled, IsSteady, in_order, AgreeOnLinemode, AgreeOnMask, IsIdle, IsAgreed, IsEmpty};
+ghost use Rattle.tn_world.specs.Headline.{IsSettled, IsSteady, is_in_order, AgreeOnLinemode, AgreeOnMask, IsIdle, IsAgreed, IsEmpty};
 
 use crate::world::World;
 use tn_option::{ECHO, LINEMODE, NAWS, QState, SUPPRESS_GO_AHEAD, Side};
@@ -100,14 +100,14 @@ impl World {
 }
 
 fn are_in_order(states: &[QState]) -> bool
-    ensures { result ≡ list_all in_order states.now }
+    ensures { result ≡ list_all is_in_order states.now }
 {
     states.iter().all(|state| is_in_order(*state))
 }
 
 // No wish waits behind another (RFC 1143).
 fn is_in_order(state: QState) -> bool
-    ensures { result ≡ in_order state }
+    ensures { result ≡ is_in_order state }
 {
     match state {
         QState::WantNoOpposite | QState::WantYesOpposite => false,

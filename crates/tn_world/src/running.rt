@@ -2,9 +2,9 @@
 
 ghost use Rattle.std.specs.Prelude.{◌≡◌, ◌<◌, ℕ, false, List, length, take, drop, IfOk, IfErr, OnOk, OnErr};
 ghost use Rattle.tn_discipline.specs.Canon.{Canon};
-ghost use Rattle.tn_world.specs.Headline.{Headline, Follows, IsQuiet};
-ghost use Rattle.tn_world.specs.Output.{IsOutput, GrowsAll, GrowsBefore};
-ghost use Rattle.tn_world.specs.Worlds.{Does, Refuses, Runs, Ends};
+ghost use Rattle.tn_world.specs.Headline.{Headline, FollowsMark, IsQuiet};
+ghost use Rattle.tn_world.specs.Output.{IsOutput, OutputGrowsAll, OutputGrowsBefore};
+ghost use Rattle.tn_world.specs.Worlds.{RunsEvent, Refuses, Runs, StopsWithin};
 ghost use Rattle.tn_world.specs.declared.events.Event.TheVariants as event;
 
 use crate::events::Event;
@@ -20,16 +20,16 @@ impl World {
     /// Does these events, one after another, up to the first that is refused.
     pub fn run(&mut self, events: &[Event]) -> Result<(), WorldFault>
         ensures runs { OnOk result (Runs self.old events.now self.new) }
-        ensures ends { IfErr result (λ fault. Ends self.old events.now fault.at fault.cause self.new) }
-        ensures follows { (canon : Canon) → Follows canon self.old → IsQuiet canon self.old events.now →
-            Follows canon self.new }
-        ensures headline { (canon : Canon) → Follows canon self.old → IsQuiet canon self.old events.now →
+        ensures ends { IfErr result (λ fault. StopsWithin self.old events.now fault.at fault.cause self.new) }
+        ensures follows { (canon : Canon) → FollowsMark canon self.old → IsQuiet canon self.old events.now →
+            FollowsMark canon self.new }
+        ensures headline { (canon : Canon) → FollowsMark canon self.old → IsQuiet canon self.old events.now →
             Headline canon self.new }
         ensures output { OnOk result ((text : List ℕ) → IsOutput self.old text →
-            self.old.client.failed ≡ false → GrowsAll self.old events.now self.new text) }
+            self.old.client.failed ≡ false → OutputGrowsAll self.old events.now self.new text) }
         ensures output_before { IfErr result (λ fault. (text : List ℕ) → IsOutput self.old text →
             self.old.client.failed ≡ false →
-            GrowsBefore self.old events.now fault.at fault.cause self.new text) }
+            OutputGrowsBefore self.old events.now fault.at fault.cause self.new text) }
     {
         // Nothing is done here; the proof of Output begins with what every world keeps.
         let _ = &self.shown;
@@ -43,7 +43,7 @@ impl World {
     }
 
     fn happen(&mut self, event: &Event) -> Result<(), Cause>
-        ensures ok { OnOk result (Does self.old event.now self.new) }
+        ensures ok { OnOk result (RunsEvent self.old event.now self.new) }
         ensures err { IfErr result (λ cause. Refuses self.old event.now cause self.new) }
     {
         match event {
@@ -73,7 +73,7 @@ impl World {
     }
 
     fn key(&mut self, key: u8) -> Result<(), Cause>
-        ensures ok { OnOk result (Does self.old (event.Key key) self.new) }
+        ensures ok { OnOk result (RunsEvent self.old (event.Key key) self.new) }
         ensures err { IfErr result (λ cause. Refuses self.old (event.Key key) cause self.new) }
     {
         if self.client_stopped {
@@ -93,7 +93,7 @@ impl World {
     }
 
     fn reach_server(&mut self, count: usize) -> Result<(), Cause>
-        ensures ok { OnOk result (Does self.old (event.ToServer count) self.new) }
+        ensures ok { OnOk result (RunsEvent self.old (event.ToServer count) self.new) }
         ensures err { IfErr result (λ cause. Refuses self.old (event.ToServer count) cause self.new) }
     {
         if self.server_stopped {
@@ -110,7 +110,7 @@ impl World {
     }
 
     fn reach_client(&mut self, count: usize) -> Result<(), Cause>
-        ensures ok { OnOk result (Does self.old (event.ToClient count) self.new) }
+        ensures ok { OnOk result (RunsEvent self.old (event.ToClient count) self.new) }
         ensures err { IfErr result (λ cause. Refuses self.old (event.ToClient count) cause self.new) }
     {
         if self.client_stopped {
@@ -130,7 +130,7 @@ impl World {
     }
 
     fn write(&mut self, bytes: &Text)
-        ensures { Does self.old (event.Write bytes.now) self.new }
+        ensures { RunsEvent self.old (event.Write bytes.now) self.new }
     {
         if !self.server_stopped {
             let _count = self.server.write(bytes.as_slice());
@@ -138,7 +138,7 @@ impl World {
     }
 
     fn pull(&mut self, most: usize) -> Result<(), Cause>
-        ensures ok { OnOk result (Does self.old (event.Pull most) self.new) }
+        ensures ok { OnOk result (RunsEvent self.old (event.Pull most) self.new) }
         ensures err { IfErr result (λ cause. Refuses self.old (event.Pull most) cause self.new) }
     {
         if self.server_stopped {
@@ -152,7 +152,7 @@ impl World {
     }
 
     fn take(&mut self) -> Result<(), Cause>
-        ensures ok { OnOk result (Does self.old event.Take self.new) }
+        ensures ok { OnOk result (RunsEvent self.old event.Take self.new) }
         ensures err { IfErr result (λ cause. Refuses self.old event.Take cause self.new) }
     {
         match self.taken.reserve(1) {
@@ -170,7 +170,7 @@ impl World {
     }
 
     fn wish(&mut self, editing: Editing) -> Result<(), Cause>
-        ensures ok { OnOk result (Does self.old (event.Wish editing) self.new) }
+        ensures ok { OnOk result (RunsEvent self.old (event.Wish editing) self.new) }
         ensures err { IfErr result (λ cause. Refuses self.old (event.Wish editing) cause self.new) }
     {
         if self.server_stopped {
@@ -183,7 +183,7 @@ impl World {
     }
 
     fn set_char(&mut self, func: Func, value: Option<u8>) -> Result<(), Cause>
-        ensures ok { OnOk result (Does self.old (event.SetChar func value) self.new) }
+        ensures ok { OnOk result (RunsEvent self.old (event.SetChar func value) self.new) }
         ensures err { IfErr result (λ cause. Refuses self.old (event.SetChar func value) cause self.new) }
     {
         if self.server_stopped {
@@ -197,7 +197,7 @@ impl World {
     }
 
     fn echo(&mut self, on: bool) -> Result<(), Cause>
-        ensures ok { OnOk result (Does self.old (event.Echo on) self.new) }
+        ensures ok { OnOk result (RunsEvent self.old (event.Echo on) self.new) }
         ensures err { IfErr result (λ cause. Refuses self.old (event.Echo on) cause self.new) }
     {
         if self.server_stopped {
@@ -210,7 +210,7 @@ impl World {
     }
 
     fn resize(&mut self, width: u16, height: u16) -> Result<(), Cause>
-        ensures ok { OnOk result (Does self.old (event.Resize width height) self.new) }
+        ensures ok { OnOk result (RunsEvent self.old (event.Resize width height) self.new) }
         ensures err { IfErr result (λ cause. Refuses self.old (event.Resize width height) cause self.new) }
     {
         if self.client_stopped {
@@ -224,7 +224,7 @@ impl World {
     }
 
     fn propose(&mut self, func: Func, value: Option<u8>) -> Result<(), Cause>
-        ensures ok { OnOk result (Does self.old (event.Propose func value) self.new) }
+        ensures ok { OnOk result (RunsEvent self.old (event.Propose func value) self.new) }
         ensures err { IfErr result (λ cause. Refuses self.old (event.Propose func value) cause self.new) }
     {
         if self.client_stopped {

@@ -1,8 +1,8 @@
 //! Both ends and the two streams between them.
 
 ghost use Rattle.std.specs.Prelude.{◌≡◌, ◌↔◌, true, false, [], ◌++◌, IfOk, IfErr, OnOk, OnErr, option_copied, slice_get};
-ghost use Rattle.tn_world.specs.Headline.{IsSettled, Follows};
-ghost use Rattle.tn_world.specs.Opened.{IsOpened, IsOpenFault, anew};
+ghost use Rattle.tn_world.specs.Headline.{IsSettled, FollowsMark};
+ghost use Rattle.tn_world.specs.Opened.{IsOpened, IsOpenFault, with_new_lists};
 ghost use Rattle.tn_world.specs.Output.{IsOutput};
 ghost use Rattle.tn_world.specs.Worlds.{canon_of};
 ghost use Rattle.tn_world.specs.declared.events.ToWhom.TheVariants as to;
@@ -34,13 +34,13 @@ pub struct World {
 
 impl Model for World {
     ghost use Rattle.tn_world.specs.Worlds as worlds;
-    ghost use Rattle.tn_world.specs.Past.{IsSound};
+    ghost use Rattle.tn_world.specs.Past.{HasPast};
 
     ghost Value = { worlds.World };
 
     ghost view = { λ w. record { server = w.server; client = w.client; server_stopped = w.server_stopped; client_stopped = w.client_stopped; to_server = w.to_server.items; to_client = w.to_client.items; typed = w.typed.items; taken = w.taken.items; shown = w.shown.items; echoed = w.echoed.items } };
 
-    ghost invariant = { λ w. IsSound (record { server = w.server; client = w.client; server_stopped = w.server_stopped; client_stopped = w.client_stopped; to_server = w.to_server.items; to_client = w.to_client.items; typed = w.typed.items; taken = w.taken.items; shown = w.shown.items; echoed = w.echoed.items }) };
+    ghost invariant = { λ w. HasPast (record { server = w.server; client = w.client; server_stopped = w.server_stopped; client_stopped = w.client_stopped; to_server = w.to_server.items; to_client = w.to_client.items; typed = w.typed.items; taken = w.taken.items; shown = w.shown.items; echoed = w.echoed.items }) };
 }
 
 impl World {
@@ -87,9 +87,9 @@ impl World {
     /// line is half typed. Where it is, the lists of typed keys and taken entries begin anew.
     pub fn mark(&mut self) -> bool
         ensures settled { result ≡ true ↔ IsSettled self.old }
-        ensures anew { result ≡ true → self.new ≡ anew self.old }
+        ensures anew { result ≡ true → self.new ≡ with_new_lists self.old }
         ensures else_same { result ≡ false → self.new ≡ self.old }
-        ensures follows { result ≡ true → Follows (canon_of self.old) self.new }
+        ensures follows { result ≡ true → FollowsMark (canon_of self.old) self.new }
     {
         if !self.is_settled() {
             return false;

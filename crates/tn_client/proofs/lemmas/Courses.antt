@@ -1,15 +1,16 @@
 -- Courses and their histories.
 use Rattle.std.proofs.Common.{◌≡◌, ℕ, List, [], ◌∷◌, ◌++◌, refl, sym, ap, ◌∙◌, subst, append-nil, append_assoc}
 use Rattle.std.proofs.lemmas.List.{append_cancel_left}
-use Rattle.tn_nvt.specs.Standing.{Standing, HasRead}
+use Rattle.tn_nvt.specs.Feeding.{DecoderState}
+use Rattle.tn_nvt.specs.Feeding as nvt
 use Rattle.tn_nvt.specs.Stream.{Reading}
 use Rattle.tn_nvt.specs.declared.items.Item.{Item}
 use Rattle.tn_nvt.proofs.lemmas.Reading.{one_reading, one_standing, reads_on, reads_none}
 use Rattle.tn_client.specs.Events.{Event, typed, got, resized, proposed, History, next, items, gets}
-use Rattle.tn_client.specs.Replies.{sent}
-use Rattle.tn_client.specs.Screen.{shown}
-use Rattle.tn_client.specs.Standing.{End, Stands, Keeps, Goes, Feeds, GivesUp, Breaks}
-use Rattle.tn_client.specs.Course.{Course, started, fed, called, stream, IsCall, Leads, IsAt}
+use Rattle.tn_client.specs.Replies.{items_said}
+use Rattle.tn_client.specs.Screen.{text_shown}
+use Rattle.tn_client.specs.Calls.{End, LeadsTo, ReadsNothing, Advances, Feeds, IsStopCause, StopsWithin}
+use Rattle.tn_client.specs.Course.{Course, started, fed, called, stream, IsCall, ReadsAs, CourseLeadsTo}
 use Rattle.tn_wire.specs.Fronts.{IsRead}
 use Rattle.tn_client.proofs.lemmas.Histories.{items-gets, gets-append}
 use Rattle.tn_wire.proofs.lemmas.Cutting.{cons_some, back_some}
@@ -22,7 +23,7 @@ items-call h (resized width height) call = refl
 items-call h (proposed func value) call = refl
 
 -- the items of a course are those of its stream
-pub leads-read : (c : Course) (h : History) → Leads c h → IsRead (stream c) (items h)
+pub leads-read : (c : Course) (h : History) → ReadsAs c h → IsRead (stream c) (items h)
 leads-read (started width height limit) h is = subst (λ (k : History). IsRead [] (items k)) (sym is) ([], reads_none)
 leads-read (fed c piece) h l =
     subst (λ (xs : List Item). IsRead (stream c ++ piece) xs) (sym (ap items l.4 ∙ items-gets l.0 l.1)) l.3
@@ -35,7 +36,7 @@ same_more bytes a b more others e r s =
     append_cancel_left b more others (ap (λ (xs : List Item). xs ++ more) (sym e) ∙ (one_reading bytes r.0 s.0 (a ++ more) (b ++ others) r.1 s.1).0)
 
 -- A course has one history.
-pub one_history : (c : Course) (h k : History) → Leads c h → Leads c k → h ≡ k
+pub one_history : (c : Course) (h k : History) → ReadsAs c h → ReadsAs c k → h ≡ k
 one_history (started width height limit) h k a b = a ∙ sym b
 one_history (fed c piece) h k a b =
     let old = one_history c a.0 b.0 a.2 b.2 in
@@ -44,45 +45,45 @@ one_history (fed c piece) h k a b =
 one_history (called c e) h k a b = a.3 ∙ ap (λ (x : History). next x e) (one_history c a.0 b.0 a.1 b.1) ∙ sym b.3
 
 -- one piece more
-leads_fed : (c : Course) (old new : End) (piece before after seen now : List ℕ) → (a : IsAt c old) → (f : Feeds old piece before after seen now new) → Leads (fed c piece) (gets a.history f.items)
+leads_fed : (c : Course) (old new : End) (piece before after seen now : List ℕ) → (a : CourseLeadsTo c old) → (f : Feeds old piece before after seen now new) → ReadsAs (fed c piece) (gets a.history f.items)
 leads_fed c old new piece before after seen now a f =
     let read = f.reads (stream c) (items a.history) a.reads in (a.history, f.items, a.leads, (read.rest, read.reading), refl)
 
-pub fed_at : (c : Course) (old new : End) (piece before after seen now : List ℕ) → IsAt c old → Feeds old piece before after seen now new → IsAt (fed c piece) new
+pub fed_at : (c : Course) (old new : End) (piece before after seen now : List ℕ) → CourseLeadsTo c old → Feeds old piece before after seen now new → CourseLeadsTo (fed c piece) new
 fed_at c old new piece before after seen now a f =
     let read = f.reads (stream c) (items a.history) a.reads in
     record {
       history = gets a.history f.items;
       leads = leads_fed c old new piece before after seen now a f;
       stands = f.stands a.history a.stands;
-      reads = subst (λ (xs : List Item). HasRead new.decoder (stream c ++ piece) xs) (sym (items-gets a.history f.items)) read;
+      reads = subst (λ (xs : List Item). nvt.LeadsTo (stream c ++ piece) xs new.decoder) (sym (items-gets a.history f.items)) read;
     }
 
-pub fed_said : (c : Course) (old new : End) (piece before after seen now : List ℕ) (h k : History) → IsAt c old → (f : Feeds old piece before after seen now new) → Leads c h → Leads (fed c piece) k → sent k ≡ sent h ++ f.said
+pub fed_said : (c : Course) (old new : End) (piece before after seen now : List ℕ) (h k : History) → CourseLeadsTo c old → (f : Feeds old piece before after seen now new) → ReadsAs c h → ReadsAs (fed c piece) k → items_said k ≡ items_said h ++ f.said
 fed_said c old new piece before after seen now h k a f l m =
     let there = leads_fed c old new piece before after seen now a f in
-    ap sent (one_history (fed c piece) k (gets a.history f.items) m there) ∙ f.sends a.history a.stands
-    ∙ ap (λ (x : History). sent x ++ f.said) (one_history c a.history h a.leads l)
+    ap items_said (one_history (fed c piece) k (gets a.history f.items) m there) ∙ f.sends a.history a.stands
+    ∙ ap (λ (x : History). items_said x ++ f.said) (one_history c a.history h a.leads l)
 
-pub fed_shown : (c : Course) (old new : End) (piece before after seen now : List ℕ) (h k : History) → IsAt c old → (f : Feeds old piece before after seen now new) → Leads c h → Leads (fed c piece) k → shown k ≡ shown h ++ f.text
+pub fed_shown : (c : Course) (old new : End) (piece before after seen now : List ℕ) (h k : History) → CourseLeadsTo c old → (f : Feeds old piece before after seen now new) → ReadsAs c h → ReadsAs (fed c piece) k → text_shown k ≡ text_shown h ++ f.text
 fed_shown c old new piece before after seen now h k a f l m =
     let there = leads_fed c old new piece before after seen now a f in
-    ap shown (one_history (fed c piece) k (gets a.history f.items) m there) ∙ f.shows a.history a.stands
-    ∙ ap (λ (x : History). shown x ++ f.text) (one_history c a.history h a.leads l)
+    ap text_shown (one_history (fed c piece) k (gets a.history f.items) m there) ∙ f.shows a.history a.stands
+    ∙ ap (λ (x : History). text_shown x ++ f.text) (one_history c a.history h a.leads l)
 
 -- one call more
-pub called_at : (c : Course) (old new : End) (e : Event) → IsAt c old → IsCall e → Goes old e new → Keeps old new → IsAt (called c e) new
+pub called_at : (c : Course) (old new : End) (e : Event) → CourseLeadsTo c old → IsCall e → Advances old e new → ReadsNothing old new → CourseLeadsTo (called c e) new
 called_at c old new e a call goes keeps = record {
   history = next a.history e;
   leads = (a.history, a.leads, call, refl);
   stands = goes.stands a.history a.stands;
   reads =
-      let P : Standing → Type 0 = λ d. HasRead d (stream c) (items (next a.history e)) in
-      subst P (sym keeps.decoder) (subst (λ (xs : List Item). HasRead old.decoder (stream c) xs) (sym (items-call a.history e call)) a.reads);
+      let P : DecoderState → Type 0 = λ d. nvt.LeadsTo (stream c) (items (next a.history e)) d in
+      subst P (sym keeps.decoder) (subst (λ (xs : List Item). nvt.LeadsTo (stream c) xs old.decoder) (sym (items-call a.history e call)) a.reads);
 }
 
 -- two pieces are one
-pub joined : (c : Course) (p q : List ℕ) (h : History) → Leads (fed (fed c p) q) h → Leads (fed c (p ++ q)) h
+pub joined : (c : Course) (p q : List ℕ) (h : History) → ReadsAs (fed (fed c p) q) h → ReadsAs (fed c (p ++ q)) h
 joined c p q h l =
     let first = l.2 in
     let old = first.0 in
@@ -97,7 +98,7 @@ joined c p q h l =
     )
 
 -- and one is two, where its front has a reading
-pub parted : (c : Course) (p q : List ℕ) (h : History) → (read : List Item) × (rest : List ℕ) × Reading (stream c ++ p) read rest → Leads (fed c (p ++ q)) h → Leads (fed (fed c p) q) h
+pub parted : (c : Course) (p q : List ℕ) (h : History) → (read : List Item) × (rest : List ℕ) × Reading (stream c ++ p) read rest → ReadsAs (fed c (p ++ q)) h → ReadsAs (fed (fed c p) q) h
 parted c p q h r l =
     let old = l.0 in
     let whole : IsRead ((stream c ++ p) ++ q) (items old ++ l.1) =
@@ -123,20 +124,20 @@ none_left xs done left e = go left (append_cancel_left xs (done ++ left) [] (sym
     go [] f = refl
     go (y ∷ ys) f = absurd (back_some done (y ∷ ys) (cons_some y ys) f)
 
-never : (h : History) (left part : List Item) (here : Standing) → left ≡ [] → GivesUp h left part here [] → ⊥
+never : (h : History) (left part : List Item) (here : DecoderState) → left ≡ [] → IsStopCause h left part here [] → ⊥
 never h [] part here e g = g.1
 never h (x ∷ xs) part here e g = cons_some x xs e
 
-pub never_refused : (c : Course) (old : End) (before after seen now : List ℕ) → IsAt c old → Breaks old [] before after seen now → ⊥
+pub never_refused : (c : Course) (old : End) (before after seen now : List ℕ) → CourseLeadsTo c old → StopsWithin old [] before after seen now → ⊥
 never_refused c old before after seen now a b = go b.front b.back b.whole b.reads b.why
   where
     go : (front back : List ℕ) → [] ≡ front ++ back
-        → ((bytes : List ℕ) (had : List Item) → HasRead old.decoder bytes had → HasRead b.here (bytes ++ front) (had ++ (b.done ++ b.left)))
-        → ((h : History) (bytes : List ℕ) (had : List Item) → Stands h old → HasRead old.decoder bytes had → GivesUp (gets h b.done) b.left b.part b.here back) → ⊥
+        → ((bytes : List ℕ) (had : List Item) → nvt.LeadsTo bytes had old.decoder → nvt.LeadsTo (bytes ++ front) (had ++ (b.done ++ b.left)) b.here)
+        → ((h : History) (bytes : List ℕ) (had : List Item) → LeadsTo h old → nvt.LeadsTo bytes had old.decoder → IsStopCause (gets h b.done) b.left b.part b.here back) → ⊥
     go [] [] e reads why =
         let had = items a.history in
-        let then : HasRead b.here (stream c) (had ++ (b.done ++ b.left)) =
-        subst (λ (bytes : List ℕ). HasRead b.here bytes (had ++ (b.done ++ b.left))) (append-nil (stream c)) (reads (stream c) had a.reads) in
+        let then : nvt.LeadsTo (stream c) (had ++ (b.done ++ b.left)) b.here =
+        subst (λ (bytes : List ℕ). nvt.LeadsTo bytes (had ++ (b.done ++ b.left)) b.here) (append-nil (stream c)) (reads (stream c) had a.reads) in
         let same = (one_standing old.decoder b.here (stream c) had (had ++ (b.done ++ b.left)) a.reads then).1 in
         never (gets a.history b.done) b.left b.part b.here (none_left had b.done b.left same) (why a.history (stream c) had a.stands a.reads)
     go [] (x ∷ xs) e reads why = cons_some x xs (sym e)

@@ -2,7 +2,7 @@
 use Rattle.std.proofs.Common.{ℕ, Bool, true, false, not, ◌==◌, ◌&&◌, Option, Some, None, List, [], ◌∷◌, arith}
 use Rattle.std.specs.Prelude.{All}
 use Rattle.std.proofs.lemmas.List.Elements.{All-cons}
-use Rattle.tn_codes.specs.Payloads.{written}
+use Rattle.tn_codes.specs.Payloads.{parameters_of}
 use Rattle.tn_codes.specs.declared.codes.Command.{Command}
 use Rattle.tn_codes.specs.declared.payloads.Payload.{Payload}
 use Rattle.tn_codes.specs.declared.payloads.Payload.TheVariants as payload
@@ -18,23 +18,23 @@ use Rattle.tn_nvt.specs.declared.items.Item.{Item}
 use Rattle.tn_nvt.specs.declared.items.Item.TheVariants.{Byte, Newline, Cmd, Neg, Sub}
 use Rattle.tn_option.specs.Options.{Options, reply_to}
 use Rattle.tn_client.specs.Events.{History, Event, typed, got, resized, proposed, begun, next}
-use Rattle.tn_client.specs.Terms.{options, mode, chars, size, linemode, tells_size, heard, payload_at, mode_at}
+use Rattle.tn_client.specs.Terms.{options, mode, chars, size, linemode, tells_size, options_after, payload_at, mode_at}
 use Rattle.tn_client.specs.Lines.{role_at, line}
-use Rattle.tn_client.specs.Replies.{spelled, command_of, commanded, sent_raw, sent_edited, key_sent, size_told, size_told_on, payload_answered, answered, ending, is_same_size, replies, sent}
-use Rattle.tn_wire.specs.Words.{word}
+use Rattle.tn_client.specs.Replies.{byte_items, command_of, command_items, raw_key_items, edited_key_items, key_items, size_items, new_size_items, payload_answers, answer_items, end_of_edit_items, is_same_size, replies, items_said}
+use Rattle.tn_wire.specs.Words.{word_items}
 use Rattle.tn_linemode.proofs.lemmas.Answering.{length-answers_along}
 use Rattle.tn_wire.proofs.lemmas.Fitting.{Fit, none, one, both, unless, word-fits, mode-fits, list-fits}
 use Rattle.tn_wire.proofs.lemmas.Listing.{IsShortOrNone, short_under}
 
-bytes-fit : (bs : List ℕ) → Fit (spelled bs)
+bytes-fit : (bs : List ℕ) → Fit (byte_items bs)
 bytes-fit [] = none
-bytes-fit (b ∷ bs) = All-cons Fits (Byte b) (spelled bs) tt (bytes-fit bs)
+bytes-fit (b ∷ bs) = All-cons Fits (Byte b) (byte_items bs) tt (bytes-fit bs)
 
-command-fits : (c : Option Command) → Fit (commanded c)
+command-fits : (c : Option Command) → Fit (command_items c)
 command-fits None = none
 command-fits (Some c) = one (Cmd c) tt
 
-raw-fits : (r : Role) (key : ℕ) → Fit (sent_raw r key)
+raw-fits : (r : Role) (key : ℕ) → Fit (raw_key_items r key)
 raw-fits (role.Signal sig) key = command-fits (command_of (role.Signal sig))
 raw-fits role.Ignored key = one (Byte key) tt
 raw-fits role.Nl key = one (Byte key) tt
@@ -45,45 +45,45 @@ raw-fits role.Erase key = one (Byte key) tt
 raw-fits role.Kill key = one (Byte key) tt
 raw-fits (role.Ordinary b) key = one (Byte key) tt
 
-edited-fits : (r : Role) (l : HalfLine) → Fit (sent_edited r l)
-edited-fits role.Nl l = both (spelled l.held) (Newline ∷ []) (bytes-fit l.held) (one Newline tt)
-edited-fits (role.Eol b) l = both (spelled l.held) (Byte b ∷ []) (bytes-fit l.held) (one (Byte b) tt)
-edited-fits (role.Eol2 b) l = both (spelled l.held) (Byte b ∷ []) (bytes-fit l.held) (one (Byte b) tt)
-edited-fits role.Eof l = both (spelled l.held) (commanded (command_of role.Eof)) (bytes-fit l.held) (command-fits (command_of role.Eof))
+edited-fits : (r : Role) (l : HalfLine) → Fit (edited_key_items r l)
+edited-fits role.Nl l = both (byte_items l.held) (Newline ∷ []) (bytes-fit l.held) (one Newline tt)
+edited-fits (role.Eol b) l = both (byte_items l.held) (Byte b ∷ []) (bytes-fit l.held) (one (Byte b) tt)
+edited-fits (role.Eol2 b) l = both (byte_items l.held) (Byte b ∷ []) (bytes-fit l.held) (one (Byte b) tt)
+edited-fits role.Eof l = both (byte_items l.held) (command_items (command_of role.Eof)) (bytes-fit l.held) (command-fits (command_of role.Eof))
 edited-fits (role.Signal sig) l = command-fits (command_of (role.Signal sig))
-edited-fits role.Erase l = unless (not (has_held l) && has_ahead l) (commanded (command_of role.Erase)) (command-fits (command_of role.Erase))
-edited-fits role.Kill l = unless (has_ahead l) (commanded (command_of role.Kill)) (command-fits (command_of role.Kill))
+edited-fits role.Erase l = unless (not (has_held l) && has_ahead l) (command_items (command_of role.Erase)) (command-fits (command_of role.Erase))
+edited-fits role.Kill l = unless (has_ahead l) (command_items (command_of role.Kill)) (command-fits (command_of role.Kill))
 edited-fits role.Ignored l = none
 edited-fits (role.Ordinary b) l = none
 
-key-fits : (edit : Bool) (r : Role) (l : HalfLine) (key : ℕ) → Fit (key_sent edit r l key)
+key-fits : (edit : Bool) (r : Role) (l : HalfLine) (key : ℕ) → Fit (key_items edit r l key)
 key-fits true r l key = edited-fits r l
 key-fits false r l key = raw-fits r key
 
-size-fits : (z : ℕ × ℕ) → Fit (size_told z)
-size-fits (width, height) = one (Sub 31 (written (payload.Naws width height))) (omega arith)
+size-fits : (z : ℕ × ℕ) → Fit (size_items z)
+size-fits (width, height) = one (Sub 31 (parameters_of (payload.Naws width height))) (omega arith)
 
-payload-fits : (m : ℕ) (c : Characters) (p : Option Payload) → IsShortOrNone p → Fit (payload_answered m c p)
+payload-fits : (m : ℕ) (c : Characters) (p : Option Payload) → IsShortOrNone p → Fit (payload_answers m c p)
 unfolding client_answers
 payload-fits m c None h = none
 payload-fits m c (Some (payload.Naws width height)) h = none
 payload-fits m c (Some (payload.Mode mask)) h = mode-fits (mode_answer m mask)
-payload-fits m c (Some (payload.ForwardOn mask)) h = one (Sub 34 (written payload.ForwardNo)) (omega arith)
-payload-fits m c (Some payload.ForwardOff) h = one (Sub 34 (written payload.ForwardNo)) (omega arith)
+payload-fits m c (Some (payload.ForwardOn mask)) h = one (Sub 34 (parameters_of payload.ForwardNo)) (omega arith)
+payload-fits m c (Some payload.ForwardOff) h = one (Sub 34 (parameters_of payload.ForwardNo)) (omega arith)
 payload-fits m c (Some payload.ForwardYes) h = none
 payload-fits m c (Some payload.ForwardNo) h = none
 payload-fits m c (Some (payload.Slc triples)) h = list-fits (client_answers c triples) (omega (arith, length-answers_along client_next client_answer c triples, h))
 
-answer-fits : (o : Options) (m : ℕ) (c : Characters) (z : ℕ × ℕ) (item : Item) → Fit (answered o m c z item)
+answer-fits : (o : Options) (m : ℕ) (c : Characters) (z : ℕ × ℕ) (item : Item) → Fit (answer_items o m c z item)
 answer-fits o m c z (Byte b) = none
 answer-fits o m c z Newline = none
 answer-fits o m c z (Cmd command) = none
 answer-fits o m c z (Neg verb option) =
-    both (word (reply_to o verb option)) (size_told_on (tells_size o) (tells_size (heard o (Neg verb option))) z)
-    (word-fits (reply_to o verb option)) (unless (tells_size (heard o (Neg verb option)) && not (tells_size o)) (size_told z) (size-fits z))
+    both (word_items (reply_to o verb option)) (new_size_items (tells_size o) (tells_size (options_after o (Neg verb option))) z)
+    (word-fits (reply_to o verb option)) (unless (tells_size (options_after o (Neg verb option)) && not (tells_size o)) (size_items z) (size-fits z))
 answer-fits o m c z (Sub option params) = payload-fits m c (payload_at o (Sub option params)) (short_under ((option == 34) && linemode o) option params)
 
-ending-fits : (before after : Bool) (bs : List ℕ) → Fit (ending before after bs)
+ending-fits : (before after : Bool) (bs : List ℕ) → Fit (end_of_edit_items before after bs)
 ending-fits true false bs = bytes-fit bs
 ending-fits true true bs = none
 ending-fits false after bs = none
@@ -92,12 +92,12 @@ ending-fits false after bs = none
 pub replies-fit : (h : History) (e : Event) → All Fits (replies h e)
 replies-fit h (typed key) = key-fits (edits (mode h)) (role_at h key) (line h) key
 replies-fit h (got item) =
-    both (ending (edits (mode h)) (edits (mode_at (options h) (mode h) item)) (line h).held) (answered (options h) (mode h) (chars h) (size h) item)
+    both (end_of_edit_items (edits (mode h)) (edits (mode_at (options h) (mode h) item)) (line h).held) (answer_items (options h) (mode h) (chars h) (size h) item)
     (ending-fits (edits (mode h)) (edits (mode_at (options h) (mode h) item)) (line h).held) (answer-fits (options h) (mode h) (chars h) (size h) item)
-replies-fit h (resized width height) = unless (tells_size (options h) && not (is_same_size (size h) (width, height))) (size_told (width, height)) (size-fits (width, height))
+replies-fit h (resized width height) = unless (tells_size (options h) && not (is_same_size (size h) (width, height))) (size_items (width, height)) (size-fits (width, height))
 replies-fit h (proposed func value) = list-fits (triple_of func value ∷ []) (omega arith)
 
 -- So does everything that was said.
-pub sent-fits : (h : History) → All Fits (sent h)
+pub sent-fits : (h : History) → All Fits (items_said h)
 sent-fits (begun width height limit) = none
-sent-fits (next h e) = both (sent h) (replies h e) (sent-fits h) (replies-fit h e)
+sent-fits (next h e) = both (items_said h) (replies h e) (sent-fits h) (replies-fit h e)

@@ -9,13 +9,13 @@ use Rattle.tn_discipline.specs.declared.keys.Role.{Role}
 use Rattle.tn_linemode.specs.Modes.{edits, mode_of, is_acknowledged}
 use Rattle.tn_nvt.specs.declared.items.Item.{Item}
 use Rattle.tn_nvt.specs.declared.items.Item.TheVariants.{Byte, Newline, Cmd, Neg, Sub}
-use Rattle.tn_option.specs.Options.{Options, after_word}
+use Rattle.tn_option.specs.Options.{Options, options_after_word}
 use Rattle.tn_client.specs.Events.{History, begun, next, typed, got, resized, proposed, items, keys, gets}
 use Rattle.tn_client.specs.Terms.{options, mode, linemode, payload_at, changes, mode_by, mode_at}
 use Rattle.tn_wire.specs.Words.{payload_under, differ}
-use Rattle.tn_client.specs.Lines.{line_limit, edited, ahead, held, half_line, line}
-use Rattle.tn_client.specs.Replies.{replies, sent}
-use Rattle.tn_client.specs.Screen.{shown, shows}
+use Rattle.tn_client.specs.Lines.{line_limit, edited_roles, ahead, held_bytes, half_line, line}
+use Rattle.tn_client.specs.Replies.{replies, items_said}
+use Rattle.tn_client.specs.Screen.{text_shown, shows}
 
 pub items-gets : (h : History) (more : List Item) → items (gets h more) ≡ items h ++ more
 items-gets h [] = sym (append-nil (items h))
@@ -29,17 +29,17 @@ pub gets-append : (h : History) (front back : List Item) → gets h (front ++ ba
 gets-append h [] back = refl
 gets-append h (x ∷ xs) back = gets-append (next h (got x)) xs back
 
-pub sent-gets : (h : History) (more : List Item) → (rest : List Item) × (sent (gets h more) ≡ sent h ++ rest)
-sent-gets h [] = ([], sym (append-nil (sent h)))
+pub sent-gets : (h : History) (more : List Item) → (rest : List Item) × (items_said (gets h more) ≡ items_said h ++ rest)
+sent-gets h [] = ([], sym (append-nil (items_said h)))
 sent-gets h (x ∷ xs) =
     let r = sent-gets (next h (got x)) xs in
-    (replies h (got x) ++ r.0, r.1 ∙ append_assoc (sent h) (replies h (got x)) r.0)
+    (replies h (got x) ++ r.0, r.1 ∙ append_assoc (items_said h) (replies h (got x)) r.0)
 
-pub shown-gets : (h : History) (more : List Item) → (rest : List ℕ) × (shown (gets h more) ≡ shown h ++ rest)
-shown-gets h [] = ([], sym (append-nil (shown h)))
+pub shown-gets : (h : History) (more : List Item) → (rest : List ℕ) × (text_shown (gets h more) ≡ text_shown h ++ rest)
+shown-gets h [] = ([], sym (append-nil (text_shown h)))
 shown-gets h (x ∷ xs) =
     let r = shown-gets (next h (got x)) xs in
-    (shows h (got x) ++ r.0, r.1 ∙ append_assoc (shown h) (shows h (got x)) r.0)
+    (shows h (got x) ++ r.0, r.1 ∙ append_assoc (text_shown h) (shows h (got x)) r.0)
 
 kept_or_none : (b : Bool) (n : ℕ) → n ≡ 0 → (if b then n else 0) ≡ 0
 kept_or_none true n e = e
@@ -55,7 +55,7 @@ ahead-none (next h (got item)) = kept_or_none (edits (mode h) && edits (mode (ne
 ahead-none (next h (resized width height)) = ahead-none h
 ahead-none (next h (proposed func value)) = ahead-none h
 
-pub held-all : (h : History) → held h ≡ half_line h
+pub held-all : (h : History) → held_bytes h ≡ half_line h
 held-all h = ap (λ (n : ℕ). drop n (half_line h)) (ahead-none h)
 
 first_or_none : (a b : Bool) (rs : List Role) → (a ≡ false → rs ≡ []) → b ≡ false → (if a && b then rs else []) ≡ []
@@ -67,10 +67,10 @@ some_or_none : (a : Bool) (rs : List Role) → a ≡ false → (if a then rs els
 some_or_none true rs e = cc
 some_or_none false rs e = refl
 
-pub unedited : (h : History) → edits (mode h) ≡ false → edited h ≡ []
+pub unedited : (h : History) → edits (mode h) ≡ false → edited_roles h ≡ []
 unedited (begun width height limit) e = refl
 unedited (next h (typed key)) e = some_or_none (edits (mode h)) _ e
-unedited (next h (got item)) e = first_or_none (edits (mode h)) (edits (mode (next h (got item)))) (edited h) (unedited h) e
+unedited (next h (got item)) e = first_or_none (edits (mode h)) (edits (mode (next h (got item)))) (edited_roles h) (unedited h) e
 unedited (next h (resized width height)) e = unedited h e
 unedited (next h (proposed func value)) e = unedited h e
 
@@ -98,13 +98,13 @@ mode-off (next h (got (Byte byte))) e = mode-off h e
 mode-off (next h (got Newline)) e = mode-off h e
 mode-off (next h (got (Cmd command))) e = mode-off h e
 mode-off (next h (got (Neg verb option))) e =
-    changed_or_none (linemode (options h)) (linemode (after_word (options h) verb option)) (mode h) (mode-off h) e
+    changed_or_none (linemode (options h)) (linemode (options_after_word (options h) verb option)) (mode h) (mode-off h) e
 mode-off (next h (got (Sub option params))) e =
     ap (λ (p : Option Payload). mode_by (mode h) p) (payload_off (options h) option params e) ∙ mode-off h e
 mode-off (next h (resized width height)) e = mode-off h e
 mode-off (next h (proposed func value)) e = mode-off h e
 
-pub unedited-held : (h : History) → edits (mode h) ≡ false → held h ≡ []
+pub unedited-held : (h : History) → edits (mode h) ≡ false → held_bytes h ≡ []
 unedited-held h e = held-all h ∙ unedited_half h e
 
 pub unedited-line : (h : History) → edits (mode h) ≡ false → line h ≡ empty_line (line_limit h)
@@ -131,7 +131,7 @@ mode_at-small : (o : Options) (m : ℕ) (item : Item) → m < 4 → mode_at o m 
 mode_at-small o m (Byte b) h = h
 mode_at-small o m Newline h = h
 mode_at-small o m (Cmd command) h = h
-mode_at-small o m (Neg verb option) h = by_test (changes o (after_word o verb option))
+mode_at-small o m (Neg verb option) h = by_test (changes o (options_after_word o verb option))
   where
     by_test : (b : Bool) → (if b then 0 else m) < 4
     by_test true = omega arith

@@ -1,15 +1,15 @@
 -- What an event does to the half line.
 use Rattle.std.proofs.Common.{◌≡◌, ℕ, Bool, true, false, [], refl, sym, ap, ◌∙◌}
 use Rattle.tn_discipline.specs.HalfLine.{HalfLine, empty_line, line_after}
-use Rattle.tn_discipline.specs.Leaves.{Leaves}
+use Rattle.tn_discipline.specs.Advancing as discipline
 use Rattle.tn_linemode.specs.Modes.{edits}
-use Rattle.tn_nvt.specs.Standing.{failed}
+use Rattle.tn_nvt.specs.Feeding.{failed}
 use Rattle.tn_nvt.specs.declared.items.Item.{Item}
 use Rattle.tn_client.specs.Events.{History, next, typed, got}
 use Rattle.tn_client.specs.Terms.{options, mode, chars, size}
-use Rattle.tn_client.specs.Lines.{role_at, line_limit, edited, line}
-use Rattle.tn_client.specs.Standing.{End, Stands}
-use Rattle.tn_client.specs.Steps.{line_typed, line_left, after_key, after_got}
+use Rattle.tn_client.specs.Lines.{role_at, line_limit, edited_roles, line}
+use Rattle.tn_client.specs.Calls.{End, LeadsTo}
+use Rattle.tn_client.specs.Steps.{line_typed, line_left, end_after_key, end_after_item}
 use Rattle.tn_client.proofs.lemmas.Histories.{ahead-none, held-all, unedited-line}
 use Rattle.tn_client.proofs.lemmas.Ends.{line_is}
 use Rattle.tn_client.proofs.Standings.{stands_typed, stands_got}
@@ -18,17 +18,17 @@ use Rattle.tn_client.proofs.Standings.{stands_typed, stands_got}
 abbrev end_at : History → End
 end_at h = record { decoder = failed; options = options h; mode = mode h; table = chars h; line = line h; width = (size h).0; height = (size h).1; failed = false }
 
-leaves-line : (h : History) → Leaves (edited h) (line h)
+leaves-line : (h : History) → discipline.LeadsTo (edited_roles h) (line h)
 leaves-line h = record { sent = []; count = sym (ahead-none h); bytes = sym (held-all h) }
 
-stands_there : (h : History) → Stands h (end_at h)
+stands_there : (h : History) → LeadsTo h (end_at h)
 stands_there h = record { options = refl; mode = refl; table = refl; leaves = leaves-line h; ahead = refl; limit = refl; size = refl }
 
 line-next : (h : History) (key : ℕ) → line (next h (typed key)) ≡ line_typed (edits (mode h)) (line h) (role_at h key)
-line-next h key = sym (line_is (next h (typed key)) (after_key (end_at h) key) (stands_typed h (end_at h) key (stands_there h)))
+line-next h key = sym (line_is (next h (typed key)) (end_after_key (end_at h) key) (stands_typed h (end_at h) key (stands_there h)))
 
 line-came : (h : History) (item : Item) → line (next h (got item)) ≡ line_left (edits (mode h)) (edits (mode (next h (got item)))) (line h)
-line-came h item = sym (line_is (next h (got item)) (after_got (end_at h) item) (stands_got h (end_at h) item (stands_there h)))
+line-came h item = sym (line_is (next h (got item)) (end_after_item (end_at h) item) (stands_got h (end_at h) item (stands_there h)))
 
 -- A KEY with EDIT
 pub line_after_key : (h : History) (key : ℕ) → edits (mode h) ≡ true → line (next h (typed key)) ≡ line_after (line h) (role_at h key)

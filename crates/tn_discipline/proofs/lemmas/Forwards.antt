@@ -4,21 +4,21 @@ use Rattle.std.proofs.lemmas.List.{append_cancel_left}
 use Rattle.tn_discipline.specs.HalfLine.{HalfLine, line_length}
 use Rattle.tn_discipline.specs.Steps.{half_all, gain_all}
 use Rattle.tn_discipline.specs.Entries.{entries_of, half_of}
-use Rattle.tn_discipline.specs.Leaves.{Leaves, Advances, Moves}
+use Rattle.tn_discipline.specs.Advancing.{LeadsTo, Advances, AdvancesFromLine}
 use Rattle.tn_discipline.specs.declared.keys.Role.{Role}
 use Rattle.tn_discipline.specs.declared.reads.Entry.{Entry}
 use Rattle.tn_discipline.proofs.lemmas.Histories.{half-all, entries-all}
 use Rattle.tn_discipline.proofs.lemmas.Reached.{typed, forwards}
 
 -- some keys leave this line, with these bytes ahead
-abbrev history_of : (line : HalfLine) (sent : List ℕ) → line_length line < line.limit → length sent ≡ line.ahead → Leaves (typed (sent ++ line.held)) line
+abbrev history_of : (line : HalfLine) (sent : List ℕ) → line_length line < line.limit → length sent ≡ line.ahead → LeadsTo (typed (sent ++ line.held)) line
 history_of line sent fits count = record { sent = sent; count = count; bytes = forwards line.limit (sent ++ line.held) (omega (arith, length-append sent line.held)) }
 
 empty_of : (xs : List ℕ) → length xs ≡ 0 → xs ≡ []
 empty_of [] h = refl
 empty_of (x ∷ xs) h = absurd (omega arith)
 
-pub moves_of : (old new : HalfLine) (roles : List Role) (gain : List Entry) → line_length old < old.limit → Advances old roles gain new → Moves old roles gain new
+pub moves_of : (old new : HalfLine) (roles : List Role) (gain : List Entry) → line_length old < old.limit → Advances old roles gain new → AdvancesFromLine old roles gain new
 moves_of old new roles gain fits a =
     record {
       half = λ sent count.
@@ -37,7 +37,7 @@ moves_of old new roles gain fits a =
       limit = a.limit;
     }
 
-pub advances_of : (old new : HalfLine) (roles : List Role) (gain : List Entry) → Moves old roles gain new → Advances old roles gain new
+pub advances_of : (old new : HalfLine) (roles : List Role) (gain : List Entry) → AdvancesFromLine old roles gain new → Advances old roles gain new
 advances_of old new roles gain m =
     record {
       half = λ history leads.

@@ -8,12 +8,12 @@ use Rattle.tn_discipline.specs.declared.reads.Entry.{Entry}
 use Rattle.tn_discipline.specs.declared.reads.Entry.TheVariants as entry
 use Rattle.tn_discipline.specs.declared.half_line.Effect.{Effect}
 use Rattle.tn_discipline.specs.declared.half_line.Effect.TheVariants as effect
-use Rattle.tn_discipline.specs.Admitted.{is_dropped, admitted, count_of}
+use Rattle.tn_discipline.specs.Admitted.{is_dropped, admitted_roles, count_of}
 use Rattle.tn_discipline.specs.Entries.{line_of, entries_of, half_of}
 use Rattle.tn_discipline.specs.Steps.{front, half_after, gain_after}
 use Rattle.tn_discipline.specs.Keys.{roles_from}
-use Rattle.tn_discipline.specs.HalfLine.{HalfLine, empty_line, line_length, is_full, has_held, has_ahead, effect_of, line_after, gained}
-use Rattle.tn_discipline.specs.Leaves.{Leaves, Advances, DropsExactly}
+use Rattle.tn_discipline.specs.HalfLine.{HalfLine, empty_line, line_length, is_full, has_held, has_ahead, effect_of, line_after, effect_entries}
+use Rattle.tn_discipline.specs.Advancing.{LeadsTo, Advances, DropsExactly}
 use Rattle.tn_discipline.proofs.lemmas.Histories.{half-one_more, entries-one_more, length-half_of, admitted_after-append}
 
 empty_of : (xs : List ℕ) → length xs ≡ 0 → xs ≡ []
@@ -21,15 +21,15 @@ empty_of [] h = refl
 empty_of (x ∷ xs) h = absurd (omega arith)
 
 -- the count after keys that leave a line
-count_at : (history : List Role) (line : HalfLine) → Leaves history line → count_of line.limit history ≡ line_length line
+count_at : (history : List Role) (line : HalfLine) → LeadsTo history line → count_of line.limit history ≡ line_length line
 count_at history line leads =
     sym (length-half_of line.limit history) ∙ ap length leads.bytes ∙ length-append leads.sent line.held ∙ ap (λ n. n + length line.held) leads.count
 
-half_at : (history : List Role) (line : HalfLine) → Leaves history line → line.ahead ≡ 0 → half_of line.limit history ≡ line.held
+half_at : (history : List Role) (line : HalfLine) → LeadsTo history line → line.ahead ≡ 0 → half_of line.limit history ≡ line.held
 half_at history line leads none = leads.bytes ∙ ap (λ sent. sent ++ line.held) (empty_of leads.sent (leads.count ∙ none))
 
 -- whether a key is dropped is seen at the line
-dropped_at : (history : List Role) (line : HalfLine) (r : Role) (b : Bool) → Leaves history line → is_dropped line.limit (line_length line) r ≡ b → is_dropped line.limit (count_of line.limit history) r ≡ b
+dropped_at : (history : List Role) (line : HalfLine) (r : Role) (b : Bool) → LeadsTo history line → is_dropped line.limit (line_length line) r ≡ b → is_dropped line.limit (count_of line.limit history) r ≡ b
 dropped_at history line r b leads test = ap (λ n. is_dropped line.limit n r) (count_at history line leads) ∙ test
 
 -- these bytes are as many as are ahead, and then those that are held
@@ -84,7 +84,7 @@ advances_none old r test =
 advances_nothing : (old : HalfLine) → Advances old [] [] old
 advances_nothing old =
     record {
-      half = λ history leads. subst (λ h. Leaves h old) (sym (append-nil history)) leads;
+      half = λ history leads. subst (λ h. LeadsTo h old) (sym (append-nil history)) leads;
       entries = λ history leads none. ap (entries_of old.limit) (append-nil history) ∙ sym (append-nil (entries_of old.limit history));
       ahead = omega arith;
       limit = refl;
@@ -95,7 +95,7 @@ advances_empty : (old : HalfLine) (r : Role) (gain : List Entry) → is_dropped 
 advances_empty old r gain test empties gives =
     advances_by old (empty_line old.limit) r gain test (λ sent count. ([], refl, empties (sent ++ old.held))) gives (omega arith) refl
 
-ordinary_by : (old : HalfLine) (byte : ℕ) (full : Bool) → is_full old ≡ full → Advances old (role.Ordinary byte ∷ []) (gained (if full then effect.Dropped else effect.Kept)) (if full then old else record old { held = old.held ++ byte ∷ [] })
+ordinary_by : (old : HalfLine) (byte : ℕ) (full : Bool) → is_full old ≡ full → Advances old (role.Ordinary byte ∷ []) (effect_entries (if full then effect.Dropped else effect.Kept)) (if full then old else record old { held = old.held ++ byte ∷ [] })
 ordinary_by old byte true test = advances_none old (role.Ordinary byte) test
 ordinary_by old byte false test =
     advances_by old (record old { held = old.held ++ byte ∷ [] }) (role.Ordinary byte) [] test
@@ -125,13 +125,13 @@ erase_by old false test =
 pub advances_erase : (old : HalfLine) → Advances old (role.Erase ∷ []) [] (line_after old role.Erase)
 advances_erase old = erase_by old (has_held old) refl
 
-erase_gains : (held ahead : Bool) → gained (if held then effect.Erased else (if ahead then effect.ErasedAhead else effect.Nothing)) ≡ []
+erase_gains : (held ahead : Bool) → effect_entries (if held then effect.Erased else (if ahead then effect.ErasedAhead else effect.Nothing)) ≡ []
 erase_gains true ahead = refl
 erase_gains false true = refl
 erase_gains false false = refl
 
 -- what a key of any role does is what the whole lists of keys say
-pub advances : (old : HalfLine) (r : Role) → Advances old (roles_from r) (gained (effect_of old r)) (line_after old r)
+pub advances : (old : HalfLine) (r : Role) → Advances old (roles_from r) (effect_entries (effect_of old r)) (line_after old r)
 advances old role.Ignored = advances_nothing old
 advances old (role.Ordinary byte) = ordinary_by old byte (is_full old) refl
 advances old role.Erase =
@@ -148,14 +148,14 @@ longer : (xs : List Role) (r : Role) → xs ++ r ∷ [] ≡ xs → ⊥
 longer xs r e = omega (arith, ap length e, length-append xs (r ∷ []))
 
 -- what is admitted after one more key, by whether it is dropped
-admitted_at : (line : HalfLine) (r : Role) (b : Bool) (history : List Role) → is_dropped line.limit (line_length line) r ≡ b → Leaves history line → admitted line.limit (history ++ r ∷ []) ≡ admitted line.limit history ++ (if b then [] else r ∷ [])
+admitted_at : (line : HalfLine) (r : Role) (b : Bool) (history : List Role) → is_dropped line.limit (line_length line) r ≡ b → LeadsTo history line → admitted_roles line.limit (history ++ r ∷ []) ≡ admitted_roles line.limit history ++ (if b then [] else r ∷ [])
 admitted_at line r b history test leads =
-    admitted_after-append line.limit 0 history (r ∷ []) ∙ ap (λ (b : Bool). admitted line.limit history ++ (if b then [] else r ∷ [])) (dropped_at history line r b leads test)
+    admitted_after-append line.limit 0 history (r ∷ []) ∙ ap (λ (b : Bool). admitted_roles line.limit history ++ (if b then [] else r ∷ [])) (dropped_at history line r b leads test)
 
 drops_never : (line : HalfLine) (r : Role) (e : Effect) → is_dropped line.limit (line_length line) r ≡ false → (e ≡ effect.Dropped → ⊥) → DropsExactly line (r ∷ []) e
 drops_never line r e test other history leads = (
   λ same. absurd (other same),
-  λ p. absurd (longer (admitted line.limit history) r (sym (admitted_at line r false history test leads) ∙ p.1)),
+  λ p. absurd (longer (admitted_roles line.limit history) r (sym (admitted_at line r false history test leads) ∙ p.1)),
 )
 
 drops_nothing : (line : HalfLine) (e : Effect) → (e ≡ effect.Dropped → ⊥) → DropsExactly line [] e
@@ -163,7 +163,7 @@ drops_nothing line e other history leads = (λ same. absurd (other same), λ p. 
 
 drops_by : (line : HalfLine) (byte : ℕ) (full : Bool) → is_full line ≡ full → DropsExactly line (role.Ordinary byte ∷ []) (if full then effect.Dropped else effect.Kept)
 drops_by line byte true test history leads = (
-  λ same. (omega arith, admitted_at line (role.Ordinary byte) true history test leads ∙ append-nil (admitted line.limit history)),
+  λ same. (omega arith, admitted_at line (role.Ordinary byte) true history test leads ∙ append-nil (admitted_roles line.limit history)),
   λ p. refl,
 )
 drops_by line byte false test history leads = drops_never line (role.Ordinary byte) effect.Kept test (λ same. cc) history leads

@@ -6,7 +6,7 @@ use Rattle.tn_discipline.specs.HalfLine.{HalfLine, line_length}
 use Rattle.tn_discipline.specs.Limits.{most_counted}
 use Rattle.tn_discipline.specs.Admitted.{count_of}
 use Rattle.tn_discipline.specs.Entries.{half_of}
-use Rattle.tn_discipline.specs.Leaves.{Leaves}
+use Rattle.tn_discipline.specs.Advancing.{LeadsTo}
 use Rattle.tn_discipline.specs.declared.keys.Role.{Role}
 use Rattle.tn_discipline.specs.declared.keys.Role.TheVariants as role
 use Rattle.tn_discipline.proofs.lemmas.Histories.{half-one_more, length-half_of}
@@ -36,7 +36,7 @@ backwards limit (b ∷ back) fits =
 pub forwards : (limit : ℕ) (bytes : List ℕ) → length bytes < limit → half_of limit (typed bytes) ≡ bytes
 forwards limit bytes fits = subst (λ xs. half_of limit (typed xs) ≡ xs) (reverse-reverse bytes) (backwards limit (reverse bytes) (omega (arith, length-reverse bytes)))
 
-pub every_line_is_left : (line : HalfLine) → line_length line < line.limit → (history : List Role) × Leaves history line
+pub every_line_is_left : (line : HalfLine) → line_length line < line.limit → (history : List Role) × LeadsTo history line
 every_line_is_left line fits =
     let sent = replicate line.ahead 0 in
     let long : length sent ≡ line.ahead = length-replicate line.ahead 0 in (

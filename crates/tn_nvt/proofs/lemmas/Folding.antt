@@ -4,8 +4,8 @@ use Rattle.std.proofs.lemmas.Grind.{flat_map-append}
 use Rattle.tn_nvt.specs.declared.decoding.NvtFault.{NvtFault}
 use Rattle.tn_nvt.specs.declared.decoding.NvtFault.TheVariants.{Memory, Failed, Refused}
 use Rattle.tn_nvt.specs.declared.items.Item.{Item}
-use Rattle.tn_nvt.specs.Sinks.{all_of, calls_of, TakesEach, Hands, Refuses, Wants}
-use Rattle.tn_nvt.specs.Standing.{Standing}
+use Rattle.tn_nvt.specs.Sinks.{all_of, calls_of, TakesEach, FeedsTo, StopsAtSink, StopsForMemory}
+use Rattle.tn_nvt.specs.Feeding.{DecoderState}
 
 module _ {S : Type 0} (takes gives_up : S → List Item → S → Type 0) where
   -- what no call, one call and calls one after another give, all of them give
@@ -17,7 +17,7 @@ module _ {S : Type 0} (takes gives_up : S → List Item → S → Type 0) where
 
   -- of the items that a refused front of a piece adds: what was taken before, what was refused, and what
   -- was never seen
-  pub refused_items : (old : Standing) (piece : List ℕ) (a b : S) (r : Refuses takes gives_up old piece a b)
+  pub refused_items : (old : DecoderState) (piece : List ℕ) (a b : S) (r : StopsAtSink takes gives_up old piece a b)
       → all_of (calls_of r.parts) ≡ all_of r.done ++ (r.left ++ all_of r.unseen)
   refused_items old piece a b r = ap all_of r.calls ∙ flat_map-append (λ call. call) r.done (r.left ∷ r.unseen)
 
@@ -25,9 +25,9 @@ module _ {S : Type 0} (takes gives_up : S → List Item → S → Type 0) where
   pub kept_by_all : (K : S → S → Type 0) → ((a : S) → K a a) → ((a b c : S) → K a b → K b c → K a c)
       → ((a b : S) (xs : List Item) → takes a xs b → K a b)
       → ((a b : S) (xs : List Item) → gives_up a xs b → K a b)
-      → (r : Result (Unit {0}) NvtFault) (old new : Standing) (piece : List ℕ) (a b : S)
-      → OnOk r (Hands takes old piece a b new) → (IsErrOf r Refused → Refuses takes gives_up old piece a b)
-      → (IsErrOf r Memory → Wants takes old piece a b)
+      → (r : Result (Unit {0}) NvtFault) (old new : DecoderState) (piece : List ℕ) (a b : S)
+      → OnOk r (FeedsTo takes old piece a b new) → (IsErrOf r Refused → StopsAtSink takes gives_up old piece a b)
+      → (IsErrOf r Memory → StopsForMemory takes old piece a b)
       → (IsErrOf r Failed → b ≡ a) → K a b
   kept_by_all K same then one stop (Ok unit) old new piece a b ok refused memory failed =
       taken_all (λ x _ y. K x y) same (λ x y z xs ys t k. then x y z (one x y xs t) k) a b (calls_of ok.parts) ok.taken

@@ -9,7 +9,7 @@ use Rattle.tn_nvt.specs.declared.items.Item.{Item}
 use Rattle.tn_nvt.specs.declared.items.Item.TheVariants.{Newline}
 use Rattle.tn_nvt.specs.Spelling.{spelling, spells, Fits}
 use Rattle.tn_nvt.specs.Stream.{spelled, Reading}
-use Rattle.tn_nvt.specs.Standing.{Standing, HasRead, Adds}
+use Rattle.tn_nvt.specs.Feeding.{DecoderState, LeadsTo, Advances}
 use Rattle.tn_nvt.proofs.Exists as exists
 use Rattle.tn_nvt.proofs.Unique as unique
 
@@ -20,8 +20,8 @@ pub one_reading : (stream rest other_rest : List ℕ) (items others : List Item)
     → (items ≡ others) × (rest ≡ other_rest)
 one_reading = unique.one_reading
 
-pub one_standing : (a b : Standing) (stream : List ℕ) (items others : List Item) → HasRead a stream items
-    → HasRead b stream others
+pub one_standing : (a b : DecoderState) (stream : List ℕ) (items others : List Item) → LeadsTo stream items a
+    → LeadsTo stream others b
     → (a ≡ b) × (items ≡ others)
 one_standing = unique.one_standing
 
@@ -115,14 +115,14 @@ one_text items others fit fits same =
 -- Whole items fly after what a decoder has read, and a piece is cut from their front: what it adds is a
 -- front of them, and
 -- what is left flies after the longer stream.
-pub record Delivers (new : Standing) (stream piece later : List ℕ) (had got items : List Item) : Type 0 where
+pub record Delivers (new : DecoderState) (stream piece later : List ℕ) (had got items : List Item) : Type 0 where
   pub left : List Item
   pub all : items ≡ got ++ left
-  pub has_read : HasRead new (stream ++ piece) (had ++ got)
+  pub has_read : LeadsTo (stream ++ piece) (had ++ got) new
   pub reads : Reading ((stream ++ piece) ++ later) ((had ++ got) ++ left) []
 
-pub delivers : (old new : Standing) (stream piece later : List ℕ) (had got items : List Item)
-    → HasRead old stream had → Adds old piece got new
+pub delivers : (old new : DecoderState) (stream piece later : List ℕ) (had got items : List Item)
+    → LeadsTo stream had old → Advances old piece got new
     → Reading (stream ++ (piece ++ later)) (had ++ items) [] → Delivers new stream piece later had got items
 delivers old new stream piece later had got items h adds reads =
     let reached = adds stream had h in

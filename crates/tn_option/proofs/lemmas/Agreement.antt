@@ -1,14 +1,14 @@
 -- Two ends and the words between them, from their beginning, step by step.
 use Rattle.std.proofs.Common.{◌≡◌, ℕ, Some, List, [], ◌∷◌, ◌++◌, refl, ◌∙◌, ap, subst}
-use Rattle.tn_option.specs.EnginePair.{EnginePair, EngineStep, engine_step, engine_steps, pair_of, Paired, EnginesAgree}
-use Rattle.tn_option.specs.Options.{known}
+use Rattle.tn_option.specs.EnginePair.{EnginePair, EngineStep, engine_step, engine_steps, pair_of, LeadTo, EnginesAgree}
+use Rattle.tn_option.specs.Options.{known_option}
 use Rattle.tn_option.specs.declared.known.Known.{Known}
 use Rattle.tn_option.specs.declared.negotiation.Agree.{Agree}
 use Rattle.tn_option.specs.declared.q_method.Side.{Side}
 use Rattle.tn_option.proofs.EngineSteps as inner
 
 pub engines-agree : (a b : Agree) (list : List EngineStep) (side : Side) (code : ℕ) (option : Known)
-    → known code ≡ Some option
+    → known_option code ≡ Some option
     → EnginesAgree (engine_steps list (pair_of a b)) side code
 engines-agree = inner.engines-agree
 
@@ -18,21 +18,21 @@ engine_steps-more [] more e = refl
 engine_steps-more (first ∷ rest) more e = engine_steps-more rest more (engine_step first e)
 
 -- two ends that begin
-pub fresh-Paired : (a b : Agree) → Paired a b (pair_of a b)
-fresh-Paired a b = record { list = []; is = refl }
+pub fresh-LeadTo : (a b : Agree) → LeadTo a b (pair_of a b)
+fresh-LeadTo a b = record { list = []; is = refl }
 
 -- one step more
-pub step-Paired : (a b : Agree) (next : EngineStep) (e : EnginePair) → Paired a b e
-    → Paired a b (engine_step next e)
-step-Paired a b next e p =
+pub step-LeadTo : (a b : Agree) (next : EngineStep) (e : EnginePair) → LeadTo a b e
+    → LeadTo a b (engine_step next e)
+step-LeadTo a b next e p =
     record { list = p.list ++ (next ∷ []); is = engine_steps-more p.list (next ∷ []) (pair_of a b) ∙ ap (engine_step next) p.is }
 
-pub steps-Paired : (a b : Agree) (list : List EngineStep) (e : EnginePair) → Paired a b e
-    → Paired a b (engine_steps list e)
-steps-Paired a b list e p = record { list = p.list ++ list; is = engine_steps-more p.list list (pair_of a b) ∙ ap (engine_steps list) p.is }
+pub steps-LeadTo : (a b : Agree) (list : List EngineStep) (e : EnginePair) → LeadTo a b e
+    → LeadTo a b (engine_steps list e)
+steps-LeadTo a b list e p = record { list = p.list ++ list; is = engine_steps-more p.list list (pair_of a b) ∙ ap (engine_steps list) p.is }
 
 -- where no word about an option is on its way, they agree on it
-pub Paired-agree : (a b : Agree) (e : EnginePair) (side : Side) (code : ℕ) (option : Known)
-    → known code ≡ Some option → Paired a b e
+pub LeadTo-agree : (a b : Agree) (e : EnginePair) (side : Side) (code : ℕ) (option : Known)
+    → known_option code ≡ Some option → LeadTo a b e
     → EnginesAgree e side code
-Paired-agree a b e side code option known_as p = subst (λ (x : EnginePair). EnginesAgree x side code) p.is (engines-agree a b p.list side code option known_as)
+LeadTo-agree a b e side code option known_as p = subst (λ (x : EnginePair). EnginesAgree x side code) p.is (engines-agree a b p.list side code option known_as)

@@ -4,28 +4,28 @@ use Rattle.std.proofs.Math.Seq.{take-length}
 use Rattle.std.specs.Prelude.{All}
 use Rattle.std.proofs.lemmas.List.Elements.{All-head, All-tail}
 use Rattle.tn_discipline.specs.declared.echo.Symbol.{Symbol}
-use Rattle.tn_pty.specs.Terminal.{output, outputs, fits}
+use Rattle.tn_pty.specs.Terminal.{output_symbol, output_symbols, fitting_count}
 use Rattle.tn_discipline.specs.declared.termios.Flags.{Flags}
 use Rattle.std.specs.List.{flat_map}
 use Rattle.std.proofs.lemmas.List.{append_cancel_left}
 use Rattle.tn_discipline.specs.Canon.{Canon}
-use Rattle.tn_nvt.specs.Standing.{HasRead}
+use Rattle.tn_nvt.specs.Feeding as nvt
 use Rattle.tn_nvt.specs.Stream.{Reading}
 use Rattle.tn_nvt.specs.declared.items.Item.{Item}
 use Rattle.tn_nvt.proofs.lemmas.Reading.{one_reading, reads_on, reads_none, has_reading}
-use Rattle.tn_server.specs.Course.{Course, started, fed, called, stream, IsCall, Leads, IsAt, in_parts}
+use Rattle.tn_server.specs.Course.{Course, started, fed, called, stream, IsCall, ReadsAs, CourseLeadsTo, in_parts}
 use Rattle.tn_wire.specs.Fronts.{IsRead}
 use Rattle.tn_server.specs.Events.{Event, History, begun, next, got, took, wrote, pulled, wished, char_set, echo_set, items, gets}
-use Rattle.tn_server.specs.Replies.{data_of, sent}
+use Rattle.tn_server.specs.Replies.{data_of, items_said}
 use Rattle.tn_server.specs.Screen.{queue}
 use Rattle.tn_server.specs.Terms.{settings}
-use Rattle.tn_server.specs.Standing.{End, Stands, Goes, Keeps, Feeds}
+use Rattle.tn_server.specs.Calls.{End, LeadsTo, Advances, ReadsNothing, Feeds}
 use Rattle.tn_server.proofs.lemmas.Histories.{items-gets, gets-append}
 
 same_more : (old other : History) (xs ys : List Item) → old ≡ other → items old ++ xs ≡ items other ++ ys → xs ≡ ys
 same_more old other xs ys is same = append_cancel_left (items old) xs ys (same ∙ ap (λ (h : History). items h ++ ys) (sym is))
 
-pub one_history : (c : Course) (h k : History) → Leads c h → Leads c k → h ≡ k
+pub one_history : (c : Course) (h k : History) → ReadsAs c h → ReadsAs c k → h ≡ k
 one_history (started canon) h k a b = a ∙ sym b
 one_history (fed c piece) h k (old, more, leads, read, is) (other, others, also, reads, same) =
     let one = one_history c old other leads also in
@@ -34,32 +34,32 @@ one_history (fed c piece) h k (old, more, leads, read, is) (other, others, also,
 one_history (called c e) h k (old, leads, call, is) (other, also, calls, same) =
     is ∙ ap (λ (h : History). next h e) (one_history c old other leads also) ∙ sym same
 
-pub begins : (canon : Canon) (end : End) → Stands (begun canon) end → HasRead end.decoder [] [] → IsAt (started canon) end
+pub begins : (canon : Canon) (end : End) → LeadsTo (begun canon) end → nvt.LeadsTo [] [] end.decoder → CourseLeadsTo (started canon) end
 begins canon end stands reads = record { history = begun canon; leads = refl; stands = stands; reads = reads }
 
-pub fed_on : (c : Course) (old new : End) (piece before after : List ℕ) → IsAt c old → Feeds old piece before after new → IsAt (fed c piece) new
+pub fed_on : (c : Course) (old new : End) (piece before after : List ℕ) → CourseLeadsTo c old → Feeds old piece before after new → CourseLeadsTo (fed c piece) new
 fed_on c old new piece before after a f =
     let read = f.reads (stream c) (items a.history) a.reads in
     record {
       history = gets a.history f.items;
       leads = (a.history, f.items, a.leads, (read.rest, read.reading), refl);
       stands = f.stands a.history a.stands;
-      reads = subst (HasRead new.decoder (stream c ++ piece)) (sym (items-gets a.history f.items)) read;
+      reads = subst (λ (xs : List Item). nvt.LeadsTo (stream c ++ piece) xs new.decoder) (sym (items-gets a.history f.items)) read;
     }
 
-pub fed_says : (c : Course) (old new : End) (piece before after : List ℕ) (h k : History) → IsAt c old → (f : Feeds old piece before after new) → Leads c h → Leads (fed c piece) k → sent k ≡ sent h ++ f.said
+pub fed_says : (c : Course) (old new : End) (piece before after : List ℕ) (h k : History) → CourseLeadsTo c old → (f : Feeds old piece before after new) → ReadsAs c h → ReadsAs (fed c piece) k → items_said k ≡ items_said h ++ f.said
 fed_says c old new piece before after h k a f leads also =
     let read = f.reads (stream c) (items a.history) a.reads in
-    ap sent (one_history (fed c piece) k (gets a.history f.items) also (a.history, f.items, a.leads, (read.rest, read.reading), refl))
+    ap items_said (one_history (fed c piece) k (gets a.history f.items) also (a.history, f.items, a.leads, (read.rest, read.reading), refl))
     ∙ f.sends a.history a.stands
-    ∙ ap (λ (x : History). sent x ++ f.said) (one_history c a.history h a.leads leads)
+    ∙ ap (λ (x : History). items_said x ++ f.said) (one_history c a.history h a.leads leads)
 
-pub called_on : (c : Course) (old new : End) (e : Event) (before after : List ℕ) → IsAt c old → IsCall e → Goes old e before after new → Keeps old new → IsAt (called c e) new
+pub called_on : (c : Course) (old new : End) (e : Event) (before after : List ℕ) → CourseLeadsTo c old → IsCall e → Advances old e before after new → ReadsNothing old new → CourseLeadsTo (called c e) new
 called_on c old new e before after a call g keeps = record {
   history = next a.history e;
   leads = (a.history, a.leads, call, refl);
   stands = g.stands a.history a.stands;
-  reads = subst (λ d. HasRead d (stream c) (items (next a.history e))) (sym keeps.decoder) (subst (HasRead old.decoder (stream c)) (sym (calls_read e call)) a.reads);
+  reads = subst (λ d. nvt.LeadsTo (stream c) (items (next a.history e)) d) (sym keeps.decoder) (subst (λ (xs : List Item). nvt.LeadsTo (stream c) xs old.decoder) (sym (calls_read e call)) a.reads);
 }
   where
     calls_read : (e : Event) → IsCall e → items (next a.history e) ≡ items a.history
@@ -72,7 +72,7 @@ called_on c old new e before after a call g keeps = record {
     calls_read (echo_set on) is = refl
 
 -- the items of a history are those of the stream
-pub reads_all : (c : Course) (h : History) → Leads c h → IsRead (stream c) (items h)
+pub reads_all : (c : Course) (h : History) → ReadsAs c h → IsRead (stream c) (items h)
 reads_all (started canon) h is = ([], subst (λ xs. Reading [] xs []) (sym (ap items is)) reads_none)
 reads_all (fed c piece) h (old, more, leads, read, is) =
     (read.0, subst (λ xs. Reading (stream c ++ piece) xs read.0) (sym (ap items is ∙ items-gets old more)) read.1)
@@ -89,7 +89,7 @@ reads_all (called c e) h (old, leads, call, is) =
     calls_read old (char_set func value) is = refl
     calls_read old (echo_set on) is = refl
 
-pub joined : (c : Course) (p q : List ℕ) (h : History) → Leads (fed (fed c p) q) h → Leads (fed c (p ++ q)) h
+pub joined : (c : Course) (p q : List ℕ) (h : History) → ReadsAs (fed (fed c p) q) h → ReadsAs (fed c (p ++ q)) h
 joined c p q h (mid, last, (old, more, leads, read, is_mid), reads, is) = (
   old,
   more ++ last,
@@ -102,7 +102,7 @@ joined c p q h (mid, last, (old, more, leads, read, is_mid), reads, is) = (
   is ∙ ap (λ (x : History). gets x last) is_mid ∙ sym (gets-append old more last),
 )
 
-pub parted : (c : Course) (p q : List ℕ) (h : History) → All (λ b. b < 256) (stream c ++ p) → Leads (fed c (p ++ q)) h → Leads (fed (fed c p) q) h
+pub parted : (c : Course) (p q : List ℕ) (h : History) → All (λ b. b < 256) (stream c ++ p) → ReadsAs (fed c (p ++ q)) h → ReadsAs (fed (fed c p) q) h
 parted c p q h bytes (old, all, leads, reads, is) =
     let before = reads_all c old leads in
     let here = has_reading (stream c ++ p) bytes in
@@ -124,13 +124,13 @@ take_all : (n : ℕ) (xs : List ℕ) → length xs ≤ n → take (min (length x
 take_all n xs few = ap (λ (m : ℕ). take m xs) (let e : min (length xs) n ≡ length xs = omega arith in e) ∙ take-length xs
 
 -- one part
-part_waits : (h : History) (part : List ℕ) → queue h ≡ [] → length part ≤ 4096 → queue (next h (wrote part)) ≡ outputs (settings h).flags part
+part_waits : (h : History) (part : List ℕ) → queue h ≡ [] → length part ≤ 4096 → queue (next h (wrote part)) ≡ output_symbols (settings h).flags part
 part_waits h part none few =
-    ap (λ (q : List Symbol). q ++ outputs (settings h).flags (take (fits q part) part)) none
-    ∙ ap (outputs (settings h).flags) (take_all 4096 part few)
+    ap (λ (q : List Symbol). q ++ output_symbols (settings h).flags (take (fitting_count q part) part)) none
+    ∙ ap (output_symbols (settings h).flags) (take_all 4096 part few)
 
-pub parts_say : (h : History) (parts : List (List ℕ)) → queue h ≡ [] → All (λ part. length part ≤ 4096) parts → (sent (in_parts h parts) ≡ sent h ++ map data_of (outputs (settings h).flags (flat_map (λ part. part) parts))) × (queue (in_parts h parts) ≡ [])
-parts_say h [] none few = (sym (append-nil (sent h)), none)
+pub parts_say : (h : History) (parts : List (List ℕ)) → queue h ≡ [] → All (λ part. length part ≤ 4096) parts → (items_said (in_parts h parts) ≡ items_said h ++ map data_of (output_symbols (settings h).flags (flat_map (λ part. part) parts))) × (queue (in_parts h parts) ≡ [])
+parts_say h [] none few = (sym (append-nil (items_said h)), none)
 parts_say h (part ∷ parts) none few =
     let f = (settings h).flags in
     let here = next h (wrote part) in
@@ -138,12 +138,12 @@ parts_say h (part ∷ parts) none few =
     let there = next here (pulled (length q)) in
     let waits = part_waits h part none (All-head (λ p. length p ≤ 4096) part parts few) in
     let on = parts_say there parts (drop_all q) (All-tail (λ p. length p ≤ 4096) part parts few) in
-    let more = map data_of (outputs f (flat_map (λ p. p) parts)) in
-    let said : sent there ≡ sent h ++ map data_of (outputs f part) =
-    ap (λ xs. xs ++ map data_of (take (length q) q)) (append-nil (sent h))
-    ∙ ap (λ (xs : List Symbol). sent h ++ map data_of xs) (take-length q ∙ waits) in (
-      on.0 ∙ ap (λ xs. xs ++ more) said ∙ append_assoc (sent h) (map data_of (outputs f part)) more
-          ∙ ap (λ xs. sent h ++ xs) (both_shown f part (flat_map (λ p. p) parts)),
+    let more = map data_of (output_symbols f (flat_map (λ p. p) parts)) in
+    let said : items_said there ≡ items_said h ++ map data_of (output_symbols f part) =
+    ap (λ xs. xs ++ map data_of (take (length q) q)) (append-nil (items_said h))
+    ∙ ap (λ (xs : List Symbol). items_said h ++ map data_of xs) (take-length q ∙ waits) in (
+      on.0 ∙ ap (λ xs. xs ++ more) said ∙ append_assoc (items_said h) (map data_of (output_symbols f part)) more
+          ∙ ap (λ xs. items_said h ++ xs) (both_shown f part (flat_map (λ p. p) parts)),
       on.1,
     )
   where
@@ -151,6 +151,6 @@ parts_say h (part ∷ parts) none few =
     drop_all [] = refl
     drop_all (x ∷ xs) = drop_all xs
 
-    both_shown : (f : Flags) (xs ys : List ℕ) → map data_of (outputs f xs) ++ map data_of (outputs f ys) ≡ map data_of (outputs f (xs ++ ys))
+    both_shown : (f : Flags) (xs ys : List ℕ) → map data_of (output_symbols f xs) ++ map data_of (output_symbols f ys) ≡ map data_of (output_symbols f (xs ++ ys))
     both_shown f [] ys = refl
-    both_shown f (x ∷ xs) ys = ap (λ zs. data_of (output f x) ∷ zs) (both_shown f xs ys)
+    both_shown f (x ∷ xs) ys = ap (λ zs. data_of (output_symbol f x) ∷ zs) (both_shown f xs ys)

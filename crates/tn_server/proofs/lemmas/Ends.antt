@@ -5,11 +5,11 @@ use Rattle.tn_discipline.specs.Entries.{half_of}
 use Rattle.tn_discipline.specs.HalfLine.{HalfLine}
 use Rattle.tn_discipline.specs.declared.reads.Entry.{Entry}
 use Rattle.tn_server.specs.Events.{History}
-use Rattle.tn_server.specs.Lines.{roles, entries, taken, line, waiting}
-use Rattle.tn_server.specs.Standing.{End, Stands}
+use Rattle.tn_server.specs.Lines.{roles, entries, taken_count, line, waiting}
+use Rattle.tn_server.specs.Calls.{End, LeadsTo}
 
 -- where nothing is ahead, the half line is what is held
-pub line_is : (h : History) (end : End) → Stands h end → end.terminal.line ≡ line h
+pub line_is : (h : History) (end : End) → LeadsTo h end → end.terminal.line ≡ line h
 line_is h end s = go s.leaves.sent (s.leaves.count ∙ s.ahead) s.leaves.bytes
   where
     l : HalfLine
@@ -26,5 +26,5 @@ drop_read : (read rest : List Entry) (n : ℕ) (es : List Entry) → length read
 drop_read read rest n es e f = rw (← e, f) (drop-append_seam read rest)
 
 -- what waits is what the end holds
-pub waits_are : (h : History) (end : End) → Stands h end → waiting h ≡ end.terminal.entries
-waits_are h end s = drop_read s.read end.terminal.entries (taken h) (entries h) s.count s.waits
+pub waits_are : (h : History) (end : End) → LeadsTo h end → waiting h ≡ end.terminal.entries
+waits_are h end s = drop_read s.read end.terminal.entries (taken_count h) (entries h) s.count s.waits

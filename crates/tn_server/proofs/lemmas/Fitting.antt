@@ -21,37 +21,37 @@ use Rattle.tn_option.specs.Options.{Options, reply_to, answer_to, state_of, is_y
 use Rattle.tn_option.specs.declared.q_method.AskFault.{AskFault}
 use Rattle.tn_option.specs.declared.q_method.Side.TheVariants.{Us, Them}
 use Rattle.tn_server.specs.Events.{History, Event, begun, next, got, took, wrote, pulled, wished, char_set, echo_set}
-use Rattle.tn_server.specs.Terms.{Terms, terms, options, flags, chars, linemode, payload_at, heard, wish_at, is_echo_set, wished_after, told_by, asks_echo, asked_of, wants_echo, chars_after}
+use Rattle.tn_server.specs.Terms.{Terms, terms, options, flags, chars, linemode, payload_at, options_after, wish_at, is_echo_set, wish_after, mask_told, asks_echo, asked_mask_of, wants_echo, chars_after}
 use Rattle.tn_server.specs.Screen.{queue, sends_ga, none_waits, due}
-use Rattle.tn_server.specs.Replies.{asked_word, word_back, table_asked, table_told, echo_told, says_by, says, list_answered, triple_told, data_of, opening, replies, sent}
-use Rattle.tn_wire.specs.Words.{listed, mode_told}
+use Rattle.tn_server.specs.Replies.{asked_word_items, reply_items, table_items, new_table_items, echo_items, items_by, items_at, list_replies, triple_items, data_of, opening, replies, items_said}
+use Rattle.tn_wire.specs.Words.{list_items, mode_items}
 use Rattle.tn_server.specs.declared.wishes.Editing.{Editing}
 use Rattle.tn_linemode.proofs.lemmas.Answering.{length-answers_along}
 use Rattle.tn_wire.proofs.lemmas.Fitting.{word-fits, mode-fits, list-fits}
 use Rattle.tn_wire.proofs.lemmas.Listing.{IsShortOrNone, short_under}
 use Rattle.tn_server.proofs.Listing.{length-announcement}
 
-asked_fits : (r : Result (Option (Verb × ℕ)) AskFault) → All Fits (asked_word r)
+asked_fits : (r : Result (Option (Verb × ℕ)) AskFault) → All Fits (asked_word_items r)
 asked_fits (Ok said) = word-fits said
 asked_fits (Err fault) = All-nil Fits
 
-table_fits : (asked : Bool) (c : Characters) → All Fits (table_asked asked c)
+table_fits : (asked : Bool) (c : Characters) → All Fits (table_items asked c)
 table_fits true c = list-fits (announcement c) (omega (arith, length-announcement c))
 table_fits false c = All-nil Fits
 
-echo_fits : (due wanted : Bool) (o : Options) → All Fits (echo_told due wanted o)
+echo_fits : (due wanted : Bool) (o : Options) → All Fits (echo_items due wanted o)
 echo_fits true wanted o = asked_fits (answer_to o Us 1 wanted)
 echo_fits false wanted o = All-nil Fits
 
-says_by_fits : (f : Flags) (c : Characters) (t : Terms) (o : Options) (editing : Option Editing) (set : Bool) → All Fits (says_by f c t o editing set)
+says_by_fits : (f : Flags) (c : Characters) (t : Terms) (o : Options) (editing : Option Editing) (set : Bool) → All Fits (items_by f c t o editing set)
 says_by_fits f c t o editing set =
-    let wish = wished_after f t.wish editing in
-    let echo = echo_told (asks_echo t.options o (told_by t o wish) set) (wants_echo (asked_of o wish) f) o in
-    All-append Fits (table_told (linemode t.options) (linemode o) c) (mode_told (told_by t o wish) ++ echo)
+    let wish = wish_after f t.wish editing in
+    let echo = echo_items (asks_echo t.options o (mask_told t o wish) set) (wants_echo (asked_mask_of o wish) f) o in
+    All-append Fits (new_table_items (linemode t.options) (linemode o) c) (mode_items (mask_told t o wish) ++ echo)
     (table_fits (linemode o && not (linemode t.options)) c)
-    (All-append Fits (mode_told (told_by t o wish)) echo (mode-fits (told_by t o wish)) (echo_fits (asks_echo t.options o (told_by t o wish) set) (wants_echo (asked_of o wish) f) o))
+    (All-append Fits (mode_items (mask_told t o wish)) echo (mode-fits (mask_told t o wish)) (echo_fits (asks_echo t.options o (mask_told t o wish) set) (wants_echo (asked_mask_of o wish) f) o))
 
-back_fits : (o : Options) (e : Event) → All Fits (word_back o e)
+back_fits : (o : Options) (e : Event) → All Fits (reply_items o e)
 back_fits o (got (Neg v option)) = word-fits (reply_to o v option)
 back_fits o (got (Byte b)) = All-nil Fits
 back_fits o (got Newline) = All-nil Fits
@@ -64,10 +64,10 @@ back_fits o (wished editing) = All-nil Fits
 back_fits o (char_set func value) = All-nil Fits
 back_fits o (echo_set on) = All-nil Fits
 
-says_fits : (f : Flags) (c : Characters) (t : Terms) (e : Event) → All Fits (says f c t e)
+says_fits : (f : Flags) (c : Characters) (t : Terms) (e : Event) → All Fits (items_at f c t e)
 says_fits f c t e =
-    All-append Fits (word_back t.options e) (says_by f c t (heard t.options e) (wish_at t.options e) (is_echo_set e)) (back_fits t.options e)
-    (says_by_fits f c t (heard t.options e) (wish_at t.options e) (is_echo_set e))
+    All-append Fits (reply_items t.options e) (items_by f c t (options_after t.options e) (wish_at t.options e) (is_echo_set e)) (back_fits t.options e)
+    (says_by_fits f c t (options_after t.options e) (wish_at t.options e) (is_echo_set e))
 
 few_at : (o : Options) (item : Item) → IsShortOrNone (payload_at o item)
 few_at o (Byte b) = tt
@@ -76,11 +76,11 @@ few_at o (Cmd command) = tt
 few_at o (Neg v option) = tt
 few_at o (Sub option params) = short_under (is_yes (state_of o Them option)) option params
 
-answered_fits : (c : Characters) (p : Option Payload) → IsShortOrNone p → All Fits (list_answered c p)
+answered_fits : (c : Characters) (p : Option Payload) → IsShortOrNone p → All Fits (list_replies c p)
 unfolding server_answers
 answered_fits c None few = All-nil Fits
 answered_fits c (Some (Slc triples)) few =
-    All-append Fits (listed (server_answers c triples)) _ (list-fits (server_answers c triples) (omega (arith, length-answers_along server_next server_answer c triples, few)))
+    All-append Fits (list_items (server_answers c triples)) _ (list-fits (server_answers c triples) (omega (arith, length-answers_along server_next server_answer c triples, few)))
     (table_fits _ (chars_after c (Some (Slc triples))))
 answered_fits c (Some (Naws width height)) few = All-nil Fits
 answered_fits c (Some (Mode mask)) few = All-nil Fits
@@ -89,7 +89,7 @@ answered_fits c (Some ForwardOff) few = All-nil Fits
 answered_fits c (Some ForwardYes) few = All-nil Fits
 answered_fits c (Some ForwardNo) few = All-nil Fits
 
-triple_fits : (told : Bool) (func : Func) (value : Option ℕ) → All Fits (triple_told told func value)
+triple_fits : (told : Bool) (func : Func) (value : Option ℕ) → All Fits (triple_items told func value)
 triple_fits true func value = list-fits (triple_of func value ∷ []) (lit≤ tt)
 triple_fits false func value = All-nil Fits
 
@@ -104,7 +104,7 @@ ga_fits false = All-nil Fits
 
 pub replies-fit : (h : History) (e : Event) → All Fits (replies h e)
 replies-fit h (got item) =
-    All-append Fits (says (flags h) (chars h) (terms h) (got item)) (list_answered (chars h) (payload_at (options h) item))
+    All-append Fits (items_at (flags h) (chars h) (terms h) (got item)) (list_replies (chars h) (payload_at (options h) item))
     (says_fits (flags h) (chars h) (terms h) (got item)) (answered_fits (chars h) (payload_at (options h) item) (few_at (options h) item))
 replies-fit h took = ga_fits (sends_ga (none_waits h) (options h) (due h))
 replies-fit h (wrote bytes) = All-nil Fits
@@ -125,6 +125,6 @@ pub opening-fits : All Fits opening
 opening-fits =
     words_fit ((verb.DoIt, 34) ∷ (verb.DoIt, 31) ∷ (verb.Will, 3) ∷ (verb.DoIt, 3) ∷ (verb.Will, 1) ∷ [])
 
-pub sent-fit : (h : History) → All Fits (sent h)
+pub sent-fit : (h : History) → All Fits (items_said h)
 sent-fit (begun canon) = opening-fits
-sent-fit (next h e) = All-append Fits (sent h) (replies h e) (sent-fit h) (replies-fit h e)
+sent-fit (next h e) = All-append Fits (items_said h) (replies h e) (sent-fit h) (replies-fit h e)

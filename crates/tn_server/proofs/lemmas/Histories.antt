@@ -2,7 +2,7 @@
 use Rattle.std.proofs.Common.{◌≡◌, List, [], ◌∷◌, ◌++◌, refl, sym, ◌∙◌, append-nil, append_assoc}
 use Rattle.tn_nvt.specs.declared.items.Item.{Item}
 use Rattle.tn_server.specs.Events.{History, next, got, items, gets, limit, opening_settings}
-use Rattle.tn_server.specs.Replies.{replies, sent}
+use Rattle.tn_server.specs.Replies.{replies, items_said}
 
 pub items-gets : (h : History) (more : List Item) → items (gets h more) ≡ items h ++ more
 items-gets h [] = sym (append-nil (items h))
@@ -24,8 +24,8 @@ pub gets-append : (h : History) (front back : List Item) → gets h (front ++ ba
 gets-append h [] back = refl
 gets-append h (x ∷ xs) back = gets-append (next h (got x)) xs back
 
-pub sent-gets : (h : History) (more : List Item) → (rest : List Item) × (sent (gets h more) ≡ sent h ++ rest)
-sent-gets h [] = ([], sym (append-nil (sent h)))
+pub sent-gets : (h : History) (more : List Item) → (rest : List Item) × (items_said (gets h more) ≡ items_said h ++ rest)
+sent-gets h [] = ([], sym (append-nil (items_said h)))
 sent-gets h (x ∷ xs) =
     let r = sent-gets (next h (got x)) xs in
-    (replies h (got x) ++ r.0, r.1 ∙ append_assoc (sent h) (replies h (got x)) r.0)
+    (replies h (got x) ++ r.0, r.1 ∙ append_assoc (items_said h) (replies h (got x)) r.0)

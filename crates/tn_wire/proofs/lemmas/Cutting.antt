@@ -3,7 +3,7 @@ use Rattle.std.proofs.Common.{◌≡◌, ◌≢◌, ℕ, List, [], ◌∷◌, �
 use Rattle.std.proofs.lemmas.Grind.{flat_map-append}
 use Rattle.tn_nvt.specs.Spelling.{spelling, spells}
 use Rattle.tn_nvt.specs.declared.items.Item.{Item}
-use Rattle.tn_wire.specs.Fronts.{Cuts}
+use Rattle.tn_wire.specs.Fronts.{AppendsFront}
 
 pub spells-append : (xs ys : List Item) → spells (xs ++ ys) ≡ spells xs ++ spells ys
 spells-append xs ys = flat_map-append spelling xs ys
@@ -14,7 +14,7 @@ spelled_on a b before first after one two =
     two ∙ ap (λ (xs : List ℕ). xs ++ spells b) one ∙ append_assoc before (spells a) (spells b)
     ∙ ap (λ (xs : List ℕ). before ++ xs) (sym (spells-append a b))
 
-pub cut_after_two : (whole a b c : List Item) (before first second after : List ℕ) → whole ≡ a ++ (b ++ c) → first ≡ before ++ spells a → second ≡ first ++ spells b → after ≡ second → Cuts whole before after
+pub cut_after_two : (whole a b c : List Item) (before first second after : List ℕ) → whole ≡ a ++ (b ++ c) → first ≡ before ++ spells a → second ≡ first ++ spells b → after ≡ second → AppendsFront whole before after
 cut_after_two whole a b c before first second after is one two three = record {
   part = a ++ b;
   rest = c;
@@ -22,7 +22,7 @@ cut_after_two whole a b c before first second after is one two three = record {
   appended = three ∙ spelled_on a b before first second one two;
 }
 
-pub cut_after_one : (whole a b : List Item) (before first after : List ℕ) → whole ≡ a ++ b → first ≡ before ++ spells a → Cuts b first after → Cuts whole before after
+pub cut_after_one : (whole a b : List Item) (before first after : List ℕ) → whole ≡ a ++ b → first ≡ before ++ spells a → AppendsFront b first after → AppendsFront whole before after
 cut_after_one whole a b before first after is one c = record {
   part = a ++ c.part;
   rest = c.rest;

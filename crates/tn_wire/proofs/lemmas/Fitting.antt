@@ -2,14 +2,14 @@
 use Rattle.std.proofs.Common.{◌≤◌, ℕ, Bool, true, false, Option, Some, None, List, [], ◌∷◌, ◌++◌, length, if◌then◌else◌, arith}
 use Rattle.std.specs.Prelude.{All}
 use Rattle.std.proofs.lemmas.List.Elements.{All-nil, All-cons, All-append}
-use Rattle.tn_codes.specs.Payloads.{written}
+use Rattle.tn_codes.specs.Payloads.{parameters_of}
 use Rattle.tn_codes.specs.declared.codes.Verb.{Verb}
 use Rattle.tn_codes.specs.declared.payloads.Payload.TheVariants.{Mode, Slc}
 use Rattle.tn_codes.specs.declared.triples.Triple.{Triple}
 use Rattle.tn_nvt.specs.Spelling.{Fits}
 use Rattle.tn_nvt.specs.declared.items.Item.{Item}
 use Rattle.tn_nvt.specs.declared.items.Item.TheVariants.{Neg, Sub}
-use Rattle.tn_wire.specs.Words.{word, mode_told, listed}
+use Rattle.tn_wire.specs.Words.{word_items, mode_items, list_items}
 use Rattle.tn_wire.proofs.lemmas.Listing.{length-octets}
 
 -- these items fit
@@ -29,14 +29,14 @@ pub unless : (b : Bool) (xs : List Item) → Fit xs → Fit (if b then xs else [
 unless true xs h = h
 unless false xs h = none
 
-pub word-fits : (said : Option (Verb × ℕ)) → Fit (word said)
+pub word-fits : (said : Option (Verb × ℕ)) → Fit (word_items said)
 word-fits None = none
 word-fits (Some said) = one (Neg said.0 said.1) tt
 
-pub mode-fits : (mask : Option ℕ) → Fit (mode_told mask)
+pub mode-fits : (mask : Option ℕ) → Fit (mode_items mask)
 mode-fits None = none
-mode-fits (Some mask) = one (Sub 34 (written (Mode mask))) (omega arith)
+mode-fits (Some mask) = one (Sub 34 (parameters_of (Mode mask))) (omega arith)
 
-pub list-fits : (triples : List Triple) → length triples ≤ 170 → Fit (listed triples)
+pub list-fits : (triples : List Triple) → length triples ≤ 170 → Fit (list_items triples)
 list-fits [] few = none
-list-fits (t ∷ ts) few = one (Sub 34 (written (Slc (t ∷ ts)))) (omega (arith, few, length-octets (t ∷ ts)))
+list-fits (t ∷ ts) few = one (Sub 34 (parameters_of (Slc (t ∷ ts)))) (omega (arith, few, length-octets (t ∷ ts)))

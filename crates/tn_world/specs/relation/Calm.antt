@@ -42,18 +42,18 @@ abbrev pub seen_payload : Bool → Option Payload → machine.Item
 seen_payload true (Some (payload.Mode mask)) = mode_ack (bits mask)
 seen_payload _ _ = other
 
-abbrev pub seen : Bool → Item → machine.Item
-seen linemode (Byte b) = byte b
-seen linemode Newline = newline
-seen linemode (Cmd c) = command c
-seen linemode (Neg verb option) = other
-seen linemode (Sub option params) = seen_payload linemode (payload_of option params)
+abbrev pub server_item : Bool → Item → machine.Item
+server_item linemode (Byte b) = byte b
+server_item linemode Newline = newline
+server_item linemode (Cmd c) = command c
+server_item linemode (Neg verb option) = other
+server_item linemode (Sub option params) = seen_payload linemode (payload_of option params)
 
 -- and to the client
 abbrev pub heard_payload : Bool → Option Payload → Message
 heard_payload true (Some (payload.Mode mask)) = mode (bits mask)
 heard_payload _ _ = chatter
 
-abbrev pub heard : Bool → Item → Message
-heard linemode (Sub option params) = heard_payload linemode (payload_of option params)
-heard linemode _ = chatter
+abbrev pub client_message : Bool → Item → Message
+client_message linemode (Sub option params) = heard_payload linemode (payload_of option params)
+client_message linemode _ = chatter

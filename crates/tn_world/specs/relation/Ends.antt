@@ -2,81 +2,81 @@
 use Rattle.std.specs.Prelude.{◌≡◌, ℕ, false, List, [], ◌∷◌, ◌++◌, map, take, drop, All}
 use Rattle.tn_nvt.specs.declared.items.Item.{Item}
 use Rattle.tn_nvt.specs.Spelling.{spells, Fits}
-use Rattle.tn_nvt.specs.Standing.{Standing, Adds}
+use Rattle.tn_nvt.specs.Feeding.{DecoderState, Advances}
 use Rattle.tn_discipline.specs.declared.reads.Entry.{Entry}
 use Rattle.tn_discipline.specs.Canon.{typed_half}
 use Rattle.tn_world.specs.relation.Machine as machine
-use Rattle.tn_world.specs.relation.Machine.{Rules, Message, mode, forward_at, chatter, Server, read_all, Client, Sent, keyed, is_same, came}
-use Rattle.tn_world.specs.relation.Calm.{IsCalmToServer, IsCalmToClient, seen, heard}
+use Rattle.tn_world.specs.relation.Machine.{Rules, Message, mode, forward_at, chatter, Server, read_all, Client, Sent, client_after_key, is_same, client_after_message}
+use Rattle.tn_world.specs.relation.Calm.{IsCalmToServer, IsCalmToClient, server_item, client_message}
 
 pub record ServerEnd : Type 0 where
-  pub decoder : Standing
+  pub decoder : DecoderState
   pub core : Server
 
 pub record ClientEnd : Type 0 where
-  pub decoder : Standing
+  pub decoder : DecoderState
   pub core : Client
 
 -- what these items say to the server, and to the client
-abbrev pub seen_all : Rules → List Item → List machine.Item
-seen_all rules items = map (seen rules.linemode) items
+abbrev pub server_items : Rules → List Item → List machine.Item
+server_items rules items = map (server_item rules.linemode) items
 
-abbrev pub heard_all : Rules → List Item → List Message
-heard_all rules items = map (heard rules.linemode) items
+abbrev pub client_messages : Rules → List Item → List Message
+client_messages rules items = map (client_message rules.linemode) items
 
 -- what the server says: items that fit a stream and are calm
-pub record Replies (rules : Rules) (said : List Item) : Type 0 where
+pub record AreReplies (rules : Rules) (said : List Item) : Type 0 where
   pub fit : All Fits said
   pub calm : All (IsCalmToClient rules.canon.settings) said
 
 pub record ServerFeeds (rules : Rules) (old : ServerEnd) (piece : List ℕ) (said : List Item) (new : ServerEnd) : Type 0 where
   pub got : List Item
-  pub reads : Adds old.decoder piece got new.decoder
-  pub core : new.core ≡ read_all rules.canon old.core (seen_all rules got)
-  pub replies : Replies rules said
+  pub reads : Advances old.decoder piece got new.decoder
+  pub core : new.core ≡ read_all rules.canon old.core (server_items rules got)
+  pub replies : AreReplies rules said
 
 -- any other call of the server that gives no entry
 pub record ServerSays (rules : Rules) (old : ServerEnd) (said : List Item) (new : ServerEnd) : Type 0 where
   pub same : new ≡ old
-  pub replies : Replies rules said
+  pub replies : AreReplies rules said
 
-abbrev pub without : Server → List Entry → Server
-without v entries = record v { waiting = entries }
+abbrev pub with_waiting : Server → List Entry → Server
+with_waiting v entries = record v { waiting = entries }
 
-abbrev pub Took : ServerEnd → List Entry → ServerEnd → Type 0
-Took old [] new = (old.core.waiting ≡ []) × (new ≡ old)
-Took old (x ∷ none) new = (entries : List Entry) × (old.core.waiting ≡ x ∷ entries) × (none ≡ []) × (new ≡ record old { core = without old.core entries })
+abbrev pub TakesFirst : ServerEnd → List Entry → ServerEnd → Type 0
+TakesFirst old [] new = (old.core.waiting ≡ []) × (new ≡ old)
+TakesFirst old (x ∷ none) new = (entries : List Entry) × (old.core.waiting ≡ x ∷ entries) × (none ≡ []) × (new ≡ record old { core = with_waiting old.core entries })
 
 -- what the client says: items that fit a stream and are calm, and say this to any server
-pub record Writes (rules : Rules) (says : List machine.Item) (said : List Item) : Type 0 where
+pub record SaysItems (rules : Rules) (says : List machine.Item) (said : List Item) : Type 0 where
   pub fit : All Fits said
   pub calm : All IsCalmToServer said
-  pub says_so : (v : Server) → read_all rules.canon v (seen_all rules said) ≡ read_all rules.canon v says
+  pub says_so : (v : Server) → read_all rules.canon v (server_items rules said) ≡ read_all rules.canon v says
 
 pub record ClientKeys (rules : Rules) (old : ClientEnd) (key : ℕ) (said : List Item) (new : ClientEnd) : Type 0 where
   pub decoder : new.decoder ≡ old.decoder
-  pub core : new.core ≡ (keyed rules old.core.mask.edit old.core key).client
-  pub writes : Writes rules (keyed rules old.core.mask.edit old.core key).items said
+  pub core : new.core ≡ (client_after_key rules old.core.mask.edit old.core key).client
+  pub writes : SaysItems rules (client_after_key rules old.core.mask.edit old.core key).items said
 
 -- the client after these messages
-abbrev pub came_all : Rules → Client → List Message → Sent
-came_all rules c [] = record { client = c; items = [] }
-came_all rules c (m ∷ messages) =
+abbrev pub client_after_messages : Rules → Client → List Message → Sent
+client_after_messages rules c [] = record { client = c; items = [] }
+client_after_messages rules c (m ∷ messages) =
     record {
-      client = (came_all rules (came rules c m).client messages).client;
-      items = (came rules c m).items ++ (came_all rules (came rules c m).client messages).items;
+      client = (client_after_messages rules (client_after_message rules c m).client messages).client;
+      items = (client_after_message rules c m).items ++ (client_after_messages rules (client_after_message rules c m).client messages).items;
     }
 
 pub record ClientFeeds (rules : Rules) (old : ClientEnd) (piece : List ℕ) (said : List Item) (new : ClientEnd) : Type 0 where
   pub got : List Item
-  pub reads : Adds old.decoder piece got new.decoder
-  pub core : new.core ≡ (came_all rules old.core (heard_all rules got)).client
-  pub writes : Writes rules (came_all rules old.core (heard_all rules got)).items said
+  pub reads : Advances old.decoder piece got new.decoder
+  pub core : new.core ≡ (client_after_messages rules old.core (client_messages rules got)).client
+  pub writes : SaysItems rules (client_after_messages rules old.core (client_messages rules got)).items said
 
 -- any other call of the client says nothing that counts
 pub record ClientSays (rules : Rules) (old : ClientEnd) (said : List Item) (new : ClientEnd) : Type 0 where
   pub same : new ≡ old
-  pub writes : Writes rules [] said
+  pub writes : SaysItems rules [] said
 
 pub record World : Type 0 where
   pub typed : List ℕ
@@ -103,7 +103,7 @@ Happens rules w (to_server n) new =
 Happens rules w (to_client n) new =
     (client : ClientEnd) × (said : List Item) × ClientFeeds rules w.client (take n w.to_client) said client × (new ≡ record w { client = client; to_client = drop n w.to_client; to_server = w.to_server ++ spells said })
 Happens rules w take_entry new =
-    (server : ServerEnd) × (said : List Item) × (entry : List Entry) × Took w.server entry server × Replies rules said × (new ≡ record w { taken = w.taken ++ entry; server = server; to_client = w.to_client ++ spells said })
+    (server : ServerEnd) × (said : List Item) × (entry : List Entry) × TakesFirst w.server entry server × AreReplies rules said × (new ≡ record w { taken = w.taken ++ entry; server = server; to_client = w.to_client ++ spells said })
 Happens rules w server_call new =
     (server : ServerEnd) × (said : List Item) × ServerSays rules w.server said server × (new ≡ record w { server = server; to_client = w.to_client ++ spells said })
 Happens rules w client_call new =
@@ -117,11 +117,11 @@ IsCalm rules typed c chatter = Unit {0}
 -- each of these messages that changes the mode comes between two lines
 abbrev pub AreBetweenLines : Rules → List ℕ → Client → List Message → Type 0
 AreBetweenLines rules typed c [] = Unit {0}
-AreBetweenLines rules typed c (m ∷ messages) = IsCalm rules typed c m × AreBetweenLines rules typed (came rules c m).client messages
+AreBetweenLines rules typed c (m ∷ messages) = IsCalm rules typed c m × AreBetweenLines rules typed (client_after_message rules c m).client messages
 
 abbrev pub IsQuietEvent : Rules → World → Event → Type 0
 IsQuietEvent rules w (to_client n) =
-    (got : List Item) (next : Standing) → Adds w.client.decoder (take n w.to_client) got next → AreBetweenLines rules w.typed w.client.core (heard_all rules got)
+    (got : List Item) (next : DecoderState) → Advances w.client.decoder (take n w.to_client) got next → AreBetweenLines rules w.typed w.client.core (client_messages rules got)
 IsQuietEvent rules w (key k) = Unit {0}
 IsQuietEvent rules w (to_server n) = Unit {0}
 IsQuietEvent rules w take_entry = Unit {0}

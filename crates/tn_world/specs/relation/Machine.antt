@@ -3,7 +3,7 @@ use Rattle.std.specs.Prelude.{◌≡◌, ◌⊎◌, ℕ, ◌+◌, ◌-◌, ◌==
 use Rattle.tn_codes.specs.declared.codes.Command.{Command}
 use Rattle.tn_codes.specs.declared.codes.Command.TheVariants.{Eof, Susp, Abort, Ip, Ec, El}
 use Rattle.tn_discipline.specs.declared.reads.Entry.{Entry}
-use Rattle.tn_discipline.specs.Admitted.{is_dropped, counted}
+use Rattle.tn_discipline.specs.Admitted.{is_dropped, next_count}
 use Rattle.tn_discipline.specs.Canon.{Canon}
 use Rattle.tn_discipline.specs.Limits.{most_counted}
 use Rattle.tn_discipline.specs.Steps.{front, half_next, gain_next}
@@ -149,14 +149,14 @@ remote_item true r key = byte key
 
 -- a count of the half line, after one more key
 abbrev pub count_next : ℕ → ℕ → Role → ℕ
-count_next limit n r = if is_dropped limit n r then n else counted n r
+count_next limit n r = if is_dropped limit n r then n else next_count n r
 
 -- a key, by whether EDIT is set
-abbrev pub keyed : Rules → Bool → Client → ℕ → Sent
-keyed rules true c key =
+abbrev pub client_after_key : Rules → Bool → Client → ℕ → Sent
+client_after_key rules true c key =
     let part = edit_key rules.canon.limit c (role_of_key (as_client rules.canon.settings c.mask.trapsig) key) in
     record { client = record c { held = part.held; ahead = part.ahead }; items = part.items }
-keyed rules false c key =
+client_after_key rules false c key =
     record {
       client = record c {
         trapped = count_next rules.canon.limit c.trapped (role_of_key (as_client rules.canon.settings true) key);
@@ -173,24 +173,24 @@ abbrev pub is_same : Mode → Mode → Bool
 is_same m n = bits_same m.edit n.edit && bits_same m.trapsig n.trapsig
 
 -- the client takes a mode, by EDIT before and after
-abbrev pub mode_taken : Rules → Client → Mode → Bool → Bool → Sent
-mode_taken rules c m true false =
+abbrev pub client_with_mode : Rules → Client → Mode → Bool → Bool → Sent
+client_with_mode rules c m true false =
     let count = c.ahead + length c.held in
     record { client = record c { mask = m; held = []; ahead = 0; trapped = count; plain = count }; items = bytes c.held ++ mode_ack m ∷ [] }
-mode_taken rules c m false true =
+client_with_mode rules c m false true =
     let ahead = (if rules.resumes then (if m.trapsig then c.trapped else c.plain) else 0) in
     record { client = record c { mask = m; held = []; ahead = ahead; trapped = 0; plain = 0 }; items = mode_ack m ∷ [] }
-mode_taken rules c m true true = record { client = record c { mask = m }; items = mode_ack m ∷ [] }
-mode_taken rules c m false false = record { client = record c { mask = m }; items = mode_ack m ∷ [] }
+client_with_mode rules c m true true = record { client = record c { mask = m }; items = mode_ack m ∷ [] }
+client_with_mode rules c m false false = record { client = record c { mask = m }; items = mode_ack m ∷ [] }
 
-abbrev pub mode_came : Rules → Client → Mode → Bool → Sent
-mode_came rules c m true = record { client = c; items = [] }
-mode_came rules c m false = mode_taken rules c m c.mask.edit m.edit
+abbrev pub client_after_mode : Rules → Client → Mode → Bool → Sent
+client_after_mode rules c m true = record { client = c; items = [] }
+client_after_mode rules c m false = client_with_mode rules c m c.mask.edit m.edit
 
-abbrev pub came : Rules → Client → Message → Sent
-came rules c (mode m) = mode_came rules c m (is_same c.mask m)
-came rules c (forward_at f) = record { client = record c { forward = f }; items = other ∷ [] }
-came rules c chatter = record { client = c; items = other ∷ [] }
+abbrev pub client_after_message : Rules → Client → Message → Sent
+client_after_message rules c (mode m) = client_after_mode rules c m (is_same c.mask m)
+client_after_message rules c (forward_at f) = record { client = record c { forward = f }; items = other ∷ [] }
+client_after_message rules c chatter = record { client = c; items = other ∷ [] }
 
 -- whether the settings allow Local
 abbrev pub allows_local : Settings → Bool

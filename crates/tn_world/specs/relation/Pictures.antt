@@ -1,9 +1,9 @@
 -- The ends as the relation between them sees them, and what stays as it was at a mark.
 use Rattle.std.specs.Prelude.{◌≡◌, ℕ, false}
 use Rattle.tn_linemode.specs.Modes.{edits}
-use Rattle.tn_server.specs.Standing as server
+use Rattle.tn_server.specs.Calls as server
 use Rattle.tn_server.specs.Terms as server_terms
-use Rattle.tn_client.specs.Standing as client
+use Rattle.tn_client.specs.Calls as client
 use Rattle.tn_client.specs.Terms as client_terms
 use Rattle.tn_world.specs.relation.Machine.{Rules, Server, Client}
 use Rattle.tn_world.specs.relation.Calm.{bits}

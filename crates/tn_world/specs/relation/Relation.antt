@@ -6,18 +6,18 @@ use Rattle.tn_discipline.specs.Keys.{literal_role}
 use Rattle.tn_discipline.specs.declared.keys.Role.TheVariants as role
 use Rattle.tn_discipline.specs.declared.reads.Entry.{Entry}
 use Rattle.tn_nvt.specs.declared.items.Item.{Item}
-use Rattle.tn_world.specs.Past.{IsSound}
+use Rattle.tn_world.specs.Past.{HasPast}
 use Rattle.tn_world.specs.relation.Calm.{IsCalmToServer, IsCalmToClient}
 use Rattle.tn_world.specs.relation.Ends as ends
-use Rattle.tn_world.specs.relation.Ends.{seen_all}
+use Rattle.tn_world.specs.relation.Ends.{server_items}
 use Rattle.tn_world.specs.Flight.{InFlight}
 use Rattle.tn_world.specs.relation.Machine.{Rules, Server, read_all, Client, allows_local, IsAskable}
 use Rattle.tn_world.specs.relation.Pictures.{server_picture, client_picture, ServerStays, ClientStays}
 use Rattle.tn_world.specs.Worlds.{World}
 
 -- a server that goes on
-abbrev pub at : Bool → List ℕ → List Entry → Server
-at edit half waiting = record { edit = edit; half = half; waiting = waiting; failed = false }
+abbrev pub server_at : Bool → List ℕ → List Entry → Server
+server_at edit half waiting = record { edit = edit; half = half; waiting = waiting; failed = false }
 
 -- bytes that are ordinary as they are
 abbrev pub AreOrdinary : Characters → List ℕ → Type 0
@@ -31,7 +31,7 @@ AreOrdinary chars (b ∷ bs) = (literal_role chars b ≡ role.Ordinary b) × Are
 pub record Agrees (rules : Rules) (typed : List ℕ) (taken : List Entry) (v : Server) (c : Client) : Type 0 where
   pub half : List ℕ
   pub waiting : List Entry
-  pub is : v ≡ at c.mask.edit half waiting
+  pub is : v ≡ server_at c.mask.edit half waiting
   pub entries : typed_entries rules.canon typed ≡ taken ++ waiting
   pub line : typed_half rules.canon typed ≡ half ++ c.held
   pub askable : IsAskable rules.canon.settings c.mask
@@ -41,14 +41,14 @@ pub record Agrees (rules : Rules) (typed : List ℕ) (taken : List Entry) (v : S
   pub count : rules.resumes ≡ true → c.mask.edit ≡ false → allows_local rules.canon.settings ≡ true → (if rules.canon.settings.flags.isig then c.trapped else c.plain) ≡ length half
 
 -- The same of both ends and the bytes between them, which are whole items and calm.
-pub record Tied (rules : Rules) (w : ends.World) : Type 0 where
+pub record IsTied (rules : Rules) (w : ends.World) : Type 0 where
   pub items : List Item
   pub flight : InFlight w.server.decoder w.to_server items
   pub calm : All IsCalmToServer items
   pub messages : List Item
   pub back : InFlight w.client.decoder w.to_client messages
   pub asked : All (IsCalmToClient rules.canon.settings) messages
-  pub agrees : Agrees rules w.typed w.taken (read_all rules.canon w.server.core (seen_all rules items)) w.client.core
+  pub agrees : Agrees rules w.typed w.taken (read_all rules.canon w.server.core (server_items rules items)) w.client.core
 
 -- Until the client counts the half line, a mode may change between lines alone.
 abbrev pub rules_of : Canon → Bool → Rules
@@ -66,11 +66,11 @@ picture w trapped plain =
     }
 
 -- The same of a world, with the server's settings and line limit at its mark.
-pub record Holds (canon : Canon) (w : World) : Type 0 where
+pub record IsRelated (canon : Canon) (w : World) : Type 0 where
   pub linemode : Bool
   pub trapped : ℕ
   pub plain : ℕ
-  pub tied : Tied (rules_of canon linemode) (picture w trapped plain)
+  pub tied : IsTied (rules_of canon linemode) (picture w trapped plain)
   pub server : ServerStays (rules_of canon linemode) w.server
   pub client : ClientStays (rules_of canon linemode) w.client
-  pub sound : IsSound w
+  pub sound : HasPast w

@@ -1,5 +1,5 @@
 use Rattle.std.proofs.Common.{◌≡◌, Some}
-use Rattle.tn_cli.specs.Playing.{AppendsText, AppendsFrontOfText, PrintsWhole, PrintsSome, StopsAtBad, StopsAtRefused}
+use Rattle.tn_cli.specs.Playing.{AppendsText, AppendsFrontOfText, PrintsWhole, PrintsSome, StopsAtBadLine, StopsAtRefusedLine}
 use Rattle.tn_cli.specs.Scripts.{lines_of}
 use Rattle.tn_cli.specs.declared.fault.CliFault.TheVariants as fault
 use Rattle.tn_cli.proofs.Outputs.{whole_input, appends_text, appends_front, ended}
@@ -21,8 +21,8 @@ returns-clause-script g c line told =
     let input = c.in_ok-script.script.items in
     let end : c.in-Ok.end ≡ Some (fault.Script line) = cc in
     let added = rw (c.deref.ensures.value, end) at c.in-Ok.ensures in
-    whole_input (λ text. AppendsText (StopsAtBad (lines_of text) line) old new) (g.R.Read.remaining c.args.reader.now) (g.R.Read.remaining c.read_whole.new.reader) input c.in_ok-script.ensures.whole c.in_ok-script.ensures.end
-    (appends_text (StopsAtBad (lines_of input) line) c.new-printed.result.items c.play_script.new.printed.items c.deref-2.result.now old new c.new-printed.ensures.items c.deref-2.ensures.value added c.in_ok-write_whole.ensures.ok)
+    whole_input (λ text. AppendsText (StopsAtBadLine (lines_of text) line) old new) (g.R.Read.remaining c.args.reader.now) (g.R.Read.remaining c.read_whole.new.reader) input c.in_ok-script.ensures.whole c.in_ok-script.ensures.end
+    (appends_text (StopsAtBadLine (lines_of input) line) c.new-printed.result.items c.play_script.new.printed.items c.deref-2.result.now old new c.new-printed.ensures.items c.deref-2.ensures.value added c.in_ok-write_whole.ensures.ok)
 
 pub returns-clause-world : goal.returns-clause-world
 returns-clause-world g c line told =
@@ -31,8 +31,8 @@ returns-clause-world g c line told =
     let input = c.in_ok-script.script.items in
     let end : c.in-Ok.end ≡ Some (fault.World line) = cc in
     let added = rw (c.deref.ensures.value, end) at c.in-Ok.ensures in
-    whole_input (λ text. AppendsText (StopsAtRefused (lines_of text) line) old new) (g.R.Read.remaining c.args.reader.now) (g.R.Read.remaining c.read_whole.new.reader) input c.in_ok-script.ensures.whole c.in_ok-script.ensures.end
-    (appends_text (StopsAtRefused (lines_of input) line) c.new-printed.result.items c.play_script.new.printed.items c.deref-2.result.now old new c.new-printed.ensures.items c.deref-2.ensures.value added c.in_ok-write_whole.ensures.ok)
+    whole_input (λ text. AppendsText (StopsAtRefusedLine (lines_of text) line) old new) (g.R.Read.remaining c.args.reader.now) (g.R.Read.remaining c.read_whole.new.reader) input c.in_ok-script.ensures.whole c.in_ok-script.ensures.end
+    (appends_text (StopsAtRefusedLine (lines_of input) line) c.new-printed.result.items c.play_script.new.printed.items c.deref-2.result.now old new c.new-printed.ensures.items c.deref-2.ensures.value added c.in_ok-write_whole.ensures.ok)
 
 pub returns-in-None-clause-ok : goal.returns-in-None-clause-ok
 returns-in-None-clause-ok g c =

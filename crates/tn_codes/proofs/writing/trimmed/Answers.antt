@@ -1,6 +1,6 @@
 use Rattle.std.proofs.Common.{◌≡◌, ◌<◌, length, take, arith, ap, ◌∙◌}
 use Rattle.std.proofs.lemmas.List.{take_all}
-use Rattle.tn_codes.specs.Masks.{trimmed, filled}
+use Rattle.tn_codes.specs.Masks.{trimmed_octets, filled_octets}
 use Rattle.tn_codes.proofs.Trimming.{filled_trimmed, trimmed_none, trimmed_more, trimmed_more_zero}
 use Rattle.tn_codes.proofs.writing.trimmed.Goals as goal
 use Rattle.tn_codes.proofs.writing.trimmed.Goals.{then-octet-ne0, else-octet-ne0}
@@ -23,5 +23,5 @@ returns-clause-filled c =
     let i = c.loop-i.i in
     let xs = c.args.octets.now in
     let all : take i xs ≡ xs = take_all i xs (omega (arith, c.told-octets)) in
-    let told : trimmed xs ≡ take c.loop-i.len xs = rw all at c.loop-i.invariant.so_far in
-    filled_trimmed xs c.told-octets ∙ ap filled told
+    let told : trimmed_octets xs ≡ take c.loop-i.len xs = rw all at c.loop-i.invariant.so_far in
+    filled_trimmed xs c.told-octets ∙ ap filled_octets told

@@ -1,5 +1,5 @@
 use Rattle.std.proofs.Common.{◌∷◌, refl, Result, Ok, Err, OnOk, ap, sym}
-use Rattle.tn_codes.specs.Payloads.{Says, option_of, written}
+use Rattle.tn_codes.specs.Payloads.{Says, option_of, parameters_of}
 use Rattle.tn_codes.proofs.writing.write_payload.Goals as goal
 
 -- what holds anyway holds where a call is Ok
@@ -11,6 +11,6 @@ pub returns-in-ForwardOn-clause-said : goal.returns-in-ForwardOn-clause-said
 returns-in-ForwardOn-clause-said c =
     let t = c.trimmed.ensures in
     let payload = c.args.payload.now in
-    let said : Says (option_of payload) (written payload) payload =
+    let said : Says (option_of payload) (parameters_of payload) payload =
     rw c.in-ForwardOn.is (refl, (c.trimmed.result.now, ap (λ xs. 253 ∷ 2 ∷ xs) (sym t.octets), t.len, t.filled)) in
-    on_ok c.write_mask.result (Says (option_of payload) (written payload) payload) said
+    on_ok c.write_mask.result (Says (option_of payload) (parameters_of payload) payload) said

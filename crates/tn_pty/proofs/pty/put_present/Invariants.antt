@@ -1,9 +1,9 @@
 use Rattle.std.proofs.Common.{◌≡◌, ◌++◌, take}
 use Rattle.circular_buffer.specs.Buffer.{buffer}
-use Rattle.tn_pty.specs.Typing.{present}
+use Rattle.tn_pty.specs.Typing.{symbols_in}
 use Rattle.tn_pty.proofs.pty.put_present.Given as goal
 
 -- the symbols so far stand behind the queue
 abbrev pub invariant-loop-symbol : goal.invariant-loop-symbol
 invariant-loop-symbol l =
-    l.queue ≡ buffer (l.initial.queue.items ++ present (take l.symbol-index l.symbols)) l.initial.queue.capacity
+    l.queue ≡ buffer (l.initial.queue.items ++ symbols_in (take l.symbol-index l.symbols)) l.initial.queue.capacity

@@ -1,5 +1,5 @@
 use Rattle.std.proofs.Common.{sym, ap, ◌∙◌, refl}
-use Rattle.tn_client.specs.Standing.{End}
+use Rattle.tn_client.specs.Calls.{End}
 use Rattle.tn_client.proofs.Loans.{same_loan, feeds_of, breaks_of}
 use Rattle.tn_client.proofs.end.ClientEnd.feed.Goals as goal
 

@@ -1,6 +1,6 @@
 use Rattle.std.proofs.Common.{[], ◌∷◌, sym, ap}
 use Rattle.tn_codes.specs.declared.triples.Triple.{Triple}
-use Rattle.tn_wire.specs.Words.{listed}
+use Rattle.tn_wire.specs.Words.{list_items}
 use Rattle.tn_client.proofs.end.ClientEnd.propose.Goals as goal
 use Rattle.tn_client.proofs.end.ClientEnd.propose.Goals.{in-Err, in-Ok+in-Ok-put_triple, in-Ok+in-Err-put_triple}
 
@@ -8,9 +8,9 @@ pub returns-clause-sends : goal.returns-clause-sends
 returns-clause-sends c = elim c.match-propose.branch [
   | in-Err w ↦ rw w.result-is tt
   | in-Ok+in-Ok-put_triple w ↦ rw (w.result-is, w.out-is) (record {
-    said = listed (w.in-Ok.triple ∷ []);
+    said = list_items (w.in-Ok.triple ∷ []);
     appended = w.in-Ok-put_triple.ensures.ok;
-    replies = λ h s. ap (λ (t : Triple). listed (t ∷ [])) (sym w.in-Ok.ensures.triple);
+    replies = λ h s. ap (λ (t : Triple). list_items (t ∷ [])) (sym w.in-Ok.ensures.triple);
   })
   | in-Ok+in-Err-put_triple w ↦ rw w.result-is tt
 ]

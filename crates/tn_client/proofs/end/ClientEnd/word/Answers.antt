@@ -4,22 +4,22 @@ use Rattle.std.proofs.lemmas.Result.{err_from_is_err_and}
 use Rattle.tn_linemode.specs.Modes.{edits}
 use Rattle.tn_nvt.specs.declared.items.Item.{Item}
 use Rattle.tn_nvt.specs.declared.items.Item.TheVariants.{Neg}
-use Rattle.tn_option.specs.Options.{Options, reply_to, after_word}
+use Rattle.tn_option.specs.Options.{Options, reply_to, options_after_word}
 use Rattle.tn_client.specs.Terms.{mode_at, tells_size}
-use Rattle.tn_client.specs.Replies.{ending, size_told_on}
-use Rattle.tn_wire.specs.Words.{word}
+use Rattle.tn_client.specs.Replies.{end_of_edit_items, new_size_items}
+use Rattle.tn_wire.specs.Words.{word_items}
 use Rattle.tn_wire.proofs.lemmas.Cutting.{cut_after_two, front_some, back_some}
 use Rattle.tn_client.proofs.end.ClientEnd.word.Goals as goal
 
 -- what is held, the answer, and the size
 abbrev first : Options → ℕ → List ℕ → Item → List Item
-first o m held item = ending (edits m) (edits (mode_at o m item)) held
+first o m held item = end_of_edit_items (edits m) (edits (mode_at o m item)) held
 
 abbrev second : Options → Verb → ℕ → List Item
-second o verb option = word (reply_to o verb option)
+second o verb option = word_items (reply_to o verb option)
 
 abbrev third : Options → Verb → ℕ → ℕ × ℕ → List Item
-third o verb option z = size_told_on (tells_size o) (tells_size (after_word o verb option)) z
+third o verb option z = new_size_items (tells_size o) (tells_size (options_after_word o verb option)) z
 
 pub returns-in_err-put_held-clause-grows : goal.returns-in_err-put_held-clause-grows
 returns-in_err-put_held-clause-grows c =

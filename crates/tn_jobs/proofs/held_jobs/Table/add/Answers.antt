@@ -1,5 +1,5 @@
 use Rattle.std.proofs.Common.{◌<◌, length, arith}
-use Rattle.tn_jobs.specs.Jobs.{held, HasNoGap, IsFreeBelow}
+use Rattle.tn_jobs.specs.Jobs.{held_count, HasNoGap, IsFreeBelow}
 use Rattle.tn_jobs.proofs.JobLemmas.{held_below, held_all, sound_more, names_more, full_is}
 use Rattle.tn_jobs.proofs.held_jobs.Table.add.Goals as goal
 use Rattle.tn_jobs.proofs.held_jobs.Table.add.Goals.{in-Ok, in-Err}
@@ -30,5 +30,5 @@ pub returns-clause-room : goal.returns-clause-room
 returns-clause-room c =
     let jobs = c.self.inside.jobs.items in
     let none : HasNoGap jobs = rw c.deref.ensures.value at c.in_default.ensures in
-    let few : held jobs < 16 = omega (arith, held_all jobs none, c.len-id.ensures, c.self.inside.jobs.ok.0, c.if-id-ge-MOST_JOBS.false) in
+    let few : held_count jobs < 16 = omega (arith, held_all jobs none, c.len-id.ensures, c.self.inside.jobs.ok.0, c.if-id-ge-MOST_JOBS.false) in
     elim c.match-push.branch [ in-Ok w ↦ rw (w.result-is, ← c.self.view_is) few | in-Err w ↦ rw w.result-is tt ]

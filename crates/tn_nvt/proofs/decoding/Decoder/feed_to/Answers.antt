@@ -3,7 +3,7 @@ use Rattle.std.proofs.lemmas.List.{take_more, take_all, drop_all}
 use Rattle.tn_nvt.specs.Machine.{progress}
 use Rattle.tn_nvt.proofs.Cuts.{front_is, back_is, whole_is, within_is, run_is, byte_is, index_is}
 use Rattle.tn_nvt.proofs.Feeding.{at_element}
-use Rattle.tn_nvt.proofs.Taking.{same_fault, at_front, at_byte, handed_skip, handed_byte, handed_run, Hands-from_front, Refuses-from_byte, Refuses-from_run, Wants-from_front, wants_nothing}
+use Rattle.tn_nvt.proofs.Taking.{same_fault, at_front, at_byte, handed_skip, handed_byte, handed_run, FeedsTo-from_front, StopsAtSink-from_byte, StopsAtSink-from_run, StopsForMemory-from_front, wants_nothing}
 use Rattle.tn_nvt.proofs.decoding.Decoder.feed_to.Goals as goal
 
 pub returns-in_err-hand_run-clause-refused : goal.returns-in_err-hand_run-clause-refused
@@ -18,7 +18,7 @@ returns-in_err-hand_run-clause-refused g c = λ _.
     let is = run_is rest n c.if-count-gt0.true c.run_len-count.ensures.within c.run_len-count.ensures.plain in
     let ends = c.run_len-count.ensures.ends c.if-count-gt0.true in
     let advances = c.run_len-count.ensures.advances c.if-count-gt0.true c.loop-at.body in
-    rw (← c.in_ok-place.ensures.ok) (Refuses-from_run g.S.Sink.takes g.S.Sink.gives_up first here c.loop-at.place xs (take i xs) (take n rest) (drop n rest) _ _ _ handed (whole_is xs i n) is ends advances c.in_err-hand_run.ensures.err)
+    rw (← c.in_ok-place.ensures.ok) (StopsAtSink-from_run g.S.Sink.takes g.S.Sink.gives_up first here c.loop-at.place xs (take i xs) (take n rest) (drop n rest) _ _ _ handed (whole_is xs i n) is ends advances c.in_err-hand_run.ensures.err)
 
 pub loop-at-preserved-then-count-gt0 : goal.loop-at-preserved-then-count-gt0
 loop-at-preserved-then-count-gt0 g c =
@@ -49,7 +49,7 @@ returns-in-Err-clause-refused g c = λ refused.
     let handed = at_byte g.S.Sink.takes g.S.Sink.gives_up first here xs (i + k) _ _ lt skipped in
     let whole = at_element xs (i + k) lt ∙ sym (append_assoc (take (i + k) xs) (get_or xs (i + k) 0 ∷ []) (drop (i + k + 1) xs)) in
     rw (← c.in_ok-place.ensures.ok)
-    (Refuses-from_byte g.S.Sink.takes g.S.Sink.gives_up first here xs (take (i + k) xs) (drop (i + k + 1) xs) (get_or xs (i + k) 0) _ _ _ handed whole (rw (byte_is xs i k) at (c.in-Err.ensures.refused (same_fault _ _ refused))))
+    (StopsAtSink-from_byte g.S.Sink.takes g.S.Sink.gives_up first here xs (take (i + k) xs) (drop (i + k + 1) xs) (get_or xs (i + k) 0) _ _ _ handed whole (rw (byte_is xs i k) at (c.in-Err.ensures.refused (same_fault _ _ refused))))
 
 pub returns-in-Err-clause-memory : goal.returns-in-Err-clause-memory
 returns-in-Err-clause-memory g c = λ memory.
@@ -62,7 +62,7 @@ returns-in-Err-clause-memory g c = λ memory.
     let skipped = handed_skip g.S.Sink.takes g.S.Sink.gives_up first (progress c.loop-at.place c.loop-at.body) here xs i k _ _ c.loop-at.invariant.handed (c.escaped-here.ensures.advances c.loop-at.body) in
     let handed = at_byte g.S.Sink.takes g.S.Sink.gives_up first here xs (i + k) _ _ lt skipped in
     rw (← c.in_ok-place.ensures.ok, c.in-Err.ensures.memory_hands (same_fault _ _ memory))
-    (Wants-from_front g.S.Sink.takes g.S.Sink.gives_up first here xs (take (i + k) xs) (drop (i + k + 1) xs) (get_or xs (i + k) 0) _ _ (at_element xs (i + k) lt) handed (rw (byte_is xs i k) at (c.in-Err.ensures.memory (same_fault _ _ memory))))
+    (StopsForMemory-from_front g.S.Sink.takes g.S.Sink.gives_up first here xs (take (i + k) xs) (drop (i + k + 1) xs) (get_or xs (i + k) 0) _ _ (at_element xs (i + k) lt) handed (rw (byte_is xs i k) at (c.in-Err.ensures.memory (same_fault _ _ memory))))
 
 pub returns-in-Err-clause-lets_go : goal.returns-in-Err-clause-lets_go
 returns-in-Err-clause-lets_go g c = λ lets_go memory.
@@ -74,7 +74,7 @@ returns-in-Err-clause-lets_go g c = λ lets_go memory.
     let here = progress c.escaped-here.result.0 c.loop-at.body in
     let skipped = handed_skip g.S.Sink.takes g.S.Sink.gives_up first (progress c.loop-at.place c.loop-at.body) here xs i k _ _ c.loop-at.invariant.handed (c.escaped-here.ensures.advances c.loop-at.body) in
     let handed = at_byte g.S.Sink.takes g.S.Sink.gives_up first here xs (i + k) _ _ lt skipped in
-    let wants = Wants-from_front g.S.Sink.takes g.S.Sink.gives_up first here xs (take (i + k) xs) (drop (i + k + 1) xs) (get_or xs (i + k) 0) _ _ (at_element xs (i + k) lt) handed (rw (byte_is xs i k) at (c.in-Err.ensures.memory (same_fault _ _ memory))) in
+    let wants = StopsForMemory-from_front g.S.Sink.takes g.S.Sink.gives_up first here xs (take (i + k) xs) (drop (i + k + 1) xs) (get_or xs (i + k) 0) _ _ (at_element xs (i + k) lt) handed (rw (byte_is xs i k) at (c.in-Err.ensures.memory (same_fault _ _ memory))) in
     wants_nothing g.S.Sink.takes g.S.Sink.gives_up c.args.self.now xs _ _ lets_go (rw c.in_ok-place.ensures.ok at wants)
 
 pub loop-at-preserved : goal.loop-at-preserved
@@ -97,4 +97,4 @@ returns-clause-ok g c =
     let all : take i xs ≡ xs = take_all i xs (omega arith) in
     let none : drop i xs ≡ [] = drop_all i xs (omega arith) in
     rw (← c.in_ok-place.ensures.ok, c.resume.ensures)
-    (Hands-from_front g.S.Sink.takes g.S.Sink.gives_up (progress c.in_ok-place.place c.in_ok-place.body) (progress c.loop-at.place c.loop-at.body) xs _ _ (rw (all, none) at c.loop-at.invariant.handed))
+    (FeedsTo-from_front g.S.Sink.takes g.S.Sink.gives_up (progress c.in_ok-place.place c.in_ok-place.body) (progress c.loop-at.place c.loop-at.body) xs _ _ (rw (all, none) at c.loop-at.invariant.handed))

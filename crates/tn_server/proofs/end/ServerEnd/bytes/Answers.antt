@@ -2,7 +2,7 @@ use Rattle.std.proofs.Common.{[], refl, ap, ◌∙◌, map, subst, List, ℕ}
 use Rattle.std.proofs.lemmas.List.{take_all}
 use Rattle.std.proofs.lemmas.Result.{err_from_is_err_and}
 use Rattle.tn_nvt.specs.declared.items.Item.TheVariants.{Byte}
-use Rattle.tn_server.specs.Standing.{End, Gets}
+use Rattle.tn_server.specs.Calls.{End, AdvancesAll}
 use Rattle.tn_server.proofs.Passing.{gets_none, bytes_next, bytes_stop, shut_keeps, shut_then}
 use Rattle.tn_server.proofs.end.ServerEnd.bytes.Goals as goal
 
@@ -32,7 +32,7 @@ returns-in_err-byte-clause-shut c =
 
 pub returns-clause-ok : goal.returns-clause-ok
 returns-clause-ok c = λ before.
-    let P : List ℕ → Type 0 = λ xs. Gets c.args.self.now (map Byte xs) before before c.loop-byte.self in
+    let P : List ℕ → Type 0 = λ xs. AdvancesAll c.args.self.now (map Byte xs) before before c.loop-byte.self in
     subst P (take_all c.loop-byte.byte-index c.args.bytes.now c.loop-byte-test.false) (c.loop-byte.invariant.gets before)
 
 pub returns-clause-failed : goal.returns-clause-failed

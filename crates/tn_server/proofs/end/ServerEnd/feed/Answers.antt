@@ -1,5 +1,5 @@
 use Rattle.std.proofs.Common.{refl, sym, ap, ◌∙◌, true}
-use Rattle.tn_server.specs.Standing.{End}
+use Rattle.tn_server.specs.Calls.{End}
 use Rattle.tn_server.proofs.Loans.{same_loan, feeds_of, halts_of, is_refusal, true_is_not_false}
 use Rattle.tn_server.proofs.end.ServerEnd.feed.Goals as goal
 

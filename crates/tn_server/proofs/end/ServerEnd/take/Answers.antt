@@ -1,6 +1,6 @@
 use Rattle.std.proofs.Common.{sym, ◌∙◌, ap, true, false, ◌∷◌, append-nil, List}
 use Rattle.tn_discipline.specs.declared.reads.Entry.{Entry}
-use Rattle.tn_server.specs.Standing.{End}
+use Rattle.tn_server.specs.Calls.{End}
 use Rattle.tn_server.proofs.Calling.{goes_took, goes_idle}
 use Rattle.tn_server.proofs.lemmas.Ends.{waits_are}
 use Rattle.tn_server.proofs.end.ServerEnd.take.Goals as goal

@@ -1,6 +1,6 @@
 use Rattle.std.proofs.Common.{refl, ap, ◌∙◌}
 use Rattle.tn_nvt.specs.declared.items.Item.TheVariants.{Sub}
-use Rattle.tn_server.specs.Standing.{End}
+use Rattle.tn_server.specs.Calls.{End}
 use Rattle.tn_server.specs.Terms.{payload_at}
 use Rattle.tn_server.proofs.Loans.{took_item, refused_item}
 use Rattle.tn_server.proofs.Wishing.{goes_sub, sub_failed}

@@ -1,8 +1,8 @@
 use Rattle.std.proofs.Common.{refl}
 use Rattle.std.proofs.lemmas.Result.{err_from_is_err_and}
 use Rattle.tn_server.specs.Terms.{linemode, wants_echo}
-use Rattle.tn_server.specs.Replies.{table_told, echo_told}
-use Rattle.tn_wire.specs.Words.{mode_told}
+use Rattle.tn_server.specs.Replies.{new_table_items, echo_items}
+use Rattle.tn_wire.specs.Words.{mode_items}
 use Rattle.tn_server.specs.Steps.{told_now, masks_by, is_due}
 use Rattle.tn_wire.proofs.lemmas.Cutting.{cut_after_two}
 use Rattle.tn_server.proofs.terms.Negotiation.settle.Goals as goal
@@ -12,5 +12,5 @@ returns-in_err-ask_echo-clause-err c =
     let p = err_from_is_err_and c.from_residual-in_err-ask_echo.result c.from_residual-in_err-ask_echo.ensures.1 in
     let was = c.args.was_on in
     let n = c.args.self.now in
-    rw p.1 (cut_after_two _ (table_told was (linemode n.options) c.args.table.now) (mode_told (told_now was n)) (echo_told (is_due was c.args.is_set n) (wants_echo (masks_by was n).asked c.args.flags.now) n.options) c.args.out.now.items c.put_table.new.out.items c.put_mode.new.out.items c.ask_echo.new.out.items refl
+    rw p.1 (cut_after_two _ (new_table_items was (linemode n.options) c.args.table.now) (mode_items (told_now was n)) (echo_items (is_due was c.args.is_set n) (wants_echo (masks_by was n).asked c.args.flags.now) n.options) c.args.out.now.items c.put_table.new.out.items c.put_mode.new.out.items c.ask_echo.new.out.items refl
     (rw c.has_linemode-is_on.ensures at c.in_ok-put_table.ensures.ok) (rw c.ask_mode-told.ensures.told at c.in_ok-put_mode.ensures.ok) c.in_err-ask_echo.ensures.err)

@@ -1,7 +1,7 @@
 use Rattle.std.proofs.Common.{refl, subst}
 use Rattle.tn_world.proofs.Promise.{runs_more, runs_whole, runs_stop, run_follows, end_follows, headline}
 use Rattle.tn_world.proofs.Showing.{runs_grow, ends_grow}
-use Rattle.tn_world.specs.Past.{IsSound}
+use Rattle.tn_world.specs.Past.{HasPast}
 use Rattle.tn_world.specs.Worlds.{World}
 use Rattle.tn_world.proofs.world.World.run.Goals as goal
 
@@ -31,8 +31,8 @@ returns-clause-headline c = λ s f quiet. headline s c.loop-at.self (returns-cla
 
 pub returns-in-Err-clause-output_before : goal.returns-in-Err-clause-output_before
 returns-in-Err-clause-output_before c = λ text output runs.
-    ends_grow c.args.self.now c.happen.new.self c.args.events.now c.loop-at.at c.in-Err.cause text (subst (λ (w : World). IsSound w) c.self.view_is c.self.invariant) runs (returns-in-Err-clause-ends c) output
+    ends_grow c.args.self.now c.happen.new.self c.args.events.now c.loop-at.at c.in-Err.cause text (subst (λ (w : World). HasPast w) c.self.view_is c.self.invariant) runs (returns-in-Err-clause-ends c) output
 
 pub returns-clause-output : goal.returns-clause-output
 returns-clause-output c = λ text output runs.
-    runs_grow c.args.self.now c.loop-at.self c.args.events.now text (subst (λ (w : World). IsSound w) c.self.view_is c.self.invariant) runs (returns-clause-runs c) output
+    runs_grow c.args.self.now c.loop-at.self c.args.events.now text (subst (λ (w : World). HasPast w) c.self.view_is c.self.invariant) runs (returns-clause-runs c) output

@@ -2,26 +2,27 @@
 use Rattle.std.specs.Prelude.{◌≡◌, ◌≢◌, ℕ, Bool, List, [], ◌∷◌, ◌++◌, length, Option, Some, None, option_map, if◌then◌else◌}
 use Rattle.tn_codes.specs.declared.codes.Func.{Func}
 use Rattle.tn_discipline.specs.Characters.{Characters, char_fault}
-use Rattle.tn_discipline.specs.Leaves.{Leaves}
+use Rattle.tn_discipline.specs.Advancing as discipline
 use Rattle.tn_discipline.specs.declared.reads.Entry.{Entry}
 use Rattle.tn_linemode.specs.Modes.{Modes}
 use Rattle.tn_nvt.specs.Spelling.{spells}
-use Rattle.tn_nvt.specs.Standing.{Standing, failed, Adds}
+use Rattle.tn_nvt.specs.Feeding.{DecoderState, failed}
+use Rattle.tn_nvt.specs.Feeding as nvt
 use Rattle.tn_nvt.specs.declared.items.Item.{Item}
 use Rattle.tn_pty.specs.Terminal.{Terminal}
 use Rattle.tn_wire.specs.Fronts.{WantsMemory}
 use Rattle.tn_server.specs.Events.{History, Event, next, got, gets, limit}
-use Rattle.tn_server.specs.Terms.{Terms, terms, asked, mode, settings, chars}
-use Rattle.tn_server.specs.Lines.{roles, entries, taken}
+use Rattle.tn_server.specs.Terms.{Terms, terms, asked_mask, mode, settings, chars}
+use Rattle.tn_server.specs.Lines.{roles, entries, taken_count}
 use Rattle.tn_server.specs.Screen.{queue, due, size}
-use Rattle.tn_server.specs.Replies.{replies, sent}
+use Rattle.tn_server.specs.Replies.{replies, items_said}
 use Rattle.tn_server.specs.Faults.{IsCause}
 use Rattle.tn_server.specs.declared.faults.ServerFault.{ServerFault}
 use Rattle.tn_server.specs.declared.faults.ServerFault.TheVariants as fault
 
 -- a server end, seen from outside
 pub record End : Type 0 where
-  pub decoder : Standing
+  pub decoder : DecoderState
   pub terms : Terms
   pub modes : Modes
   pub table : Characters
@@ -30,69 +31,69 @@ pub record End : Type 0 where
   pub failed : Bool
 
 -- this is where the history leads
-pub record Stands (h : History) (end : End) : Type 0 where
+pub record LeadsTo (h : History) (end : End) : Type 0 where
   pub settings : end.terminal.settings ≡ settings h
   pub table : end.table ≡ chars h
   pub terms : end.terms ≡ terms h
-  pub modes : end.modes ≡ record { asked = asked h; current = mode h }
+  pub modes : end.modes ≡ record { asked = asked_mask h; current = mode h }
   pub limit : end.terminal.line.limit ≡ limit h
-  pub leaves : Leaves (roles h) end.terminal.line
+  pub leaves : discipline.LeadsTo (roles h) end.terminal.line
   pub ahead : end.terminal.line.ahead ≡ 0
   pub read : List Entry
-  pub count : length read ≡ taken h
+  pub count : length read ≡ taken_count h
   pub waits : entries h ≡ read ++ end.terminal.entries
   pub queue : end.terminal.queue ≡ queue h
   pub size : (end.terminal.width, end.terminal.height) ≡ size h
   pub due : end.pulled ≡ due h
 
 -- From wherever the end may stand, the event leads to where it stands now, and what was appended spells the replies.
-pub record Goes (old : End) (e : Event) (before after : List ℕ) (new : End) : Type 0 where
+pub record Advances (old : End) (e : Event) (before after : List ℕ) (new : End) : Type 0 where
   pub said : List Item
   pub appended : after ≡ before ++ spells said
-  pub replies : (h : History) → Stands h old → replies h e ≡ said
-  pub stands : (h : History) → Stands h old → Stands (next h e) new
+  pub replies : (h : History) → LeadsTo h old → replies h e ≡ said
+  pub stands : (h : History) → LeadsTo h old → LeadsTo (next h e) new
   pub closed : new.terminal.closed ≡ old.terminal.closed
 
 -- a call of the owner reads nothing and fails no end
-pub record Keeps (old new : End) : Type 0 where
+pub record ReadsNothing (old new : End) : Type 0 where
   pub decoder : new.decoder ≡ old.decoder
   pub failed : new.failed ≡ old.failed
 
 -- An item was refused: the end stands where it stood, and what was appended spells a front of the replies.
-pub record Refuses (old : End) (item : Item) (fault : ServerFault) (before after : List ℕ) (new : End) : Type 0 where
+pub record RefusesItem (old : End) (item : Item) (fault : ServerFault) (before after : List ℕ) (new : End) : Type 0 where
   pub said : List Item
   pub appended : after ≡ before ++ spells said
-  pub front : (h : History) → Stands h old → (rest : List Item) × (replies h (got item) ≡ said ++ rest)
-  pub cause : (h : History) → Stands h old → IsCause h item fault
-  pub stands : (h : History) → Stands h old → Stands h new
+  pub front : (h : History) → LeadsTo h old → (rest : List Item) × (replies h (got item) ≡ said ++ rest)
+  pub cause : (h : History) → LeadsTo h old → IsCause h item fault
+  pub stands : (h : History) → LeadsTo h old → LeadsTo h new
 
 -- Some items came, one after another, and each was done.
-pub record Gets (old : End) (items : List Item) (before after : List ℕ) (new : End) : Type 0 where
+pub record AdvancesAll (old : End) (items : List Item) (before after : List ℕ) (new : End) : Type 0 where
   pub said : List Item
   pub appended : after ≡ before ++ spells said
-  pub sends : (h : History) → Stands h old → sent (gets h items) ≡ sent h ++ said
-  pub stands : (h : History) → Stands h old → Stands (gets h items) new
+  pub sends : (h : History) → LeadsTo h old → items_said (gets h items) ≡ items_said h ++ said
+  pub stands : (h : History) → LeadsTo h old → LeadsTo (gets h items) new
   pub closed : new.terminal.closed ≡ old.terminal.closed
 
 -- Some items came: those before one of them were done, and that one was refused.
-pub record Stops (old : End) (items : List Item) (fault : ServerFault) (before after : List ℕ) (new : End) : Type 0 where
+pub record StopsWithinItems (old : End) (items : List Item) (fault : ServerFault) (before after : List ℕ) (new : End) : Type 0 where
   pub done : List Item
   pub item : Item
   pub left : List Item
   pub whole : items ≡ done ++ item ∷ left
   pub mid : End
   pub between : List ℕ
-  pub gets : Gets old done before between mid
-  pub refuses : Refuses mid item fault between after new
+  pub gets : AdvancesAll old done before between mid
+  pub refuses : RefusesItem mid item fault between after new
 
 -- A piece of the stream was taken, however that was cut before.
 pub record Feeds (old : End) (piece before after : List ℕ) (new : End) : Type 0 where
   pub items : List Item
-  pub reads : Adds old.decoder piece items new.decoder
+  pub reads : nvt.Advances old.decoder piece items new.decoder
   pub said : List Item
   pub appended : after ≡ before ++ spells said
-  pub sends : (h : History) → Stands h old → sent (gets h items) ≡ sent h ++ said
-  pub stands : (h : History) → Stands h old → Stands (gets h items) new
+  pub sends : (h : History) → LeadsTo h old → items_said (gets h items) ≡ items_said h ++ said
+  pub stands : (h : History) → LeadsTo h old → LeadsTo (gets h items) new
   pub failed : new.failed ≡ old.failed
   pub closed : new.terminal.closed ≡ old.terminal.closed
 
@@ -102,27 +103,27 @@ first_replies h [] = []
 first_replies h (item ∷ left) = replies h (got item)
 
 -- why a piece was refused there: the first of these items was, or the decoder wanted memory at the next byte
-abbrev pub IsHaltCause : History → List Item → Standing → List ℕ → ServerFault → Type 0
-IsHaltCause h [] here back f = (f ≡ fault.Memory) × WantsMemory here back
-IsHaltCause h (item ∷ left) here back f = IsCause h item f
+abbrev pub IsStopCause : History → List Item → DecoderState → List ℕ → ServerFault → Type 0
+IsStopCause h [] here back f = (f ≡ fault.Memory) × WantsMemory here back
+IsStopCause h (item ∷ left) here back f = IsCause h item f
 
 -- A piece was refused: of the items of a front of it some were done, and what was appended spells the replies to them,
 -- and a front of those to the next.
-pub record Halts (old : End) (piece : List ℕ) (fault : ServerFault) (before after : List ℕ) (new : End) : Type 0 where
+pub record StopsWithin (old : End) (piece : List ℕ) (fault : ServerFault) (before after : List ℕ) (new : End) : Type 0 where
   pub front : List ℕ
   pub back : List ℕ
   pub whole : piece ≡ front ++ back
   pub done : List Item
   pub left : List Item
-  pub here : Standing
-  pub reads : Adds old.decoder front (done ++ left) here
+  pub here : DecoderState
+  pub reads : nvt.Advances old.decoder front (done ++ left) here
   pub said : List Item
   pub part : List Item
   pub appended : after ≡ before ++ spells (said ++ part)
-  pub sends : (h : History) → Stands h old → sent (gets h done) ≡ sent h ++ said
-  pub begins : (h : History) → Stands h old → (rest : List Item) × (first_replies (gets h done) left ≡ part ++ rest)
-  pub cause : old.decoder ≢ failed → (h : History) → Stands h old → IsHaltCause (gets h done) left here back fault
-  pub stands : (h : History) → Stands h old → Stands (gets h done) new
+  pub sends : (h : History) → LeadsTo h old → items_said (gets h done) ≡ items_said h ++ said
+  pub begins : (h : History) → LeadsTo h old → (rest : List Item) × (first_replies (gets h done) left ≡ part ++ rest)
+  pub cause : old.decoder ≢ failed → (h : History) → LeadsTo h old → IsStopCause (gets h done) left here back fault
+  pub stands : (h : History) → LeadsTo h old → LeadsTo (gets h done) new
 
 -- why a call is refused whatever memory there is: the end has failed before
 abbrev pub call_fault : End → Option ServerFault

@@ -1,6 +1,6 @@
 -- What a line discipline does, said for every list of keys that may have come before.
 use Rattle.std.specs.Prelude.{◌≡◌, ◌↔◌, ◌<◌, ◌≤◌, ℕ, List, ◌++◌, length}
-use Rattle.tn_discipline.specs.Admitted.{admitted}
+use Rattle.tn_discipline.specs.Admitted.{admitted_roles}
 use Rattle.tn_discipline.specs.Entries.{entries_of, half_of}
 use Rattle.tn_discipline.specs.Steps.{half_all, gain_all}
 use Rattle.tn_discipline.specs.HalfLine.{HalfLine}
@@ -10,7 +10,7 @@ use Rattle.tn_discipline.specs.declared.half_line.Effect.{Effect}
 use Rattle.tn_discipline.specs.declared.half_line.Effect.TheVariants.{Dropped}
 
 -- These keys leave this line: their half line is the bytes that were handed on, and then those that are held.
-pub record Leaves (history : List Role) (line : HalfLine) : Type 0 where
+pub record LeadsTo (history : List Role) (line : HalfLine) : Type 0 where
   pub sent : List ℕ
   pub count : length sent ≡ line.ahead
   pub bytes : half_of line.limit history ≡ sent ++ line.held
@@ -18,8 +18,8 @@ pub record Leaves (history : List Role) (line : HalfLine) : Type 0 where
 -- Whatever keys left the old line, with these keys they leave the new one, and give these entries more. While
 -- bytes are ahead, a line is given in parts, and only the half line is spoken of.
 pub record Advances (old : HalfLine) (roles : List Role) (gain : List Entry) (new : HalfLine) : Type 0 where
-  pub half : (history : List Role) → Leaves history old → Leaves (history ++ roles) new
-  pub entries : (history : List Role) → Leaves history old → old.ahead ≡ 0
+  pub half : (history : List Role) → LeadsTo history old → LeadsTo (history ++ roles) new
+  pub entries : (history : List Role) → LeadsTo history old → old.ahead ≡ 0
       → entries_of old.limit (history ++ roles) ≡ entries_of old.limit history ++ gain
   pub ahead : new.ahead ≤ old.ahead
   pub limit : new.limit ≡ old.limit
@@ -27,13 +27,13 @@ pub record Advances (old : HalfLine) (roles : List Role) (gain : List Entry) (ne
 -- The effect is Dropped exactly where these keys, after any keys that left the line, are not admitted.
 abbrev pub DropsExactly : HalfLine → List Role → Effect → Type 0
 DropsExactly line roles e =
-    (history : List Role) → Leaves history line
+    (history : List Role) → LeadsTo history line
     → (e ≡ Dropped)
-    ↔ ((0 < length roles) × (admitted line.limit (history ++ roles) ≡ admitted line.limit history))
+    ↔ ((0 < length roles) × (admitted_roles line.limit (history ++ roles) ≡ admitted_roles line.limit history))
 
 -- The same as `Advances`, from the old line alone: whatever bytes were handed on, these keys leave as many as
 -- are ahead in the new line, followed by those that it holds.
-pub record Moves (old : HalfLine) (roles : List Role) (gain : List Entry) (new : HalfLine) : Type 0 where
+pub record AdvancesFromLine (old : HalfLine) (roles : List Role) (gain : List Entry) (new : HalfLine) : Type 0 where
   pub half : (sent : List ℕ) → length sent ≡ old.ahead
       → (rest : List ℕ) × (length rest ≡ new.ahead)
       × (half_all old.limit (sent ++ old.held) roles ≡ rest ++ new.held)

@@ -3,24 +3,25 @@ use Rattle.std.specs.Prelude.{◌≡◌, ◌≢◌, ◌⊎◌, ℕ, Bool, Option
 use Rattle.tn_codes.specs.declared.codes.Func.{Func}
 use Rattle.tn_discipline.specs.Characters.{Characters, char_fault}
 use Rattle.tn_discipline.specs.HalfLine.{HalfLine}
-use Rattle.tn_discipline.specs.Leaves.{Leaves}
+use Rattle.tn_discipline.specs.Advancing as discipline
 use Rattle.tn_nvt.specs.Spelling.{spells}
-use Rattle.tn_nvt.specs.Standing.{Standing, HasRead, Adds}
+use Rattle.tn_nvt.specs.Feeding.{DecoderState}
+use Rattle.tn_nvt.specs.Feeding as nvt
 use Rattle.tn_nvt.specs.declared.items.Item.{Item}
 use Rattle.tn_option.specs.Options.{Options}
 use Rattle.tn_wire.specs.Fronts.{WantsMemory}
 use Rattle.tn_wire.specs.Words.{IsList}
 use Rattle.tn_client.specs.Events.{History, Event, got, next, gets}
 use Rattle.tn_client.specs.Terms.{options, mode, chars, size, linemode, payload_at}
-use Rattle.tn_client.specs.Lines.{line_limit, edited, ahead}
-use Rattle.tn_client.specs.Replies.{replies, sent}
-use Rattle.tn_client.specs.Screen.{shows, shown}
+use Rattle.tn_client.specs.Lines.{line_limit, edited_roles, ahead}
+use Rattle.tn_client.specs.Replies.{replies, items_said}
+use Rattle.tn_client.specs.Screen.{shows, text_shown}
 use Rattle.tn_client.specs.declared.faults.ClientFault.{ClientFault}
 use Rattle.tn_client.specs.declared.faults.ClientFault.TheVariants as fault
 
 -- a client end, seen from outside
 pub record End : Type 0 where
-  pub decoder : Standing
+  pub decoder : DecoderState
   pub options : Options
   pub mode : ℕ
   pub table : Characters
@@ -30,71 +31,71 @@ pub record End : Type 0 where
   pub failed : Bool
 
 -- this is where the history leads
-pub record Stands (h : History) (end : End) : Type 0 where
+pub record LeadsTo (h : History) (end : End) : Type 0 where
   pub options : end.options ≡ options h
   pub mode : end.mode ≡ mode h
   pub table : end.table ≡ chars h
-  pub leaves : Leaves (edited h) end.line
+  pub leaves : discipline.LeadsTo (edited_roles h) end.line
   pub ahead : end.line.ahead ≡ ahead h
   pub limit : end.line.limit ≡ line_limit h
   pub size : (end.width, end.height) ≡ size h
 
 -- what every call but a piece of the stream leaves as it is
-pub record Keeps (old new : End) : Type 0 where
+pub record ReadsNothing (old new : End) : Type 0 where
   pub decoder : new.decoder ≡ old.decoder
   pub failed : new.failed ≡ old.failed
 
 -- From wherever the end may stand, the event leads to where it stands now.
-pub record Goes (old : End) (e : Event) (new : End) : Type 0 where
-  pub stands : (h : History) → Stands h old → Stands (next h e) new
+pub record Advances (old : End) (e : Event) (new : End) : Type 0 where
+  pub stands : (h : History) → LeadsTo h old → LeadsTo (next h e) new
 
 -- What was appended is what is said at the event.
 pub record Sends (old : End) (e : Event) (before after : List ℕ) : Type 0 where
   pub said : List Item
   pub appended : after ≡ before ++ spells said
-  pub replies : (h : History) → Stands h old → replies h e ≡ said
+  pub replies : (h : History) → LeadsTo h old → replies h e ≡ said
 
 -- What was appended is what is shown at the event.
 pub record Shows (old : End) (e : Event) (before after : List ℕ) : Type 0 where
   pub text : List ℕ
   pub appended : after ≡ before ++ text
-  pub shows : (h : History) → Stands h old → shows h e ≡ text
+  pub shows : (h : History) → LeadsTo h old → shows h e ≡ text
 
 -- the event says or shows something
-abbrev pub Grows : History → Event → Type 0
-Grows h e = (replies h e ≢ []) ⊎ (shows h e ≢ [])
+abbrev pub SaysOrShows : History → Event → Type 0
+SaysOrShows h e = (replies h e ≢ []) ⊎ (shows h e ≢ [])
 
 -- a list of local characters that is not empty is read
 abbrev pub ReadsList : Options → Item → Type 0
 ReadsList o item = IsList (payload_at o item)
 
 -- an item wants memory: to say or to show something, or to read a list
-abbrev pub MayGrow : History → Item → Type 0
-MayGrow h item = (replies h (got item) ≢ []) ⊎ ((shows h (got item) ≢ []) ⊎ ReadsList (options h) item)
+abbrev pub MayWantMemory : History → Item → Type 0
+MayWantMemory h item = (replies h (got item) ≢ []) ⊎ ((shows h (got item) ≢ []) ⊎ ReadsList (options h) item)
 
 -- The item is one that wants memory, and this is a front of what it makes the end say.
 pub record IsRefused (h : History) (item : Item) (part : List Item) : Type 0 where
   pub rest : List Item
   pub whole : replies h (got item) ≡ part ++ rest
-  pub grows : MayGrow h item
+  pub grows : MayWantMemory h item
 
 -- The item was refused for want of memory, when a front of what it makes the end say was said, and nothing
 -- was shown.
-pub record Refuses (old : End) (item : Item) (before after seen now : List ℕ) : Type 0 where
+pub record RefusesItem (old : End) (item : Item) (before after seen now : List ℕ) : Type 0 where
   pub part : List Item
   pub appended : after ≡ before ++ spells part
   pub displayed : now ≡ seen
-  pub refused : (h : History) → Stands h old → IsRefused h item part
+  pub refused : (h : History) → LeadsTo h old → IsRefused h item part
 
 -- Some items, one after another: where the end stands, what it said and what it showed.
-pub record Gets (old : End) (items : List Item) (before after seen now : List ℕ) (new : End) : Type 0 where
+pub record AdvancesAll (old : End) (items : List Item) (before after seen now : List ℕ) (new : End) : Type 0 where
   pub said : List Item
   pub text : List ℕ
   pub appended : after ≡ before ++ spells said
   pub displayed : now ≡ seen ++ text
-  pub sends : (h : History) → Stands h old → sent (gets h items) ≡ sent h ++ said
-  pub shows : (h : History) → Stands h old → shown (gets h items) ≡ shown h ++ text
-  pub stands : (h : History) → Stands h old → Stands (gets h items) new
+  pub sends : (h : History) → LeadsTo h old → items_said (gets h items) ≡ items_said h ++ said
+  pub shows : (h : History) → LeadsTo h old → text_shown (gets h items) ≡ text_shown h ++ text
+  pub stands : (h : History) → LeadsTo h old → LeadsTo (gets h items) new
 
 -- A piece of the stream, however that was cut before.
 pub record Feeds (old : End) (piece before after seen now : List ℕ) (new : End) : Type 0 where
@@ -103,35 +104,35 @@ pub record Feeds (old : End) (piece before after seen now : List ℕ) (new : End
   pub text : List ℕ
   pub appended : after ≡ before ++ spells said
   pub displayed : now ≡ seen ++ text
-  pub sends : (h : History) → Stands h old → sent (gets h items) ≡ sent h ++ said
-  pub shows : (h : History) → Stands h old → shown (gets h items) ≡ shown h ++ text
-  pub stands : (h : History) → Stands h old → Stands (gets h items) new
-  pub reads : Adds old.decoder piece items new.decoder
+  pub sends : (h : History) → LeadsTo h old → items_said (gets h items) ≡ items_said h ++ said
+  pub shows : (h : History) → LeadsTo h old → text_shown (gets h items) ≡ text_shown h ++ text
+  pub stands : (h : History) → LeadsTo h old → LeadsTo (gets h items) new
+  pub reads : nvt.Advances old.decoder piece items new.decoder
   pub failed : new.failed ≡ old.failed
 
 -- The first of the items that are left was refused; where none is left, the decoder wanted memory.
-abbrev pub GivesUp : History → List Item → List Item → Standing → List ℕ → Type 0
-GivesUp h (item ∷ later) part here back = IsRefused h item part
-GivesUp h [] part here back = (part ≡ []) × WantsMemory here back
+abbrev pub IsStopCause : History → List Item → List Item → DecoderState → List ℕ → Type 0
+IsStopCause h (item ∷ later) part here back = IsRefused h item part
+IsStopCause h [] part here back = (part ≡ []) × WantsMemory here back
 
 -- A front of a piece was read, and of its items some were done.
-pub record Breaks (old : End) (piece before after seen now : List ℕ) : Type 0 where
+pub record StopsWithin (old : End) (piece before after seen now : List ℕ) : Type 0 where
   pub front : List ℕ
   pub back : List ℕ
   pub whole : piece ≡ front ++ back
   pub done : List Item
   pub left : List Item
-  pub here : Standing
-  pub reads : Adds old.decoder front (done ++ left) here
+  pub here : DecoderState
+  pub reads : nvt.Advances old.decoder front (done ++ left) here
   pub said : List Item
   pub part : List Item
   pub text : List ℕ
   pub appended : after ≡ before ++ spells (said ++ part)
   pub displayed : now ≡ seen ++ text
-  pub sends : (h : History) → Stands h old → sent (gets h done) ≡ sent h ++ said
-  pub shows : (h : History) → Stands h old → shown (gets h done) ≡ shown h ++ text
-  pub why : (h : History) (stream : List ℕ) (had : List Item) → Stands h old → HasRead old.decoder stream had
-      → GivesUp (gets h done) left part here back
+  pub sends : (h : History) → LeadsTo h old → items_said (gets h done) ≡ items_said h ++ said
+  pub shows : (h : History) → LeadsTo h old → text_shown (gets h done) ≡ text_shown h ++ text
+  pub why : (h : History) (stream : List ℕ) (had : List Item) → LeadsTo h old → nvt.LeadsTo stream had old.decoder
+      → IsStopCause (gets h done) left part here back
 
 -- why a call is refused whatever memory there is: the end has failed before
 abbrev pub call_fault : End → Option ClientFault
