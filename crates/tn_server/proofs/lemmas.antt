@@ -3,3 +3,4 @@ pub mod Ends
 pub mod Terms
 pub mod Fitting
 pub mod Courses
+pub mod Words

@@ -2,3 +2,4 @@ pub mod Cutting
 pub mod Listing
 pub mod Fitting
 pub mod Reading
+pub mod OptionWords

@@ -36,3 +36,16 @@ pub LeadTo-agree : (a b : Agree) (e : EnginePair) (side : Side) (code : ℕ) (op
     → known_option code ≡ Some option → LeadTo a b e
     → EnginesAgree e side code
 LeadTo-agree a b e side code option known_as p = subst (λ (x : EnginePair). EnginesAgree x side code) p.is (engines-agree a b p.list side code option known_as)
+
+-- SOME STEPS from one pair to another
+abbrev pub Moves : EnginePair → EnginePair → Type 0
+Moves old new = (list : List EngineStep) × (engine_steps list old ≡ new)
+
+pub same-Moves : (e : EnginePair) → Moves e e
+same-Moves e = ([], refl)
+
+pub then-Moves : (a b c : EnginePair) → Moves a b → Moves b c → Moves a c
+then-Moves a b c m n = (m.0 ++ n.0, engine_steps-more m.0 n.0 a ∙ ap (engine_steps n.0) m.1 ∙ n.1)
+
+pub moves-LeadTo : (a b : Agree) (old new : EnginePair) → Moves old new → LeadTo a b old → LeadTo a b new
+moves-LeadTo a b old new m p = subst (LeadTo a b) m.1 (steps-LeadTo a b m.0 old p)

@@ -1,0 +1,10 @@
+-- The option words among items (RFC 855), the first one first.
+use Rattle.std.specs.Prelude.{ℕ, List, [], ◌∷◌}
+use Rattle.tn_codes.specs.declared.codes.Verb.{Verb}
+use Rattle.tn_nvt.specs.declared.items.Item.{Item}
+use Rattle.tn_nvt.specs.declared.items.Item.TheVariants.{Neg}
+
+abbrev pub words_in : List Item → List (Verb × ℕ)
+words_in [] = []
+words_in (Neg verb option ∷ items) = (verb, option) ∷ words_in items
+words_in (item ∷ items) = words_in items
