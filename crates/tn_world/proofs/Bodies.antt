@@ -5,7 +5,13 @@ use Rattle.tn_discipline.specs.Canon.{Canon}
 use Rattle.tn_discipline.specs.declared.reads.Entry.{Entry}
 use Rattle.tn_nvt.specs.Spelling.{spells}
 use Rattle.tn_nvt.specs.Feeding.{LeadsTo}
+use Rattle.tn_option.specs.Options.{Options, new_options}
+use Rattle.tn_option.proofs.lemmas.Agreement.{fresh-LeadTo, moves-LeadTo}
+use Rattle.tn_wire.specs.OptionWords.{words_in}
 use Rattle.tn_server.specs.Course as asked_course
+use Rattle.tn_server.specs.Terms.{Terms, agreement, opening_options}
+use Rattle.tn_server.proofs.lemmas.Words.{opening_moves}
+use Rattle.tn_client.specs.Terms as client_terms
 use Rattle.tn_server.specs.Events as asked
 use Rattle.tn_server.specs.Replies.{opening}
 use Rattle.tn_server.specs.Calls as server
@@ -22,7 +28,7 @@ use Rattle.tn_world.specs.Opened.{IsOpened}
 use Rattle.tn_world.specs.Worlds.{World, client_fault, ClientRefusesEvent}
 use Rattle.tn_world.specs.declared.events.Event.TheVariants.{Key, Resize}
 use Rattle.tn_world.proofs.Cut.{said_behind, start}
-use Rattle.tn_world.proofs.Soundness.{made, asked_sound, told_sound, sound_as, sound_reaches, sound_returns, propose_goes_on, breaks_sound, again_sound}
+use Rattle.tn_world.proofs.Soundness.{Lead, made, asked_sound, told_sound, sound_as, sound_reaches, sound_returns, propose_goes_on, breaks_sound, again_sound}
 
 -- a call of the client that is accepted
 pub tells_sound : (old : World) (end : client.End) (e : told.Event) (later : List ℕ) → told_course.IsCall e → client_fault old.client e ≡ None → client.Advances old.client e end → client.ReadsNothing old.client end → client.Sends old.client e old.to_server later → HasPast old → HasPast (record old { client = end; to_server = later })
@@ -81,6 +87,13 @@ pub tells_or_not : {A E : Type 0} (old : World) (end : client.End) (e : told.Eve
 tells_or_not old end e later (Ok x) call accepted goes keeps sends same none s = tells_sound old end e later call accepted goes keeps sends s
 tells_or_not old end e later (Err x) call accepted goes keeps sends same none s = sound_as old (record old { client = end; to_server = later }) refl same none refl s
 
+-- the opening words are in flight to a client that has begun
+opened_words : (here there : Options) → here ≡ opening_options → there ≡ new_options client_terms.agreement → Lead here there [] (words_in opening)
+opened_words here there a b =
+    subst (λ (o : Options). Lead o there [] (words_in opening)) (sym a)
+    (subst (λ (o : Options). Lead opening_options o [] (words_in opening)) (sym b)
+    (moves-LeadTo agreement client_terms.agreement _ _ (opening_moves client_terms.agreement) (fresh-LeadTo agreement client_terms.agreement)))
+
 -- just opened: both ends are where they start
 pub open_sound : (canon : Canon) (width height : ℕ) (w : World) → server.LeadsTo (asked.begun canon) w.server → LeadsTo [] [] w.server.decoder → client.LeadsTo (told.begun width height canon.limit) w.client → LeadsTo [] [] w.client.decoder → w.to_server ≡ [] → w.to_client ≡ spells opening → HasPast w
 open_sound canon width height w stands reads begins began nothing said =
@@ -90,6 +103,7 @@ open_sound canon width height w stands reads begins began nothing said =
     (λ r. begins.limit ∙ sym stands.limit)
     (λ r. ([], subst (λ x. InFlight w.server.decoder x []) (sym nothing) (start w.server.decoder reads)))
     (λ r. (opening, said_behind w.client.decoder [] w.to_client [] opening said (sent-fit (asked.begun canon)) (start w.client.decoder began)))
+    (λ a b. opened_words w.server.terms.options w.client.options (ap (λ (t : Terms). t.options) stands.terms) begins.options)
 
 -- and so it was opened
 pub opened_world : (canon : Canon) (width height : ℕ) (end : server.End) (other : client.End) (there here typed shown echoed : List ℕ) (taken : List Entry) → server.LeadsTo (asked.begun canon) end → LeadsTo [] [] end.decoder → end.failed ≡ false → end.terminal.closed ≡ false → client.LeadsTo (told.begun width height canon.limit) other → LeadsTo [] [] other.decoder → other.failed ≡ false → there ≡ [] → here ≡ spells opening → typed ≡ [] → taken ≡ [] → shown ≡ [] → echoed ≡ [] → IsOpened canon width height (record { server = end; client = other; server_stopped = false; client_stopped = false; to_server = there; to_client = here; typed = typed; taken = taken; shown = shown; echoed = echoed })

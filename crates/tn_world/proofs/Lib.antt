@@ -1,3 +1,4 @@
+pub mod AtRest
 pub mod Bodies
 pub mod Changing
 pub mod ClientSteps

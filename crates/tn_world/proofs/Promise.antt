@@ -113,6 +113,7 @@ anew_sound w s =
       limit = s.limit;
       to_server = s.to_server;
       to_client = s.to_client;
+      words = s.words;
     }
 
 pub mark_follows : (w : World) → HasPast w → IsSettled w → FollowsMark (canon_of w) (with_new_lists w)

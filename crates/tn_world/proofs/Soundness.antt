@@ -5,6 +5,12 @@ use Rattle.std.proofs.lemmas.List.Elements.{All-nil, All-append}
 use Rattle.tn_nvt.specs.declared.items.Item.{Item}
 use Rattle.tn_nvt.specs.Spelling.{spells, Fits}
 use Rattle.tn_nvt.specs.Feeding.{DecoderState, LeadsTo}
+use Rattle.tn_codes.specs.declared.codes.Verb.{Verb}
+use Rattle.tn_option.specs.EnginePair.{EnginePair, LeadTo}
+use Rattle.tn_option.specs.Options.{Options}
+use Rattle.tn_option.proofs.lemmas.Agreement.{Moves, moves-LeadTo}
+use Rattle.tn_wire.specs.OptionWords.{words_in}
+use Rattle.tn_wire.proofs.lemmas.OptionWords.{words_in-append}
 use Rattle.tn_server.specs.Course as asked_course
 use Rattle.tn_server.specs.Events as asked
 use Rattle.tn_server.specs.Faults.{IsOfItem}
@@ -15,6 +21,8 @@ use Rattle.tn_server.specs.declared.faults.ServerFault.TheVariants as refused
 use Rattle.tn_server.proofs.lemmas.Courses as asked_on
 use Rattle.tn_server.proofs.lemmas.Fitting as server_fits
 use Rattle.tn_server.proofs.lemmas.Histories.{limit-gets}
+use Rattle.tn_server.proofs.lemmas.Words as server_words
+use Rattle.tn_server.specs.Terms as server_terms
 use Rattle.tn_client.specs.Course as told_course
 use Rattle.tn_client.specs.Events as told
 use Rattle.tn_client.specs.Lines.{line_limit}
@@ -24,7 +32,9 @@ use Rattle.tn_client.specs.declared.faults.ClientFault.{ClientFault}
 use Rattle.tn_client.specs.declared.faults.ClientFault.TheVariants as broken
 use Rattle.tn_client.proofs.lemmas.Courses as told_on
 use Rattle.tn_client.proofs.lemmas.Fitting as client_fits
-use Rattle.tn_world.specs.Past.{HasPast}
+use Rattle.tn_client.proofs.lemmas.Words as client_words
+use Rattle.tn_client.specs.Terms as client_terms
+use Rattle.tn_world.specs.Past.{HasPast, engines}
 use Rattle.tn_world.specs.Flight.{InFlight}
 use Rattle.tn_world.specs.Worlds.{World, UnlessStopped, TypesKey, CallsClient, DeliversToServer, DeliversToClient, CallsServer, Pulls, TakesEntry, RunsEvent, ServerRefusesDelivery, ClientRefusesDelivery, Refuses, client_fault}
 use Rattle.tn_world.specs.declared.events.Event.{Event}
@@ -96,15 +106,44 @@ propose_goes_on end (told.typed key) e = call_goes_on end e
 propose_goes_on end (told.got item) e = call_goes_on end e
 propose_goes_on end (told.resized width height) e = call_goes_on end e
 
+-- THE OPTION WORDS in flight
+-- two engines of a server and a client, from their beginning
+abbrev pub Lead : Options → Options → List (Verb × ℕ) → List (Verb × ℕ) → Type 0
+Lead here there ws vs = LeadTo server_terms.agreement client_terms.agreement (record { here = here; there = there; to_here = ws; to_there = vs })
+
+leads_on : (here there here2 there2 : Options) (ws vs ws2 vs2 : List (Verb × ℕ)) → Moves (record { here = here; there = there; to_here = ws; to_there = vs }) (record { here = here2; there = there2; to_here = ws2; to_there = vs2 }) → Lead here there ws vs → Lead here2 there2 ws2 vs2
+leads_on here there here2 there2 ws vs ws2 vs2 m l = moves-LeadTo server_terms.agreement client_terms.agreement _ _ m l
+
+-- more is said to the server, and to the client
+said_there : (here there : Options) (xs said : List Item) (vs : List (Verb × ℕ)) → Lead here there (words_in xs ++ words_in said) vs → Lead here there (words_in (xs ++ said)) vs
+said_there here there xs said vs l = subst (λ (x : List (Verb × ℕ)). Lead here there x vs) (sym (words_in-append xs said)) l
+
+said_back : (here there : Options) (ws : List (Verb × ℕ)) (xs said : List Item) → Lead here there ws (words_in xs ++ words_in said) → Lead here there ws (words_in (xs ++ said))
+said_back here there ws xs said l = subst (λ (x : List (Verb × ℕ)). Lead here there ws x) (sym (words_in-append xs said)) l
+
+-- a call that says no word and leaves the options
+wordless : (here there there2 : Options) (xs said : List Item) (vs : List (Verb × ℕ)) → there2 ≡ there → words_in said ≡ [] → Lead here there (words_in xs) vs → Lead here there2 (words_in (xs ++ said)) vs
+wordless here there there2 xs said vs same none l =
+    subst (λ (o : Options). Lead here o (words_in (xs ++ said)) vs) (sym same)
+    (subst (λ (x : List (Verb × ℕ)). Lead here there x vs) (sym (words_in-append xs said ∙ ap (λ (t : List (Verb × ℕ)). words_in xs ++ t) none ∙ append-nil (words_in xs))) l)
+
+-- what is left of a flight
+split_there : (here there : Options) (all got left : List Item) (vs : List (Verb × ℕ)) → all ≡ got ++ left → Lead here there (words_in all) vs → Lead here there (words_in got ++ words_in left) vs
+split_there here there all got left vs is l = subst (λ (x : List (Verb × ℕ)). Lead here there x vs) (ap words_in is ∙ words_in-append got left) l
+
+split_back : (here there : Options) (ws : List (Verb × ℕ)) (all got left : List Item) → all ≡ got ++ left → Lead here there ws (words_in all) → Lead here there ws (words_in got ++ words_in left)
+split_back here there ws all got left is l = subst (λ (x : List (Verb × ℕ)). Lead here there ws x) (ap words_in is ∙ words_in-append got left) l
+
 -- EACH CALL AND DELIVERY
 -- the invariant of a world, part by part
 pub made : (w : World) (h : asked.History) → server.LeadsTo h w.server
     → (w.server.failed ≡ false → (c : asked_course.Course) × asked_course.CourseLeadsTo c w.server)
     → (w.client.failed ≡ false → (c : told_course.Course) × told_course.CourseLeadsTo c w.client)
     → (w.client.failed ≡ false → w.client.line.limit ≡ w.server.terminal.line.limit)
-    → (w.server.failed ≡ false → (items : List Item) × InFlight w.server.decoder w.to_server items)
-    → (w.client.failed ≡ false → (items : List Item) × InFlight w.client.decoder w.to_client items) → HasPast w
-made w h stands asked told limit there here = record { history = h; server = stands; asked = asked; told = told; limit = limit; to_server = there; to_client = here }
+    → (there : w.server.failed ≡ false → (items : List Item) × InFlight w.server.decoder w.to_server items)
+    → (here : w.client.failed ≡ false → (items : List Item) × InFlight w.client.decoder w.to_client items)
+    → ((a : w.server.failed ≡ false) (b : w.client.failed ≡ false) → LeadTo server_terms.agreement client_terms.agreement (engines w (there a).0 (here b).0)) → HasPast w
+made w h stands asked told limit there here words = record { history = h; server = stands; asked = asked; told = told; limit = limit; to_server = there; to_client = here; words = words }
 
 -- a call of the client
 module _ (old new : World) (e : told.Event) (call : told_course.IsCall e) (g : client.Advances old.client e new.client) (k : client.ReadsNothing old.client new.client) (sends : client.Sends old.client e old.to_server new.to_server) (runs : old.client.failed ≡ false) (s : HasPast old) where
@@ -125,6 +164,8 @@ module _ (old new : World) (e : told.Event) (call : told_course.IsCall e) (g : c
       (λ b. told_limit ∙ s.limit runs)
       (λ a. let f = s.to_server a in (f.0 ++ sends.said, said_behind old.server.decoder old.to_server new.to_server f.0 sends.said sends.appended (sends_fit at.history old.client e old.to_server new.to_server at.stands sends) f.1))
       (λ b. let f = s.to_client runs in (f.0, subst (λ d. InFlight d old.to_client f.0) (sym k.decoder) f.1))
+      (λ a b. wordless old.server.terms.options old.client.options new.client.options (s.to_server a).0 sends.said (words_in (s.to_client runs).0)
+      (client_words.advances_keeps at.history old.client new.client e call at.stands g) (client_words.sends_none at.history old.client e old.to_server new.to_server call at.stands sends) (s.words a runs))
 
 -- what no part of the invariant looks at
 pub sound_as : (old new : World) → new.server ≡ old.server → new.client ≡ old.client → new.to_server ≡ old.to_server → new.to_client ≡ old.to_client → HasPast old → HasPast new
@@ -135,6 +176,13 @@ sound_as old new a b c d s =
     (λ r. ap (λ e. e.line.limit) b ∙ s.limit (sym (ap (λ e. e.failed) b) ∙ r) ∙ sym (ap (λ e. e.terminal.line.limit) a))
     (λ r. let f = s.to_server (sym (ap (λ e. e.failed) a) ∙ r) in (f.0, subst (λ x. InFlight new.server.decoder x f.0) (sym c) (subst (λ e. InFlight e.decoder old.to_server f.0) (sym a) f.1)))
     (λ r. let f = s.to_client (sym (ap (λ e. e.failed) b) ∙ r) in (f.0, subst (λ x. InFlight new.client.decoder x f.0) (sym d) (subst (λ e. InFlight e.decoder old.to_client f.0) (sym b) f.1)))
+    (λ p q.
+        let p2 = sym (ap (λ e. e.failed) a) ∙ p in
+        let q2 = sym (ap (λ e. e.failed) b) ∙ q in
+        let ws = words_in (s.to_server p2).0 in
+        let vs = words_in (s.to_client q2).0 in
+        subst (λ (e : server.End). Lead e.terms.options new.client.options ws vs) (sym a)
+        (subst (λ (e : client.End). Lead old.server.terms.options e.options ws vs) (sym b) (s.words p2 q2)))
 
 pub sound_types : (old new : World) (key : ℕ) → TypesKey old key new → HasPast old → HasPast new
 sound_types old new key t s =
@@ -164,6 +212,12 @@ module _ (old new : World) (e : asked.Event) (call : asked_course.IsCall e) (g :
       (λ b. s.limit b ∙ sym asked_limit)
       (λ a. let f = s.to_server (sym k.failed ∙ a) in (f.0, subst (λ d. InFlight d old.to_server f.0) (sym k.decoder) f.1))
       (λ b. let f = s.to_client b in (f.0 ++ g.said, said_behind old.client.decoder old.to_client new.to_client f.0 g.said g.appended (goes_fit s.history old.server new.server e old.to_client new.to_client s.server g) f.1))
+      (λ a b.
+          let ws = words_in (s.to_server (sym k.failed ∙ a)).0 in
+          let y = (s.to_client b).0 in
+          said_back new.server.terms.options old.client.options ws y g.said
+          (leads_on old.server.terms.options old.client.options new.server.terms.options old.client.options ws (words_in y) ws (words_in y ++ words_in g.said)
+          (server_words.advances_moves s.history old.server new.server e old.to_client new.to_client old.client.options ws (words_in y) call s.server g) (s.words (sym k.failed ∙ a) b)))
 
 pub sound_asks : (old new : World) (e : asked.Event) → asked_course.IsCall e → CallsServer old e new → HasPast old → HasPast new
 sound_asks old new e call t s = subst (λ w. HasPast w) (sym t.rest) (asked_sound old new e call t.goes t.keeps s)
@@ -187,7 +241,15 @@ sound_reaches old new n t s =
     s.told
     (λ b. s.limit b ∙ before.limit ∙ sym (limit-gets s.history f.items) ∙ sym after.limit)
     (λ a. let x = s.to_server (runs a) in let d = cut_at old.server.decoder new.server.decoder n old.to_server x.0 f.items x.1 f.reads in (d.left, d.flight))
-    (λ b. let x = s.to_client b in (x.0 ++ f.said, said_behind old.client.decoder old.to_client new.to_client x.0 f.said f.appended (feeds_fit s.history old.server new.server piece old.to_client new.to_client s.server f) x.1)))
+    (λ b. let x = s.to_client b in (x.0 ++ f.said, said_behind old.client.decoder old.to_client new.to_client x.0 f.said f.appended (feeds_fit s.history old.server new.server piece old.to_client new.to_client s.server f) x.1))
+    (λ a b.
+        let x = s.to_server (runs a) in
+        let y = (s.to_client b).0 in
+        let d = cut_at old.server.decoder new.server.decoder n old.to_server x.0 f.items x.1 f.reads in
+        said_back new.server.terms.options old.client.options (words_in d.left) y f.said
+        (leads_on old.server.terms.options old.client.options new.server.terms.options old.client.options (words_in f.items ++ words_in d.left) (words_in y) (words_in d.left) (words_in y ++ words_in f.said)
+        (server_words.feeds_moves s.history old.server new.server piece old.to_client new.to_client old.client.options (words_in d.left) (words_in y) s.server f)
+        (split_there old.server.terms.options old.client.options x.0 f.items d.left (words_in y) d.all (s.words (runs a) b)))))
 
 -- a delivery to the client
 line_limit-gets : (h : told.History) (items : List Item) → line_limit (told.gets h items) ≡ line_limit h
@@ -208,7 +270,15 @@ sound_returns old new n t s =
     (λ r. let x = s.told runs in (told_course.fed x.0 piece, told_on.fed_at x.0 old.client new.client piece old.to_server new.to_server old.shown new.shown x.1 f))
     (λ b. after.limit ∙ line_limit-gets at.history f.items ∙ sym before.limit ∙ s.limit runs)
     (λ a. let x = s.to_server a in (x.0 ++ f.said, said_behind old.server.decoder old.to_server new.to_server x.0 f.said f.appended (came_fit at.history old.client new.client piece old.to_server new.to_server old.shown new.shown at.stands f) x.1))
-    (λ b. let x = s.to_client runs in let d = cut_at old.client.decoder new.client.decoder n old.to_client x.0 f.items x.1 f.reads in (d.left, d.flight)))
+    (λ b. let x = s.to_client runs in let d = cut_at old.client.decoder new.client.decoder n old.to_client x.0 f.items x.1 f.reads in (d.left, d.flight))
+    (λ a b.
+        let x = (s.to_server a).0 in
+        let y = s.to_client runs in
+        let d = cut_at old.client.decoder new.client.decoder n old.to_client y.0 f.items y.1 f.reads in
+        said_there old.server.terms.options new.client.options x f.said (words_in d.left)
+        (leads_on old.server.terms.options old.client.options old.server.terms.options new.client.options (words_in x) (words_in f.items ++ words_in d.left) (words_in x ++ words_in f.said) (words_in d.left)
+        (client_words.feeds_moves at.history old.client new.client piece old.to_server new.to_server old.shown new.shown old.server.terms.options (words_in x) (words_in d.left) at.stands f)
+        (split_back old.server.terms.options old.client.options (words_in x) y.0 f.items d.left d.all (s.words a runs)))))
 
 unless : (stopped : Bool) (old new : World) (happens : Type 0) → (happens → HasPast old → HasPast new) → UnlessStopped stopped old new happens → HasPast old → HasPast new
 unless true old new happens done is s = subst (λ w. HasPast w) (sym is) s
@@ -265,6 +335,7 @@ halts_sound old end piece left later fault again none halts no_char failed s =
     (λ b. s.limit b ∙ before.limit ∙ sym (limit-gets s.history at.0) ∙ sym after.limit)
     (λ r. opposite end.failed _ failed r)
     (λ b. let f = s.to_client b in (f.0 ++ more.said, said_behind old.client.decoder old.to_client later f.0 more.said more.appended more.fit f.1))
+    (λ a b. opposite end.failed _ failed a)
 
 -- the client failed
 pub breaks_sound : (old : World) (end : client.End) (piece left later seen : List ℕ) → old.client.failed ≡ false → client.StopsWithin old.client piece old.to_server later old.shown seen → end.failed ≡ true → HasPast old → HasPast (record old { client = end; to_client = left; to_server = later; shown = seen })
@@ -279,11 +350,12 @@ breaks_sound old end piece left later seen runs x failed s =
           (breaks_fit here.history old.client piece old.to_server later old.shown seen (told_course.stream at.0) (told.items here.history) here.stands here.reads x) f.1,
     ))
     (λ r. opposite end.failed _ failed r)
+    (λ a b. opposite end.failed _ failed b)
 
 -- the client had failed before
 pub again_sound : (old : World) (left : List ℕ) → old.client.failed ≡ true → HasPast old → HasPast (record old { to_client = left })
 again_sound old left failed s =
-    made (record old { to_client = left }) s.history s.server s.asked s.told s.limit s.to_server (λ r. opposite old.client.failed _ failed r)
+    made (record old { to_client = left }) s.history s.server s.asked s.told s.limit s.to_server (λ r. opposite old.client.failed _ failed r) (λ a b. opposite old.client.failed _ failed b)
 
 -- A refusal changed nothing, or it was of a delivery.
 pub data Refusal (old : World) (e : Event) (new : World) : Type 0 where

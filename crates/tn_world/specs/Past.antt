@@ -1,15 +1,30 @@
 -- What holds of every world from its opening on.
 use Rattle.std.specs.Prelude.{◌≡◌, false, List}
 use Rattle.tn_nvt.specs.declared.items.Item.{Item}
+use Rattle.tn_option.specs.EnginePair.{EnginePair, LeadTo}
+use Rattle.tn_wire.specs.OptionWords.{words_in}
 use Rattle.tn_server.specs.Course as asked_course
 use Rattle.tn_server.specs.Events as asked
 use Rattle.tn_server.specs.Calls as server
+use Rattle.tn_server.specs.Terms as server_terms
 use Rattle.tn_client.specs.Course as told_course
+use Rattle.tn_client.specs.Terms as client_terms
 use Rattle.tn_world.specs.Flight.{InFlight}
 use Rattle.tn_world.specs.Worlds.{World}
 
+-- both option engines, with the words among what is in flight to the server and back
+abbrev pub engines : World → List Item → List Item → EnginePair
+engines w there back =
+    record {
+      here = w.server.terms.options;
+      there = w.client.options;
+      to_here = words_in there;
+      to_there = words_in back;
+    }
+
 -- Whatever happened since the world was opened: the server stands where some history leads; as long as an end has not
 -- failed, it is where some pieces and calls lead, and what flies to it are whole items; both ends have lines of one limit.
+-- While neither has failed, both engines are where some wishes and words lead (RFC 1143).
 pub record HasPast (w : World) : Type 0 where
   pub history : asked.History
   pub server : server.LeadsTo history w.server
@@ -18,3 +33,5 @@ pub record HasPast (w : World) : Type 0 where
   pub limit : w.client.failed ≡ false → w.client.line.limit ≡ w.server.terminal.line.limit
   pub to_server : w.server.failed ≡ false → (items : List Item) × InFlight w.server.decoder w.to_server items
   pub to_client : w.client.failed ≡ false → (items : List Item) × InFlight w.client.decoder w.to_client items
+  pub words : (a : w.server.failed ≡ false) (b : w.client.failed ≡ false)
+      → LeadTo server_terms.agreement client_terms.agreement (engines w (to_server a).0 (to_client b).0)

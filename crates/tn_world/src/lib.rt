@@ -5,6 +5,7 @@ pub use events::{Event, ToWhom};
 pub use faults::{Cause, WorldFault};
 pub use world::World;
 
+mod agreeing;
 mod events;
 mod faults;
 pub mod laws;

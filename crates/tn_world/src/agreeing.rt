@@ -1,0 +1,58 @@
+//! Whether the options of both ends agree.
+
+ghost use Rattle.std.specs.Prelude.{◌≡◌, ◌↔◌, true};
+ghost use Rattle.tn_option.specs.EnginePair.{facing};
+ghost use Rattle.tn_option.specs.declared.q_method.Side.TheVariants.{Us, Them};
+ghost use Rattle.tn_world.specs.Agreement.{IsSameState, AgreeOn, OptionsAgree};
+ghost use Rattle.tn_world.specs.Headline.{NoneFailed, NothingInFlight};
+
+use crate::world::World;
+use tn_option::{ECHO, LINEMODE, NAWS, QState, SUPPRESS_GO_AHEAD, Side};
+
+impl World {
+    /// Whether each option, in each direction, is on at both ends or off at both (RFC 1143). It is so
+    /// after any events, quiet or not, where nothing is in flight and no end has failed.
+    pub fn options_agree(&self) -> bool
+        ensures agree { result ≡ true ↔ OptionsAgree self.now }
+        ensures at_rest { NoneFailed self.now → NothingInFlight self.now → result ≡ true }
+    {
+        // Nothing is done here; the proof begins with what every world keeps.
+        let _ = &self.server;
+        self.agree_on_each()
+    }
+
+    fn agree_on_each(&self) -> bool
+        ensures { result ≡ true ↔ OptionsAgree self.now }
+    {
+        self.agree_on(ECHO)
+            && self.agree_on(SUPPRESS_GO_AHEAD)
+            && self.agree_on(NAWS)
+            && self.agree_on(LINEMODE)
+    }
+
+    // In both directions.
+    fn agree_on(&self, option: u8) -> bool
+        ensures us { result ≡ true → AgreeOn self.now Us option }
+        ensures them { result ≡ true → AgreeOn self.now Them option }
+        ensures both { AgreeOn self.now Us option → AgreeOn self.now Them option → result ≡ true }
+    {
+        is_same(
+            self.server.option(Side::Us, option),
+            self.client.option(Side::Them, option),
+        ) && is_same(
+            self.server.option(Side::Them, option),
+            self.client.option(Side::Us, option),
+        )
+    }
+}
+
+// On at both ends, or off at both.
+fn is_same(here: QState, there: QState) -> bool
+    ensures { result ≡ true ↔ IsSameState here there }
+{
+    match here {
+        QState::Yes => there == QState::Yes,
+        QState::No => there == QState::No,
+        _ => false,
+    }
+}
