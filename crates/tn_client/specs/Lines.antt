@@ -1,23 +1,22 @@
 -- The half line that is edited at a client end, and its two parts.
-use Rattle.std.specs.Prelude.{ℕ, min, ◌==◌, Bool, not, ◌&&◌, List, [], ◌++◌, length, drop, bit_and, if◌then◌else◌}
+use Rattle.std.specs.Prelude.{ℕ, min, Bool, ◌&&◌, List, [], ◌++◌, length, drop, if◌then◌else◌}
 use Rattle.tn_discipline.specs.Characters.{Characters}
 use Rattle.tn_discipline.specs.Keys.{standard_flags, role_of_key, roles_from}
 use Rattle.tn_discipline.specs.Entries.{half_of}
 use Rattle.tn_discipline.specs.HalfLine.{HalfLine}
 use Rattle.tn_discipline.specs.declared.keys.Role.{Role}
 use Rattle.tn_discipline.specs.declared.termios.Settings.{Settings}
-use Rattle.tn_linemode.specs.Modes.{edits}
+use Rattle.tn_linemode.specs.Modes.{edits, traps}
 use Rattle.tn_client.specs.Events.{typed, got, History, begun, next}
 use Rattle.tn_client.specs.Terms.{mode, chars}
 
--- RFC 1184, section 2.2: TRAPSIG of a mask
-abbrev pub traps : ℕ → Bool
-traps mask = not (bit_and mask 2 == 0)
-
 -- the settings that a client has its keys by: a carriage return ends the line as a line feed does, the
 -- characters are those of its table, and ISIG is TRAPSIG
+abbrev pub settings_by : Bool → Characters → Settings
+settings_by trapsig c = record { flags = record standard_flags { isig = trapsig }; chars = c }
+
 abbrev pub key_settings : ℕ → Characters → Settings
-key_settings mask c = record { flags = record standard_flags { isig = traps mask }; chars = c }
+key_settings mask c = settings_by (traps mask) c
 
 abbrev pub role_of_typed : ℕ → Characters → ℕ → Role
 role_of_typed mask c key = role_of_key (key_settings mask c) key

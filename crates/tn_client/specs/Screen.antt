@@ -17,10 +17,13 @@ use Rattle.tn_client.specs.Lines.{key_settings, role_at, line}
 abbrev pub new_line : List ℕ
 new_line = 13 ∷ 10 ∷ []
 
+abbrev pub symbol_shown : Symbol → List ℕ
+symbol_shown (symbol.Byte byte) = byte ∷ []
+symbol_shown symbol.Newline = new_line
+
 abbrev pub on_screen : Option Symbol → List ℕ
 on_screen None = []
-on_screen (Some (symbol.Byte byte)) = byte ∷ []
-on_screen (Some symbol.Newline) = new_line
+on_screen (Some s) = symbol_shown s
 
 -- the echo of a key without EDIT: both bytes that end a line are a new line
 abbrev pub echoed_raw : ℕ → List ℕ

@@ -257,7 +257,7 @@ impl ClientEnd {
         ensures value { result ≡ self.now.mode }
         ensures stands { (h : History) → LeadsTo h self.now → result ≡ mode h }
     {
-        self.mode.current()
+        self.mode.current().mask()
     }
 
     /// The bytes of the half line that are held here.

@@ -16,7 +16,7 @@ use crate::screen::{show_byte, show_new_line};
 use crate::sending::put_bytes;
 use std::alloc::AllocError;
 use tn_codes::{Payload, Triples, Verb};
-use tn_linemode::{ClientMode, EDIT};
+use tn_linemode::ClientMode;
 use tn_nvt::{Item, Params};
 use tn_option::{Engine, LINEMODE, NAWS, Side};
 use tn_wire::{put_list, put_mode, put_payload, put_word, read_under};
@@ -51,7 +51,7 @@ impl ClientEnd {
         ensures err { OnErr result (out.new.items ≡ out.old.items) }
         ensures grows { OnErr result (says_mode self.now mode ≢ []) }
     {
-        if self.mode.current() & EDIT != 0 && mode.current() & EDIT == 0 {
+        if self.mode.current().edit() && !mode.current().edit() {
             return put_bytes(self.line.held(), out);
         }
         Ok(())
@@ -61,7 +61,7 @@ impl ClientEnd {
     fn set_mode(&mut self, mode: ClientMode)
         ensures { self.new ≡ with_mode self.old mode }
     {
-        if self.mode.current() & EDIT != 0 && mode.current() & EDIT == 0 {
+        if self.mode.current().edit() && !mode.current().edit() {
             let _effect = self.line.kill();
         }
         self.mode = mode;

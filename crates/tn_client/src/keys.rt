@@ -15,7 +15,6 @@ use crate::screen::{echo_raw, make_room, show_all};
 use crate::sending::{put_edited, put_raw};
 use std::alloc::AllocError;
 use tn_discipline::{Line, Role, Settings, echo_of, role_of};
-use tn_linemode::{EDIT, TRAPSIG};
 use tn_option::{ECHO, Side};
 
 // Whether a key of this role shows something of the line, where it is echoed.
@@ -38,7 +37,7 @@ impl ClientEnd {
         ensures { result ≡ key_settings self.now.mode self.now.table }
     {
         let mut settings = Settings::standard();
-        settings.flags.isig = self.mode.current() & TRAPSIG != 0;
+        settings.flags.isig = self.mode.current().trapsig();
         settings.chars = self.table.chars();
         settings
     }
@@ -79,7 +78,7 @@ impl ClientEnd {
         ensures err_screen { OnErr result (screen.new.items ≡ screen.old.items) }
         ensures grows { OnErr result ((says_key self.old key ≢ []) ⊎ (shows_key self.old key ≢ [])) }
     {
-        if self.mode.current() & EDIT != 0 {
+        if self.mode.current().edit() {
             self.edit(key, out, screen)
         } else {
             self.pass(key, out, screen)

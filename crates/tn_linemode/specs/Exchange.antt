@@ -96,12 +96,12 @@ abbrev pub client_answer : Characters → Triple → Option Triple
 client_answer c t = if has_ack t then None else client_replies c (saying_of t)
 
 -- a table after a list of triples
-abbrev pub table_after : (Characters → Triple → Characters) → Characters → List Triple → Characters
+abbrev pub table_after : {T : Type 0} → (T → Triple → T) → T → List Triple → T
 table_after next c ts = fold next c ts
 
 -- the answers to a list of triples, each by the table that it meets
-unfoldable pub answers_along : (Characters → Triple → Characters) → (Characters → Triple → Option Triple)
-    → Characters → List Triple → List Triple
+unfoldable pub answers_along : {T : Type 0} → (T → Triple → T) → (T → Triple → Option Triple)
+    → T → List Triple → List Triple
 answers_along next answer c [] = []
 answers_along next answer c (t ∷ ts) = option_to_list (answer c t) ++ answers_along next answer (next c t) ts
 

@@ -12,6 +12,9 @@ is_acknowledged mask = not (bit_and mask 4 == 0)
 abbrev pub edits : ℕ → Bool
 edits mask = not (bit_and mask 1 == 0)
 
+abbrev pub traps : ℕ → Bool
+traps mask = not (bit_and mask 2 == 0)
+
 -- a mask that has no other bit
 abbrev pub IsMode : ℕ → Type 0
 IsMode mask = mask < 4

@@ -1,26 +1,23 @@
 //! The mode of LINEMODE at the client.
 
 ghost use Rattle.std.specs.Prelude.{◌≡◌};
-ghost use Rattle.tn_linemode.specs.Modes.{IsMode, client_mask_after, mode_answer};
+ghost use Rattle.tn_linemode.specs.Modes.{client_mask_after, mode_answer};
 
-use crate::masks::{MODE_ACK, is_acknowledged, mode_of};
+use crate::masks::{MODE_ACK, Mode, is_acknowledged};
 use std::marker::Model;
 
-/// The client's side of MODE: the mask in force, of which it keeps EDIT and TRAPSIG alone.
+/// The client's side of MODE: the mode in force.
 #[derive(Clone, Copy, Debug, PartialEq, Eq)]
 pub struct ClientMode {
-    current: u8,
+    current: Mode,
 }
 
 impl Model for ClientMode {
     ghost use Rattle.std.specs.Prelude.{ℕ};
-    ghost use Rattle.tn_linemode.specs.Modes.{IsMode};
 
     ghost Value = { ℕ };
 
     ghost view = { λ m. m.current };
-
-    ghost invariant = { λ m. IsMode m.current };
 
     ghost inverse = { λ mask. record { current = mask } };
 }
@@ -30,7 +27,9 @@ impl ClientMode {
     pub fn new() -> Self
         ensures { result ≡ 0 }
     {
-        ClientMode { current: 0 }
+        ClientMode {
+            current: Mode::none(),
+        }
     }
 
     /// Takes a mask from the server, which acknowledges nothing, and answers the mask to send back
@@ -39,18 +38,17 @@ impl ClientMode {
         ensures mode { self.new ≡ client_mask_after self.old mask }
         ensures answer { result ≡ mode_answer self.old mask }
     {
-        let mode = mode_of(mask);
+        let mode = Mode::of(mask);
         if is_acknowledged(mask) || mode == self.current {
             return None;
         }
         self.current = mode;
-        Some(mode | MODE_ACK)
+        Some(mode.mask() | MODE_ACK)
     }
 
-    /// The mask in force.
-    pub fn current(&self) -> u8
-        ensures value { result ≡ self.now }
-        ensures mode { IsMode result }
+    /// The mode in force.
+    pub fn current(&self) -> Mode
+        ensures { result ≡ self.now }
     {
         self.current
     }
@@ -59,6 +57,6 @@ impl ClientMode {
     pub fn reset(&mut self)
         ensures { self.new ≡ 0 }
     {
-        self.current = 0;
+        self.current = Mode::none();
     }
 }

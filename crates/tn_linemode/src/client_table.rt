@@ -4,11 +4,10 @@ ghost use Rattle.std.specs.Prelude.{◌≡◌, ◌+◌, ◌<◌, ◌++◌, lengt
 ghost use Rattle.std.specs.Result.{result_err};
 ghost use Rattle.tn_discipline.specs.Characters.{with_slot, char_fault, standard_characters};
 ghost use Rattle.tn_linemode.specs.Triples.{triple_of, IsOffer};
-ghost use Rattle.tn_linemode.specs.Exchange.{without_character, is_line_end, client_takes, client_replies, client_next, client_answer, client_after, client_answers};
+ghost use Rattle.tn_linemode.specs.Exchange.{without_character, is_line_end, client_takes, client_replies, client_after, client_answers};
 
-use crate::triples::{
-    Saying, acknowledging, has_ack, push_answer, reading_of, triple_of, unsupported,
-};
+use crate::answering::{Reacts, react_whole};
+use crate::triples::{Saying, acknowledging, has_ack, reading_of, triple_of, unsupported};
 use std::alloc::AllocError;
 use std::marker::Model;
 use tn_codes::{Func, Triple};
@@ -51,6 +50,7 @@ impl ClientTable {
     /// the vector has no room for the answers, and so never for none; after a refusal nothing has
     /// changed. A function beyond the eighteen of RFC 1184 is answered as unsupported, but at the
     /// level NOSUPPORT, which asks for no answer.
+    #[tactic(auto, unfolding(crate::specs::Exchange::client_after, crate::specs::Exchange::client_answers))]
     pub fn got(&mut self, triples: &[Triple], answers: &mut Vec<Triple>) -> Result<(), AllocError>
         ensures table { OnOk result (self.new ≡ client_after self.old triples.now) }
         ensures answers { OnOk result
@@ -60,14 +60,7 @@ impl ClientTable {
         ensures full { let replies = client_answers self.old triples.now in
             OnErr result (vec_capacity answers.old < vec_len answers.old + length replies) }
     {
-        let answered = answers.len();
-        let mut table = *self;
-        if let Err(fault) = table.react_to_all(triples, answers) {
-            answers.truncate(answered);
-            return Err(fault);
-        }
-        *self = table;
-        Ok(())
+        react_whole(self, triples, answers)
     }
 
     /// The triple that proposes a character to the server, or none by `None`; it is refused where the
@@ -79,39 +72,6 @@ impl ClientTable {
         let mut chars = self.chars;
         chars.set(func, value)?;
         Ok(triple_of(func, value))
-    }
-
-    // Takes a list of triples. After a refusal the answers begin as they did.
-    fn react_to_all(
-        &mut self,
-        triples: &[Triple],
-        answers: &mut Vec<Triple>,
-    ) -> Result<(), AllocError>
-        ensures table { OnOk result (self.new ≡ client_after self.old triples.now) }
-        ensures answers { OnOk result
-            (answers.new.items ≡ answers.old.items ++ client_answers self.old triples.now) }
-        ensures err { OnErr result (take (vec_len answers.old) answers.new.items ≡ answers.old.items) }
-        ensures full { let replies = client_answers self.old triples.now in
-            OnErr result (vec_capacity answers.old < vec_len answers.old + length replies) }
-    {
-        for triple in triples {
-            let answer = self.react(*triple);
-            push_answer(answers, answer)?;
-        }
-        Ok(())
-    }
-
-    // Takes one triple, and answers it.
-    fn react(&mut self, triple: Triple) -> Option<Triple>
-        ensures table { self.new ≡ client_next self.old triple }
-        ensures answer { result ≡ client_answer self.old triple }
-    {
-        let answer = match reading_of(triple) {
-            Saying::Character(func, value) => self.told(func, value),
-            Saying::Unsupported(code) => Some(unsupported(code)),
-            Saying::Standard | Saying::Table | Saying::Nothing => None,
-        };
-        if has_ack(triple) { None } else { answer }
     }
 
     // Takes a character, and answers what changed.
@@ -151,6 +111,24 @@ impl ClientTable {
         ensures { self.new ≡ with_slot self.old func value }
     {
         let _ = self.chars.set(func, value);
+    }
+}
+
+impl Reacts for ClientTable {
+    ghost use Rattle.tn_linemode.specs.Exchange.{client_next, client_answer};
+
+    ghost next = { client_next };
+
+    ghost answer = { client_answer };
+
+    // Takes one triple, and answers it.
+    fn react(&mut self, triple: Triple) -> Option<Triple> {
+        let answer = match reading_of(triple) {
+            Saying::Character(func, value) => self.told(func, value),
+            Saying::Unsupported(code) => Some(unsupported(code)),
+            Saying::Standard | Saying::Table | Saying::Nothing => None,
+        };
+        if has_ack(triple) { None } else { answer }
     }
 }
 

@@ -3,11 +3,12 @@
 
 pub use client_mode::ClientMode;
 pub use client_table::ClientTable;
-pub use masks::{EDIT, MODE_ACK, TRAPSIG};
+pub use masks::{EDIT, MODE_ACK, Mode, TRAPSIG};
 pub use server_mode::ServerMode;
 pub use server_table::ServerTable;
 pub use triples::triple_of;
 
+mod answering;
 mod client_mode;
 mod client_table;
 pub mod laws;

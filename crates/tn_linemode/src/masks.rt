@@ -1,7 +1,9 @@
 //! The masks of MODE (RFC 1184, section 2.2).
 
 ghost use Rattle.std.specs.Prelude.{◌≡◌};
-ghost use Rattle.tn_linemode.specs.Modes.{mode_of, is_acknowledged, edits};
+ghost use Rattle.tn_linemode.specs.Modes.{mode_of, is_acknowledged, edits, traps, IsMode};
+
+use std::marker::Model;
 
 /// The client edits lines and sends them whole.
 pub const EDIT: u8 = 1;
@@ -12,11 +14,63 @@ pub const TRAPSIG: u8 = 2;
 /// The mask repeats one that the other end proposed.
 pub const MODE_ACK: u8 = 4;
 
-/// The bits of a mask that make a mode: those of the others are never kept.
-pub fn mode_of(mask: u8) -> u8
-    ensures { result ≡ mode_of mask }
-{
-    mask & (EDIT | TRAPSIG)
+/// A mode: whether the client edits lines, and whether it sends its signal characters as commands.
+#[derive(Clone, Copy, Debug, PartialEq, Eq)]
+pub struct Mode {
+    mask: u8,
+}
+
+impl Model for Mode {
+    ghost use Rattle.std.specs.Prelude.{ℕ};
+    ghost use Rattle.tn_linemode.specs.Modes.{IsMode};
+
+    ghost Value = { ℕ };
+
+    ghost view = { λ m. m.mask };
+
+    ghost invariant = { λ m. IsMode m.mask };
+
+    ghost inverse = { λ mask. record { mask = mask } };
+}
+
+impl Mode {
+    /// No editing, and no signals as commands.
+    pub fn none() -> Mode
+        ensures { result ≡ 0 }
+    {
+        Mode { mask: 0 }
+    }
+
+    /// The mode of a mask, whose other bits are never kept.
+    pub fn of(mask: u8) -> Mode
+        ensures { result ≡ mode_of mask }
+    {
+        Mode {
+            mask: mask & (EDIT | TRAPSIG),
+        }
+    }
+
+    /// The client edits lines.
+    pub fn edit(self) -> bool
+        ensures { result ≡ edits self }
+    {
+        self.mask & EDIT != 0
+    }
+
+    /// The client sends its signal characters as commands.
+    pub fn trapsig(self) -> bool
+        ensures { result ≡ traps self }
+    {
+        self.mask & TRAPSIG != 0
+    }
+
+    /// The mask that has the mode's bits alone.
+    pub fn mask(self) -> u8
+        ensures value { result ≡ self }
+        ensures mode { IsMode result }
+    {
+        self.mask
+    }
 }
 
 pub fn is_acknowledged(mask: u8) -> bool

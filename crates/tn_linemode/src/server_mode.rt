@@ -1,27 +1,25 @@
 //! The mode of LINEMODE at the server.
 
 ghost use Rattle.std.specs.Prelude.{◌≡◌};
-ghost use Rattle.tn_linemode.specs.Modes.{no_mode, modes_after_wish, mask_sent, modes_after_mode, wish_of_mask, IsMode};
+ghost use Rattle.tn_linemode.specs.Modes.{no_mode, modes_after_wish, mask_sent, modes_after_mode, wish_of_mask};
 
-use crate::masks::{edits, is_acknowledged, mode_of};
+use crate::masks::{Mode, edits, is_acknowledged};
 use std::marker::Model;
 
-/// The server's side of MODE: the mask that it asked for last, and the mask that the client
-/// acknowledged last. Both keep EDIT and TRAPSIG alone.
+/// The server's side of MODE: the mode that it asked for last, and the one that the client
+/// acknowledged last.
 #[derive(Clone, Copy, Debug, PartialEq, Eq)]
 pub struct ServerMode {
-    asked: u8,
-    current: u8,
+    asked: Mode,
+    current: Mode,
 }
 
 impl Model for ServerMode {
-    ghost use Rattle.tn_linemode.specs.Modes.{Modes, IsMode};
+    ghost use Rattle.tn_linemode.specs.Modes.{Modes};
 
     ghost Value = { Modes };
 
     ghost view = { λ m. record { asked = m.asked; current = m.current } };
-
-    ghost invariant = { λ m. IsMode m.asked × IsMode m.current };
 
     ghost inverse = { λ m. record { asked = m.asked; current = m.current } };
 }
@@ -32,8 +30,8 @@ impl ServerMode {
         ensures { result ≡ no_mode }
     {
         ServerMode {
-            asked: 0,
-            current: 0,
+            asked: Mode::none(),
+            current: Mode::none(),
         }
     }
 
@@ -43,12 +41,12 @@ impl ServerMode {
         ensures mode { self.new ≡ modes_after_wish self.old mask }
         ensures sent { result ≡ mask_sent self.old mask }
     {
-        let mode = mode_of(mask);
+        let mode = Mode::of(mask);
         if mode == self.asked {
             return None;
         }
         self.asked = mode;
-        Some(mode)
+        Some(mode.mask())
     }
 
     /// Takes a mask from the client: one with MODE_ACK is from now on in force, and one without is
@@ -58,24 +56,22 @@ impl ServerMode {
         ensures wish { result ≡ wish_of_mask mask }
     {
         if is_acknowledged(mask) {
-            self.current = mode_of(mask);
+            self.current = Mode::of(mask);
             return None;
         }
         Some(edits(mask))
     }
 
-    /// The mask that was asked for last.
-    pub fn asked(&self) -> u8
-        ensures value { result ≡ self.now.asked }
-        ensures mode { IsMode result }
+    /// The mode that was asked for last.
+    pub fn asked(&self) -> Mode
+        ensures { result ≡ self.now.asked }
     {
         self.asked
     }
 
-    /// The mask that the client acknowledged last.
-    pub fn current(&self) -> u8
-        ensures value { result ≡ self.now.current }
-        ensures mode { IsMode result }
+    /// The mode that the client acknowledged last.
+    pub fn current(&self) -> Mode
+        ensures { result ≡ self.now.current }
     {
         self.current
     }

@@ -2,10 +2,11 @@
 
 ghost use Rattle.std.specs.Prelude.{◌≡◌, ◌+◌, ◌<◌, ◌++◌, length, OnOk, OnErr, IfOk, IfErr, None, Some, option_to_list, take, vec_len, vec_capacity};
 ghost use Rattle.tn_discipline.specs.Characters.{with_slot, char_fault};
-ghost use Rattle.tn_linemode.specs.Exchange.{announcement, server_takes, server_replies, server_next, server_answer, asks_for_table, server_after, server_answers, server_is_asked};
+ghost use Rattle.tn_linemode.specs.Exchange.{announcement, server_takes, server_replies, asks_for_table, server_after, server_answers, server_is_asked};
 
+use crate::answering::{Reacts, react_whole};
 use crate::triples::{
-    Saying, acknowledging, has_ack, push_answer, reading_of, table_of, triple_of, unsupported,
+    Saying, acknowledging, has_ack, reading_of, table_of, triple_of, unsupported,
 };
 use std::alloc::AllocError;
 use std::marker::Model;
@@ -70,7 +71,7 @@ impl ServerTable {
     /// answers, and so never for none; after a refusal nothing has changed. A function beyond the
     /// eighteen of RFC 1184 is answered as unsupported, but at the level NOSUPPORT, which asks for
     /// no answer.
-    #[tactic(auto, unfolding(crate::specs::Exchange::server_is_asked))]
+    #[tactic(auto, unfolding(crate::specs::Exchange::server_is_asked, crate::specs::Exchange::server_after, crate::specs::Exchange::server_answers))]
     pub fn got(&mut self, triples: &[Triple], answers: &mut Vec<Triple>) -> Result<bool, AllocError>
         ensures table { OnOk result (self.new ≡ server_after self.old triples.now) }
         ensures answers { OnOk result
@@ -81,53 +82,8 @@ impl ServerTable {
         ensures full { let replies = server_answers self.old triples.now in
             OnErr result (vec_capacity answers.old < vec_len answers.old + length replies) }
     {
-        let answered = answers.len();
-        let mut table = *self;
-        if let Err(fault) = table.react_to_all(triples, answers) {
-            answers.truncate(answered);
-            return Err(fault);
-        }
-        *self = table;
+        react_whole(self, triples, answers)?;
         Ok(triples.iter().any(|triple| asks_for_table(*triple)))
-    }
-
-    // Takes a list of triples. After a refusal the answers begin as they did.
-    fn react_to_all(
-        &mut self,
-        triples: &[Triple],
-        answers: &mut Vec<Triple>,
-    ) -> Result<(), AllocError>
-        ensures table { OnOk result (self.new ≡ server_after self.old triples.now) }
-        ensures answers { OnOk result
-            (answers.new.items ≡ answers.old.items ++ server_answers self.old triples.now) }
-        ensures err { OnErr result (take (vec_len answers.old) answers.new.items ≡ answers.old.items) }
-        ensures full { let replies = server_answers self.old triples.now in
-            OnErr result (vec_capacity answers.old < vec_len answers.old + length replies) }
-    {
-        for triple in triples {
-            let answer = self.react(*triple);
-            push_answer(answers, answer)?;
-        }
-        Ok(())
-    }
-
-    // Takes one triple, and answers it.
-    fn react(&mut self, triple: Triple) -> Option<Triple>
-        ensures table { self.new ≡ server_next self.old triple }
-        ensures answer { result ≡ server_answer self.old triple }
-    {
-        if has_ack(triple) {
-            return None;
-        }
-        match reading_of(triple) {
-            Saying::Standard => {
-                self.chars = Chars::standard();
-                None
-            },
-            Saying::Character(func, value) => self.offered(func, value),
-            Saying::Unsupported(code) => Some(unsupported(code)),
-            Saying::Table | Saying::Nothing => None,
-        }
     }
 
     // Takes a character where it may have it.
@@ -143,6 +99,30 @@ impl ServerTable {
             Some(acknowledging(func, value))
         } else {
             Some(triple_of(func, present))
+        }
+    }
+}
+
+impl Reacts for ServerTable {
+    ghost use Rattle.tn_linemode.specs.Exchange.{server_next, server_answer};
+
+    ghost next = { server_next };
+
+    ghost answer = { server_answer };
+
+    // Takes one triple, and answers it.
+    fn react(&mut self, triple: Triple) -> Option<Triple> {
+        if has_ack(triple) {
+            return None;
+        }
+        match reading_of(triple) {
+            Saying::Standard => {
+                self.chars = Chars::standard();
+                None
+            },
+            Saying::Character(func, value) => self.offered(func, value),
+            Saying::Unsupported(code) => Some(unsupported(code)),
+            Saying::Table | Saying::Nothing => None,
         }
     }
 }

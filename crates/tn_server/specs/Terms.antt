@@ -39,12 +39,14 @@ abbrev pub payload_at : Options → Item → Option Payload
 payload_at o (Sub option params) = payload_under (is_yes (state_of o Them option)) option params
 payload_at o _ = None
 
--- RFC 1184, section 2.2: Remote is no mode bit; Local is EDIT, with TRAPSIG where ISIG is set. Local is allowed where
--- a carriage return ends the line as a line feed does
+-- Local is allowed where a carriage return ends the line as a line feed does
+abbrev pub allows_local : Flags → Bool
+allows_local flags = flags.icrnl && (not flags.inlcr && not flags.igncr)
+
+-- RFC 1184, section 2.2: Remote is no mode bit; Local is EDIT, with TRAPSIG where ISIG is set
 abbrev pub mask_for : Flags → Editing → Option ℕ
 mask_for flags Remote = Some 0
-mask_for flags Local =
-    if flags.icrnl && (not flags.inlcr && not flags.igncr) then Some (if flags.isig then 3 else 1) else None
+mask_for flags Local = if allows_local flags then Some (if flags.isig then 3 else 1) else None
 
 abbrev pub mask_or : ℕ → Option ℕ → ℕ
 mask_or before None = before

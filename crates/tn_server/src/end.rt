@@ -315,14 +315,14 @@ impl ServerEnd {
     pub fn mode(&self) -> u8
         ensures { (h : History) → LeadsTo h self.now → result ≡ mode h }
     {
-        self.terms.modes.current()
+        self.terms.modes.current().mask()
     }
 
     /// The mask that the client was asked for.
     pub fn asked(&self) -> u8
         ensures { (h : History) → LeadsTo h self.now → result ≡ asked_mask h }
     {
-        self.terms.modes.asked()
+        self.terms.modes.asked().mask()
     }
 
     /// The half line that the terminal holds.

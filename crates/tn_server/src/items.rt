@@ -22,7 +22,6 @@ use crate::terms::announce;
 use crate::wishes::Editing;
 use std::alloc::AllocError;
 use tn_codes::{Command, Payload, Triples, Verb};
-use tn_linemode::EDIT;
 use tn_nvt::{Item, Params};
 use tn_option::Side;
 use tn_pty::PtyFault;
@@ -82,7 +81,7 @@ impl ServerEnd {
         ensures err { OnErr result (IsShut self.old self.new) }
         ensures cause { IfErr result (λ fault. IsKeyCause self.old.terminal (role_of_typed self.old byte) fault) }
     {
-        if self.terms.modes.current() & EDIT != 0 {
+        if self.terms.modes.current().edit() {
             return self.pair.edited_byte(byte);
         }
         let echo = self.terms.echoes();

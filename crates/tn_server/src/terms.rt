@@ -12,7 +12,7 @@ ghost use Rattle.tn_wire.specs.Fronts.{AppendsFront};
 
 use std::alloc::{AllocError, Global};
 use tn_discipline::Flags;
-use tn_linemode::{EDIT, ServerMode, ServerTable};
+use tn_linemode::{ServerMode, ServerTable};
 use tn_option::{Agree, ECHO, Engine, LINEMODE, NAWS, SUPPRESS_GO_AHEAD, Side};
 use tn_wire::{put_list, put_mode, put_word};
 
@@ -83,7 +83,7 @@ impl Negotiation {
         if !is_due {
             return Ok(());
         }
-        let wanted = self.modes.asked() & EDIT == 0 || !flags.echo;
+        let wanted = !self.modes.asked().edit() || !flags.echo;
         match self.options.ask(Side::Us, ECHO, wanted) {
             Ok(said) => {
                 put_word(said, out)?;

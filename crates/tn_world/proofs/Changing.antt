@@ -9,12 +9,14 @@ use Rattle.tn_discipline.specs.Steps.{half_after, half_next, gain_next}
 use Rattle.tn_discipline.specs.Keys.{role_of_mapped, role_of_key, roles_of}
 use Rattle.tn_discipline.specs.declared.termios.Settings.{Settings}
 use Rattle.tn_discipline.proofs.lemmas.Histories.{half_of-fits, length_by_test}
-use Rattle.tn_world.specs.relation.Machine.{Mode, Rules, Item, byte, mode_ack, other, Server, Client, Message, mode, forward_at, chatter, read, read_all, bytes, as_client, edit_key, remote_item, count_next, client_after_key, is_same, client_with_mode, client_after_mode, client_after_message, allows_local, remote_mode, local_mode, IsAskable}
+use Rattle.tn_server.specs.Terms.{allows_local}
+use Rattle.tn_client.specs.Lines.{settings_by}
+use Rattle.tn_world.specs.relation.Machine.{Mode, Rules, Item, byte, mode_ack, other, Server, Client, Message, mode, forward_at, chatter, read, read_all, bytes, edit_key, remote_item, count_next, client_after_key, is_same, client_with_mode, client_after_mode, client_after_message, remote_mode, local_mode, IsAskable}
 use Rattle.tn_world.proofs.Reading.{read-bytes_then, half-typed, entries-typed}
 use Rattle.tn_world.proofs.Typing.{Follows, literal_key, key-follows}
 use Rattle.tn_world.specs.relation.Relation.{Agrees, server_at}
 
-pub local_of : (s : Settings) (m : Mode) → IsAskable s m → m.edit ≡ true → (allows_local s ≡ true) × (m ≡ local_mode s)
+pub local_of : (s : Settings) (m : Mode) → IsAskable s m → m.edit ≡ true → (allows_local s.flags ≡ true) × (m ≡ local_mode s)
 local_of s m (inl p) e = absurd (let q : m.edit ≡ false = ap (λ (n : Mode). n.edit) p in cc)
 local_of s m (inr p) e = p
 
@@ -35,13 +37,13 @@ unset true h = sym h
 unset false h = refl
 
 -- where Local is allowed, the client reads keys as the server's terminal does
-pub same_role : (s : Settings) (key : ℕ) → allows_local s ≡ true → role_of_key (as_client s s.flags.isig) key ≡ role_of_key s key
+pub same_role : (s : Settings) (key : ℕ) → allows_local s.flags ≡ true → role_of_key (settings_by s.flags.isig s.chars) key ≡ role_of_key s key
 same_role s key h =
     let later = and_right s.flags.icrnl (not s.flags.inlcr && not s.flags.igncr) h in
     let icrnl = and_left s.flags.icrnl (not s.flags.inlcr && not s.flags.igncr) h in
     let inlcr = unset s.flags.inlcr (and_left (not s.flags.inlcr) (not s.flags.igncr) later) in
     let igncr = unset s.flags.igncr (and_right (not s.flags.inlcr) (not s.flags.igncr) later) in
-    let flags = (as_client s s.flags.isig).flags in
+    let flags = (settings_by s.flags.isig s.chars).flags in
     ap (λ (x : Bool). role_of_key (record { chars = s.chars; flags = record flags { icrnl = x; inlcr = false; igncr = false } }) key) (sym icrnl)
     ∙ ap (λ (x : Bool). role_of_key (record { chars = s.chars; flags = record flags { icrnl = s.flags.icrnl; inlcr = x; igncr = false } }) key) (sym inlcr)
     ∙ ap (λ (x : Bool). role_of_key (record { chars = s.chars; flags = record flags { icrnl = s.flags.icrnl; inlcr = s.flags.inlcr; igncr = x } }) key) (sym igncr)
@@ -50,13 +52,13 @@ fits_at : (s : Canon) (typed half held : List ℕ) → typed_half s typed ≡ ha
 fits_at s typed half held line = subst (λ x. length x ≤ most_counted s.limit) line (half_of-fits s.limit (roles_of s.settings typed))
 
 -- the count at the client, after one more key
-count-step : (limit : ℕ) (s : Settings) (key : ℕ) (trapped plain : ℕ) (half : List ℕ) (b : Bool) → s.flags.isig ≡ b → allows_local s ≡ true → (if b then trapped else plain) ≡ length half → (if b then count_next limit trapped (role_of_key (as_client s true) key) else count_next limit plain (role_of_key (as_client s false) key)) ≡ length (half_next limit half (role_of_key s key))
+count-step : (limit : ℕ) (s : Settings) (key : ℕ) (trapped plain : ℕ) (half : List ℕ) (b : Bool) → s.flags.isig ≡ b → allows_local s.flags ≡ true → (if b then trapped else plain) ≡ length half → (if b then count_next limit trapped (role_of_key (settings_by true s.chars) key) else count_next limit plain (role_of_key (settings_by false s.chars) key)) ≡ length (half_next limit half (role_of_key s key))
 count-step limit s key trapped plain half true isig allowed count =
-    ap (λ r. count_next limit trapped r) (ap (λ (b : Bool). role_of_key (as_client s b) key) (sym isig) ∙ same_role s key allowed)
+    ap (λ r. count_next limit trapped r) (ap (λ (b : Bool). role_of_key (settings_by b s.chars) key) (sym isig) ∙ same_role s key allowed)
     ∙ sym (length_by_test (is_dropped limit trapped (role_of_key s key)) half trapped (role_of_key s key) (sym count))
     ∙ ap (λ n. length (if is_dropped limit n (role_of_key s key) then half else half_after half (role_of_key s key))) count
 count-step limit s key trapped plain half false isig allowed count =
-    ap (λ r. count_next limit plain r) (ap (λ (b : Bool). role_of_key (as_client s b) key) (sym isig) ∙ same_role s key allowed)
+    ap (λ r. count_next limit plain r) (ap (λ (b : Bool). role_of_key (settings_by b s.chars) key) (sym isig) ∙ same_role s key allowed)
     ∙ sym (length_by_test (is_dropped limit plain (role_of_key s key)) half plain (role_of_key s key) (sym count))
     ∙ ap (λ n. length (if is_dropped limit n (role_of_key s key) then half else half_after half (role_of_key s key))) count
 
@@ -64,9 +66,9 @@ count-step limit s key trapped plain half false isig allowed count =
 pub key-agrees : (rules : Rules) (typed : List ℕ) (taken : List Entry) (v : Server) (c : Client) (key : ℕ) (e : Bool) → c.mask.edit ≡ e → Agrees rules typed taken v c → Agrees rules (typed ++ key ∷ []) taken (read_all rules.canon v (client_after_key rules e c key).items) (client_after_key rules e c key).client
 key-agrees rules typed taken v c key true is_edit a =
     let ok = local_of rules.canon.settings c.mask a.askable is_edit in
-    let same : role_of_key (as_client rules.canon.settings c.mask.trapsig) key ≡ role_of_key rules.canon.settings key =
-    ap (λ (m : Mode). role_of_key (as_client rules.canon.settings m.trapsig) key) ok.1 ∙ same_role rules.canon.settings key ok.0 in
-    let f : Follows rules.canon a.half a.waiting c.held (role_of_key rules.canon.settings key) (edit_key rules.canon.limit c (role_of_key (as_client rules.canon.settings c.mask.trapsig) key)) =
+    let same : role_of_key (settings_by c.mask.trapsig rules.canon.settings.chars) key ≡ role_of_key rules.canon.settings key =
+    ap (λ (m : Mode). role_of_key (settings_by m.trapsig rules.canon.settings.chars) key) ok.1 ∙ same_role rules.canon.settings key ok.0 in
+    let f : Follows rules.canon a.half a.waiting c.held (role_of_key rules.canon.settings key) (edit_key rules.canon.limit c (role_of_key (settings_by c.mask.trapsig rules.canon.settings.chars) key)) =
     subst (λ r. Follows rules.canon a.half a.waiting c.held (role_of_key rules.canon.settings key) (edit_key rules.canon.limit c r)) (sym same)
     (key-follows rules.canon a.half a.waiting c (role_of_key rules.canon.settings key) (literal_key rules.canon.settings key) a.plain (a.ahead is_edit) (fits_at rules.canon typed a.half c.held a.line)) in
     record {
@@ -91,8 +93,8 @@ key-agrees rules typed taken v c key true is_edit a =
     }
 key-agrees rules typed taken v c key false is_remote a =
     let ok = remote_of rules.canon.settings c.mask a.askable is_remote in
-    let item : remote_item c.mask.trapsig (role_of_mapped (as_client rules.canon.settings c.mask.trapsig) key) key ≡ byte key =
-    ap (λ (m : Mode). remote_item m.trapsig (role_of_mapped (as_client rules.canon.settings m.trapsig) key) key) ok in
+    let item : remote_item c.mask.trapsig (role_of_mapped (settings_by c.mask.trapsig rules.canon.settings.chars) key) key ≡ byte key =
+    ap (λ (m : Mode). remote_item m.trapsig (role_of_mapped (settings_by m.trapsig rules.canon.settings.chars) key) key) ok in
     let whole : typed_half rules.canon typed ≡ a.half = a.line ∙ ap (λ x. a.half ++ x) (a.none is_remote) ∙ append-nil a.half in
     record {
       half = half_next rules.canon.limit a.half (role_of_key rules.canon.settings key);

@@ -21,7 +21,7 @@ use Rattle.tn_discipline.specs.declared.keys.Role.TheVariants as role
 use Rattle.tn_discipline.specs.declared.reads.Sig.{Sig}
 use Rattle.tn_discipline.specs.declared.reads.Sig.TheVariants.{Int, Quit, Tstp}
 use Rattle.tn_discipline.specs.declared.termios.Settings.{Settings}
-use Rattle.tn_linemode.specs.Modes.{edits, mode_of, is_acknowledged, client_mask_after, mode_answer}
+use Rattle.tn_linemode.specs.Modes.{edits, mode_of, is_acknowledged, client_mask_after, mode_answer, traps}
 use Rattle.tn_nvt.specs.Spelling.{Fits}
 use Rattle.tn_nvt.specs.declared.items.Item.{Item}
 use Rattle.tn_nvt.specs.declared.items.Item.TheVariants.{Byte, Newline, Cmd, Neg, Sub}
@@ -29,7 +29,7 @@ use Rattle.tn_option.specs.Options.{Options}
 use Rattle.tn_client.specs.Events.{typed, got, resized, History, next, gets}
 use Rattle.tn_client.specs.Terms as terms
 use Rattle.tn_client.specs.Terms.{linemode, tells_size, payload_at, options, changes, mode_by, mode_at, chars_by, chars, size}
-use Rattle.tn_client.specs.Lines.{traps, role_of_typed, role_at, line_limit, line}
+use Rattle.tn_client.specs.Lines.{role_of_typed, role_at, line_limit, line, settings_by}
 use Rattle.tn_client.specs.Replies.{byte_items, command_of, command_items, raw_key_items, edited_key_items, key_items, size_items, payload_answers, answer_items, end_of_edit_items, is_same_size, replies, items_said}
 use Rattle.tn_wire.specs.Words.{payload_items, mode_items}
 use Rattle.tn_client.specs.Calls.{End, LeadsTo, Advances, ReadsNothing, Sends, Feeds}
@@ -38,7 +38,7 @@ use Rattle.tn_client.proofs.lemmas.Histories.{ahead-none, unedited-held, unedite
 use Rattle.tn_client.proofs.lemmas.Lines.{line_after_key, line_beside_key, line_where_edit_stays, line_where_edit_ends, line_where_edit_begins}
 use Rattle.tn_world.specs.Headline.{ChangeModeBetweenLines}
 use Rattle.tn_world.specs.relation.Machine as machine
-use Rattle.tn_world.specs.relation.Machine.{Mode, Rules, Message, chatter, Client, Part, Sent, byte, newline, mode_ack, other, bytes, as_client, ordinary_key, erase_key, kill_key, edit_key, remote_item, count_next, client_after_key, is_same, client_with_mode, client_after_mode, client_after_message, IsAskable}
+use Rattle.tn_world.specs.relation.Machine.{Mode, Rules, Message, chatter, Client, Part, Sent, byte, newline, mode_ack, other, bytes, ordinary_key, erase_key, kill_key, edit_key, remote_item, count_next, client_after_key, is_same, client_with_mode, client_after_mode, client_after_message, IsAskable}
 use Rattle.tn_world.specs.relation.Calm.{bits, IsCalmToServer, IsCalmToClient, seen_payload, server_item, heard_payload, client_message}
 use Rattle.tn_world.specs.relation.Ends.{client_messages, SaysItems, ClientKeys, client_after_messages, ClientSays, IsCalm, AreBetweenLines}
 use Rattle.tn_world.specs.relation.Pictures.{client_core, client_picture, ClientStays}
@@ -250,7 +250,7 @@ key-step : (rules : Rules) (h : History) (key t p : ℕ) (edit : Bool) → edits
 key-step rules h key t p true e k askable =
     let c = core_of h t p in
     let limit = rules.canon.limit in
-    let told = role_of_key (as_client rules.canon.settings (traps (terms.mode h))) key in
+    let told = role_of_key (settings_by (traps (terms.mode h)) rules.canon.settings.chars) key in
     let same : role_at h key ≡ told = ap (λ (x : Characters). role_of_typed (terms.mode h) x key) k.characters in
     record {
       trapped = t;
@@ -267,13 +267,13 @@ key-step rules h key t p false e k askable =
     let c = core_of h t p in
     let off : traps (terms.mode h) ≡ false = ap (λ (m : Mode). m.trapsig) (remote_of rules.canon.settings (bits (terms.mode h)) askable e) in
     record {
-      trapped = count_next rules.canon.limit t (role_of_key (as_client rules.canon.settings true) key);
-      plain = count_next rules.canon.limit p (role_of_key (as_client rules.canon.settings false) key);
-      core = ap (λ (l : HalfLine). record c { held = l.held; ahead = l.ahead; trapped = count_next rules.canon.limit t (role_of_key (as_client rules.canon.settings true) key); plain = count_next rules.canon.limit p (role_of_key (as_client rules.canon.settings false) key) }) (line_beside_key h key e);
+      trapped = count_next rules.canon.limit t (role_of_key (settings_by true rules.canon.settings.chars) key);
+      plain = count_next rules.canon.limit p (role_of_key (settings_by false rules.canon.settings.chars) key);
+      core = ap (λ (l : HalfLine). record c { held = l.held; ahead = l.ahead; trapped = count_next rules.canon.limit t (role_of_key (settings_by true rules.canon.settings.chars) key); plain = count_next rules.canon.limit p (role_of_key (settings_by false rules.canon.settings.chars) key) }) (line_beside_key h key e);
       writes =
           subst (λ (b : Bool). SaysItems rules (client_after_key rules false c key).items (key_items b (role_at h key) (line h) key)) (sym e)
           (subst (λ (xs : List Item). SaysItems rules (client_after_key rules false c key).items xs) (sym (raw-key (terms.mode h) (chars h) key off))
-          (subst (λ (b : Bool). SaysItems rules (remote_item b (role_of_mapped (as_client rules.canon.settings (traps (terms.mode h))) key) key ∷ []) (Byte key ∷ [])) (sym off) (writes-one rules (Byte key) (byte key) tt tt refl)));
+          (subst (λ (b : Bool). SaysItems rules (remote_item b (role_of_mapped (settings_by (traps (terms.mode h)) rules.canon.settings.chars) key) key ∷ []) (Byte key ∷ [])) (sym off) (writes-one rules (Byte key) (byte key) tt tt refl)));
     }
 
 -- Whatever came before, a key does what the relation says of it.

@@ -9,14 +9,14 @@ use Rattle.tn_linemode.specs.Modes.{Modes, edits, mode_of}
 use Rattle.tn_option.specs.Options.{is_yes}
 use Rattle.tn_server.specs.Events.{History, begun, next, got, took, wrote, pulled, wished, char_set, echo_set}
 use Rattle.tn_server.specs.Terms as terms
-use Rattle.tn_server.specs.Terms.{mask_for, wish_after, asked_mask_while}
+use Rattle.tn_server.specs.Terms.{mask_for, wish_after, asked_mask_while, allows_local}
 use Rattle.tn_server.specs.declared.wishes.Editing.{Editing}
 use Rattle.tn_server.specs.declared.wishes.Editing.TheVariants.{Remote, Local}
 use Rattle.tn_client.specs.Terms as client_terms
 use Rattle.tn_world.specs.Headline.{IsMark, AgreeOnLinemode}
 use Rattle.tn_world.specs.relation.Calm.{bits, IsCalmToServer, IsCalmToClient}
 use Rattle.tn_world.specs.Flight.{InFlight}
-use Rattle.tn_world.specs.relation.Machine.{allows_local, IsAskable}
+use Rattle.tn_world.specs.relation.Machine.{IsAskable}
 use Rattle.tn_world.specs.relation.Pictures.{server_core}
 use Rattle.tn_world.specs.Worlds.{World}
 use Rattle.tn_world.proofs.Cut.{no_items}
@@ -47,7 +47,7 @@ wish_allowed (next h (wished editing)) = allowed_after (terms.flags h) (terms.te
 wish_allowed (next h (char_set func value)) = wish_allowed h
 wish_allowed (next h (echo_set on)) = wish_allowed h
 
-local_askable : (s : Settings) (isig allows : Bool) (wish : ℕ) → s.flags.isig ≡ isig → allows_local s ≡ allows → (if allows then Some (if isig then 3 else 1) else None) ≡ Some wish → IsAskable s (bits (mode_of wish))
+local_askable : (s : Settings) (isig allows : Bool) (wish : ℕ) → s.flags.isig ≡ isig → allows_local s.flags ≡ allows → (if allows then Some (if isig then 3 else 1) else None) ≡ Some wish → IsAskable s (bits (mode_of wish))
 local_askable s true true wish a b e = inr (b, subst (λ (n : ℕ). bits (mode_of n) ≡ record { edit = true; trapsig = s.flags.isig }) (some_is 3 wish e) (ap (λ t. record { edit = true; trapsig = t }) (sym a)))
   where
     some_is : (m n : ℕ) → Some m ≡ Some n → m ≡ n
@@ -60,7 +60,7 @@ local_askable s isig false wish a b e = absurd (cc)
 
 askable_wish : (s : Settings) (wish : ℕ) → IsAllowed s.flags wish → IsAskable s (bits (mode_of wish))
 askable_wish s wish (inl is) = inl (ap (λ (n : ℕ). bits (mode_of n)) is)
-askable_wish s wish (inr is) = local_askable s s.flags.isig (allows_local s) wish refl refl is
+askable_wish s wish (inr is) = local_askable s s.flags.isig (allows_local s.flags) wish refl refl is
 
 askable_while : (s : Settings) (linemode : Bool) (wish : ℕ) → IsAllowed s.flags wish → IsAskable s (bits (asked_mask_while linemode wish))
 askable_while s true wish h = askable_wish s wish h

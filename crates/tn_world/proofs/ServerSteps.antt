@@ -37,7 +37,7 @@ use Rattle.tn_option.specs.declared.q_method.Side.{Side}
 use Rattle.tn_option.specs.declared.q_method.Side.TheVariants.{Us, Them}
 use Rattle.tn_option.proofs.lemmas.OptionLaws.{LeavesOthers-moved}
 use Rattle.tn_server.specs.Events.{Event, History, next, got, took, wrote, pulled, wished, char_set, echo_set, gets, limit}
-use Rattle.tn_server.specs.Terms.{Terms, terms, options, flags, chars, settings, mode, linemode, payload_at, options_after, wish_in, wish_after, mask_for, mask_or, asked_mask_of, asked_mask_while, mode_sent, mask_told, asks_echo, wants_echo, terms_by, mask_after, chars_after}
+use Rattle.tn_server.specs.Terms.{Terms, terms, options, flags, chars, settings, mode, linemode, payload_at, options_after, wish_in, wish_after, mask_for, mask_or, asked_mask_of, asked_mask_while, mode_sent, mask_told, asks_echo, wants_echo, terms_by, mask_after, chars_after, allows_local}
 use Rattle.tn_wire.specs.Words.{differ, word_items, payload_items, mode_items}
 use Rattle.tn_server.specs.Lines.{role_at, roles, entries, half, taken_count, waiting}
 use Rattle.tn_server.specs.Screen.{queue, sends_ga, none_waits, due}
@@ -50,7 +50,7 @@ use Rattle.tn_server.proofs.lemmas.Terms.{differ_self, told_again, table_again, 
 use Rattle.tn_world.specs.relation.Calm.{bits, SaysCalmly, IsCalmToServer, IsCalmToClient, seen_payload, server_item}
 use Rattle.tn_world.specs.relation.Ends.{server_items, AreReplies, TakesFirst}
 use Rattle.tn_world.specs.relation.Machine as machine
-use Rattle.tn_world.specs.relation.Machine.{Rules, Server, item_role, edit_after, read, read_all, allows_local, local_mode, IsAskable}
+use Rattle.tn_world.specs.relation.Machine.{Rules, Server, item_role, edit_after, read, read_all, local_mode, IsAskable}
 use Rattle.tn_world.specs.relation.Pictures.{server_core, server_picture, ServerStays}
 use Rattle.tn_world.proofs.Reading.{half-role, entries-role}
 use Rattle.tn_world.proofs.Soundness.{goes_fit, feeds_fit}
@@ -434,7 +434,7 @@ KeepsEntries _ = Unit {0}
 abbrev IsAskedMask : Settings → ℕ → Type 0
 IsAskedMask s mask = (is_acknowledged (mode_of mask) ≡ false) × IsAskable s (bits (mode_of mask))
 
-local_mask : (s : Settings) (allowed isig : Bool) (mask : ℕ) → allows_local s ≡ allowed → s.flags.isig ≡ isig → (if allowed then Some (if isig then 3 else 1) else None) ≡ Some mask → IsAskedMask s mask
+local_mask : (s : Settings) (allowed isig : Bool) (mask : ℕ) → allows_local s.flags ≡ allowed → s.flags.isig ≡ isig → (if allowed then Some (if isig then 3 else 1) else None) ≡ Some mask → IsAskedMask s mask
 local_mask s false isig mask a i e = absurd (cc)
 local_mask s true true mask a i e =
     let same : 3 ≡ mask = cc in
@@ -445,7 +445,7 @@ local_mask s true false mask a i e =
 
 mask_by : (s : Settings) (echo : Bool) (ed : Editing) (mask : ℕ) → mask_for (record (s.flags) { echo = echo }) ed ≡ Some mask → IsAskedMask s mask
 mask_by s echo Remote mask e = let same : 0 ≡ mask = cc in subst (IsAskedMask s) same (refl, inl refl)
-mask_by s echo Local mask e = local_mask s (allows_local s) s.flags.isig mask refl refl e
+mask_by s echo Local mask e = local_mask s (allows_local s.flags) s.flags.isig mask refl refl e
 
 mask_asked : (s : Settings) (f : Flags) (ed : Editing) (mask : ℕ) → f ≡ record (s.flags) { echo = f.echo } → mask_for f ed ≡ Some mask → IsAskedMask s mask
 mask_asked s f ed mask same e = mask_by s f.echo ed mask (ap (λ (g : Flags). mask_for g ed) (sym same) ∙ e)

@@ -19,12 +19,12 @@ use Rattle.tn_server.specs.declared.faults.ServerFault.{ServerFault}
 use Rattle.tn_server.specs.declared.faults.ServerFault.TheVariants as refused
 use Rattle.tn_server.proofs.lemmas.Fitting.{opening-fits}
 use Rattle.tn_client.specs.Events as told
-use Rattle.tn_client.specs.Screen.{item_shown, text_shown as shown_of}
+use Rattle.tn_client.specs.Screen.{item_shown, text_shown as shown_of, symbol_shown}
 use Rattle.tn_client.specs.Calls as client
 use Rattle.tn_world.specs.Past.{HasPast}
 use Rattle.tn_world.specs.Headline.{IsPrefixOf}
 use Rattle.tn_world.specs.Flight.{InFlight}
-use Rattle.tn_world.specs.Output.{symbol_shown, screen, text_of, IsOutput, Queues, IsNoneAt, OutputGrows, OutputGrowsTo, OutputGrowsAll, OutputGrowsBefore}
+use Rattle.tn_world.specs.Output.{screen, text_of, IsOutput, Queues, IsNoneAt, OutputGrows, OutputGrowsTo, OutputGrowsAll, OutputGrowsBefore}
 use Rattle.tn_world.specs.Worlds.{World, UnlessStopped, TypesKey, CallsClient, DeliversToServer, DeliversToClient, CallsServer, Pulls, TakesEntry, RunsEvent, Runs, StopsWithin, ServerRefusesDelivery, IsDeliveryFault}
 use Rattle.tn_world.specs.declared.events.Event.{Event}
 use Rattle.tn_world.specs.declared.events.Event.TheVariants.{Key, ToServer, ToClient, Write, Pull, Take, Wish, Resize, SetChar, Propose, Echo, ServerStops, ClientStops}

@@ -2,19 +2,13 @@
 use Rattle.std.specs.Prelude.{◌≡◌, ℕ, false, List, [], ◌∷◌, ◌++◌}
 use Rattle.std.specs.List.{flat_map}
 use Rattle.tn_discipline.specs.declared.echo.Symbol.{Symbol}
-use Rattle.tn_discipline.specs.declared.echo.Symbol.TheVariants as symbol
 use Rattle.tn_nvt.specs.declared.items.Item.{Item}
-use Rattle.tn_client.specs.Screen.{item_shown}
+use Rattle.tn_client.specs.Screen.{symbol_shown, item_shown}
 use Rattle.tn_world.specs.Flight.{InFlight}
 use Rattle.tn_world.specs.Worlds.{World, RunsEvent, StopsWithin}
 use Rattle.tn_world.specs.declared.events.Event.{Event}
 use Rattle.tn_world.specs.declared.events.Event.TheVariants.{ToClient, Pull}
 use Rattle.tn_world.specs.declared.faults.Cause.{Cause}
-
--- a new line on a screen is CR and LF
-abbrev pub symbol_shown : Symbol → List ℕ
-symbol_shown (symbol.Byte byte) = byte ∷ []
-symbol_shown symbol.Newline = 13 ∷ 10 ∷ []
 
 abbrev pub screen : List Symbol → List ℕ
 screen symbols = flat_map symbol_shown symbols

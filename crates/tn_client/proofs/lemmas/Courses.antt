@@ -5,7 +5,8 @@ use Rattle.tn_nvt.specs.Feeding.{DecoderState}
 use Rattle.tn_nvt.specs.Feeding as nvt
 use Rattle.tn_nvt.specs.Stream.{Reading}
 use Rattle.tn_nvt.specs.declared.items.Item.{Item}
-use Rattle.tn_nvt.proofs.lemmas.Reading.{one_reading, one_standing, reads_on, reads_none}
+use Rattle.tn_nvt.proofs.lemmas.Reading.{one_standing, reads_none}
+use Rattle.tn_wire.proofs.lemmas.Reading.{same_more, part_in_two}
 use Rattle.tn_client.specs.Events.{Event, typed, got, resized, proposed, History, next, items, gets}
 use Rattle.tn_client.specs.Replies.{items_said}
 use Rattle.tn_client.specs.Screen.{text_shown}
@@ -29,11 +30,6 @@ leads-read (fed c piece) h l =
     subst (λ (xs : List Item). IsRead (stream c ++ piece) xs) (sym (ap items l.4 ∙ items-gets l.0 l.1)) l.3
 leads-read (called c e) h l =
     subst (λ (xs : List Item). IsRead (stream c) xs) (sym (ap items l.3 ∙ items-call l.0 e l.2)) (leads-read c l.0 l.1)
-
--- what a piece brings follows from the stream
-same_more : (bytes : List ℕ) (a b more others : List Item) → a ≡ b → IsRead bytes (a ++ more) → IsRead bytes (b ++ others) → more ≡ others
-same_more bytes a b more others e r s =
-    append_cancel_left b more others (ap (λ (xs : List Item). xs ++ more) (sym e) ∙ (one_reading bytes r.0 s.0 (a ++ more) (b ++ others) r.1 s.1).0)
 
 -- A course has one history.
 pub one_history : (c : Course) (h k : History) → ReadsAs c h → ReadsAs c k → h ≡ k
@@ -99,21 +95,13 @@ joined c p q h l =
 
 -- and one is two, where its front has a reading
 pub parted : (c : Course) (p q : List ℕ) (h : History) → (read : List Item) × (rest : List ℕ) × Reading (stream c ++ p) read rest → ReadsAs (fed c (p ++ q)) h → ReadsAs (fed (fed c p) q) h
-parted c p q h r l =
-    let old = l.0 in
-    let whole : IsRead ((stream c ++ p) ++ q) (items old ++ l.1) =
-    subst (λ (bytes : List ℕ). IsRead bytes (items old ++ l.1)) (sym (append_assoc (stream c) p q)) l.3 in
-    let start = leads-read c old l.2 in
-    let one = reads_on (stream c) p start.0 r.1 (items old) r.0 start.1 r.2 in
-    let two = reads_on (stream c ++ p) q r.1 whole.0 r.0 (items old ++ l.1) r.2 whole.1 in
-    let more : l.1 ≡ one.0 ++ two.0 =
-    append_cancel_left (items old) l.1 (one.0 ++ two.0) (two.1 ∙ ap (λ (xs : List Item). xs ++ two.0) one.1 ∙ append_assoc (items old) one.0 two.0) in
-    let here : items (gets old one.0) ≡ r.0 = items-gets old one.0 ∙ sym one.1 in (
-      gets old one.0,
-      two.0,
-      (old, one.0, l.2, (r.1, subst (λ (xs : List Item). Reading (stream c ++ p) xs r.1) one.1 r.2), refl),
-      subst (λ (xs : List Item). IsRead ((stream c ++ p) ++ q) xs) (two.1 ∙ ap (λ (xs : List Item). xs ++ two.0) (sym here)) whole,
-      l.4 ∙ ap (gets old) more ∙ gets-append old one.0 two.0,
+parted c p q h r (old, all, leads, reads, is) =
+    let t = part_in_two (stream c) p q (items old) all (leads-read c old leads) r reads in (
+      gets old t.first,
+      t.second,
+      (old, t.first, leads, t.front, refl),
+      subst (λ (xs : List Item). IsRead ((stream c ++ p) ++ q) (xs ++ t.second)) (sym (items-gets old t.first)) t.all,
+      is ∙ ap (gets old) t.whole ∙ gets-append old t.first t.second,
     )
 
 -- nothing is left where nothing was fed

@@ -7,12 +7,12 @@ use Rattle.tn_discipline.specs.declared.echo.Symbol.{Symbol}
 use Rattle.tn_pty.specs.Terminal.{output_symbol, output_symbols, fitting_count}
 use Rattle.tn_discipline.specs.declared.termios.Flags.{Flags}
 use Rattle.std.specs.List.{flat_map}
-use Rattle.std.proofs.lemmas.List.{append_cancel_left}
 use Rattle.tn_discipline.specs.Canon.{Canon}
 use Rattle.tn_nvt.specs.Feeding as nvt
 use Rattle.tn_nvt.specs.Stream.{Reading}
 use Rattle.tn_nvt.specs.declared.items.Item.{Item}
-use Rattle.tn_nvt.proofs.lemmas.Reading.{one_reading, reads_on, reads_none, has_reading}
+use Rattle.tn_nvt.proofs.lemmas.Reading.{reads_none, has_reading}
+use Rattle.tn_wire.proofs.lemmas.Reading.{same_more, part_in_two}
 use Rattle.tn_server.specs.Course.{Course, started, fed, called, stream, IsCall, ReadsAs, CourseLeadsTo, in_parts}
 use Rattle.tn_wire.specs.Fronts.{IsRead}
 use Rattle.tn_server.specs.Events.{Event, History, begun, next, got, took, wrote, pulled, wished, char_set, echo_set, items, gets}
@@ -22,17 +22,13 @@ use Rattle.tn_server.specs.Terms.{settings}
 use Rattle.tn_server.specs.Calls.{End, LeadsTo, Advances, ReadsNothing, Feeds}
 use Rattle.tn_server.proofs.lemmas.Histories.{items-gets, gets-append}
 
-same_more : (old other : History) (xs ys : List Item) → old ≡ other → items old ++ xs ≡ items other ++ ys → xs ≡ ys
-same_more old other xs ys is same = append_cancel_left (items old) xs ys (same ∙ ap (λ (h : History). items h ++ ys) (sym is))
-
 pub one_history : (c : Course) (h k : History) → ReadsAs c h → ReadsAs c k → h ≡ k
 one_history (started canon) h k a b = a ∙ sym b
-one_history (fed c piece) h k (old, more, leads, read, is) (other, others, also, reads, same) =
-    let one = one_history c old other leads also in
-    let all = one_reading (stream c ++ piece) read.0 reads.0 (items old ++ more) (items other ++ others) read.1 reads.1 in
-    is ∙ ap (λ (h : History). gets h more) one ∙ ap (gets other) (same_more old other more others one all.0) ∙ sym same
-one_history (called c e) h k (old, leads, call, is) (other, also, calls, same) =
-    is ∙ ap (λ (h : History). next h e) (one_history c old other leads also) ∙ sym same
+one_history (fed c piece) h k a b =
+    let old = one_history c a.0 b.0 a.2 b.2 in
+    let more = same_more (stream c ++ piece) (items a.0) (items b.0) a.1 b.1 (ap items old) a.3 b.3 in
+    a.4 ∙ ap (λ (x : History). gets x a.1) old ∙ ap (gets b.0) more ∙ sym b.4
+one_history (called c e) h k a b = a.3 ∙ ap (λ (x : History). next x e) (one_history c a.0 b.0 a.1 b.1) ∙ sym b.3
 
 pub begins : (canon : Canon) (end : End) → LeadsTo (begun canon) end → nvt.LeadsTo [] [] end.decoder → CourseLeadsTo (started canon) end
 begins canon end stands reads = record { history = begun canon; leads = refl; stands = stands; reads = reads }
@@ -104,19 +100,12 @@ joined c p q h (mid, last, (old, more, leads, read, is_mid), reads, is) = (
 
 pub parted : (c : Course) (p q : List ℕ) (h : History) → All (λ b. b < 256) (stream c ++ p) → ReadsAs (fed c (p ++ q)) h → ReadsAs (fed (fed c p) q) h
 parted c p q h bytes (old, all, leads, reads, is) =
-    let before = reads_all c old leads in
-    let here = has_reading (stream c ++ p) bytes in
-    let first = reads_on (stream c) p before.0 here.1 (items old) here.0 before.1 here.2 in
-    let whole = subst (λ xs. Reading xs (items old ++ all) reads.0) (sym (append_assoc (stream c) p q)) reads.1 in
-    let second = reads_on (stream c ++ p) q here.1 reads.0 here.0 (items old ++ all) here.2 whole in
-    let split : all ≡ first.0 ++ second.0 =
-    append_cancel_left (items old) all (first.0 ++ second.0) (second.1 ∙ ap (λ xs. xs ++ second.0) first.1 ∙ append_assoc (items old) first.0 second.0) in
-    let mid = gets old first.0 in (
-      mid,
-      second.0,
-      (old, first.0, leads, (here.1, subst (λ xs. Reading (stream c ++ p) xs here.1) first.1 here.2), refl),
-      (reads.0, subst (λ xs. Reading ((stream c ++ p) ++ q) xs reads.0) (second.1 ∙ ap (λ xs. xs ++ second.0) (first.1 ∙ sym (items-gets old first.0))) whole),
-      is ∙ ap (gets old) split ∙ gets-append old first.0 second.0,
+    let t = part_in_two (stream c) p q (items old) all (reads_all c old leads) (has_reading (stream c ++ p) bytes) reads in (
+      gets old t.first,
+      t.second,
+      (old, t.first, leads, t.front, refl),
+      subst (λ (xs : List Item). IsRead ((stream c ++ p) ++ q) (xs ++ t.second)) (sym (items-gets old t.first)) t.all,
+      is ∙ ap (gets old) t.whole ∙ gets-append old t.first t.second,
     )
 
 -- a text that was written in parts, while no symbol waited

@@ -4,10 +4,9 @@ use Rattle.tn_codes.specs.PayloadOf.{payload_of}
 use Rattle.tn_codes.specs.declared.payloads.Payload.{Payload}
 use Rattle.tn_codes.specs.declared.payloads.Payload.TheVariants as payload
 use Rattle.tn_discipline.specs.declared.termios.Settings.{Settings}
-use Rattle.tn_linemode.specs.Modes.{edits, is_acknowledged}
+use Rattle.tn_linemode.specs.Modes.{edits, is_acknowledged, traps}
 use Rattle.tn_nvt.specs.declared.items.Item.{Item}
 use Rattle.tn_nvt.specs.declared.items.Item.TheVariants.{Byte, Newline, Cmd, Neg, Sub}
-use Rattle.tn_client.specs.Lines.{traps}
 use Rattle.tn_world.specs.relation.Machine as machine
 use Rattle.tn_world.specs.relation.Machine.{Mode, Message, mode, chatter, byte, newline, command, mode_ack, other, IsAskable}
 

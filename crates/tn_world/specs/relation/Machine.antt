@@ -7,7 +7,7 @@ use Rattle.tn_discipline.specs.Admitted.{is_dropped, next_count}
 use Rattle.tn_discipline.specs.Canon.{Canon}
 use Rattle.tn_discipline.specs.Limits.{most_counted}
 use Rattle.tn_discipline.specs.Steps.{front, half_next, gain_next}
-use Rattle.tn_discipline.specs.Keys.{standard_flags, role_of_key, role_of_mapped}
+use Rattle.tn_discipline.specs.Keys.{role_of_key, role_of_mapped}
 use Rattle.tn_discipline.specs.declared.termios.Settings.{Settings}
 use Rattle.tn_discipline.specs.declared.reads.Sig.{Sig}
 use Rattle.tn_discipline.specs.declared.reads.Sig.TheVariants.{Int, Quit, Tstp}
@@ -15,6 +15,8 @@ use Rattle.tn_discipline.specs.declared.keys.Role.{Role}
 use Rattle.tn_discipline.specs.declared.keys.Role.TheVariants as role
 use Rattle.tn_pty.specs.Typing.{command_role}
 use Rattle.tn_server.specs.Lines.{role_of_byte}
+use Rattle.tn_server.specs.Terms.{allows_local}
+use Rattle.tn_client.specs.Lines.{settings_by}
 
 -- the two bits of a mode
 pub record Mode : Type 0 where
@@ -109,10 +111,6 @@ pub record Part : Type 0 where
 abbrev pub bytes : List ℕ → List Item
 bytes bs = map (λ b. byte b) bs
 
--- the settings by which the client reads keys
-abbrev pub as_client : Settings → Bool → Settings
-as_client s trapsig = record { flags = record standard_flags { isig = trapsig }; chars = s.chars }
-
 -- an ordinary byte, by whether the line is full and whether the byte is in the forward mask
 abbrev pub ordinary_key : Bool → Bool → Client → ℕ → Part
 ordinary_key true forwards c b = record { held = c.held; ahead = c.ahead; items = [] }
@@ -154,15 +152,15 @@ count_next limit n r = if is_dropped limit n r then n else next_count n r
 -- a key, by whether EDIT is set
 abbrev pub client_after_key : Rules → Bool → Client → ℕ → Sent
 client_after_key rules true c key =
-    let part = edit_key rules.canon.limit c (role_of_key (as_client rules.canon.settings c.mask.trapsig) key) in
+    let part = edit_key rules.canon.limit c (role_of_key (settings_by c.mask.trapsig rules.canon.settings.chars) key) in
     record { client = record c { held = part.held; ahead = part.ahead }; items = part.items }
 client_after_key rules false c key =
     record {
       client = record c {
-        trapped = count_next rules.canon.limit c.trapped (role_of_key (as_client rules.canon.settings true) key);
-        plain = count_next rules.canon.limit c.plain (role_of_key (as_client rules.canon.settings false) key);
+        trapped = count_next rules.canon.limit c.trapped (role_of_key (settings_by true rules.canon.settings.chars) key);
+        plain = count_next rules.canon.limit c.plain (role_of_key (settings_by false rules.canon.settings.chars) key);
       };
-      items = remote_item c.mask.trapsig (role_of_mapped (as_client rules.canon.settings c.mask.trapsig) key) key ∷ [];
+      items = remote_item c.mask.trapsig (role_of_mapped (settings_by c.mask.trapsig rules.canon.settings.chars) key) key ∷ [];
     }
 
 abbrev pub bits_same : Bool → Bool → Bool
@@ -192,10 +190,6 @@ client_after_message rules c (mode m) = client_after_mode rules c m (is_same c.m
 client_after_message rules c (forward_at f) = record { client = record c { forward = f }; items = other ∷ [] }
 client_after_message rules c chatter = record { client = c; items = other ∷ [] }
 
--- whether the settings allow Local
-abbrev pub allows_local : Settings → Bool
-allows_local s = s.flags.icrnl && (not s.flags.inlcr && not s.flags.igncr)
-
 abbrev pub remote_mode : Mode
 remote_mode = record { edit = false; trapsig = false }
 
@@ -204,4 +198,4 @@ local_mode s = record { edit = true; trapsig = s.flags.isig }
 
 -- a mode that a server asks for
 abbrev pub IsAskable : Settings → Mode → Type 0
-IsAskable s m = (m ≡ remote_mode) ⊎ ((allows_local s ≡ true) × (m ≡ local_mode s))
+IsAskable s m = (m ≡ remote_mode) ⊎ ((allows_local s.flags ≡ true) × (m ≡ local_mode s))

@@ -6,12 +6,13 @@ use Rattle.tn_discipline.specs.Keys.{literal_role}
 use Rattle.tn_discipline.specs.declared.keys.Role.TheVariants as role
 use Rattle.tn_discipline.specs.declared.reads.Entry.{Entry}
 use Rattle.tn_nvt.specs.declared.items.Item.{Item}
+use Rattle.tn_server.specs.Terms.{allows_local}
 use Rattle.tn_world.specs.Past.{HasPast}
 use Rattle.tn_world.specs.relation.Calm.{IsCalmToServer, IsCalmToClient}
 use Rattle.tn_world.specs.relation.Ends as ends
 use Rattle.tn_world.specs.relation.Ends.{server_items}
 use Rattle.tn_world.specs.Flight.{InFlight}
-use Rattle.tn_world.specs.relation.Machine.{Rules, Server, read_all, Client, allows_local, IsAskable}
+use Rattle.tn_world.specs.relation.Machine.{Rules, Server, read_all, Client, IsAskable}
 use Rattle.tn_world.specs.relation.Pictures.{server_picture, client_picture, ServerStays, ClientStays}
 use Rattle.tn_world.specs.Worlds.{World}
 
@@ -38,7 +39,7 @@ pub record Agrees (rules : Rules) (typed : List ℕ) (taken : List Entry) (v : S
   pub ahead : c.mask.edit ≡ true → length half ≡ c.ahead
   pub none : c.mask.edit ≡ false → c.held ≡ []
   pub plain : AreOrdinary rules.canon.settings.chars c.held
-  pub count : rules.resumes ≡ true → c.mask.edit ≡ false → allows_local rules.canon.settings ≡ true → (if rules.canon.settings.flags.isig then c.trapped else c.plain) ≡ length half
+  pub count : rules.resumes ≡ true → c.mask.edit ≡ false → allows_local rules.canon.settings.flags ≡ true → (if rules.canon.settings.flags.isig then c.trapped else c.plain) ≡ length half
 
 -- The same of both ends and the bytes between them, which are whole items and calm.
 pub record IsTied (rules : Rules) (w : ends.World) : Type 0 where
