@@ -1,4 +1,11 @@
 //! The subcommands of `tn`, over any reader and writer.
+//!
+//! ```
+//! run_local(alloc, &mut b"ab\x7fc\r".as_slice(), &mut output)?; // text 61630a
+//! ```
+//!
+//! Each reads its input whole before it writes, so none is a filter in a pipe that never ends. It
+//! sets no terminal to raw mode.
 #![tactic(auto)]
 
 pub use fault::CliFault;

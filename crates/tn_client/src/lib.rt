@@ -1,4 +1,13 @@
 //! The client end of a Telnet connection, which edits lines where its server asks for that.
+//!
+//! ```
+//! let mut end = ClientEnd::start(alloc, 80, 24, Limit::standard())?;
+//! end.feed(&from_network, &mut out, &mut screen)?; // answers to `out`, text to `screen`
+//! end.key(0x61, &mut out, &mut screen)?; // sent, or kept and echoed, as the mode has it
+//! ```
+//!
+//! It opens no socket and sets no terminal: keys and screen are bytes. It never proposes an option,
+//! and refuses forward masks.
 #![tactic(auto)]
 
 pub use end::ClientEnd;

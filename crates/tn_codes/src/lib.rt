@@ -1,4 +1,16 @@
-//! The codes of a Telnet stream and of its subnegotiations.
+//! The codes of a Telnet stream and of its subnegotiations (RFC 854, 855, 1073, 1184).
+//!
+//! A payload is read from the parameters of a subnegotiation, which a decoder has undoubled, and
+//! written as such:
+//!
+//! ```
+//! match read_payload(alloc, 31, &[0, 80, 0, 24]) {
+//!     Ok(Payload::Naws { width, height }) => resize(width, height), // 80 and 24
+//!     Ok(_) | Err(_) => {},
+//! }
+//! ```
+//!
+//! It does not look for subnegotiations in a stream, double IAC or decide what an end answers.
 #![tactic(auto)]
 
 pub use codes::{Command, Func, Level, Verb};

@@ -1,5 +1,15 @@
 //! The line discipline of a terminal in canonical mode (POSIX.1-2017, XBD 11.1): special
 //! characters, the roles of keys, the half line that is being typed, and its echo.
+//!
+//! ```
+//! let mut line = Line::new(alloc, Limit::standard())?;
+//! let settings = Settings::standard();
+//! line.key(&settings, 0x61)?; // Effect::Kept
+//! line.key(&settings, 0x0d)?; // Effect::Gives(Entry::Text("a\n")): CR is mapped to a line feed
+//! ```
+//!
+//! It keeps no entries and no screen, and has neither noncanonical mode nor flow control; NOFLSH is
+//! always set.
 #![tactic(auto)]
 
 pub use characters::{CharFault, Chars, SPECIAL};

@@ -1,5 +1,14 @@
 //! Jobs of a terminal: which one is in the foreground, and what becomes of a job that reads, writes,
 //! stops or ends.
+//!
+//! ```
+//! let mut jobs = Table::new(alloc);
+//! let shell = jobs.add()?;
+//! jobs.foreground(shell)?;
+//! judge(JobState::Background, true, After::Stay, true); // not written, Stopped(Ttou)
+//! ```
+//!
+//! It runs no job and sends no signal.
 #![tactic(auto)]
 
 pub use held_jobs::{JobFault, JobId, MOST_JOBS, Table};

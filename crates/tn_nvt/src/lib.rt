@@ -1,4 +1,14 @@
-//! Reads and writes a Telnet stream as a list of items, and reads it into a sink.
+//! Reads and writes a Telnet stream as a list of items, and reads it into a sink (RFC 854, 855).
+//!
+//! ```
+//! let mut decoder = Decoder::new(alloc);
+//! decoder.feed(b"ls\r", &mut items)?; // Byte(108), Byte(115); the CR waits for its next byte
+//! decoder.feed(b"\0", &mut items)?; // Byte(13)
+//! put_neg(Verb::Will, 34, &mut out)?; // ff fb 22
+//! ```
+//!
+//! It does not answer option words, and gives a subnegotiation's parameters as they came. Of urgent
+//! data and Synch it knows nothing.
 #![tactic(auto)]
 
 pub use decoding::{Decoder, NvtFault};

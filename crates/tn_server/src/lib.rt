@@ -1,4 +1,16 @@
 //! The server end of a Telnet connection, with the pseudoterminal pair behind it.
+//!
+//! ```
+//! let mut end = ServerEnd::start(alloc, Settings::standard(), Limit::standard(), &mut out)?;
+//! end.feed(b"ls\r\0", &mut out)?; // replies to what came are appended to `out`
+//! while let Some(entry) = end.take(&mut out)? {
+//!     end.write(answer_to(&entry)); // at most as many bytes as find room
+//!     end.pull(4096, &mut out)?; // the screen's symbols, spelled
+//! }
+//! ```
+//!
+//! It opens no socket, starts no thread and runs no job; it does not hold back a peer that types
+//! faster than its job reads, but fails after 1,024 entries. Forward masks are not sent.
 #![tactic(auto)]
 
 pub use end::ServerEnd;

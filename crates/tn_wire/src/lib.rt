@@ -1,5 +1,11 @@
 //! What both ends of a connection share: how option words and payloads of LINEMODE are said, and
-//! what a subnegotiation says where its option is on. It has no end of its own.
+//! what a subnegotiation says where its option is on.
+//!
+//! ```
+//! put_mode(alloc, Some(3), &mut out)?; // ff fa 22 01 03 ff f0
+//! ```
+//!
+//! It has no end of its own and keeps nothing: what is said when is each end's.
 #![tactic(auto)]
 
 pub use reading::read_under;

@@ -1,4 +1,16 @@
-//! Both ends and the two streams between them.
+//! Both ends and the two streams between them, and the promise about them: a line means the same
+//! wherever it was edited (`docs/HEADLINE.md`).
+//!
+//! ```
+//! let mut world = World::open(alloc, Settings::standard(), 80, 24, Limit::standard())?;
+//! world.run(&[Event::ToClient(99), Event::ToServer(99)])?;
+//! if world.mark() {
+//!     world.run(&[Event::Key(0x61), Event::Key(0x0d), Event::ToServer(3), Event::Take])?;
+//!     world.taken(); // [Entry::Text("a\n")]
+//! }
+//! ```
+//!
+//! It is a model to try and to reason with: nothing in it waits, and no byte leaves the program.
 #![tactic(auto)]
 
 pub use events::{Event, ToWhom};
