@@ -34,7 +34,8 @@ printed_read None = codes "none\n"
 
 -- one of the events is refused
 abbrev pub RefusesEvents : World → List Event → Type 0
-RefusesEvents w events = (at : ℕ) × (cause : Cause) × (new : World) × world_words.StopsWithin w events at cause new
+RefusesEvents w events =
+    (at : ℕ) × (cause : Cause) × (new : World) × world_words.StopsWithin w events at cause new
 
 -- All that is in flight to the client arrives, and then all that is in flight to the server.
 pub record Delivers (old new : World) : Type 0 where
@@ -156,7 +157,8 @@ StopsAtBadLine lines number text = (stop : StopsWithin lines number text) × IsB
 
 -- an event of that line's command is refused
 abbrev pub StopsAtRefusedLine : List (List ℕ) → ℕ → List ℕ → Type 0
-StopsAtRefusedLine lines number text = (stop : StopsWithin lines number text) × RefusesLine stop.world stop.line
+StopsAtRefusedLine lines number text =
+    (stop : StopsWithin lines number text) × RefusesLine stop.world stop.line
 
 -- how a script ended, and what it had printed
 abbrev pub EndsWith : List (List ℕ) → Option CliFault → List ℕ → Type 0

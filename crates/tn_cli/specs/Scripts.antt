@@ -135,7 +135,8 @@ character_command verb first second =
 
 -- a line of three words
 abbrev pub with_words : List ℕ → List ℕ → List ℕ → Option Command
-with_words verb first second = option_or (resize_command verb first second) (character_command verb first second)
+with_words verb first second =
+    option_or (resize_command verb first second) (character_command verb first second)
 
 abbrev pub command_of_words : List (List ℕ) → Option Command
 command_of_words (verb ∷ []) = alone verb

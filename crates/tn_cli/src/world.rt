@@ -41,7 +41,8 @@ pub fn run_world<R: Read, W: Write>(
         IfSome (R.remaining reader.old) (λ text. play.AppendsText (play.StopsAtBadLine (lines_of text) line)
         (W.contents writer.old) (W.contents writer.new)) }
     ensures world { (line : ℕ) → IsErrOf result (CliFault.World line) →
-        IfSome (R.remaining reader.old) (λ text. play.AppendsText (play.StopsAtRefusedLine (lines_of text) line)
+        IfSome (R.remaining reader.old) (λ text.
+        play.AppendsText (play.StopsAtRefusedLine (lines_of text) line)
         (W.contents writer.old) (W.contents writer.new)) }
     ensures write { IsErrOf result CliFault.Write → IfSome (R.remaining reader.old) (λ text.
         play.AppendsFrontOfText (play.PrintsSome (lines_of text))

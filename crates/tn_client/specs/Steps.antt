@@ -1,4 +1,4 @@
--- One event at a client end, as a step from what the end knows now. `Standing` ties these steps to histories.
+-- One event at a client end, as a step from what the end knows now. `Calls` ties these steps to histories.
 use Rattle.std.specs.Prelude.{◌≡◌, ◌≢◌, ◌⊎◌, ℕ, Bool, true, false, Option, List, [], ◌++◌, length, take}
 use Rattle.tn_codes.specs.declared.payloads.Payload.{Payload}
 use Rattle.tn_discipline.specs.HalfLine.{HalfLine, empty_line, line_after}

@@ -29,11 +29,13 @@ abbrev pub DropsExactly : HalfLine → List Role → Effect → Type 0
 DropsExactly line roles e =
     (history : List Role) → LeadsTo history line
     → (e ≡ Dropped)
-    ↔ ((0 < length roles) × (admitted_roles line.limit (history ++ roles) ≡ admitted_roles line.limit history))
+    ↔ ((0 < length roles)
+        × (admitted_roles line.limit (history ++ roles) ≡ admitted_roles line.limit history))
 
 -- The same as `Advances`, from the old line alone: whatever bytes were handed on, these keys leave as many as
 -- are ahead in the new line, followed by those that it holds.
-pub record AdvancesFromLine (old : HalfLine) (roles : List Role) (gain : List Entry) (new : HalfLine) : Type 0 where
+pub record AdvancesFromLine (old : HalfLine) (roles : List Role) (gain : List Entry)
+    (new : HalfLine) : Type 0 where
   pub half : (sent : List ℕ) → length sent ≡ old.ahead
       → (rest : List ℕ) × (length rest ≡ new.ahead)
       × (half_all old.limit (sent ++ old.held) roles ≡ rest ++ new.held)

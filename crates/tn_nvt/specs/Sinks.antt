@@ -96,7 +96,8 @@ pub record StopsAtSink {S : Type 0} (takes gives_up : S → List Item → S → 
   pub given_up : gives_up middle left after
 
 -- The sink took what a front of the piece adds, and the byte after it, a parameter, wanted memory.
-pub record StopsForMemory {S : Type 0} (takes : S → List Item → S → Type 0) (old : DecoderState) (piece : List ℕ)
+pub record StopsForMemory {S : Type 0} (takes : S → List Item → S → Type 0) (old : DecoderState)
+    (piece : List ℕ)
     (before after : S) : Type 0 where
   pub parts : List Part
   pub byte : ℕ

@@ -56,7 +56,8 @@ engine_steps [] e = e
 engine_steps (first ∷ rest) e = engine_steps rest (engine_step first e)
 
 abbrev pub pair_of : Agree → Agree → EnginePair
-pair_of here there = record { here = new_options here; there = new_options there; to_here = []; to_there = [] }
+pair_of here there =
+    record { here = new_options here; there = new_options there; to_here = []; to_there = [] }
 
 -- a word that an end hears is about this side of it
 abbrev pub is_about : Side → Verb → Bool

@@ -85,7 +85,8 @@ swapped_world w = record w { performing = w.other; other = w.performing }
 
 abbrev pub step : OptionStep → OptionWorld → OptionWorld
 step (wish Us agreed on) w = world_after_wish (cell agreed (wish_for on) w.performing.state) w
-step (wish Them agreed on) w = swapped_world (world_after_wish (cell agreed (wish_for on) w.other.state) (swapped_world w))
+step (wish Them agreed on) w =
+    swapped_world (world_after_wish (cell agreed (wish_for on) w.other.state) (swapped_world w))
 step (deliver Us agreed) w = world_after_word agreed w.performing.coming w
 step (deliver Them agreed) w = swapped_world (world_after_word agreed w.other.coming (swapped_world w))
 

@@ -14,10 +14,12 @@ ghost use Rattle.tn_option.specs.declared.q_method.QState.TheVariants.{No};
 
 /// A word or a wish about an option that is none of the four changes nothing.
 pub fn unknown_options_change_nothing()
-    ensures words { (o : Options) (verb : Verb) (code : ℕ) → known_option code ≡ None → options_after_word o verb code ≡ o }
+    ensures words { (o : Options) (verb : Verb) (code : ℕ) → known_option code ≡ None →
+        options_after_word o verb code ≡ o }
     ensures wishes { (o : Options) (side : Side) (code : ℕ) (on : Bool) → known_option code ≡ None
         → options_after_wish o side code on ≡ o }
-    ensures states { (o : Options) (side : Side) (code : ℕ) → known_option code ≡ None → state_of o side code ≡ No }
+    ensures states { (o : Options) (side : Side) (code : ℕ) → known_option code ≡ None →
+        state_of o side code ≡ No }
 {}
 
 /// A word about one of the four options moves its side by one cell of the table, and leaves the
@@ -27,13 +29,15 @@ pub fn words_change_one_place()
         → MovesByCell o (options_after_word o verb code) (side_of verb) code (cause_of verb) }
     ensures others { (o : Options) (verb : Verb) (code : ℕ) → LeavesOthers o (options_after_word o verb code)
         (side_of verb) code }
-    ensures agreement { (o : Options) (verb : Verb) (code : ℕ) → AgreesAsBefore o (options_after_word o verb code) }
+    ensures agreement { (o : Options) (verb : Verb) (code : ℕ) →
+        AgreesAsBefore o (options_after_word o verb code) }
 {}
 
 /// A wish does so likewise.
 pub fn wishes_change_one_place()
     ensures moves { (o : Options) (side : Side) (code : ℕ) (on : Bool) (option : Known)
-        → known_option code ≡ Some option → MovesByCell o (options_after_wish o side code on) side code (wish_for on) }
+        → known_option code ≡ Some option →
+        MovesByCell o (options_after_wish o side code on) side code (wish_for on) }
     ensures others { (o : Options) (side : Side) (code : ℕ) (on : Bool)
         → LeavesOthers o (options_after_wish o side code on) side code }
     ensures agreement { (o : Options) (side : Side) (code : ℕ) (on : Bool)

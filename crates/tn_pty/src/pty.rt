@@ -155,7 +155,8 @@ impl Pair {
     /// nothing else is shown.
     pub fn command(&mut self, command: Command) -> Result<(), PtyFault>
         ensures advances { let role = command_role command in
-            OnOk result (Advances self.old.line (roles_from role) (gain_of self.old.line role) self.new.line) }
+            OnOk result
+                (Advances self.old.line (roles_from role) (gain_of self.old.line role) self.new.line) }
         ensures pair { OnOk result
             (self.new ≡ terminal_after self.old (command_role command) (command_shows command)) }
         ensures accepted { OnOk result (Accepts self.old (command_role command)) }

@@ -1,4 +1,4 @@
--- One event at a server end, as a step from what the end knows now. `Standing` ties these steps to histories.
+-- One event at a server end, as a step from what the end knows now. `Calls` ties these steps to histories.
 use Rattle.std.specs.Prelude.{◌≡◌, ◌≢◌, ◌⊎◌, ℕ, Bool, true, false, ◌||◌, Option, Some, None, is_some, List, [], ◌++◌, length}
 use Rattle.tn_codes.specs.declared.codes.Command.{Command}
 use Rattle.tn_codes.specs.declared.codes.Verb.{Verb}

@@ -13,7 +13,8 @@ IsSameState here there = ((here ≡ Yes) × (there ≡ Yes)) ⊎ ((here ≡ No) 
 
 -- an option at one side of the server, which the client has at its other side
 abbrev pub AgreeOn : World → Side → ℕ → Type 0
-AgreeOn w side code = IsSameState (state_of w.server.terms.options side code) (state_of w.client.options (facing side) code)
+AgreeOn w side code =
+    IsSameState (state_of w.server.terms.options side code) (state_of w.client.options (facing side) code)
 
 -- ECHO, SUPPRESS-GO-AHEAD, NAWS and LINEMODE, each in both directions
 pub record OptionsAgree (w : World) : Type 0 where

@@ -35,7 +35,8 @@ IsSteady o = (side : Side) (option : ℕ) → is_in_order (state_of o side optio
 -- LINEMODE is on at both ends, or off at both
 abbrev pub AgreeOnLinemode : Options → Options → Type 0
 AgreeOnLinemode server client =
-    ((state_of server Them 34 ≡ Yes) × (state_of client Us 34 ≡ Yes)) ⊎ ((state_of server Them 34 ≡ No) × (state_of client Us 34 ≡ No))
+    ((state_of server Them 34 ≡ Yes) × (state_of client Us 34 ≡ Yes))
+        ⊎ ((state_of server Them 34 ≡ No) × (state_of client Us 34 ≡ No))
 
 -- Nothing is in flight, and nobody has stopped or failed.
 pub record IsIdle (w : World) : Type 0 where
@@ -83,7 +84,9 @@ pub record IsMark (canon : Canon) (w : World) : Type 0 where
 -- Each of these items that gives a client of these options another mask comes where that may be.
 abbrev pub ChangeModeWhere : Type 0 → Options → ℕ → List Item → Type 0
 ChangeModeWhere may o mode [] = Unit {0}
-ChangeModeWhere may o mode (item ∷ items) = (mode_at o mode item ≢ mode → may) × ChangeModeWhere may (options_after o item) (mode_at o mode item) items
+ChangeModeWhere may o mode (item ∷ items) =
+    (mode_at o mode item ≢ mode → may)
+    × ChangeModeWhere may (options_after o item) (mode_at o mode item) items
 
 -- the typed keys leave no half line
 abbrev pub IsBetweenLines : Canon → List ℕ → Type 0
@@ -95,28 +98,33 @@ ChangeModeBetweenLines canon typed o mode items = ChangeModeWhere (IsBetweenLine
 -- the first bytes in flight change the client's mask only where that may be
 abbrev pub DeliversModesWhere : (List ℕ → Type 0) → World → ℕ → Type 0
 DeliversModesWhere may w n =
-    (items : List Item) (next : DecoderState) → Advances w.client.decoder (take n w.to_client) items next → ChangeModeWhere (may w.typed) w.client.options w.client.mode items
+    (items : List Item) (next : DecoderState) → Advances w.client.decoder (take n w.to_client) items next
+        → ChangeModeWhere (may w.typed) w.client.options w.client.mode items
 
 -- no special character is set or proposed, and a client that goes on gets another mask only where that may be
 abbrev pub IsQuietEvent : (List ℕ → Type 0) → World → Event → Type 0
-IsQuietEvent may w (ToClient n) = w.client_stopped ≡ false → w.client.failed ≡ false → DeliversModesWhere may w n
+IsQuietEvent may w (ToClient n) =
+    w.client_stopped ≡ false → w.client.failed ≡ false → DeliversModesWhere may w n
 IsQuietEvent may w (SetChar func value) = ⊥
 IsQuietEvent may w (Propose func value) = ⊥
 IsQuietEvent may w e = Unit {0}
 
 -- the event is done, and quiet, or it is refused
 abbrev pub RunsQuietly : (List ℕ → Type 0) → World → Event → World → Type 0
-RunsQuietly may old e new = (IsQuietEvent may old e × RunsEvent old e new) ⊎ ((cause : Cause) × Refuses old e cause new)
+RunsQuietly may old e new =
+    (IsQuietEvent may old e × RunsEvent old e new) ⊎ ((cause : Cause) × Refuses old e cause new)
 
 -- these events, each quiet where it is done, lead from one world to the other
 abbrev pub PassesQuietly : (List ℕ → Type 0) → World → List Event → World → Type 0
 PassesQuietly may old [] new = new ≡ old
-PassesQuietly may old (e ∷ events) new = (mid : World) × RunsQuietly may old e mid × PassesQuietly may mid events new
+PassesQuietly may old (e ∷ events) new =
+    (mid : World) × RunsQuietly may old e mid × PassesQuietly may mid events new
 
 -- the list is quiet, as far as its events are done
 abbrev pub AreQuiet : (List ℕ → Type 0) → World → List Event → Type 0
 AreQuiet may w [] = Unit {0}
-AreQuiet may w (e ∷ events) = (mid : World) → RunsEvent w e mid → IsQuietEvent may w e × AreQuiet may mid events
+AreQuiet may w (e ∷ events) =
+    (mid : World) → RunsEvent w e mid → IsQuietEvent may w e × AreQuiet may mid events
 
 -- the mode changes between lines alone
 abbrev pub IsQuiet : Canon → World → List Event → Type 0

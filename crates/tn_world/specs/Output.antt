@@ -45,13 +45,15 @@ pub record OutputGrows (old : World) (e : Event) (new : World) (text : List ℕ)
 abbrev pub OutputGrowsTo : World → List Event → World → List ℕ → List ℕ → Type 0
 OutputGrowsTo old [] new text last = (new ≡ old) × (last ≡ text)
 OutputGrowsTo old (e ∷ events) new text last =
-    (mid : World) × RunsEvent old e mid × (grows : OutputGrows old e mid text) × OutputGrowsTo mid events new (text ++ screen grows.symbols) last
+    (mid : World) × RunsEvent old e mid × (grows : OutputGrows old e mid text)
+        × OutputGrowsTo mid events new (text ++ screen grows.symbols) last
 
 abbrev pub OutputGrowsAll : World → List Event → World → List ℕ → Type 0
 OutputGrowsAll old events new text = (last : List ℕ) × OutputGrowsTo old events new text last
 
 -- The event at this place is refused, and each of those before it does so; and so does this one, unless the client fails.
-pub record OutputGrowsBefore (old : World) (events : List Event) (at : ℕ) (cause : Cause) (new : World) (text : List ℕ) : Type 0 where
+pub record OutputGrowsBefore (old : World) (events : List Event) (at : ℕ) (cause : Cause) (new : World)
+    (text : List ℕ) : Type 0 where
   pub ends : StopsWithin old events at cause new
   pub last : List ℕ
   pub grows : OutputGrowsTo old ends.done ends.mid text last

@@ -28,8 +28,10 @@ engines w there back =
 pub record HasPast (w : World) : Type 0 where
   pub history : asked.History
   pub server : server.LeadsTo history w.server
-  pub asked : w.server.failed ≡ false → (course : asked_course.Course) × asked_course.CourseLeadsTo course w.server
-  pub told : w.client.failed ≡ false → (course : told_course.Course) × told_course.CourseLeadsTo course w.client
+  pub asked : w.server.failed ≡ false
+      → (course : asked_course.Course) × asked_course.CourseLeadsTo course w.server
+  pub told : w.client.failed ≡ false
+      → (course : told_course.Course) × told_course.CourseLeadsTo course w.client
   pub limit : w.client.failed ≡ false → w.client.line.limit ≡ w.server.terminal.line.limit
   pub to_server : w.server.failed ≡ false → (items : List Item) × InFlight w.server.decoder w.to_server items
   pub to_client : w.client.failed ≡ false → (items : List Item) × InFlight w.client.decoder w.to_client items

@@ -61,7 +61,9 @@ pub record TypesKey (old : World) (key : ℕ) (new : World) : Type 0 where
   pub keeps : client.ReadsNothing old.client new.client
   pub sends : client.Sends old.client (told.typed key) old.to_server new.to_server
   pub shows : client.Shows old.client (told.typed key) old.echoed new.echoed
-  pub rest : new ≡ record old { client = new.client; to_server = new.to_server; echoed = new.echoed; typed = old.typed ++ key ∷ [] }
+  pub rest : new
+      ≡ record old { client = new.client; to_server = new.to_server; echoed = new.echoed;
+      typed = old.typed ++ key ∷ [] }
 
 -- Any other call of the client.
 pub record CallsClient (old : World) (e : told.Event) (new : World) : Type 0 where
@@ -75,13 +77,17 @@ pub record CallsClient (old : World) (e : told.Event) (new : World) : Type 0 whe
 pub record DeliversToServer (old : World) (n : ℕ) (new : World) : Type 0 where
   pub accepted : server.call_fault old.server ≡ None
   pub feeds : server.Feeds old.server (take n old.to_server) old.to_client new.to_client new.server
-  pub rest : new ≡ record old { server = new.server; to_server = drop n old.to_server; to_client = new.to_client }
+  pub rest : new
+      ≡ record old { server = new.server; to_server = drop n old.to_server; to_client = new.to_client }
 
 -- The first bytes in flight arrive at the client.
 pub record DeliversToClient (old : World) (n : ℕ) (new : World) : Type 0 where
   pub accepted : client.call_fault old.client ≡ None
-  pub feeds : client.Feeds old.client (take n old.to_client) old.to_server new.to_server old.shown new.shown new.client
-  pub rest : new ≡ record old { client = new.client; to_client = drop n old.to_client; to_server = new.to_server; shown = new.shown }
+  pub feeds : client.Feeds old.client (take n old.to_client) old.to_server new.to_server old.shown new.shown
+      new.client
+  pub rest : new
+      ≡ record old { client = new.client; to_client = drop n old.to_client; to_server = new.to_server;
+      shown = new.shown }
 
 -- Any other call of the server: what it says joins the flight.
 pub record CallsServer (old : World) (e : asked.Event) (new : World) : Type 0 where
@@ -103,21 +109,29 @@ pub record TakesEntry (old : World) (new : World) : Type 0 where
       → MatchOption entry (waiting h ≡ []) (λ e. waiting h ≡ e ∷ waiting (asked.next h asked.took))
   pub goes : server.Advances old.server asked.took old.to_client new.to_client new.server
   pub keeps : server.ReadsNothing old.server new.server
-  pub rest : new ≡ record old { server = new.server; to_client = new.to_client; taken = old.taken ++ option_to_list entry }
+  pub rest : new
+      ≡ record old { server = new.server; to_client = new.to_client;
+      taken = old.taken ++ option_to_list entry }
 
 -- the event is done
 abbrev pub RunsEvent : World → Event → World → Type 0
 RunsEvent old (Key key) new = UnlessStopped old.client_stopped old new (TypesKey old key new)
 RunsEvent old (ToServer n) new = UnlessStopped old.server_stopped old new (DeliversToServer old n new)
 RunsEvent old (ToClient n) new = UnlessStopped old.client_stopped old new (DeliversToClient old n new)
-RunsEvent old (Write bytes) new = UnlessStopped old.server_stopped old new (CallsServer old (asked.wrote bytes) new)
+RunsEvent old (Write bytes) new =
+    UnlessStopped old.server_stopped old new (CallsServer old (asked.wrote bytes) new)
 RunsEvent old (Pull n) new = UnlessStopped old.server_stopped old new (Pulls old n new)
 RunsEvent old Take new = TakesEntry old new
-RunsEvent old (Wish editing) new = UnlessStopped old.server_stopped old new (CallsServer old (asked.wished editing) new)
-RunsEvent old (Resize width height) new = UnlessStopped old.client_stopped old new (CallsClient old (told.resized width height) new)
-RunsEvent old (SetChar func value) new = UnlessStopped old.server_stopped old new (CallsServer old (asked.char_set func value) new)
-RunsEvent old (Propose func value) new = UnlessStopped old.client_stopped old new (CallsClient old (told.proposed func value) new)
-RunsEvent old (Echo on) new = UnlessStopped old.server_stopped old new (CallsServer old (asked.echo_set on) new)
+RunsEvent old (Wish editing) new =
+    UnlessStopped old.server_stopped old new (CallsServer old (asked.wished editing) new)
+RunsEvent old (Resize width height) new =
+    UnlessStopped old.client_stopped old new (CallsClient old (told.resized width height) new)
+RunsEvent old (SetChar func value) new =
+    UnlessStopped old.server_stopped old new (CallsServer old (asked.char_set func value) new)
+RunsEvent old (Propose func value) new =
+    UnlessStopped old.client_stopped old new (CallsClient old (told.proposed func value) new)
+RunsEvent old (Echo on) new =
+    UnlessStopped old.server_stopped old new (CallsServer old (asked.echo_set on) new)
 RunsEvent old ServerStops new = new ≡ record old { server_stopped = true }
 RunsEvent old ClientStops new = new ≡ record old { client_stopped = true }
 
@@ -131,19 +145,25 @@ pub record ServerRefusesDelivery (old : World) (n : ℕ) (fault : ServerFault) (
   pub goes_on : old.server_stopped ≡ false
   pub first : (old.server.failed ≡ true) → fault ≡ refused.Failed
   pub is_fault : IsDeliveryFault fault
-  pub again : (fault ≡ refused.Failed) → (old.server.failed ≡ true) × (new ≡ record old { to_server = drop n old.to_server })
-  pub halts : IsOfItem fault → server.StopsWithin old.server (take n old.to_server) fault old.to_client new.to_client new.server
+  pub again : (fault ≡ refused.Failed)
+      → (old.server.failed ≡ true) × (new ≡ record old { to_server = drop n old.to_server })
+  pub halts : IsOfItem fault
+      → server.StopsWithin old.server (take n old.to_server) fault old.to_client new.to_client new.server
   pub failed : new.server.failed ≡ true
-  pub rest : new ≡ record old { server = new.server; to_server = drop n old.to_server; to_client = new.to_client }
+  pub rest : new
+      ≡ record old { server = new.server; to_server = drop n old.to_server; to_client = new.to_client }
 
 -- The same at the client.
 pub record ClientRefusesDelivery (old : World) (n : ℕ) (fault : ClientFault) (new : World) : Type 0 where
   pub goes_on : old.client_stopped ≡ false
   pub is_fault : client.IsFault (client.call_fault old.client) fault
   pub again : (fault ≡ broken.Failed) → new ≡ record old { to_client = drop n old.to_client }
-  pub breaks : (fault ≡ broken.Memory) → client.StopsWithin old.client (take n old.to_client) old.to_server new.to_server old.shown new.shown
+  pub breaks : (fault ≡ broken.Memory)
+      → client.StopsWithin old.client (take n old.to_client) old.to_server new.to_server old.shown new.shown
   pub failed : new.client.failed ≡ true
-  pub rest : new ≡ record old { client = new.client; to_client = drop n old.to_client; to_server = new.to_server; shown = new.shown }
+  pub rest : new
+      ≡ record old { client = new.client; to_client = drop n old.to_client; to_server = new.to_server;
+      shown = new.shown }
 
 -- A call of the server is refused for its cause, or for want of memory for what it says.
 pub record ServerRefusesCall (end : server.End) (e : asked.Event) (fault : ServerFault) : Type 0 where
@@ -158,17 +178,24 @@ pub record ClientRefusesCall (end : client.End) (e : told.Event) (fault : Client
 -- the event calls an end, other than by a delivery, and the call is refused for this fault: entries are taken from a
 -- server that was stopped, too
 abbrev pub ServerRefusesEvent : World → Event → ServerFault → Type 0
-ServerRefusesEvent w (Pull n) fault = (w.server_stopped ≡ false) × ServerRefusesCall w.server (asked.pulled n) fault
+ServerRefusesEvent w (Pull n) fault =
+    (w.server_stopped ≡ false) × ServerRefusesCall w.server (asked.pulled n) fault
 ServerRefusesEvent w Take fault = ServerRefusesCall w.server asked.took fault
-ServerRefusesEvent w (Wish editing) fault = (w.server_stopped ≡ false) × ServerRefusesCall w.server (asked.wished editing) fault
-ServerRefusesEvent w (SetChar func value) fault = (w.server_stopped ≡ false) × ServerRefusesCall w.server (asked.char_set func value) fault
-ServerRefusesEvent w (Echo on) fault = (w.server_stopped ≡ false) × ServerRefusesCall w.server (asked.echo_set on) fault
+ServerRefusesEvent w (Wish editing) fault =
+    (w.server_stopped ≡ false) × ServerRefusesCall w.server (asked.wished editing) fault
+ServerRefusesEvent w (SetChar func value) fault =
+    (w.server_stopped ≡ false) × ServerRefusesCall w.server (asked.char_set func value) fault
+ServerRefusesEvent w (Echo on) fault =
+    (w.server_stopped ≡ false) × ServerRefusesCall w.server (asked.echo_set on) fault
 ServerRefusesEvent w e fault = ⊥
 
 abbrev pub ClientRefusesEvent : World → Event → ClientFault → Type 0
-ClientRefusesEvent w (Key key) fault = (w.client_stopped ≡ false) × ClientRefusesCall w.client (told.typed key) fault
-ClientRefusesEvent w (Resize width height) fault = (w.client_stopped ≡ false) × ClientRefusesCall w.client (told.resized width height) fault
-ClientRefusesEvent w (Propose func value) fault = (w.client_stopped ≡ false) × ClientRefusesCall w.client (told.proposed func value) fault
+ClientRefusesEvent w (Key key) fault =
+    (w.client_stopped ≡ false) × ClientRefusesCall w.client (told.typed key) fault
+ClientRefusesEvent w (Resize width height) fault =
+    (w.client_stopped ≡ false) × ClientRefusesCall w.client (told.resized width height) fault
+ClientRefusesEvent w (Propose func value) fault =
+    (w.client_stopped ≡ false) × ClientRefusesCall w.client (told.proposed func value) fault
 ClientRefusesEvent w e fault = ⊥
 
 -- the world wants memory of its own: for a typed key, for the rest of a flight that is cut, for a taken entry
@@ -193,7 +220,8 @@ Runs old [] new = new ≡ old
 Runs old (e ∷ events) new = (mid : World) × RunsEvent old e mid × Runs mid events new
 
 -- The event at this place is refused, and those before it are done.
-pub record StopsWithin (old : World) (events : List Event) (at : ℕ) (cause : Cause) (new : World) : Type 0 where
+pub record StopsWithin (old : World) (events : List Event) (at : ℕ) (cause : Cause)
+    (new : World) : Type 0 where
   pub done : List Event
   pub event : Event
   pub left : List Event

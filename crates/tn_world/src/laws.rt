@@ -12,18 +12,26 @@ ghost use Rattle.tn_world.specs.declared.events.Event.{Event};
 
 /// Under a mode that stays, what was made is a prefix of what the keys give.
 pub fn headline_prefix()
-    ensures { (s : Canon) (start end : World) (events : List Event) → IsMark s start → PassesQuietly Nowhere start events end → NoneFailed end → IsPrefixOf (entries_made end) (local_entries s end.typed) }
+    ensures { (s : Canon) (start end : World) (events : List Event) → IsMark s start →
+        PassesQuietly Nowhere start events end → NoneFailed end →
+        IsPrefixOf (entries_made end) (local_entries s end.typed) }
 {}
 
 /// Under a mode that stays, it is all of it where nothing is in flight.
 pub fn headline_complete()
-    ensures { (s : Canon) (start end : World) (events : List Event) → IsMark s start → PassesQuietly Nowhere start events end → NoneFailed end → NothingInFlight end → entries_made end ≡ local_entries s end.typed }
+    ensures { (s : Canon) (start end : World) (events : List Event) → IsMark s start →
+        PassesQuietly Nowhere start events end → NoneFailed end → NothingInFlight end →
+        entries_made end ≡ local_entries s end.typed }
 {}
 
 /// The same where the mode changes between lines.
 pub fn headline_mode_changes()
-    ensures prefix { (s : Canon) (start end : World) (events : List Event) → IsMark s start → PassesQuietly (IsBetweenLines s) start events end → NoneFailed end → IsPrefixOf (entries_made end) (local_entries s end.typed) }
-    ensures complete { (s : Canon) (start end : World) (events : List Event) → IsMark s start → PassesQuietly (IsBetweenLines s) start events end → NoneFailed end → NothingInFlight end → entries_made end ≡ local_entries s end.typed }
+    ensures prefix { (s : Canon) (start end : World) (events : List Event) → IsMark s start →
+        PassesQuietly (IsBetweenLines s) start events end → NoneFailed end →
+        IsPrefixOf (entries_made end) (local_entries s end.typed) }
+    ensures complete { (s : Canon) (start end : World) (events : List Event) → IsMark s start →
+        PassesQuietly (IsBetweenLines s) start events end → NoneFailed end → NothingInFlight end →
+        entries_made end ≡ local_entries s end.typed }
 {}
 
 /// After a mark every list of keys, deliveries, writes, pulls, takes, sizes, settings of ECHO and stops is
@@ -36,7 +44,8 @@ pub fn quiet_lists()
 /// While the client has not failed, an event adds to Output the symbols that the terminal's queue took in
 /// it, and nothing else; when they are sent or shown nothing is added.
 pub fn output()
-    ensures { (old new : World) (e : Event) (text : List ℕ) → HasPast old → old.client.failed ≡ false → RunsEvent old e new → IsOutput old text → OutputGrows old e new text }
+    ensures { (old new : World) (e : Event) (text : List ℕ) → HasPast old → old.client.failed ≡ false →
+        RunsEvent old e new → IsOutput old text → OutputGrows old e new text }
 {}
 
 /// What is shown on the client's screen comes first in Output.

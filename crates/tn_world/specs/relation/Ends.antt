@@ -29,7 +29,8 @@ pub record AreReplies (rules : Rules) (said : List Item) : Type 0 where
   pub fit : All Fits said
   pub calm : All (IsCalmToClient rules.canon.settings) said
 
-pub record ServerFeeds (rules : Rules) (old : ServerEnd) (piece : List ℕ) (said : List Item) (new : ServerEnd) : Type 0 where
+pub record ServerFeeds (rules : Rules) (old : ServerEnd) (piece : List ℕ) (said : List Item)
+    (new : ServerEnd) : Type 0 where
   pub got : List Item
   pub reads : Advances old.decoder piece got new.decoder
   pub core : new.core ≡ read_all rules.canon old.core (server_items rules got)
@@ -45,7 +46,9 @@ with_waiting v entries = record v { waiting = entries }
 
 abbrev pub TakesFirst : ServerEnd → List Entry → ServerEnd → Type 0
 TakesFirst old [] new = (old.core.waiting ≡ []) × (new ≡ old)
-TakesFirst old (x ∷ none) new = (entries : List Entry) × (old.core.waiting ≡ x ∷ entries) × (none ≡ []) × (new ≡ record old { core = with_waiting old.core entries })
+TakesFirst old (x ∷ none) new =
+    (entries : List Entry) × (old.core.waiting ≡ x ∷ entries) × (none ≡ [])
+    × (new ≡ record old { core = with_waiting old.core entries })
 
 -- what the client says: items that fit a stream and are calm, and say this to any server
 pub record SaysItems (rules : Rules) (says : List machine.Item) (said : List Item) : Type 0 where
@@ -53,7 +56,8 @@ pub record SaysItems (rules : Rules) (says : List machine.Item) (said : List Ite
   pub calm : All IsCalmToServer said
   pub says_so : (v : Server) → read_all rules.canon v (server_items rules said) ≡ read_all rules.canon v says
 
-pub record ClientKeys (rules : Rules) (old : ClientEnd) (key : ℕ) (said : List Item) (new : ClientEnd) : Type 0 where
+pub record ClientKeys (rules : Rules) (old : ClientEnd) (key : ℕ) (said : List Item)
+    (new : ClientEnd) : Type 0 where
   pub decoder : new.decoder ≡ old.decoder
   pub core : new.core ≡ (client_after_key rules old.core.mask.edit old.core key).client
   pub writes : SaysItems rules (client_after_key rules old.core.mask.edit old.core key).items said
@@ -64,10 +68,12 @@ client_after_messages rules c [] = record { client = c; items = [] }
 client_after_messages rules c (m ∷ messages) =
     record {
       client = (client_after_messages rules (client_after_message rules c m).client messages).client;
-      items = (client_after_message rules c m).items ++ (client_after_messages rules (client_after_message rules c m).client messages).items;
+      items = (client_after_message rules c m).items
+          ++ (client_after_messages rules (client_after_message rules c m).client messages).items;
     }
 
-pub record ClientFeeds (rules : Rules) (old : ClientEnd) (piece : List ℕ) (said : List Item) (new : ClientEnd) : Type 0 where
+pub record ClientFeeds (rules : Rules) (old : ClientEnd) (piece : List ℕ) (said : List Item)
+    (new : ClientEnd) : Type 0 where
   pub got : List Item
   pub reads : Advances old.decoder piece got new.decoder
   pub core : new.core ≡ (client_after_messages rules old.core (client_messages rules got)).client
@@ -97,17 +103,28 @@ pub data Event : Type 0 where
 -- what an event may do, where no end fails
 abbrev pub Happens : Rules → World → Event → World → Type 0
 Happens rules w (key k) new =
-    (client : ClientEnd) × (said : List Item) × ClientKeys rules w.client k said client × (new ≡ record w { typed = w.typed ++ k ∷ []; client = client; to_server = w.to_server ++ spells said })
+    (client : ClientEnd) × (said : List Item) × ClientKeys rules w.client k said client
+        × (new ≡ record w { typed = w.typed ++ k ∷ []; client = client;
+        to_server = w.to_server ++ spells said })
 Happens rules w (to_server n) new =
-    (server : ServerEnd) × (said : List Item) × ServerFeeds rules w.server (take n w.to_server) said server × (new ≡ record w { server = server; to_server = drop n w.to_server; to_client = w.to_client ++ spells said })
+    (server : ServerEnd) × (said : List Item) × ServerFeeds rules w.server (take n w.to_server) said server
+        × (new ≡ record w { server = server; to_server = drop n w.to_server;
+        to_client = w.to_client ++ spells said })
 Happens rules w (to_client n) new =
-    (client : ClientEnd) × (said : List Item) × ClientFeeds rules w.client (take n w.to_client) said client × (new ≡ record w { client = client; to_client = drop n w.to_client; to_server = w.to_server ++ spells said })
+    (client : ClientEnd) × (said : List Item) × ClientFeeds rules w.client (take n w.to_client) said client
+        × (new ≡ record w { client = client; to_client = drop n w.to_client;
+        to_server = w.to_server ++ spells said })
 Happens rules w take_entry new =
-    (server : ServerEnd) × (said : List Item) × (entry : List Entry) × TakesFirst w.server entry server × AreReplies rules said × (new ≡ record w { taken = w.taken ++ entry; server = server; to_client = w.to_client ++ spells said })
+    (server : ServerEnd) × (said : List Item) × (entry : List Entry) × TakesFirst w.server entry server
+        × AreReplies rules said
+        × (new ≡ record w { taken = w.taken ++ entry; server = server;
+        to_client = w.to_client ++ spells said })
 Happens rules w server_call new =
-    (server : ServerEnd) × (said : List Item) × ServerSays rules w.server said server × (new ≡ record w { server = server; to_client = w.to_client ++ spells said })
+    (server : ServerEnd) × (said : List Item) × ServerSays rules w.server said server
+        × (new ≡ record w { server = server; to_client = w.to_client ++ spells said })
 Happens rules w client_call new =
-    (client : ClientEnd) × (said : List Item) × ClientSays rules w.client said client × (new ≡ record w { client = client; to_server = w.to_server ++ spells said })
+    (client : ClientEnd) × (said : List Item) × ClientSays rules w.client said client
+        × (new ≡ record w { client = client; to_server = w.to_server ++ spells said })
 
 abbrev pub IsCalm : Rules → List ℕ → Client → Message → Type 0
 IsCalm rules typed c (mode m) = is_same c.mask m ≡ false → typed_half rules.canon typed ≡ []
@@ -117,11 +134,13 @@ IsCalm rules typed c chatter = Unit {0}
 -- each of these messages that changes the mode comes between two lines
 abbrev pub AreBetweenLines : Rules → List ℕ → Client → List Message → Type 0
 AreBetweenLines rules typed c [] = Unit {0}
-AreBetweenLines rules typed c (m ∷ messages) = IsCalm rules typed c m × AreBetweenLines rules typed (client_after_message rules c m).client messages
+AreBetweenLines rules typed c (m ∷ messages) =
+    IsCalm rules typed c m × AreBetweenLines rules typed (client_after_message rules c m).client messages
 
 abbrev pub IsQuietEvent : Rules → World → Event → Type 0
 IsQuietEvent rules w (to_client n) =
-    (got : List Item) (next : DecoderState) → Advances w.client.decoder (take n w.to_client) got next → AreBetweenLines rules w.typed w.client.core (client_messages rules got)
+    (got : List Item) (next : DecoderState) → Advances w.client.decoder (take n w.to_client) got next
+        → AreBetweenLines rules w.typed w.client.core (client_messages rules got)
 IsQuietEvent rules w (key k) = Unit {0}
 IsQuietEvent rules w (to_server n) = Unit {0}
 IsQuietEvent rules w take_entry = Unit {0}

@@ -114,7 +114,8 @@ bytes bs = map (λ b. byte b) bs
 -- an ordinary byte, by whether the line is full and whether the byte is in the forward mask
 abbrev pub ordinary_key : Bool → Bool → Client → ℕ → Part
 ordinary_key true forwards c b = record { held = c.held; ahead = c.ahead; items = [] }
-ordinary_key false true c b = record { held = []; ahead = c.ahead + length (c.held ++ b ∷ []); items = bytes (c.held ++ b ∷ []) }
+ordinary_key false true c b =
+    record { held = []; ahead = c.ahead + length (c.held ++ b ∷ []); items = bytes (c.held ++ b ∷ []) }
 ordinary_key false false c b = record { held = c.held ++ b ∷ []; ahead = c.ahead; items = [] }
 
 -- an erasure, by whether a byte is held and whether one is ahead
@@ -129,12 +130,14 @@ kill_key false = record { held = []; ahead = 0; items = [] }
 
 -- a key with EDIT
 abbrev pub edit_key : ℕ → Client → Role → Part
-edit_key limit c (role.Ordinary b) = ordinary_key (c.ahead + length c.held == most_counted limit) (c.forward b) c b
+edit_key limit c (role.Ordinary b) =
+    ordinary_key (c.ahead + length c.held == most_counted limit) (c.forward b) c b
 edit_key limit c role.Nl = record { held = []; ahead = 0; items = bytes c.held ++ newline ∷ [] }
 edit_key limit c (role.Eol b) = record { held = []; ahead = 0; items = bytes c.held ++ byte b ∷ [] }
 edit_key limit c (role.Eol2 b) = record { held = []; ahead = 0; items = bytes c.held ++ byte b ∷ [] }
 edit_key limit c role.Eof = record { held = []; ahead = 0; items = bytes c.held ++ command Eof ∷ [] }
-edit_key limit c (role.Signal sig) = record { held = c.held; ahead = c.ahead; items = command (command_of sig) ∷ [] }
+edit_key limit c (role.Signal sig) =
+    record { held = c.held; ahead = c.ahead; items = command (command_of sig) ∷ [] }
 edit_key limit c role.Erase = erase_key (nat_lt 0 (length c.held)) (nat_lt 0 c.ahead) c
 edit_key limit c role.Kill = kill_key (nat_lt 0 c.ahead)
 edit_key limit c role.Ignored = record { held = c.held; ahead = c.ahead; items = [] }
@@ -152,15 +155,19 @@ count_next limit n r = if is_dropped limit n r then n else next_count n r
 -- a key, by whether EDIT is set
 abbrev pub client_after_key : Rules → Bool → Client → ℕ → Sent
 client_after_key rules true c key =
-    let part = edit_key rules.canon.limit c (role_of_key (settings_by c.mask.trapsig rules.canon.settings.chars) key) in
+    let part = edit_key rules.canon.limit c
+        (role_of_key (settings_by c.mask.trapsig rules.canon.settings.chars) key) in
     record { client = record c { held = part.held; ahead = part.ahead }; items = part.items }
 client_after_key rules false c key =
     record {
       client = record c {
-        trapped = count_next rules.canon.limit c.trapped (role_of_key (settings_by true rules.canon.settings.chars) key);
-        plain = count_next rules.canon.limit c.plain (role_of_key (settings_by false rules.canon.settings.chars) key);
+        trapped = count_next rules.canon.limit c.trapped
+            (role_of_key (settings_by true rules.canon.settings.chars) key);
+        plain = count_next rules.canon.limit
+            c.plain (role_of_key (settings_by false rules.canon.settings.chars) key);
       };
-      items = remote_item c.mask.trapsig (role_of_mapped (settings_by c.mask.trapsig rules.canon.settings.chars) key) key ∷ [];
+      items = remote_item c.mask.trapsig
+          (role_of_mapped (settings_by c.mask.trapsig rules.canon.settings.chars) key) key ∷ [];
     }
 
 abbrev pub bits_same : Bool → Bool → Bool
@@ -174,10 +181,16 @@ is_same m n = bits_same m.edit n.edit && bits_same m.trapsig n.trapsig
 abbrev pub client_with_mode : Rules → Client → Mode → Bool → Bool → Sent
 client_with_mode rules c m true false =
     let count = c.ahead + length c.held in
-    record { client = record c { mask = m; held = []; ahead = 0; trapped = count; plain = count }; items = bytes c.held ++ mode_ack m ∷ [] }
+    record {
+      client = record c { mask = m; held = []; ahead = 0; trapped = count; plain = count };
+      items = bytes c.held ++ mode_ack m ∷ [];
+    }
 client_with_mode rules c m false true =
     let ahead = (if rules.resumes then (if m.trapsig then c.trapped else c.plain) else 0) in
-    record { client = record c { mask = m; held = []; ahead = ahead; trapped = 0; plain = 0 }; items = mode_ack m ∷ [] }
+    record {
+      client = record c { mask = m; held = []; ahead = ahead; trapped = 0; plain = 0 };
+      items = mode_ack m ∷ [];
+    }
 client_with_mode rules c m true true = record { client = record c { mask = m }; items = mode_ack m ∷ [] }
 client_with_mode rules c m false false = record { client = record c { mask = m }; items = mode_ack m ∷ [] }
 

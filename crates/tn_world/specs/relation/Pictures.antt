@@ -10,7 +10,9 @@ use Rattle.tn_world.specs.relation.Calm.{bits}
 use Rattle.tn_world.specs.relation.Ends.{ServerEnd, ClientEnd}
 
 abbrev pub server_core : server.End → Server
-server_core end = record { edit = edits end.modes.current; half = end.terminal.line.held; waiting = end.terminal.entries; failed = end.failed }
+server_core end =
+    record { edit = edits end.modes.current; half = end.terminal.line.held; waiting = end.terminal.entries;
+    failed = end.failed }
 
 abbrev pub server_picture : server.End → ServerEnd
 server_picture end = record { decoder = end.decoder; core = server_core end }
@@ -35,7 +37,8 @@ client_picture end trapped plain = record { decoder = end.decoder; core = client
 pub record ServerStays (rules : Rules) (end : server.End) : Type 0 where
   pub linemode : server_terms.linemode end.terms.options ≡ rules.linemode
   pub chars : end.table ≡ rules.canon.settings.chars
-  pub flags : end.terminal.settings.flags ≡ record (rules.canon.settings.flags) { echo = end.terminal.settings.flags.echo }
+  pub flags : end.terminal.settings.flags
+      ≡ record (rules.canon.settings.flags) { echo = end.terminal.settings.flags.echo }
   pub limit : end.terminal.line.limit ≡ rules.canon.limit
 
 pub record ClientStays (rules : Rules) (end : client.End) : Type 0 where

@@ -29,7 +29,8 @@ AreOrdinary chars (b ∷ bs) = (literal_role chars b ≡ role.Ordinary b) × Are
 -- the keys' entries are those taken and those that wait at `v`, and their half line is that of `v` followed by what the
 -- client holds. Where the client edits, it knows how long the half line of `v` is; where it does not, it holds nothing,
 -- and if it counts the half line, the count that ISIG names is that length.
-pub record Agrees (rules : Rules) (typed : List ℕ) (taken : List Entry) (v : Server) (c : Client) : Type 0 where
+pub record Agrees (rules : Rules) (typed : List ℕ) (taken : List Entry) (v : Server)
+    (c : Client) : Type 0 where
   pub half : List ℕ
   pub waiting : List Entry
   pub is : v ≡ server_at c.mask.edit half waiting
@@ -39,7 +40,8 @@ pub record Agrees (rules : Rules) (typed : List ℕ) (taken : List Entry) (v : S
   pub ahead : c.mask.edit ≡ true → length half ≡ c.ahead
   pub none : c.mask.edit ≡ false → c.held ≡ []
   pub plain : AreOrdinary rules.canon.settings.chars c.held
-  pub count : rules.resumes ≡ true → c.mask.edit ≡ false → allows_local rules.canon.settings.flags ≡ true → (if rules.canon.settings.flags.isig then c.trapped else c.plain) ≡ length half
+  pub count : rules.resumes ≡ true → c.mask.edit ≡ false → allows_local rules.canon.settings.flags ≡ true
+      → (if rules.canon.settings.flags.isig then c.trapped else c.plain) ≡ length half
 
 -- The same of both ends and the bytes between them, which are whole items and calm.
 pub record IsTied (rules : Rules) (w : ends.World) : Type 0 where
@@ -49,7 +51,8 @@ pub record IsTied (rules : Rules) (w : ends.World) : Type 0 where
   pub messages : List Item
   pub back : InFlight w.client.decoder w.to_client messages
   pub asked : All (IsCalmToClient rules.canon.settings) messages
-  pub agrees : Agrees rules w.typed w.taken (read_all rules.canon w.server.core (server_items rules items)) w.client.core
+  pub agrees : Agrees rules w.typed w.taken (read_all rules.canon w.server.core (server_items rules items))
+      w.client.core
 
 -- Until the client counts the half line, a mode may change between lines alone.
 abbrev pub rules_of : Canon → Bool → Rules
