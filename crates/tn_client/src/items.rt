@@ -1,11 +1,11 @@
 //! What a client end does with an item that came.
 
-ghost use Rattle.std.specs.Prelude.{◌≡◌, ◌≢◌, ◌⊎◌, ◌≤◌, ◌++◌, ◌∷◌, ℕ, ◌==◌, ◌&&◌, Some, [], length, if◌then◌else◌, OnOk, OnErr};
+ghost use Rattle.std.specs.Prelude.{◌≡◌, ◌≢◌, ◌⊎◌, ◌≤◌, ◌++◌, ℕ, ◌==◌, ◌&&◌, Some, [], length, if◌then◌else◌, OnOk, OnErr};
 ghost use Rattle.tn_codes.specs.declared.payloads.Payload.TheVariants as payload;
 ghost use Rattle.tn_nvt.specs.Spelling.{spells};
 ghost use Rattle.tn_nvt.specs.declared.items.Item.TheVariants as item;
 ghost use Rattle.tn_client.specs.Terms.{linemode, changes, tells_size, payload_at};
-ghost use Rattle.tn_client.specs.Replies.{new_size_items, payload_answers};
+ghost use Rattle.tn_client.specs.Replies.{new_size_items};
 ghost use Rattle.tn_client.specs.Screen.{item_shown};
 ghost use Rattle.tn_client.specs.Calls.{ReadsList};
 ghost use Rattle.tn_client.specs.Steps.{MayWantMemoryNow, with_mode, says_mode, end_after_item, says_got, end_after_payload, says_sub};

@@ -1,6 +1,6 @@
 //! The table of local characters at the client.
 
-ghost use Rattle.std.specs.Prelude.{◌≡◌, ◌+◌, ◌<◌, ◌++◌, length, OnOk, OnErr, IfOk, None, Some, false, take, vec_len, vec_capacity};
+ghost use Rattle.std.specs.Prelude.{◌≡◌, ◌+◌, ◌<◌, ◌++◌, length, OnOk, OnErr, IfOk, None, Some, vec_len, vec_capacity};
 ghost use Rattle.std.specs.Result.{result_err};
 ghost use Rattle.tn_discipline.specs.Characters.{with_slot, char_fault, standard_characters};
 ghost use Rattle.tn_linemode.specs.Triples.{triple_of, IsOffer};

@@ -1,7 +1,6 @@
 //! What a server end does with an item that came.
 
-ghost use Rattle.std.specs.Prelude.{◌≡◌, ◌≢◌, ◌≤◌, ◌++◌, ℕ, List, true, Some, [], length, map, IfOk, IfErr, IfSome, OnOk, OnErr, IsErrOf};
-ghost use Rattle.tn_codes.specs.Payloads.{IsShort};
+ghost use Rattle.std.specs.Prelude.{◌≡◌, ◌≢◌, ◌≤◌, ◌++◌, ℕ, List, true, Some, [], length, map, IfOk, IfErr, OnOk, OnErr, IsErrOf};
 ghost use Rattle.tn_codes.specs.declared.payloads.Payload.TheVariants as payload;
 ghost use Rattle.tn_nvt.specs.Spelling.{spells};
 ghost use Rattle.tn_nvt.specs.declared.items.Item.TheVariants as item;
@@ -12,7 +11,6 @@ ghost use Rattle.tn_server.specs.Terms.{payload_at, mask_for};
 ghost use Rattle.tn_server.specs.Replies.{list_replies};
 ghost use Rattle.tn_server.specs.Calls.{Advances, AdvancesAll, RefusesItem, StopsWithinItems};
 ghost use Rattle.tn_server.specs.Faults.{IsOfItem};
-ghost use Rattle.tn_wire.specs.Words.{IsList};
 ghost use Rattle.tn_server.specs.Steps.{role_of_typed, end_after_byte, end_after_command, IsShut, IsKeyCause, MayWantMemory, end_after_word, says_words, end_after_wish, says_wished, sends_wished, end_after_mode, says_mode_got, end_after_list, end_after_payload, says_sub};
 ghost use Rattle.tn_wire.specs.Fronts.{AppendsFront};
 
