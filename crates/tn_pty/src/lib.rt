@@ -5,5 +5,3 @@
 pub use pty::{Pair, PtyFault};
 
 mod pty;
-#[cfg(test)]
-mod tests;

@@ -10,6 +10,4 @@ mod faults;
 pub mod laws;
 mod rest;
 mod running;
-#[cfg(test)]
-mod tests;
 mod world;

@@ -1,95 +1,8 @@
-//! Rows of keys and streams with the lines that they print, and streams that fail.
+//! Words, and readers and writers that fail.
 
-use crate::{Asked, CliFault, WordsFault, read_words, run_local, run_replay, run_words};
 use std::alloc::{AllocError, Global};
 use std::io::{self, ErrorKind, Read, Write};
-use std::process::Abort;
-
-mod worlds;
-
-fn local(alloc: Global, keys: &[u8]) -> Result<Vec<u8>, CliFault> {
-    let mut reader = keys;
-    let mut output = Vec::new(alloc);
-    run_local(alloc, &mut reader, &mut output)?;
-    Ok(output)
-}
-
-fn replay(alloc: Global, stream: &[u8]) -> Result<Vec<u8>, CliFault> {
-    let mut reader = stream;
-    let mut output = Vec::new(alloc);
-    run_replay(alloc, &mut reader, &mut output)?;
-    Ok(output)
-}
-
-// Want of memory is an ordinary answer; any other is compared.
-fn prints(rt: &impl Abort, printed: Result<Vec<u8>, CliFault>, wanted: &str) {
-    match printed {
-        Ok(printed) => assert!(rt;
-            printed.as_slice() == wanted.as_bytes(),
-            "{printed:?}, not {wanted}"
-        ),
-        Err(fault) => assert_eq!(rt; fault, CliFault::Memory),
-    }
-}
-
-#[test]
-fn keys_become_entries(rt: HostRuntime) {
-    let alloc = rt.alloc();
-    for (keys, wanted) in [
-        (b"".as_slice(), ""),
-        (b"ab\x7fc\r", "text 61630a\n"),
-        (b"\x7f\x15\x04", "eof\n"),
-        (b"a\x04\x04", "text 61\neof\n"),
-        (b"a\x03b\n", "signal int\ntext 61620a\n"),
-        (b"\x1c\x1a", "signal quit\nsignal tstp\n"),
-        (b"a\r\x7fb\r", "text 610a\ntext 620a\n"),
-        (b"ab", ""),
-    ] {
-        prints(&rt, local(alloc, keys), wanted);
-    }
-}
-
-#[test]
-fn a_full_line_drops_and_still_erases(rt: HostRuntime) {
-    let alloc = rt.alloc();
-    let mut keys = [b'a'; 257];
-    keys[254] = b'b';
-    keys[255] = 127;
-    keys[256] = b'\n';
-    match local(alloc, &keys) {
-        Ok(printed) => {
-            assert_eq!(rt; printed.len(), 5 + 2 * 254 + 1);
-            assert!(rt; printed.starts_with(b"text 6161"));
-            assert!(rt; printed.ends_with(b"61610a\n"));
-        },
-        Err(fault) => assert_eq!(rt; fault, CliFault::Memory),
-    }
-}
-
-#[test]
-fn a_stream_becomes_entries(rt: HostRuntime) {
-    let alloc = rt.alloc();
-    for (stream, wanted) in [
-        (b"\xff\xff\r\0".as_slice(), "text ff0a\n"),
-        (b"a\r", ""),
-        (b"a\r\xff\xfb\x01b\n", "text 610a\ntext 620a\n"),
-        (b"\r\r\0", "text 0a\ntext 0a\n"),
-        (b"\xff\xf0\xff\x41\x42\xff\xfa\xff\xf0\n", "text 420a\n"),
-        (b"\xff\xf6\xff\xfa\x22\x01\xff\xfb\x63a\n", "text 610a\n"),
-    ] {
-        prints(&rt, replay(alloc, stream), wanted);
-    }
-    let mut long = [b'A'; 608];
-    long[0] = 255;
-    long[1] = 250;
-    long[2] = 99;
-    long[603] = 255;
-    long[604] = 240;
-    long[605] = b'a';
-    long[606] = b'\r';
-    long[607] = 0;
-    prints(&rt, replay(alloc, &long), "text 610a\n");
-}
+use tn_cli::{Asked, CliFault, WordsFault, read_words, run_local, run_replay, run_words};
 
 #[test]
 fn words_ask_for_runs(rt: HostRuntime) {
@@ -152,10 +65,10 @@ impl Read for Broken {
 
 /// Takes one byte at a time, so many of them, and then none or fails.
 #[derive(Drop)]
-struct Narrow {
-    taken: Vec<u8>,
-    room: usize,
-    fails: bool,
+pub(crate) struct Narrow {
+    pub(crate) taken: Vec<u8>,
+    pub(crate) room: usize,
+    pub(crate) fails: bool,
 }
 
 impl Write for Narrow {
@@ -235,7 +148,7 @@ fn a_failed_write_leaves_a_front(rt: HostRuntime) {
     }
 }
 
-fn words_of(alloc: Global, word: &str) -> Result<Vec<String>, AllocError> {
+pub(crate) fn words_of(alloc: Global, word: &str) -> Result<Vec<String>, AllocError> {
     let mut words = Vec::new(alloc);
     words.push(String::from_str(alloc, "tn")?)?;
     words.push(String::from_str(alloc, word)?)?;

@@ -1,9 +1,9 @@
 //! Scripts with what they print, and where they stop.
 
-use super::Narrow;
-use crate::{CliFault, run_words, run_world};
+use super::programs::{Narrow, words_of};
 use std::alloc::{AllocError, Global};
 use std::process::Abort;
+use tn_cli::{CliFault, run_words, run_world};
 
 fn world(alloc: Global, script: &[u8], output: &mut Vec<u8>) -> Result<(), CliFault> {
     let mut reader = script;
@@ -261,7 +261,7 @@ fn the_line_of_a_fault_is_told(rt: HostRuntime) {
         (b"\nset el 7f\n", b"tn: line 2: refused\n", 3),
         (b"mark\n", b"", 0),
     ] {
-        let Ok(words) = super::words_of(alloc, "world") else {
+        let Ok(words) = words_of(alloc, "world") else {
             return;
         };
         let mut output = Vec::new(alloc);
