@@ -57,10 +57,7 @@ impl Server {
             Item::Newline => self.typed(10),
             Item::Cmd(command) => self.commanded(*command),
             Item::Neg(verb, option) => self.heard(*verb, *option),
-            Item::Sub(option, params) if self.options.is_on(false, *option) => {
-                self.told_by(*option, params.as_slice());
-            },
-            Item::Sub(..) => {},
+            Item::Sub(option, params) => self.told_by(*option, params.as_slice()),
         }
     }
 
@@ -154,6 +151,9 @@ impl Server {
 // What LINEMODE and NAWS say (RFC 1184, RFC 1073).
 impl Server {
     fn told_by(&mut self, option: u8, params: &[u8]) {
+        if !self.options.is_on(false, option) {
+            return;
+        }
         match (option, params) {
             (31, [wide, width, high, height]) => {
                 let width = u16::from_be_bytes([*wide, *width]);

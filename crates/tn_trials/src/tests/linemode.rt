@@ -105,8 +105,17 @@ impl Tables {
         match words.verb {
             "wish" => page.say(&self.server_mode.wish(mask)),
             "server-hears" => page.say(&self.server_mode.got(mask)),
-            "server-modes" => page.say(&(self.server_mode.asked(), self.server_mode.current())),
             "client-hears" => page.say(&self.client_mode.got(mask)),
+            _ => self.rest(words, page),
+        }
+    }
+
+    fn rest(&mut self, words: Words<'_>, page: &mut Page) {
+        match words.verb {
+            "server-modes" => {
+                page.say(&self.server_mode.asked());
+                page.say(&self.server_mode.current());
+            },
             "client-mode" => page.say(&self.client_mode.current()),
             _ => {
                 self.server_mode.reset();
@@ -163,7 +172,7 @@ fn a_mode_waits_for_its_acknowledgement(rt: HostRuntime) {
         rt.alloc(),
         "wish 3; wish 3; server-modes; server-hears 7; server-hears 1; server-hears 26; server-modes; \
          wish 8; reset; server-modes",
-        "Some(3); None; (3, 0); None; Some(true); Some(false); (3, 3); Some(0); (0, 0)",
+        "Some(3); None; 3; 0; None; Some(true); Some(false); 3; 3; Some(0); 0; 0",
     );
 }
 

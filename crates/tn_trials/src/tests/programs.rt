@@ -2,29 +2,34 @@
 
 use std::alloc::{AllocError, Global};
 use std::io::{self, ErrorKind, Read, Write};
+use std::process::Abort;
 use tn_cli::{Asked, CliFault, WordsFault, read_words, run_local, run_replay, run_words};
+
+fn asks(rt: &impl Abort, alloc: Global, words: &[&str], wanted: Option<Asked>) {
+    match read_words(alloc, words) {
+        Ok(asked) => assert_eq!(rt; Some(asked), wanted),
+        Err(WordsFault::Usage) => assert_eq!(rt; None, wanted),
+        Err(WordsFault::Memory) => {},
+        Err(WordsFault::Help(text)) => assert!(rt; false, "{text}"),
+    }
+}
 
 #[test]
 fn words_ask_for_runs(rt: HostRuntime) {
     let alloc = rt.alloc();
-    for (words, wanted) in [
-        (["tn", "local"].as_slice(), Some(Asked::Local)),
-        (&["tn", "replay"], Some(Asked::Replay)),
-        (&["tn"], None),
-        (&["tn", "frobnicate"], None),
-        (&["tn", "local", "x"], None),
-        (&["tn", "world"], Some(Asked::World)),
-        (&["tn", "world", "x"], None),
-        (&["tn", "serve"], None),
-    ] {
-        match read_words(alloc, words) {
-            Ok(asked) => assert_eq!(rt; Some(asked), wanted),
-            Err(WordsFault::Usage) => assert_eq!(rt; None, wanted),
-            Err(WordsFault::Memory) => {},
-            Err(WordsFault::Help(text)) => assert!(rt; false, "{text}"),
-        }
-    }
-    match read_words(alloc, &["tn", "replay", "--help"]) {
+    asks(&rt, alloc, &["tn", "local"], Some(Asked::Local));
+    asks(&rt, alloc, &["tn", "replay"], Some(Asked::Replay));
+    asks(&rt, alloc, &["tn", "world"], Some(Asked::World));
+    asks(&rt, alloc, &["tn"], None);
+    asks(&rt, alloc, &["tn", "frobnicate"], None);
+    asks(&rt, alloc, &["tn", "local", "x"], None);
+    asks(&rt, alloc, &["tn", "world", "x"], None);
+    asks(&rt, alloc, &["tn", "serve"], None);
+}
+
+#[test]
+fn words_ask_for_help(rt: HostRuntime) {
+    match read_words(rt.alloc(), &["tn", "replay", "--help"]) {
         Err(WordsFault::Help(text)) => assert!(rt;
             text.as_str().contains("Usage: tn replay"),
             "{text}"
