@@ -24,8 +24,6 @@ mod program;
 mod replay;
 mod scripts;
 mod streams;
-#[cfg(test)]
-mod tests;
 mod typing;
 mod words;
 mod world;

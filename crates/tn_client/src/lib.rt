@@ -18,10 +18,6 @@ mod faults;
 mod items;
 mod keys;
 pub mod laws;
-#[cfg(test)]
-mod plain;
 mod screen;
 mod sending;
 mod taking;
-#[cfg(test)]
-mod tests;

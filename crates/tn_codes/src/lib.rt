@@ -25,7 +25,5 @@ pub mod laws;
 mod masks;
 mod payloads;
 mod reading;
-#[cfg(test)]
-mod tests;
 mod triples;
 mod writing;

@@ -28,5 +28,3 @@ pub mod laws;
 mod line_limit;
 mod reads;
 mod termios;
-#[cfg(test)]
-mod tests;

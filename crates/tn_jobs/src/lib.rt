@@ -16,6 +16,4 @@ pub use verdicts::{After, JobState, Verdict, Why, judge};
 
 mod held_jobs;
 pub mod laws;
-#[cfg(test)]
-mod tests;
 mod verdicts;

@@ -23,6 +23,4 @@ pub mod laws;
 mod masks;
 mod server_mode;
 mod server_table;
-#[cfg(test)]
-mod tests;
 mod triples;

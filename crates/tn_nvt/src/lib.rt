@@ -24,9 +24,5 @@ mod items;
 pub mod laws;
 mod parameters;
 mod places;
-#[cfg(test)]
-mod run_tests;
 mod sinks;
-#[cfg(test)]
-mod tests;
 mod writing;

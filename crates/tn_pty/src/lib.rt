@@ -16,5 +16,3 @@
 pub use pty::{Pair, PtyFault};
 
 mod pty;
-#[cfg(test)]
-mod tests;

@@ -23,6 +23,4 @@ mod faults;
 pub mod laws;
 mod rest;
 mod running;
-#[cfg(test)]
-mod tests;
 mod world;

@@ -1,0 +1,195 @@
+//! Words, and readers and writers that fail.
+
+use std::alloc::{AllocError, Global};
+use std::io::{self, ErrorKind, Read, Write};
+use std::process::Abort;
+use tn_cli::{Asked, CliFault, WordsFault, read_words, run_local, run_replay, run_words};
+
+fn asks(rt: &impl Abort, alloc: Global, words: &[&str], wanted: Option<Asked>) {
+    match read_words(alloc, words) {
+        Ok(asked) => assert_eq!(rt; Some(asked), wanted),
+        Err(WordsFault::Usage) => assert_eq!(rt; None, wanted),
+        Err(WordsFault::Memory) => {},
+        Err(WordsFault::Help(text)) => assert!(rt; false, "{text}"),
+    }
+}
+
+#[test]
+fn words_ask_for_runs(rt: HostRuntime) {
+    let alloc = rt.alloc();
+    asks(&rt, alloc, &["tn", "local"], Some(Asked::Local));
+    asks(&rt, alloc, &["tn", "replay"], Some(Asked::Replay));
+    asks(&rt, alloc, &["tn", "world"], Some(Asked::World));
+    asks(&rt, alloc, &["tn"], None);
+    asks(&rt, alloc, &["tn", "frobnicate"], None);
+    asks(&rt, alloc, &["tn", "local", "x"], None);
+    asks(&rt, alloc, &["tn", "world", "x"], None);
+    asks(&rt, alloc, &["tn", "serve"], None);
+}
+
+#[test]
+fn words_ask_for_help(rt: HostRuntime) {
+    match read_words(rt.alloc(), &["tn", "replay", "--help"]) {
+        Err(WordsFault::Help(text)) => assert!(rt;
+            text.as_str().contains("Usage: tn replay"),
+            "{text}"
+        ),
+        Err(WordsFault::Memory) => {},
+        Err(WordsFault::Usage) | Ok(_) => assert!(rt; false, "no help"),
+    }
+}
+
+/// Gives zeros for ever, so many at a time.
+#[derive(Drop)]
+struct Endless(usize);
+
+impl Read for Endless {
+    fn read(&mut self, buf: &mut [u8]) -> io::Result<usize> {
+        let count = self.0.min(buf.len());
+        buf[..count].fill(0);
+        Ok(count)
+    }
+}
+
+/// Gives some keys, and then fails.
+#[derive(Drop)]
+struct Broken(bool);
+
+impl Read for Broken {
+    fn read(&mut self, buf: &mut [u8]) -> io::Result<usize> {
+        match buf.first_mut() {
+            Some(first) if !self.0 => {
+                *first = b'\n';
+                self.0 = true;
+                Ok(1)
+            },
+            _ => Err(io::Error::from(ErrorKind::Other)),
+        }
+    }
+}
+
+/// Takes one byte at a time, so many of them, and then none or fails.
+#[derive(Drop)]
+pub(crate) struct Narrow {
+    pub(crate) taken: Vec<u8>,
+    pub(crate) room: usize,
+    pub(crate) fails: bool,
+}
+
+impl Write for Narrow {
+    fn write(&mut self, buf: &[u8]) -> io::Result<usize> {
+        if self.taken.len() < self.room {
+            if let Some(first) = buf.first() {
+                self.taken.push(*first)?;
+                return Ok(1);
+            }
+        }
+        if self.fails {
+            Err(io::Error::from(ErrorKind::Other))
+        } else {
+            Ok(0)
+        }
+    }
+
+    fn flush(&mut self) -> io::Result<()> {
+        Ok(())
+    }
+}
+
+#[test]
+fn too_much_input_prints_nothing(rt: HostRuntime) {
+    let alloc = rt.alloc();
+    for step in [1, 4_000] {
+        let mut output = Vec::new(alloc);
+        match run_local(alloc, &mut Endless(step), &mut output) {
+            Err(fault) => assert_eq!(rt; fault, CliFault::TooLong),
+            Ok(()) => assert!(rt; false),
+        }
+        assert!(rt; output.is_empty());
+        match run_replay(alloc, &mut Endless(step), &mut output) {
+            Err(fault) => assert_eq!(rt; fault, CliFault::TooLong),
+            Ok(()) => assert!(rt; false),
+        }
+        assert!(rt; output.is_empty());
+    }
+}
+
+#[test]
+fn a_failed_read_prints_nothing(rt: HostRuntime) {
+    let alloc = rt.alloc();
+    let mut output = Vec::new(alloc);
+    match run_replay(alloc, &mut Broken(false), &mut output) {
+        Err(fault) => assert!(rt; fault == CliFault::Read || fault == CliFault::Memory),
+        Ok(()) => assert!(rt; false),
+    }
+    assert!(rt; output.is_empty());
+}
+
+#[test]
+fn a_failed_write_leaves_a_front(rt: HostRuntime) {
+    let alloc = rt.alloc();
+    for room in 0..8 {
+        for fails in [true, false] {
+            let mut writer = Narrow {
+                taken: Vec::new(alloc),
+                room,
+                fails,
+            };
+            let outcome = run_local(alloc, &mut b"a\n".as_slice(), &mut writer);
+            match outcome {
+                Err(fault) => assert!(rt; fault == CliFault::Write || fault == CliFault::Memory),
+                Ok(()) => assert!(rt; false),
+            }
+            assert!(rt; b"text 610a\n".starts_with(writer.taken.as_slice()));
+        }
+    }
+    let mut writer = Narrow {
+        taken: Vec::new(alloc),
+        room: 100,
+        fails: true,
+    };
+    if run_local(alloc, &mut b"a\n".as_slice(), &mut writer).is_ok() {
+        assert!(rt; writer.taken.as_slice() == b"text 610a\n".as_slice());
+    }
+}
+
+pub(crate) fn words_of(alloc: Global, word: &str) -> Result<Vec<String>, AllocError> {
+    let mut words = Vec::new(alloc);
+    words.push(String::from_str(alloc, "tn")?)?;
+    words.push(String::from_str(alloc, word)?)?;
+    Ok(words)
+}
+
+#[test]
+fn faults_are_told_in_a_line(rt: HostRuntime) {
+    let alloc = rt.alloc();
+    for (word, room, told, status) in [
+        ("frobnicate", 100, b"tn: usage\n".as_slice(), 2),
+        ("local", 100, b"", 0),
+        ("local", 0, b"tn: write\n", 1),
+        ("--help", 0, b"tn: write\n", 1),
+    ] {
+        let Ok(words) = words_of(alloc, word) else {
+            return;
+        };
+        let mut errors = Vec::new(alloc);
+        let mut writer = Narrow {
+            taken: Vec::new(alloc),
+            room,
+            fails: true,
+        };
+        let ended = run_words(
+            alloc,
+            &words,
+            &mut b"a\n".as_slice(),
+            &mut writer,
+            &mut errors,
+        );
+        if errors.as_slice() == b"tn: memory\n".as_slice() {
+            assert_eq!(rt; ended, 1);
+        } else {
+            assert_eq!(rt; ended, status);
+            assert!(rt; errors.is_empty() || errors.as_slice() == told);
+        }
+    }
+}
