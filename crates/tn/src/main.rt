@@ -36,7 +36,7 @@ fn status_of<R: Read, W: Write, E: Write>(
     ensures had { result ≡ 0 → IsOk words }
     ensures done { result ≡ 0 → IfOk words (λ words.
         DoesAsAsked (map string_bytes words.items)
-            (R.remaining reader.old) (W.contents writer.old) (W.contents writer.new)) }
+        (R.remaining reader.old) (W.contents writer.old) (W.contents writer.new)) }
 {
     match words {
         Ok(words) => run_words(alloc, &words, reader, writer, errors),

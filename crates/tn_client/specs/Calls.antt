@@ -88,7 +88,8 @@ pub record RefusesItem (old : End) (item : Item) (before after seen now : List �
   pub refused : (h : History) → LeadsTo h old → IsRefused h item part
 
 -- Some items, one after another: where the end stands, what it said and what it showed.
-pub record AdvancesAll (old : End) (items : List Item) (before after seen now : List ℕ) (new : End) : Type 0 where
+pub record AdvancesAll (old : End) (items : List Item) (before after seen now : List ℕ)
+    (new : End) : Type 0 where
   pub said : List Item
   pub text : List ℕ
   pub appended : after ≡ before ++ spells said
@@ -131,7 +132,8 @@ pub record StopsWithin (old : End) (piece before after seen now : List ℕ) : Ty
   pub displayed : now ≡ seen ++ text
   pub sends : (h : History) → LeadsTo h old → items_said (gets h done) ≡ items_said h ++ said
   pub shows : (h : History) → LeadsTo h old → text_shown (gets h done) ≡ text_shown h ++ text
-  pub why : (h : History) (stream : List ℕ) (had : List Item) → LeadsTo h old → nvt.LeadsTo stream had old.decoder
+  pub why : (h : History) (stream : List ℕ) (had : List Item) → LeadsTo h old
+      → nvt.LeadsTo stream had old.decoder
       → IsStopCause (gets h done) left part here back
 
 -- why a call is refused whatever memory there is: the end has failed before

@@ -28,8 +28,10 @@ role_at h key = role_of_typed (mode h) (chars h) key
 -- the roles of the keys that were typed since EDIT began, each by the mode and the characters that it met
 abbrev pub edited_roles : History → List Role
 edited_roles (begun width height limit) = []
-edited_roles (next h (typed key)) = if edits (mode h) then edited_roles h ++ roles_from (role_at h key) else []
-edited_roles (next h (got item)) = if edits (mode h) && edits (mode (next h (got item))) then edited_roles h else []
+edited_roles (next h (typed key)) =
+    if edits (mode h) then edited_roles h ++ roles_from (role_at h key) else []
+edited_roles (next h (got item)) =
+    if edits (mode h) && edits (mode (next h (got item))) then edited_roles h else []
 edited_roles (next h _) = edited_roles h
 
 -- how many bytes a line has at most, with its closing byte

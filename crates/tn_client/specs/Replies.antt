@@ -67,7 +67,8 @@ edited_key_items (role.Eol byte) l = byte_items l.held ++ Byte byte ∷ []
 edited_key_items (role.Eol2 byte) l = byte_items l.held ++ Byte byte ∷ []
 edited_key_items role.Eof l = byte_items l.held ++ command_items (command_of role.Eof)
 edited_key_items (role.Signal sig) l = command_items (command_of (role.Signal sig))
-edited_key_items role.Erase l = if not (has_held l) && has_ahead l then command_items (command_of role.Erase) else []
+edited_key_items role.Erase l =
+    if not (has_held l) && has_ahead l then command_items (command_of role.Erase) else []
 edited_key_items role.Kill l = if has_ahead l then command_items (command_of role.Kill) else []
 edited_key_items role.Ignored l = []
 edited_key_items (role.Ordinary byte) l = []
@@ -95,7 +96,8 @@ payload_answers m c _ = []
 -- the answer to an item
 abbrev pub answer_items : Options → ℕ → Characters → ℕ × ℕ → Item → List Item
 answer_items o m c z (Neg verb option) =
-    word_items (reply_to o verb option) ++ new_size_items (tells_size o) (tells_size (options_after o (Neg verb option))) z
+    word_items (reply_to o verb option)
+    ++ new_size_items (tells_size o) (tells_size (options_after o (Neg verb option))) z
 answer_items o m c z (Sub option params) = payload_answers m c (payload_at o (Sub option params))
 answer_items o m c z _ = []
 
@@ -107,7 +109,8 @@ end_of_edit_items false after bytes = []
 
 -- what an item makes the client say
 abbrev pub item_replies : Options → ℕ → Characters → ℕ × ℕ → HalfLine → Item → List Item
-item_replies o m c z l item = end_of_edit_items (edits m) (edits (mode_at o m item)) l.held ++ answer_items o m c z item
+item_replies o m c z l item =
+    end_of_edit_items (edits m) (edits (mode_at o m item)) l.held ++ answer_items o m c z item
 
 abbrev pub is_same_size : ℕ × ℕ → ℕ × ℕ → Bool
 is_same_size (a, b) (c, d) = a == c && b == d

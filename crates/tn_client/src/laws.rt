@@ -48,10 +48,12 @@ pub fn course_fed()
     ensures at { (c : Course) (old new : End) (piece before after seen now : List ℕ) → CourseLeadsTo c old →
         Feeds old piece before after seen now new → CourseLeadsTo (fed c piece) new }
     ensures said { (c : Course) (old new : End) (piece before after seen now : List ℕ) (h k : History) →
-        CourseLeadsTo c old → (f : Feeds old piece before after seen now new) → ReadsAs c h → ReadsAs (fed c piece) k →
+        CourseLeadsTo c old → (f : Feeds old piece before after seen now new) → ReadsAs c h →
+        ReadsAs (fed c piece) k →
         items_said k ≡ items_said h ++ f.said }
     ensures displayed { (c : Course) (old new : End) (piece before after seen now : List ℕ) (h k : History) →
-        CourseLeadsTo c old → (f : Feeds old piece before after seen now new) → ReadsAs c h → ReadsAs (fed c piece) k →
+        CourseLeadsTo c old → (f : Feeds old piece before after seen now new) → ReadsAs c h →
+        ReadsAs (fed c piece) k →
         text_shown k ≡ text_shown h ++ f.text }
 {}
 

@@ -30,7 +30,7 @@ DropsExactly line roles e =
     (history : List Role) → LeadsTo history line
     → (e ≡ Dropped)
     ↔ ((0 < length roles)
-        × (admitted_roles line.limit (history ++ roles) ≡ admitted_roles line.limit history))
+    × (admitted_roles line.limit (history ++ roles) ≡ admitted_roles line.limit history))
 
 -- The same as `Advances`, from the old line alone: whatever bytes were handed on, these keys leave as many as
 -- are ahead in the new line, followed by those that it holds.

@@ -28,7 +28,7 @@ piece_entries piece = signals piece.keys ++ line_of (kept_bytes piece.keys ++ pi
 abbrev pub entries_of : ℕ → List Role → List Entry
 entries_of limit roles =
     let pieces = pieces_of (admitted_roles limit roles) in
-        flat_map piece_entries pieces.closed ++ signals pieces.last
+    flat_map piece_entries pieces.closed ++ signals pieces.last
 
 -- the half line that these keys leave
 abbrev pub half_of : ℕ → List Role → List ℕ

@@ -80,7 +80,7 @@ abbrev pub literal_role : Characters → ℕ → Role
 literal_role chars byte =
     if byte == 10 then Nl else
     (if is_set_to chars.eol byte then Eol byte
-        else (if is_set_to chars.eol2 byte then Eol2 byte else Ordinary byte))
+    else (if is_set_to chars.eol2 byte then Eol2 byte else Ordinary byte))
 
 -- the roles that one role stands for: none for Ignored
 abbrev pub roles_from : Role → List Role

@@ -74,7 +74,8 @@ without_character c (Some byte) = with_each (λ character. cleared_character cha
 abbrev pub client_takes : Characters → Saying → Characters
 client_takes c Standard = c
 client_takes c Table = c
-client_takes c (Character f value) = if is_line_end value then c else with_slot (without_character c value) f value
+client_takes c (Character f value) =
+    if is_line_end value then c else with_slot (without_character c value) f value
 client_takes c (Unsupported code) = c
 client_takes c Nothing = c
 

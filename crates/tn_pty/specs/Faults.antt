@@ -18,5 +18,5 @@ abbrev pub Refuses : Terminal → Role → PtyFault → Terminal → Type 0
 Refuses old r Closed new = (old.closed ≡ true) × (new ≡ old)
 Refuses old r TooFarAhead new =
     (old.closed ≡ false) × (gives_entry r ≡ true) × (length old.entries ≡ most_waiting)
-        × (new ≡ shut_terminal old)
+    × (new ≡ shut_terminal old)
 Refuses old r Memory new = Accepts old r × GivesText old.line r × (new ≡ shut_terminal old)

@@ -28,7 +28,7 @@ symbols_in (Some symbol ∷ rest) = symbol ∷ symbols_in rest
 abbrev pub echo_symbols : Bool → Settings → ℕ → HalfLine → List Symbol
 echo_symbols echo settings key line =
     let r = role_of_key settings key in
-        if echo then symbols_in (echo_at settings.flags r (effect_of line r)) else []
+    if echo then symbols_in (echo_at settings.flags r (effect_of line r)) else []
 
 -- the terminal after a key or command of this role, which is answered by these symbols
 abbrev pub terminal_after : Terminal → Role → List Symbol → Terminal

@@ -156,7 +156,7 @@ impl Pair {
     pub fn command(&mut self, command: Command) -> Result<(), PtyFault>
         ensures advances { let role = command_role command in
             OnOk result
-                (Advances self.old.line (roles_from role) (gain_of self.old.line role) self.new.line) }
+            (Advances self.old.line (roles_from role) (gain_of self.old.line role) self.new.line) }
         ensures pair { OnOk result
             (self.new ≡ terminal_after self.old (command_role command) (command_shows command)) }
         ensures accepted { OnOk result (Accepts self.old (command_role command)) }

@@ -60,7 +60,8 @@ pub record ReadsNothing (old new : End) : Type 0 where
   pub failed : new.failed ≡ old.failed
 
 -- An item was refused: the end stands where it stood, and what was appended spells a front of the replies.
-pub record RefusesItem (old : End) (item : Item) (fault : ServerFault) (before after : List ℕ) (new : End) : Type 0 where
+pub record RefusesItem (old : End) (item : Item) (fault : ServerFault) (before after : List ℕ)
+    (new : End) : Type 0 where
   pub said : List Item
   pub appended : after ≡ before ++ spells said
   pub front : (h : History) → LeadsTo h old → (rest : List Item) × (replies h (got item) ≡ said ++ rest)
@@ -76,7 +77,8 @@ pub record AdvancesAll (old : End) (items : List Item) (before after : List ℕ)
   pub closed : new.terminal.closed ≡ old.terminal.closed
 
 -- Some items came: those before one of them were done, and that one was refused.
-pub record StopsWithinItems (old : End) (items : List Item) (fault : ServerFault) (before after : List ℕ) (new : End) : Type 0 where
+pub record StopsWithinItems (old : End) (items : List Item) (fault : ServerFault) (before after : List ℕ)
+    (new : End) : Type 0 where
   pub done : List Item
   pub item : Item
   pub left : List Item
@@ -109,7 +111,8 @@ IsStopCause h (item ∷ left) here back f = IsCause h item f
 
 -- A piece was refused: of the items of a front of it some were done, and what was appended spells the replies to them,
 -- and a front of those to the next.
-pub record StopsWithin (old : End) (piece : List ℕ) (fault : ServerFault) (before after : List ℕ) (new : End) : Type 0 where
+pub record StopsWithin (old : End) (piece : List ℕ) (fault : ServerFault) (before after : List ℕ)
+    (new : End) : Type 0 where
   pub front : List ℕ
   pub back : List ℕ
   pub whole : piece ≡ front ++ back
@@ -121,8 +124,10 @@ pub record StopsWithin (old : End) (piece : List ℕ) (fault : ServerFault) (bef
   pub part : List Item
   pub appended : after ≡ before ++ spells (said ++ part)
   pub sends : (h : History) → LeadsTo h old → items_said (gets h done) ≡ items_said h ++ said
-  pub begins : (h : History) → LeadsTo h old → (rest : List Item) × (first_replies (gets h done) left ≡ part ++ rest)
-  pub cause : old.decoder ≢ failed → (h : History) → LeadsTo h old → IsStopCause (gets h done) left here back fault
+  pub begins : (h : History) → LeadsTo h old
+      → (rest : List Item) × (first_replies (gets h done) left ≡ part ++ rest)
+  pub cause : old.decoder ≢ failed → (h : History) → LeadsTo h old
+      → IsStopCause (gets h done) left here back fault
   pub stands : (h : History) → LeadsTo h old → LeadsTo (gets h done) new
 
 -- why a call is refused whatever memory there is: the end has failed before
@@ -131,4 +136,5 @@ call_fault end = if end.failed then Some fault.Failed else None
 
 -- or the terminal can't have the character
 abbrev pub char_fault_at : End → Func → Option ℕ → Option ServerFault
-char_fault_at end func value = if end.failed then Some fault.Failed else option_map fault.Char (char_fault end.table func value)
+char_fault_at end func value =
+    if end.failed then Some fault.Failed else option_map fault.Char (char_fault end.table func value)

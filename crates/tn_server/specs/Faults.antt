@@ -20,7 +20,8 @@ SaysSomething h e = replies h e ≢ []
 -- why an item is refused: too many entries wait for the one that it makes; memory is wanting for the text of a line, for
 -- what is to be sent, or for a list
 abbrev pub IsCause : History → Item → ServerFault → Type 0
-IsCause h item (Pty pty.TooFarAhead) = (gives_entry (role_of_item h item) ≡ true) × (length (waiting h) ≡ most_waiting)
+IsCause h item (Pty pty.TooFarAhead) =
+    (gives_entry (role_of_item h item) ≡ true) × (length (waiting h) ≡ most_waiting)
 IsCause h item (Pty pty.Memory) = GivesText (line h) (role_of_item h item)
 IsCause h item (Pty pty.Closed) = Unit {0}
 IsCause h item Memory = SaysSomething h (got item) ⊎ IsList (payload_at (options h) item)

@@ -47,7 +47,8 @@ line h = record { held = half h; ahead = 0; limit = limit h }
 -- how many entries were taken
 abbrev pub taken_count : History → ℕ
 taken_count (begun canon) = 0
-taken_count (next h took) = if nat_lt (taken_count h) (length (entries h)) then taken_count h + 1 else taken_count h
+taken_count (next h took) =
+    if nat_lt (taken_count h) (length (entries h)) then taken_count h + 1 else taken_count h
 taken_count (next h _) = taken_count h
 
 -- the entries that nobody has taken yet

@@ -57,12 +57,15 @@ items_by f c t o editing set =
 
 -- what an event makes it say: the word that answers first
 abbrev pub items_at : Flags → Characters → Terms → Event → List Item
-items_at f c t e = reply_items t.options e ++ items_by f c t (options_after t.options e) (wish_at t.options e) (is_echo_set e)
+items_at f c t e =
+    reply_items t.options e
+    ++ items_by f c t (options_after t.options e) (wish_at t.options e) (is_echo_set e)
 
 -- the answers to a list of local characters, and then the table if the list asks for it
 abbrev pub list_replies : Characters → Option Payload → List Item
 list_replies c (Some (Slc triples)) =
-    list_items (server_answers c triples) ++ table_items (server_is_asked triples) (chars_after c (Some (Slc triples)))
+    list_items (server_answers c triples)
+    ++ table_items (server_is_asked triples) (chars_after c (Some (Slc triples)))
 list_replies c _ = []
 
 -- the triple of a character, where it is to be told
@@ -85,7 +88,8 @@ data_of symbol.Newline = Newline
 
 -- what an event makes the server send
 abbrev pub replies : History → Event → List Item
-replies h (got item) = items_at (flags h) (chars h) (terms h) (got item) ++ list_replies (chars h) (payload_at (options h) item)
+replies h (got item) =
+    items_at (flags h) (chars h) (terms h) (got item) ++ list_replies (chars h) (payload_at (options h) item)
 replies h took = if sends_ga (none_waits h) (options h) (due h) then Cmd Ga ∷ [] else []
 replies h (wrote bytes) = []
 replies h (pulled n) = map data_of (take n (queue h))

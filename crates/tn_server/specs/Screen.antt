@@ -32,7 +32,8 @@ abbrev pub queue : History → List Symbol
 queue (begun canon) = []
 queue (next h (got item)) =
     queue_with (queue h) (shows (settings h) (edits (mode h)) (echoes (options h)) (line h) item)
-queue (next h (wrote bytes)) = queue h ++ output_symbols (settings h).flags (take (fitting_count (queue h) bytes) bytes)
+queue (next h (wrote bytes)) =
+    queue h ++ output_symbols (settings h).flags (take (fitting_count (queue h) bytes) bytes)
 queue (next h (pulled n)) = drop n (queue h)
 queue (next h _) = queue h
 

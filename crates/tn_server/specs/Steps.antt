@@ -5,6 +5,7 @@ use Rattle.tn_codes.specs.declared.codes.Verb.{Verb}
 use Rattle.tn_codes.specs.declared.payloads.Payload.{Payload}
 use Rattle.tn_codes.specs.declared.payloads.Payload.TheVariants.{Naws, Mode, Slc}
 use Rattle.tn_codes.specs.declared.triples.Triple.{Triple}
+use Rattle.tn_discipline.specs.declared.termios.Settings.{Settings}
 use Rattle.tn_discipline.specs.Characters.{Characters}
 use Rattle.tn_discipline.specs.HalfLine.{GivesText}
 use Rattle.tn_discipline.specs.Keys.{gives_entry}
@@ -42,10 +43,12 @@ modes_asked true m wish = modes_after_wish m wish
 modes_asked false m wish = m
 
 abbrev pub told_now : Bool → Negotiation → Option ℕ
-told_now was n = modes_told (linemode n.options) (modes_before (differ was (linemode n.options)) n.modes) n.wish
+told_now was n =
+    modes_told (linemode n.options) (modes_before (differ was (linemode n.options)) n.modes) n.wish
 
 abbrev pub masks_by : Bool → Negotiation → Modes
-masks_by was n = modes_asked (linemode n.options) (modes_before (differ was (linemode n.options)) n.modes) n.wish
+masks_by was n =
+    modes_asked (linemode n.options) (modes_before (differ was (linemode n.options)) n.modes) n.wish
 
 -- the server asks for its ECHO
 abbrev pub is_due : Bool → Bool → Negotiation → Bool
@@ -53,12 +56,14 @@ is_due was set n = differ was (linemode n.options) || (is_some (told_now was n) 
 
 abbrev pub negotiation_after : Bool → Bool → Flags → Negotiation → Negotiation
 negotiation_after was set f n =
-    record n { modes = masks_by was n; options = options_with_echo (is_due was set n) (wants_echo (masks_by was n).asked f) n.options }
+    let wanted = wants_echo (masks_by was n).asked f in
+    record n { modes = masks_by was n; options = options_with_echo (is_due was set n) wanted n.options }
 
 abbrev pub negotiation_items : Bool → Bool → Flags → Characters → Negotiation → List Item
 negotiation_items was set f c n =
     new_table_items was (linemode n.options) c
-    ++ (mode_items (told_now was n) ++ echo_items (is_due was set n) (wants_echo (masks_by was n).asked f) n.options)
+    ++ (mode_items (told_now was n)
+    ++ echo_items (is_due was set n) (wants_echo (masks_by was n).asked f) n.options)
 
 -- the part of an end that it negotiates
 abbrev pub negotiation_of : End → Negotiation
@@ -69,16 +74,20 @@ with_negotiated old n = record old { terms = record { options = n.options; wish 
 
 -- the end after an option word, and what it says to it
 abbrev pub negotiation_heard : End → Verb → ℕ → Negotiation
-negotiation_heard old verb option = record (negotiation_of old) { options = options_after_word old.terms.options verb option }
+negotiation_heard old verb option =
+    record (negotiation_of old) { options = options_after_word old.terms.options verb option }
 
 abbrev pub end_after_word : End → Verb → ℕ → End
 end_after_word old verb option =
-    with_negotiated old (negotiation_after (linemode old.terms.options) false old.terminal.settings.flags (negotiation_heard old verb option))
+    with_negotiated old
+    (negotiation_after (linemode old.terms.options) false old.terminal.settings.flags
+    (negotiation_heard old verb option))
 
 abbrev pub says_words : End → Verb → ℕ → List Item
 says_words old verb option =
     word_items (reply_to old.terms.options verb option)
-    ++ negotiation_items (linemode old.terms.options) false old.terminal.settings.flags old.table (negotiation_heard old verb option)
+    ++ negotiation_items (linemode old.terms.options) false old.terminal.settings.flags old.table
+    (negotiation_heard old verb option)
 
 -- the end after a wish that is allowed
 abbrev pub negotiation_wishing : End → ℕ → Negotiation
@@ -87,12 +96,15 @@ negotiation_wishing old mask = record (negotiation_of old) { wish = mask }
 abbrev pub end_after_wish : End → Option ℕ → End
 end_after_wish old None = old
 end_after_wish old (Some mask) =
-    with_negotiated old (negotiation_after (linemode old.terms.options) false old.terminal.settings.flags (negotiation_wishing old mask))
+    with_negotiated old
+    (negotiation_after (linemode old.terms.options) false old.terminal.settings.flags
+    (negotiation_wishing old mask))
 
 abbrev pub says_wished : End → Option ℕ → List Item
 says_wished old None = []
 says_wished old (Some mask) =
-    negotiation_items (linemode old.terms.options) false old.terminal.settings.flags old.table (negotiation_wishing old mask)
+    negotiation_items (linemode old.terms.options) false old.terminal.settings.flags old.table
+    (negotiation_wishing old mask)
 
 -- a MODE is sent for it
 abbrev pub sends_wished : End → Option ℕ → Bool
@@ -121,7 +133,8 @@ says_mode_got old mask = says_mode_by old (wish_of_mask mask)
 -- the end with other characters
 abbrev pub with_chars : End → Characters → End
 with_chars old c =
-    record old { table = c; terminal = record (old.terminal) { settings = record { flags = old.terminal.settings.flags; chars = c } } }
+    let settings : Settings = record { flags = old.terminal.settings.flags; chars = c } in
+    record old { table = c; terminal = record (old.terminal) { settings = settings } }
 
 -- the end after a list of local characters
 abbrev pub end_after_list : End → List Triple → End
@@ -129,7 +142,8 @@ end_after_list old triples = with_chars old (server_after old.table triples)
 
 -- the end after a payload, and what it says to it
 abbrev pub end_after_payload : End → Option Payload → End
-end_after_payload old (Some (Naws width height)) = record old { terminal = record (old.terminal) { width = width; height = height } }
+end_after_payload old (Some (Naws width height)) =
+    record old { terminal = record (old.terminal) { width = width; height = height } }
 end_after_payload old (Some (Mode mask)) = end_after_mode old mask
 end_after_payload old (Some (Slc triples)) = end_after_list old triples
 end_after_payload old _ = old
@@ -161,17 +175,20 @@ abbrev pub end_after_byte : End → ℕ → End
 end_after_byte old byte =
     let t = old.terminal in
     let edit = edits old.modes.current in
-    record old { terminal = terminal_after t (role_of_typed old byte) (byte_shows t.settings edit (echoes old.terms.options) t.line byte) }
+    let symbols = byte_shows t.settings edit (echoes old.terms.options) t.line byte in
+    record old { terminal = terminal_after t (role_of_typed old byte) symbols }
 
 abbrev pub end_after_command : End → Command → End
-end_after_command old command = record old { terminal = terminal_after old.terminal (command_role command) (command_shows command) }
+end_after_command old command =
+    record old { terminal = terminal_after old.terminal (command_role command) (command_shows command) }
 
 -- what an item does to the terminal
 abbrev pub terminal_after_item : End → Item → Option Payload → Terminal
 terminal_after_item old item payload =
     let t = old.terminal in
     let edit = edits old.modes.current in
-    record (terminal_after t (role_at t.settings edit item) (shows t.settings edit (echoes old.terms.options) t.line item)) {
+    let symbols = shows t.settings edit (echoes old.terms.options) t.line item in
+    record (terminal_after t (role_at t.settings edit item) symbols) {
       settings = record { flags = t.settings.flags; chars = chars_after old.table payload };
       width = (size_after (t.width, t.height) payload).0;
       height = (size_after (t.width, t.height) payload).1;
@@ -188,7 +205,10 @@ end_after_item old item =
     let payload = payload_at old.terms.options item in
     record old {
       terms = t;
-      modes = record { asked = asked_mask_of t.options t.wish; current = mask_after (changes old.terms.options t.options) old.modes.current payload };
+      modes = record {
+        asked = asked_mask_of t.options t.wish;
+        current = mask_after (changes old.terms.options t.options) old.modes.current payload;
+      };
       table = chars_after old.table payload;
       terminal = terminal_after_item old item payload;
     }
@@ -196,4 +216,5 @@ end_after_item old item =
 -- what it says to the item
 abbrev pub says_got : End → Item → List Item
 says_got old item =
-    items_at old.terminal.settings.flags old.table old.terms (got item) ++ list_replies old.table (payload_at old.terms.options item)
+    items_at old.terminal.settings.flags old.table old.terms (got item)
+    ++ list_replies old.table (payload_at old.terms.options item)

@@ -25,7 +25,11 @@ agreement =
 -- the options after the opening wishes, in their order
 abbrev pub opening_options : Options
 opening_options =
-    options_after_wish (options_after_wish (options_after_wish (options_after_wish (options_after_wish (new_options agreement) Them 34 true) Them 31 true) Us 3 true) Them 3 true) Us 1 true
+    options_after_wish
+    (options_after_wish
+    (options_after_wish
+    (options_after_wish (options_after_wish (new_options agreement) Them 34 true) Them 31 true) Us 3 true)
+    Them 3 true) Us 1 true
 
 abbrev pub linemode : Options → Bool
 linemode o = is_yes (state_of o Them 34)
@@ -133,7 +137,8 @@ abbrev pub terms_by : Flags → Terms → Options → Option Editing → Bool �
 terms_by f t o editing set =
     let wish = wish_after f t.wish editing in
     record {
-      options = options_with_echo (asks_echo t.options o (mask_told t o wish) set) (wants_echo (asked_mask_of o wish) f) o;
+      options = options_with_echo (asks_echo t.options o (mask_told t o wish) set)
+          (wants_echo (asked_mask_of o wish) f) o;
       wish = wish;
     }
 
@@ -162,7 +167,8 @@ mask_after false mode _ = mode
 
 abbrev pub mode : History → ℕ
 mode (begun canon) = 0
-mode (next h (got item)) = mask_after (changes (options h) (options (next h (got item)))) (mode h) (payload_at (options h) item)
+mode (next h (got item)) =
+    mask_after (changes (options h) (options (next h (got item)))) (mode h) (payload_at (options h) item)
 mode (next h _) = mode h
 
 abbrev pub chars_after : Characters → Option Payload → Characters
@@ -181,4 +187,5 @@ settings h = record { flags = flags h; chars = chars h }
 
 -- a wish for this sends a MODE
 abbrev pub sends_mode : History → Editing → Bool
-sends_mode h editing = is_some (mask_told (terms h) (options h) (wish_after (flags h) (terms h).wish (Some editing)))
+sends_mode h editing =
+    is_some (mask_told (terms h) (options h) (wish_after (flags h) (terms h).wish (Some editing)))

@@ -57,7 +57,16 @@ impl Model for ServerEnd {
 
     ghost Value = { End };
 
-    ghost view = { λ e. record { decoder = e.decoder; terms = record { options = e.terms.options; wish = e.terms.wish }; modes = e.terms.modes; table = e.table; terminal = e.pair; pulled = e.pulled; failed = e.failed } };
+    ghost view = { λ e.
+        record {
+          decoder = e.decoder;
+          terms = record { options = e.terms.options; wish = e.terms.wish };
+          modes = e.terms.modes;
+          table = e.table;
+          terminal = e.pair;
+          pulled = e.pulled;
+          failed = e.failed;
+        } };
 }
 
 impl ServerEnd {
@@ -69,7 +78,8 @@ impl ServerEnd {
         limit: Limit,
         out: &mut Vec<u8>,
     ) -> Result<ServerEnd, ServerFault>
-        ensures stands { IfOk result (λ end. LeadsTo (begun (record { settings = settings; limit = limit })) end) }
+        ensures stands { IfOk result (λ end.
+            LeadsTo (begun (record { settings = settings; limit = limit })) end) }
         ensures reads { IfOk result (λ end. nvt.LeadsTo [] [] end.decoder) }
         ensures runs { IfOk result (λ end. end.failed ≡ false) }
         ensures opens { IfOk result (λ end. end.terminal.closed ≡ false) }
@@ -105,7 +115,8 @@ impl ServerEnd {
         ensures failed { IsErrOf result ServerFault.Failed ↔ (self.old.failed ≡ true) }
         ensures failed_stays { IsErrOf result ServerFault.Failed → self.new ≡ self.old }
         ensures failed_appends { IsErrOf result ServerFault.Failed → out.new.items ≡ out.old.items }
-        ensures halts { IfErr result (λ fault. IsOfItem fault → StopsWithin self.old piece.now fault out.old.items out.new.items self.new) }
+        ensures halts { IfErr result (λ fault. IsOfItem fault →
+            StopsWithin self.old piece.now fault out.old.items out.new.items self.new) }
         ensures err { OnErr result (self.new.failed ≡ true) }
         ensures no_char { (fault : CharFault) → result ≢ Err (ServerFault.Char fault) }
         ensures shut { IsErrOf result (ServerFault.Pty Closed) → self.old.terminal.closed ≡ true }
@@ -144,7 +155,8 @@ impl ServerEnd {
     pub fn take(&mut self, out: &mut Vec<u8>) -> Result<Option<Entry>, ServerFault>
         ensures ok { OnOk result (Advances self.old took out.old.items out.new.items self.new) }
         ensures keeps { OnOk result (ReadsNothing self.old self.new) }
-        ensures entry { IfOk result (λ entry. (h : History) → LeadsTo h self.old → MatchOption entry (waiting h ≡ []) (λ e. waiting h ≡ e ∷ waiting (next h took))) }
+        ensures entry { IfOk result (λ entry. (h : History) → LeadsTo h self.old →
+            MatchOption entry (waiting h ≡ []) (λ e. waiting h ≡ e ∷ waiting (next h took))) }
         ensures err { OnErr result (self.new ≡ self.old) }
         ensures err_appends { OnErr result (out.new.items ≡ out.old.items) }
         ensures fault { IfErr result (λ fault. fault ≡ ServerFault.Memory) }
@@ -178,7 +190,8 @@ impl ServerEnd {
         ensures ok { IfOk result (λ n. Advances self.old (pulled n) out.old.items out.new.items self.new) }
         ensures keeps { OnOk result (ReadsNothing self.old self.new) }
         ensures grows { OnErr result ((h : History) → LeadsTo h self.old → SaysSomething h (pulled max)) }
-        ensures count { IfOk result (λ n. (h : History) → LeadsTo h self.old → n ≡ min max (length (queue h))) }
+        ensures count { IfOk result (λ n. (h : History) → LeadsTo h self.old →
+            n ≡ min max (length (queue h))) }
         ensures err { OnErr result (self.new ≡ self.old) }
         ensures err_appends { OnErr result (out.new.items ≡ out.old.items) }
         ensures fault { IfErr result (λ fault. fault ≡ ServerFault.Memory) }
@@ -208,8 +221,10 @@ impl ServerEnd {
     pub fn wish(&mut self, editing: Editing, out: &mut Vec<u8>) -> Result<bool, ServerFault>
         ensures ok { OnOk result (Advances self.old (wished editing) out.old.items out.new.items self.new) }
         ensures keeps { OnOk result (ReadsNothing self.old self.new) }
-        ensures grows { IsErrOf result ServerFault.Memory → (h : History) → LeadsTo h self.old → SaysSomething h (wished editing) }
-        ensures sent { IfOk result (λ sent. (h : History) → LeadsTo h self.old → sent ≡ sends_mode h editing) }
+        ensures grows { IsErrOf result ServerFault.Memory → (h : History) → LeadsTo h self.old →
+            SaysSomething h (wished editing) }
+        ensures sent { IfOk result (λ sent. (h : History) → LeadsTo h self.old →
+            sent ≡ sends_mode h editing) }
         ensures accepted { OnOk result (call_fault self.old ≡ None) }
         ensures err { OnErr result (self.new ≡ self.old) }
         ensures err_appends { OnErr result (out.new.items ≡ out.old.items) }
@@ -236,9 +251,11 @@ impl ServerEnd {
         value: Option<u8>,
         out: &mut Vec<u8>,
     ) -> Result<(), ServerFault>
-        ensures ok { OnOk result (Advances self.old (char_set func value) out.old.items out.new.items self.new) }
+        ensures ok { OnOk result
+            (Advances self.old (char_set func value) out.old.items out.new.items self.new) }
         ensures keeps { OnOk result (ReadsNothing self.old self.new) }
-        ensures grows { IsErrOf result ServerFault.Memory → (h : History) → LeadsTo h self.old → SaysSomething h (char_set func value) }
+        ensures grows { IsErrOf result ServerFault.Memory → (h : History) → LeadsTo h self.old →
+            SaysSomething h (char_set func value) }
         ensures accepted { OnOk result (char_fault_at self.old func value ≡ None) }
         ensures fault { IfErr result (IsFault (char_fault_at self.old func value)) }
         ensures err { OnErr result (self.new ≡ self.old) }
@@ -268,7 +285,8 @@ impl ServerEnd {
     pub fn set_echo(&mut self, on: bool, out: &mut Vec<u8>) -> Result<(), ServerFault>
         ensures ok { OnOk result (Advances self.old (echo_set on) out.old.items out.new.items self.new) }
         ensures keeps { OnOk result (ReadsNothing self.old self.new) }
-        ensures grows { IsErrOf result ServerFault.Memory → (h : History) → LeadsTo h self.old → SaysSomething h (echo_set on) }
+        ensures grows { IsErrOf result ServerFault.Memory → (h : History) → LeadsTo h self.old →
+            SaysSomething h (echo_set on) }
         ensures accepted { OnOk result (call_fault self.old ≡ None) }
         ensures err { OnErr result (self.new ≡ self.old) }
         ensures err_appends { OnErr result (out.new.items ≡ out.old.items) }

@@ -31,7 +31,8 @@ impl ServerEnd {
         ensures ok { OnOk result
             ((before : List ℕ) → AdvancesAll self.old (map item.Byte bytes.now) before before self.new) }
         ensures err { IfErr result (λ fault. (before : List ℕ) →
-            StopsWithinItems self.old (map item.Byte bytes.now) (ServerFault.Pty fault) before before self.new) }
+            StopsWithinItems self.old
+            (map item.Byte bytes.now) (ServerFault.Pty fault) before before self.new) }
         ensures failed { self.new.failed ≡ self.old.failed }
         ensures shut { IsErrOf result PtyFault.Closed → self.old.terminal.closed ≡ true }
     {
@@ -44,7 +45,8 @@ impl ServerEnd {
     /// Takes one item.
     pub(crate) fn item(&mut self, item: Item, out: &mut Vec<u8>) -> Result<(), ServerFault>
         ensures ok { OnOk result (Advances self.old (got item) out.old.items out.new.items self.new) }
-        ensures err { IfErr result (λ fault. RefusesItem self.old item fault out.old.items out.new.items self.new) }
+        ensures err { IfErr result (λ fault.
+            RefusesItem self.old item fault out.old.items out.new.items self.new) }
         ensures fault { IfErr result IsOfItem }
         ensures failed { self.new.failed ≡ self.old.failed }
         ensures shut { IsErrOf result (ServerFault.Pty PtyFault.Closed) → self.old.terminal.closed ≡ true }
@@ -77,7 +79,8 @@ impl ServerEnd {
     fn byte(&mut self, byte: u8) -> Result<(), PtyFault>
         ensures ok { OnOk result (self.new ≡ end_after_byte self.old byte) }
         ensures err { OnErr result (IsShut self.old self.new) }
-        ensures cause { IfErr result (λ fault. IsKeyCause self.old.terminal (role_of_typed self.old byte) fault) }
+        ensures cause { IfErr result (λ fault.
+            IsKeyCause self.old.terminal (role_of_typed self.old byte) fault) }
     {
         if self.terms.modes.current().edit() {
             return self.pair.edited_byte(byte);
@@ -97,8 +100,10 @@ impl ServerEnd {
     // An option word: it is answered, and what follows from it is said.
     fn word(&mut self, verb: Verb, option: u8, out: &mut Vec<u8>) -> Result<(), AllocError>
         ensures ok { OnOk result (self.new ≡ end_after_word self.old verb option) }
-        ensures out { OnOk result (out.new.items ≡ out.old.items ++ spells (says_words self.old verb option)) }
-        ensures cut { OnErr result (AppendsFront (says_words self.old verb option) out.old.items out.new.items) }
+        ensures out { OnOk result (out.new.items ≡
+            out.old.items ++ spells (says_words self.old verb option)) }
+        ensures cut { OnErr result
+            (AppendsFront (says_words self.old verb option) out.old.items out.new.items) }
         ensures some { OnErr result (says_words self.old verb option ≢ []) }
         ensures err { OnErr result (self.new ≡ self.old) }
     {
@@ -119,11 +124,18 @@ impl ServerEnd {
         editing: Editing,
         out: &mut Vec<u8>,
     ) -> Result<bool, AllocError>
-        ensures ok { OnOk result (self.new ≡ end_after_wish self.old (mask_for self.old.terminal.settings.flags editing)) }
-        ensures sent { IfOk result (λ sent. sent ≡ sends_wished self.old (mask_for self.old.terminal.settings.flags editing)) }
-        ensures out { OnOk result (out.new.items ≡ out.old.items ++ spells (says_wished self.old (mask_for self.old.terminal.settings.flags editing))) }
-        ensures cut { OnErr result (AppendsFront (says_wished self.old (mask_for self.old.terminal.settings.flags editing)) out.old.items out.new.items) }
-        ensures some { OnErr result (says_wished self.old (mask_for self.old.terminal.settings.flags editing) ≢ []) }
+        ensures ok { OnOk result (self.new ≡
+            end_after_wish self.old (mask_for self.old.terminal.settings.flags editing)) }
+        ensures sent { IfOk result (λ sent. sent ≡
+            sends_wished self.old (mask_for self.old.terminal.settings.flags editing)) }
+        ensures out { OnOk result (out.new.items ≡
+            out.old.items ++
+            spells (says_wished self.old (mask_for self.old.terminal.settings.flags editing))) }
+        ensures cut { OnErr result
+            (AppendsFront (says_wished self.old (mask_for self.old.terminal.settings.flags editing))
+            out.old.items out.new.items) }
+        ensures some { OnErr result
+            (says_wished self.old (mask_for self.old.terminal.settings.flags editing) ≢ []) }
         ensures err { OnErr result (self.new ≡ self.old) }
     {
         let flags = self.pair.settings().flags;
@@ -167,8 +179,11 @@ impl ServerEnd {
     fn list(&mut self, triples: &Triples, out: &mut Vec<u8>) -> Result<(), AllocError>
         requires { length triples.now ≤ 170 }
         ensures ok { OnOk result (self.new ≡ end_after_list self.old triples.now) }
-        ensures out { OnOk result (out.new.items ≡ out.old.items ++ spells (list_replies self.old.table (Some (payload.Slc triples.now)))) }
-        ensures cut { OnErr result (AppendsFront (list_replies self.old.table (Some (payload.Slc triples.now))) out.old.items out.new.items) }
+        ensures out { OnOk result (out.new.items ≡
+            out.old.items ++ spells (list_replies self.old.table (Some (payload.Slc triples.now)))) }
+        ensures cut { OnErr result
+            (AppendsFront (list_replies self.old.table (Some (payload.Slc triples.now))) out.old.items
+            out.new.items) }
         ensures some { OnErr result (triples.now ≢ []) }
         ensures err { OnErr result (self.new ≡ self.old) }
     {
@@ -191,10 +206,16 @@ impl ServerEnd {
         params: &Params,
         out: &mut Vec<u8>,
     ) -> Result<(), AllocError>
-        ensures ok { OnOk result (self.new ≡ end_after_payload self.old (payload_at self.old.terms.options (item.Sub option params.now))) }
-        ensures out { OnOk result (out.new.items ≡ out.old.items ++ spells (says_sub self.old (payload_at self.old.terms.options (item.Sub option params.now)))) }
-        ensures cut { OnErr result (AppendsFront (says_sub self.old (payload_at self.old.terms.options (item.Sub option params.now))) out.old.items out.new.items) }
-        ensures some { OnErr result (MayWantMemory self.old (payload_at self.old.terms.options (item.Sub option params.now))) }
+        ensures ok { OnOk result (self.new ≡
+            end_after_payload self.old (payload_at self.old.terms.options (item.Sub option params.now))) }
+        ensures out { OnOk result (out.new.items ≡
+            out.old.items ++
+            spells (says_sub self.old (payload_at self.old.terms.options (item.Sub option params.now)))) }
+        ensures cut { OnErr result
+            (AppendsFront (says_sub self.old (payload_at self.old.terms.options (item.Sub option params.now)))
+            out.old.items out.new.items) }
+        ensures some { OnErr result
+            (MayWantMemory self.old (payload_at self.old.terms.options (item.Sub option params.now))) }
         ensures err { OnErr result (self.new ≡ self.old) }
     {
         let is_on = self.terms.options.is_on(Side::Them, option);

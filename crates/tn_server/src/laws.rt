@@ -17,7 +17,8 @@ ghost use Rattle.tn_server.specs.Terms.{settings};
 /// Items that come are the history's last items, and the end was started with the same settings.
 pub fn items_come()
     ensures items { (h : History) (more : List Item) → items (gets h more) ≡ items h ++ more }
-    ensures settings { (h : History) (more : List Item) → opening_settings (gets h more) ≡ opening_settings h }
+    ensures settings { (h : History) (more : List Item) →
+        opening_settings (gets h more) ≡ opening_settings h }
 {}
 
 /// Whatever an end says can be read again.
@@ -47,7 +48,8 @@ pub fn course_fed()
 
 /// One call more.
 pub fn course_called()
-    ensures { (c : Course) (old new : End) (e : Event) (before after : List ℕ) → CourseLeadsTo c old → IsCall e →
+    ensures { (c : Course) (old new : End) (e : Event) (before after : List ℕ) → CourseLeadsTo c old →
+        IsCall e →
         Advances old e before after new → ReadsNothing old new → CourseLeadsTo (called c e) new }
 {}
 
@@ -59,8 +61,11 @@ pub fn pieces_join()
 
 /// However a text is cut into parts that fit, it is sent whole and in order where nothing waited before.
 pub fn texts_are_whole()
-    ensures sent { (h : History) (parts : List (List ℕ)) → queue h ≡ [] → All (λ part. length part ≤ 4096) parts →
-        items_said (in_parts h parts) ≡ items_said h ++ map data_of (output_symbols (settings h).flags (flat_map (λ part. part) parts)) }
-    ensures none { (h : History) (parts : List (List ℕ)) → queue h ≡ [] → All (λ part. length part ≤ 4096) parts →
+    ensures sent { (h : History) (parts : List (List ℕ)) → queue h ≡ [] →
+        All (λ part. length part ≤ 4096) parts →
+        items_said (in_parts h parts) ≡
+        items_said h ++ map data_of (output_symbols (settings h).flags (flat_map (λ part. part) parts)) }
+    ensures none { (h : History) (parts : List (List ℕ)) → queue h ≡ [] →
+        All (λ part. length part ≤ 4096) parts →
         queue (in_parts h parts) ≡ [] }
 {}

@@ -75,10 +75,17 @@ impl Negotiation {
         flags: &Flags,
         out: &mut Vec<u8>,
     ) -> Result<(), AllocError>
-        ensures options { OnOk result (self.new ≡ record self.old { options = options_with_echo is_due (wants_echo self.old.modes.asked flags.now) self.old.options }) }
-        ensures out { OnOk result (out.new.items ≡ out.old.items ++ spells (echo_items is_due (wants_echo self.old.modes.asked flags.now) self.old.options)) }
+        ensures options { OnOk result (self.new ≡
+            record self.old {
+              options = options_with_echo is_due (wants_echo self.old.modes.asked flags.now)
+                  self.old.options;
+            }) }
+        ensures out { OnOk result (out.new.items ≡
+            out.old.items ++
+            spells (echo_items is_due (wants_echo self.old.modes.asked flags.now) self.old.options)) }
         ensures err { OnErr result (out.new.items ≡ out.old.items) }
-        ensures some { OnErr result (echo_items is_due (wants_echo self.old.modes.asked flags.now) self.old.options ≢ []) }
+        ensures some { OnErr result
+            (echo_items is_due (wants_echo self.old.modes.asked flags.now) self.old.options ≢ []) }
     {
         if !is_due {
             return Ok(());
@@ -106,8 +113,11 @@ impl Negotiation {
     ) -> Result<bool, AllocError>
         ensures sent { IfOk result (λ sent. sent ≡ is_some (told_now was_on self.old)) }
         ensures terms { OnOk result (self.new ≡ negotiation_after was_on is_set flags.now self.old) }
-        ensures out { OnOk result (out.new.items ≡ out.old.items ++ spells (negotiation_items was_on is_set flags.now table.now self.old)) }
-        ensures err { OnErr result (AppendsFront (negotiation_items was_on is_set flags.now table.now self.old) out.old.items out.new.items) }
+        ensures out { OnOk result (out.new.items ≡
+            out.old.items ++ spells (negotiation_items was_on is_set flags.now table.now self.old)) }
+        ensures err { OnErr result
+            (AppendsFront (negotiation_items was_on is_set flags.now table.now self.old) out.old.items
+            out.new.items) }
         ensures some { OnErr result (negotiation_items was_on is_set flags.now table.now self.old ≢ []) }
     {
         let is_on = self.has_linemode();
@@ -128,7 +138,8 @@ fn put_table(
     table: &ServerTable,
     out: &mut Vec<u8>,
 ) -> Result<(), AllocError>
-    ensures ok { OnOk result (out.new.items ≡ out.old.items ++ spells (new_table_items was_on is_on table.now)) }
+    ensures ok { OnOk result (out.new.items ≡
+        out.old.items ++ spells (new_table_items was_on is_on table.now)) }
     ensures err { OnErr result (out.new.items ≡ out.old.items) }
     ensures some { OnErr result (new_table_items was_on is_on table.now ≢ []) }
 {

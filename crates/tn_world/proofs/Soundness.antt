@@ -177,12 +177,12 @@ sound_as old new a b c d s =
     (λ r. let f = s.to_server (sym (ap (λ e. e.failed) a) ∙ r) in (f.0, subst (λ x. InFlight new.server.decoder x f.0) (sym c) (subst (λ e. InFlight e.decoder old.to_server f.0) (sym a) f.1)))
     (λ r. let f = s.to_client (sym (ap (λ e. e.failed) b) ∙ r) in (f.0, subst (λ x. InFlight new.client.decoder x f.0) (sym d) (subst (λ e. InFlight e.decoder old.to_client f.0) (sym b) f.1)))
     (λ p q.
-        let p2 = sym (ap (λ e. e.failed) a) ∙ p in
-        let q2 = sym (ap (λ e. e.failed) b) ∙ q in
-        let ws = words_in (s.to_server p2).0 in
-        let vs = words_in (s.to_client q2).0 in
-        subst (λ (e : server.End). Lead e.terms.options new.client.options ws vs) (sym a)
-        (subst (λ (e : client.End). Lead old.server.terms.options e.options ws vs) (sym b) (s.words p2 q2)))
+    let p2 = sym (ap (λ e. e.failed) a) ∙ p in
+    let q2 = sym (ap (λ e. e.failed) b) ∙ q in
+    let ws = words_in (s.to_server p2).0 in
+    let vs = words_in (s.to_client q2).0 in
+    subst (λ (e : server.End). Lead e.terms.options new.client.options ws vs) (sym a)
+    (subst (λ (e : client.End). Lead old.server.terms.options e.options ws vs) (sym b) (s.words p2 q2)))
 
 pub sound_types : (old new : World) (key : ℕ) → TypesKey old key new → HasPast old → HasPast new
 sound_types old new key t s =
@@ -213,11 +213,11 @@ module _ (old new : World) (e : asked.Event) (call : asked_course.IsCall e) (g :
       (λ a. let f = s.to_server (sym k.failed ∙ a) in (f.0, subst (λ d. InFlight d old.to_server f.0) (sym k.decoder) f.1))
       (λ b. let f = s.to_client b in (f.0 ++ g.said, said_behind old.client.decoder old.to_client new.to_client f.0 g.said g.appended (goes_fit s.history old.server new.server e old.to_client new.to_client s.server g) f.1))
       (λ a b.
-          let ws = words_in (s.to_server (sym k.failed ∙ a)).0 in
-          let y = (s.to_client b).0 in
-          said_back new.server.terms.options old.client.options ws y g.said
-          (leads_on old.server.terms.options old.client.options new.server.terms.options old.client.options ws (words_in y) ws (words_in y ++ words_in g.said)
-          (server_words.advances_moves s.history old.server new.server e old.to_client new.to_client old.client.options ws (words_in y) call s.server g) (s.words (sym k.failed ∙ a) b)))
+      let ws = words_in (s.to_server (sym k.failed ∙ a)).0 in
+      let y = (s.to_client b).0 in
+      said_back new.server.terms.options old.client.options ws y g.said
+      (leads_on old.server.terms.options old.client.options new.server.terms.options old.client.options ws (words_in y) ws (words_in y ++ words_in g.said)
+      (server_words.advances_moves s.history old.server new.server e old.to_client new.to_client old.client.options ws (words_in y) call s.server g) (s.words (sym k.failed ∙ a) b)))
 
 pub sound_asks : (old new : World) (e : asked.Event) → asked_course.IsCall e → CallsServer old e new → HasPast old → HasPast new
 sound_asks old new e call t s = subst (λ w. HasPast w) (sym t.rest) (asked_sound old new e call t.goes t.keeps s)
@@ -243,13 +243,13 @@ sound_reaches old new n t s =
     (λ a. let x = s.to_server (runs a) in let d = cut_at old.server.decoder new.server.decoder n old.to_server x.0 f.items x.1 f.reads in (d.left, d.flight))
     (λ b. let x = s.to_client b in (x.0 ++ f.said, said_behind old.client.decoder old.to_client new.to_client x.0 f.said f.appended (feeds_fit s.history old.server new.server piece old.to_client new.to_client s.server f) x.1))
     (λ a b.
-        let x = s.to_server (runs a) in
-        let y = (s.to_client b).0 in
-        let d = cut_at old.server.decoder new.server.decoder n old.to_server x.0 f.items x.1 f.reads in
-        said_back new.server.terms.options old.client.options (words_in d.left) y f.said
-        (leads_on old.server.terms.options old.client.options new.server.terms.options old.client.options (words_in f.items ++ words_in d.left) (words_in y) (words_in d.left) (words_in y ++ words_in f.said)
-        (server_words.feeds_moves s.history old.server new.server piece old.to_client new.to_client old.client.options (words_in d.left) (words_in y) s.server f)
-        (split_there old.server.terms.options old.client.options x.0 f.items d.left (words_in y) d.all (s.words (runs a) b)))))
+    let x = s.to_server (runs a) in
+    let y = (s.to_client b).0 in
+    let d = cut_at old.server.decoder new.server.decoder n old.to_server x.0 f.items x.1 f.reads in
+    said_back new.server.terms.options old.client.options (words_in d.left) y f.said
+    (leads_on old.server.terms.options old.client.options new.server.terms.options old.client.options (words_in f.items ++ words_in d.left) (words_in y) (words_in d.left) (words_in y ++ words_in f.said)
+    (server_words.feeds_moves s.history old.server new.server piece old.to_client new.to_client old.client.options (words_in d.left) (words_in y) s.server f)
+    (split_there old.server.terms.options old.client.options x.0 f.items d.left (words_in y) d.all (s.words (runs a) b)))))
 
 -- a delivery to the client
 line_limit-gets : (h : told.History) (items : List Item) → line_limit (told.gets h items) ≡ line_limit h
@@ -272,13 +272,13 @@ sound_returns old new n t s =
     (λ a. let x = s.to_server a in (x.0 ++ f.said, said_behind old.server.decoder old.to_server new.to_server x.0 f.said f.appended (came_fit at.history old.client new.client piece old.to_server new.to_server old.shown new.shown at.stands f) x.1))
     (λ b. let x = s.to_client runs in let d = cut_at old.client.decoder new.client.decoder n old.to_client x.0 f.items x.1 f.reads in (d.left, d.flight))
     (λ a b.
-        let x = (s.to_server a).0 in
-        let y = s.to_client runs in
-        let d = cut_at old.client.decoder new.client.decoder n old.to_client y.0 f.items y.1 f.reads in
-        said_there old.server.terms.options new.client.options x f.said (words_in d.left)
-        (leads_on old.server.terms.options old.client.options old.server.terms.options new.client.options (words_in x) (words_in f.items ++ words_in d.left) (words_in x ++ words_in f.said) (words_in d.left)
-        (client_words.feeds_moves at.history old.client new.client piece old.to_server new.to_server old.shown new.shown old.server.terms.options (words_in x) (words_in d.left) at.stands f)
-        (split_back old.server.terms.options old.client.options (words_in x) y.0 f.items d.left d.all (s.words a runs)))))
+    let x = (s.to_server a).0 in
+    let y = s.to_client runs in
+    let d = cut_at old.client.decoder new.client.decoder n old.to_client y.0 f.items y.1 f.reads in
+    said_there old.server.terms.options new.client.options x f.said (words_in d.left)
+    (leads_on old.server.terms.options old.client.options old.server.terms.options new.client.options (words_in x) (words_in f.items ++ words_in d.left) (words_in x ++ words_in f.said) (words_in d.left)
+    (client_words.feeds_moves at.history old.client new.client piece old.to_server new.to_server old.shown new.shown old.server.terms.options (words_in x) (words_in d.left) at.stands f)
+    (split_back old.server.terms.options old.client.options (words_in x) y.0 f.items d.left d.all (s.words a runs)))))
 
 unless : (stopped : Bool) (old new : World) (happens : Type 0) → (happens → HasPast old → HasPast new) → UnlessStopped stopped old new happens → HasPast old → HasPast new
 unless true old new happens done is s = subst (λ w. HasPast w) (sym is) s

@@ -36,7 +36,7 @@ IsSteady o = (side : Side) (option : ℕ) → is_in_order (state_of o side optio
 abbrev pub AgreeOnLinemode : Options → Options → Type 0
 AgreeOnLinemode server client =
     ((state_of server Them 34 ≡ Yes) × (state_of client Us 34 ≡ Yes))
-        ⊎ ((state_of server Them 34 ≡ No) × (state_of client Us 34 ≡ No))
+    ⊎ ((state_of server Them 34 ≡ No) × (state_of client Us 34 ≡ No))
 
 -- Nothing is in flight, and nobody has stopped or failed.
 pub record IsIdle (w : World) : Type 0 where
@@ -99,7 +99,7 @@ ChangeModeBetweenLines canon typed o mode items = ChangeModeWhere (IsBetweenLine
 abbrev pub DeliversModesWhere : (List ℕ → Type 0) → World → ℕ → Type 0
 DeliversModesWhere may w n =
     (items : List Item) (next : DecoderState) → Advances w.client.decoder (take n w.to_client) items next
-        → ChangeModeWhere (may w.typed) w.client.options w.client.mode items
+    → ChangeModeWhere (may w.typed) w.client.options w.client.mode items
 
 -- no special character is set or proposed, and a client that goes on gets another mask only where that may be
 abbrev pub IsQuietEvent : (List ℕ → Type 0) → World → Event → Type 0

@@ -19,9 +19,18 @@ pub record IsOpened (canon : Canon) (width height : ℕ) (w : World) : Type 0 wh
   pub takes_keys : w.server.terminal.closed ≡ false
   pub server_runs : w.server.failed ≡ false
   pub client_runs : w.client.failed ≡ false
-  pub rest : w ≡ record { server = w.server; client = w.client; server_stopped = false;
-      client_stopped = false; to_server = []; to_client = spells opening; typed = []; taken = []; shown = [];
-      echoed = [] }
+  pub rest : w ≡ record {
+    server = w.server;
+    client = w.client;
+    server_stopped = false;
+    client_stopped = false;
+    to_server = [];
+    to_client = spells opening;
+    typed = [];
+    taken = [];
+    shown = [];
+    echoed = [];
+  }
 
 -- want of memory alone, before any event
 abbrev pub IsOpenFault : WorldFault → Type 0

@@ -46,7 +46,7 @@ abbrev pub OutputGrowsTo : World → List Event → World → List ℕ → List 
 OutputGrowsTo old [] new text last = (new ≡ old) × (last ≡ text)
 OutputGrowsTo old (e ∷ events) new text last =
     (mid : World) × RunsEvent old e mid × (grows : OutputGrows old e mid text)
-        × OutputGrowsTo mid events new (text ++ screen grows.symbols) last
+    × OutputGrowsTo mid events new (text ++ screen grows.symbols) last
 
 abbrev pub OutputGrowsAll : World → List Event → World → List ℕ → Type 0
 OutputGrowsAll old events new text = (last : List ℕ) × OutputGrowsTo old events new text last

@@ -62,8 +62,12 @@ pub record TypesKey (old : World) (key : ℕ) (new : World) : Type 0 where
   pub sends : client.Sends old.client (told.typed key) old.to_server new.to_server
   pub shows : client.Shows old.client (told.typed key) old.echoed new.echoed
   pub rest : new
-      ≡ record old { client = new.client; to_server = new.to_server; echoed = new.echoed;
-      typed = old.typed ++ key ∷ [] }
+      ≡ record old {
+        client = new.client;
+        to_server = new.to_server;
+        echoed = new.echoed;
+        typed = old.typed ++ key ∷ [];
+      }
 
 -- Any other call of the client.
 pub record CallsClient (old : World) (e : told.Event) (new : World) : Type 0 where
@@ -86,8 +90,12 @@ pub record DeliversToClient (old : World) (n : ℕ) (new : World) : Type 0 where
   pub feeds : client.Feeds old.client (take n old.to_client) old.to_server new.to_server old.shown new.shown
       new.client
   pub rest : new
-      ≡ record old { client = new.client; to_client = drop n old.to_client; to_server = new.to_server;
-      shown = new.shown }
+      ≡ record old {
+        client = new.client;
+        to_client = drop n old.to_client;
+        to_server = new.to_server;
+        shown = new.shown;
+      }
 
 -- Any other call of the server: what it says joins the flight.
 pub record CallsServer (old : World) (e : asked.Event) (new : World) : Type 0 where
@@ -110,8 +118,11 @@ pub record TakesEntry (old : World) (new : World) : Type 0 where
   pub goes : server.Advances old.server asked.took old.to_client new.to_client new.server
   pub keeps : server.ReadsNothing old.server new.server
   pub rest : new
-      ≡ record old { server = new.server; to_client = new.to_client;
-      taken = old.taken ++ option_to_list entry }
+      ≡ record old {
+        server = new.server;
+        to_client = new.to_client;
+        taken = old.taken ++ option_to_list entry;
+      }
 
 -- the event is done
 abbrev pub RunsEvent : World → Event → World → Type 0
@@ -162,8 +173,12 @@ pub record ClientRefusesDelivery (old : World) (n : ℕ) (fault : ClientFault) (
       → client.StopsWithin old.client (take n old.to_client) old.to_server new.to_server old.shown new.shown
   pub failed : new.client.failed ≡ true
   pub rest : new
-      ≡ record old { client = new.client; to_client = drop n old.to_client; to_server = new.to_server;
-      shown = new.shown }
+      ≡ record old {
+        client = new.client;
+        to_client = drop n old.to_client;
+        to_server = new.to_server;
+        shown = new.shown;
+      }
 
 -- A call of the server is refused for its cause, or for want of memory for what it says.
 pub record ServerRefusesCall (end : server.End) (e : asked.Event) (fault : ServerFault) : Type 0 where

@@ -39,14 +39,32 @@ impl Model for World {
     ghost Value = { worlds.World };
 
     ghost view = { λ w.
-        record { server = w.server; client = w.client; server_stopped = w.server_stopped;
-        client_stopped = w.client_stopped; to_server = w.to_server.items; to_client = w.to_client.items;
-        typed = w.typed.items; taken = w.taken.items; shown = w.shown.items; echoed = w.echoed.items } };
+        record {
+          server = w.server;
+          client = w.client;
+          server_stopped = w.server_stopped;
+          client_stopped = w.client_stopped;
+          to_server = w.to_server.items;
+          to_client = w.to_client.items;
+          typed = w.typed.items;
+          taken = w.taken.items;
+          shown = w.shown.items;
+          echoed = w.echoed.items;
+        } };
 
     ghost invariant = { λ w.
-        HasPast (record { server = w.server; client = w.client; server_stopped = w.server_stopped;
-        client_stopped = w.client_stopped; to_server = w.to_server.items; to_client = w.to_client.items;
-        typed = w.typed.items; taken = w.taken.items; shown = w.shown.items; echoed = w.echoed.items }) };
+        HasPast (record {
+          server = w.server;
+          client = w.client;
+          server_stopped = w.server_stopped;
+          client_stopped = w.client_stopped;
+          to_server = w.to_server.items;
+          to_client = w.to_client.items;
+          typed = w.typed.items;
+          taken = w.taken.items;
+          shown = w.shown.items;
+          echoed = w.echoed.items;
+        }) };
 }
 
 impl World {

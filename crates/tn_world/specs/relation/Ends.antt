@@ -104,27 +104,39 @@ pub data Event : Type 0 where
 abbrev pub Happens : Rules → World → Event → World → Type 0
 Happens rules w (key k) new =
     (client : ClientEnd) × (said : List Item) × ClientKeys rules w.client k said client
-        × (new ≡ record w { typed = w.typed ++ k ∷ []; client = client;
-        to_server = w.to_server ++ spells said })
+    × (new ≡ record w {
+      typed = w.typed ++ k ∷ [];
+      client = client;
+      to_server = w.to_server ++ spells said;
+    })
 Happens rules w (to_server n) new =
     (server : ServerEnd) × (said : List Item) × ServerFeeds rules w.server (take n w.to_server) said server
-        × (new ≡ record w { server = server; to_server = drop n w.to_server;
-        to_client = w.to_client ++ spells said })
+    × (new ≡ record w {
+      server = server;
+      to_server = drop n w.to_server;
+      to_client = w.to_client ++ spells said;
+    })
 Happens rules w (to_client n) new =
     (client : ClientEnd) × (said : List Item) × ClientFeeds rules w.client (take n w.to_client) said client
-        × (new ≡ record w { client = client; to_client = drop n w.to_client;
-        to_server = w.to_server ++ spells said })
+    × (new ≡ record w {
+      client = client;
+      to_client = drop n w.to_client;
+      to_server = w.to_server ++ spells said;
+    })
 Happens rules w take_entry new =
     (server : ServerEnd) × (said : List Item) × (entry : List Entry) × TakesFirst w.server entry server
-        × AreReplies rules said
-        × (new ≡ record w { taken = w.taken ++ entry; server = server;
-        to_client = w.to_client ++ spells said })
+    × AreReplies rules said
+    × (new ≡ record w {
+      taken = w.taken ++ entry;
+      server = server;
+      to_client = w.to_client ++ spells said;
+    })
 Happens rules w server_call new =
     (server : ServerEnd) × (said : List Item) × ServerSays rules w.server said server
-        × (new ≡ record w { server = server; to_client = w.to_client ++ spells said })
+    × (new ≡ record w { server = server; to_client = w.to_client ++ spells said })
 Happens rules w client_call new =
     (client : ClientEnd) × (said : List Item) × ClientSays rules w.client said client
-        × (new ≡ record w { client = client; to_server = w.to_server ++ spells said })
+    × (new ≡ record w { client = client; to_server = w.to_server ++ spells said })
 
 abbrev pub IsCalm : Rules → List ℕ → Client → Message → Type 0
 IsCalm rules typed c (mode m) = is_same c.mask m ≡ false → typed_half rules.canon typed ≡ []
@@ -140,7 +152,7 @@ AreBetweenLines rules typed c (m ∷ messages) =
 abbrev pub IsQuietEvent : Rules → World → Event → Type 0
 IsQuietEvent rules w (to_client n) =
     (got : List Item) (next : DecoderState) → Advances w.client.decoder (take n w.to_client) got next
-        → AreBetweenLines rules w.typed w.client.core (client_messages rules got)
+    → AreBetweenLines rules w.typed w.client.core (client_messages rules got)
 IsQuietEvent rules w (key k) = Unit {0}
 IsQuietEvent rules w (to_server n) = Unit {0}
 IsQuietEvent rules w take_entry = Unit {0}

@@ -156,7 +156,7 @@ count_next limit n r = if is_dropped limit n r then n else next_count n r
 abbrev pub client_after_key : Rules → Bool → Client → ℕ → Sent
 client_after_key rules true c key =
     let part = edit_key rules.canon.limit c
-        (role_of_key (settings_by c.mask.trapsig rules.canon.settings.chars) key) in
+    (role_of_key (settings_by c.mask.trapsig rules.canon.settings.chars) key) in
     record { client = record c { held = part.held; ahead = part.ahead }; items = part.items }
 client_after_key rules false c key =
     record {

@@ -11,8 +11,12 @@ use Rattle.tn_world.specs.relation.Ends.{ServerEnd, ClientEnd}
 
 abbrev pub server_core : server.End → Server
 server_core end =
-    record { edit = edits end.modes.current; half = end.terminal.line.held; waiting = end.terminal.entries;
-    failed = end.failed }
+    record {
+      edit = edits end.modes.current;
+      half = end.terminal.line.held;
+      waiting = end.terminal.entries;
+      failed = end.failed;
+    }
 
 abbrev pub server_picture : server.End → ServerEnd
 server_picture end = record { decoder = end.decoder; core = server_core end }
