@@ -3,14 +3,10 @@
 ghost use Rattle.std.specs.Prelude.{IsTrue};
 ghost use Rattle.tn_codes.specs.Payloads.{IsShort};
 
-use crate::page::bytes_of;
+use crate::page::{Page, Stage, Words, byte_of, bytes_of, plays};
 use crate::plain::payloads::mask;
 use std::alloc::Global;
-use std::process::Abort;
-use tn_codes::{
-    Command, Func, Level, Mask, Payload, PayloadFault, Triple, Triples, Verb, read_payload,
-    write_payload,
-};
+use tn_codes::{Command, Func, Level, Mask, Payload, Triple, Verb, read_payload, write_payload};
 
 /// Whether a payload is one that may be written.
 pub(crate) fn is_short(payload: &Payload) -> bool
@@ -48,86 +44,79 @@ fn codes_are_those_of_the_standards(rt: HostRuntime) {
     assert_eq!(rt; Level::from_code(3), Some(Level::ByDefault));
 }
 
-// Reads these parameters, and writes what was read, which is the same but for zero octets at the end.
-fn is_read(
-    rt: &impl Abort,
+// Reads the parameters of an option, tells what they say, and writes that again.
+#[derive(Drop)]
+struct Payloads {
     alloc: Global,
-    option: u8,
-    bytes: &str,
-    payload: &Payload,
-    written: &str,
-) {
-    let read = read_payload(alloc, option, &bytes_of(alloc, bytes));
-    if read == Err(PayloadFault::Memory) {
-        return;
+}
+
+impl Stage for Payloads {
+    fn open(alloc: Global) -> Option<Payloads> {
+        Some(Payloads { alloc })
     }
-    assert!(rt;
-        read.as_ref().is_ok_and(|read| *read == *payload),
-        "{bytes}"
-    );
-    let mut out = Vec::new(alloc);
-    assert!(rt; is_short(payload));
-    match write_payload(payload, &mut out) {
-        Ok(()) => assert_eq!(rt; out, bytes_of(alloc, written), "{bytes}"),
-        Err(_) => assert!(rt; out.is_empty()),
+
+    fn step(&mut self, words: Words<'_>, page: &mut Page) -> bool {
+        let bytes = words.bytes(self.alloc);
+        match read_payload(self.alloc, byte_of(words.verb), &bytes) {
+            Ok(payload) => {
+                tell(&payload, page);
+                self.write(&payload, page);
+            },
+            Err(fault) => page.say(&fault),
+        }
+        false
+    }
+}
+
+impl Payloads {
+    fn write(&self, payload: &Payload, page: &mut Page) {
+        let mut out = Vec::new(self.alloc);
+        if is_short(payload) {
+            let _refused = write_payload(payload, &mut out);
+        }
+        page.bytes("writes", &out);
+    }
+}
+
+fn tell(payload: &Payload, page: &mut Page) {
+    match payload {
+        Payload::Naws { width, height } => page.say(&(*width, *height)),
+        Payload::Mode(mask) => page.bytes("mode", &[*mask]),
+        Payload::ForwardOn(mask) => {
+            let octets = mask.0;
+            page.bytes("on", octets.as_slice());
+        },
+        Payload::ForwardOff => page.begin("off"),
+        Payload::ForwardYes => page.begin("yes"),
+        Payload::ForwardNo => page.begin("no"),
+        Payload::Slc(triples) => page.say(&triples.len()),
     }
 }
 
 #[test]
 fn payloads_are_read_and_written(rt: HostRuntime) {
-    let size = Payload::Naws {
-        width: 80,
-        height: 24,
-    };
+    plays::<Payloads>(
+        &rt,
+        rt.alloc(),
+        "31 00500018; 34 0107; 34 03; 34 fd0280; 34 fd028000; 34 fd02000000000008; 34 fd02; \
+         34 fd02.32x01; 34 fe02; 34 fb02; 34 fc02",
+        "(80, 24); writes 00500018; mode 07; writes 0107; 0; writes 03; on 8031x00.; writes fd0280; \
+         on 8031x00.; writes fd0280; on 00000000000826x00.; writes fd02000000000008; on 32x00.; writes fd02; \
+         on 32x01.; writes fd0232x01.; off; writes fe02; yes; writes fb02; no; writes fc02",
+    );
     let comma = mask(&[0, 0, 0, 0, 0, 8]);
-    for (option, bytes, payload, written) in [
-        (31, "00500018", size, "00500018"),
-        (34, "0107", Payload::Mode(7), "0107"),
-        (34, "fd0280", Payload::ForwardOn(mask(&[0x80])), "fd0280"),
-        (34, "fd028000", Payload::ForwardOn(mask(&[0x80])), "fd0280"),
-        (
-            34,
-            "fd02000000000008",
-            Payload::ForwardOn(comma),
-            "fd02000000000008",
-        ),
-        (34, "fd02", Payload::ForwardOn(Mask([0; 32])), "fd02"),
-        (
-            34,
-            "fd02.32x01",
-            Payload::ForwardOn(Mask([1; 32])),
-            "fd02.32x01",
-        ),
-        (34, "fe02", Payload::ForwardOff, "fe02"),
-        (34, "03", Payload::Slc(Triples::new(rt.alloc())), "03"),
-        (34, "fb02", Payload::ForwardYes, "fb02"),
-        (34, "fc02", Payload::ForwardNo, "fc02"),
-    ] {
-        is_read(&rt, rt.alloc(), option, bytes, &payload, written);
-    }
     assert!(rt; comma.has(b',') && !comma.has(b'-'));
     assert!(rt; mask(&[0x80]).has(0) && !mask(&[0x80]).has(1));
 }
 
 #[test]
 fn other_payloads_have_faults(rt: HostRuntime) {
-    for (option, bytes, fault) in [
-        (99, "01", PayloadFault::UnknownOption),
-        (34, "09", PayloadFault::UnknownSub),
-        (34, "fd09", PayloadFault::UnknownSub),
-        (31, "005000", PayloadFault::BadLength),
-        (34, "", PayloadFault::BadLength),
-        (34, "01", PayloadFault::BadLength),
-        (34, "030a02", PayloadFault::BadLength),
-        (34, "fd02.33x01", PayloadFault::BadLength),
-    ] {
-        let alloc = rt.alloc();
-        let bytes = bytes_of(alloc, bytes);
-        assert!(rt;
-            read_payload(alloc, option, &bytes) == Err(fault),
-            "{bytes:?}"
-        );
-    }
+    plays::<Payloads>(
+        &rt,
+        rt.alloc(),
+        "99 01; 34 09; 34 fd09; 31 005000; 34; 34 01; 34 030a02; 34 fd02.33x01",
+        "UnknownOption; UnknownSub; UnknownSub; BadLength; BadLength; BadLength; BadLength; BadLength",
+    );
 }
 
 // The list that the telnet of Linux sends, with SYNCH by default and the flush flags on IP, ABORT and
