@@ -7,8 +7,8 @@ use Rattle.tn_nvt.specs.Spelling.{Fits}
 use Rattle.tn_nvt.specs.Feeding.{DecoderState}
 use Rattle.tn_nvt.specs.Stream.{Segment, spelled, lone_cr, escaped, unread, cut, Splits, gives, Reading}
 use Rattle.tn_nvt.specs.declared.items.Item.{Item}
-use Rattle.tn_server.specs.Events as asked
-use Rattle.tn_client.specs.Events as told
+use Rattle.tn_server.specs.Events as server_calls
+use Rattle.tn_client.specs.Events as client_calls
 use Rattle.tn_world.specs.Past.{HasPast}
 use Rattle.tn_world.specs.Headline.{IsBetweenLines, RunsQuietly, DeliversModesWhere, IsQuietEvent, PassesQuietly, NoneFailed}
 use Rattle.tn_world.specs.relation.Calm.{IsCalmToServer, IsCalmToClient}
@@ -29,14 +29,14 @@ use Rattle.tn_world.proofs.Tied.{all_parts, happens-tied}
 use Rattle.tn_world.specs.relation.Relation.{IsRelated, IsTied, picture, rules_of}
 
 -- a call that makes no entry and takes none changes no character either
-calls : (e : asked.Event) → KeepsEntries e → IsCall e
-calls (asked.wrote bytes) p = tt
-calls (asked.pulled n) p = tt
-calls (asked.wished editing) p = tt
-calls (asked.echo_set on) p = tt
-calls (asked.got item) p = absurd (p)
-calls asked.took p = absurd (p)
-calls (asked.char_set func value) p = absurd (p)
+calls : (e : server_calls.Event) → KeepsEntries e → IsCall e
+calls (server_calls.wrote bytes) p = tt
+calls (server_calls.pulled n) p = tt
+calls (server_calls.wished editing) p = tt
+calls (server_calls.echo_set on) p = tt
+calls (server_calls.got item) p = absurd (p)
+calls server_calls.took p = absurd (p)
+calls (server_calls.char_set func value) p = absurd (p)
 
 -- the items of a reading fit
 segments_fit : (segments : List Segment) (rest stream : List ℕ) → Splits segments rest stream → All Fits (flat_map gives segments)
@@ -57,7 +57,7 @@ flight_fits d flight items f = (all_parts Fits f.had items (reading_fits (f.stre
 holds_types : (s : Canon) (old new : World) (key : ℕ) → NoneFailed old → HasPast new → TypesKey old key new → IsRelated s old → IsRelated s new
 holds_types s old new key none sound t h =
     let rules = rules_of s h.linemode in
-    let c = (h.sound.told none.1).1 in
+    let c = (h.past.told none.1).1 in
     let k = client_steps.keys_done rules c.history old.client new.client key h.trapped h.plain old.to_server new.to_server c.stands h.client h.tied.agrees.askable none.1 t.goes t.keeps t.sends in
     record {
       linemode = h.linemode;
@@ -71,14 +71,14 @@ holds_types s old new key none sound t h =
       ) h.tied;
       server = subst (λ (w : World). ServerStays rules w.server) (sym t.rest) h.server;
       client = client_steps.keys_stay rules c.history old.client new.client key c.stands h.client t.goes;
-      sound = sound;
+      past = sound;
     }
 
 -- the window's size
-holds_resizes : (s : Canon) (old new : World) (width height : ℕ) → NoneFailed old → HasPast new → CallsClient old (told.resized width height) new → IsRelated s old → IsRelated s new
+holds_resizes : (s : Canon) (old new : World) (width height : ℕ) → NoneFailed old → HasPast new → CallsClient old (client_calls.resized width height) new → IsRelated s old → IsRelated s new
 holds_resizes s old new width height none sound t h =
     let rules = rules_of s h.linemode in
-    let c = (h.sound.told none.1).1 in
+    let c = (h.past.told none.1).1 in
     record {
       linemode = h.linemode;
       trapped = h.trapped;
@@ -91,11 +91,11 @@ holds_resizes s old new width height none sound t h =
       ) h.tied;
       server = subst (λ (w : World). ServerStays rules w.server) (sym t.rest) h.server;
       client = client_steps.resized_stays rules c.history old.client new.client width height c.stands h.client t.goes;
-      sound = sound;
+      past = sound;
     }
 
 -- a call of the server that makes no entry and takes none
-holds_asks : (s : Canon) (old new : World) (e : asked.Event) → KeepsEntries e → HasPast new → CallsServer old e new → IsRelated s old → IsRelated s new
+holds_asks : (s : Canon) (old new : World) (e : server_calls.Event) → KeepsEntries e → HasPast new → CallsServer old e new → IsRelated s old → IsRelated s new
 holds_asks s old new e plain sound t h =
     let rules = rules_of s h.linemode in
     record {
@@ -107,14 +107,14 @@ holds_asks s old new e plain sound t h =
         t.goes.said,
         record {
           same = ap (λ d. record { decoder = d; core = server_core new.server }) t.keeps.decoder
-              ∙ ap (λ c. record { decoder = old.server.decoder; core = c }) (server_steps.says_core h.sound.history old.server new.server e old.to_client new.to_client plain h.sound.server t.goes t.keeps);
-          replies = server_steps.says_replies rules h.sound.history old.server new.server e old.to_client new.to_client (calls e plain) h.sound.server h.server t.goes;
+              ∙ ap (λ c. record { decoder = old.server.decoder; core = c }) (server_steps.says_core h.past.history old.server new.server e old.to_client new.to_client plain h.past.server t.goes t.keeps);
+          replies = server_steps.says_replies rules h.past.history old.server new.server e old.to_client new.to_client (calls e plain) h.past.server h.server t.goes;
         },
         ap (λ w. picture w h.trapped h.plain) t.rest ∙ ap (λ x. record (picture old h.trapped h.plain) { server = server_picture new.server; to_client = x }) t.goes.appended,
       ) h.tied;
-      server = server_steps.says_stays rules h.sound.history old.server new.server e old.to_client new.to_client (calls e plain) h.sound.server h.server t.goes;
+      server = server_steps.says_stays rules h.past.history old.server new.server e old.to_client new.to_client (calls e plain) h.past.server h.server t.goes;
       client = subst (λ (w : World). ClientStays rules w.client) (sym t.rest) h.client;
-      sound = sound;
+      past = sound;
     }
 
 -- an entry is asked for
@@ -129,13 +129,13 @@ holds_takes s old new sound t h =
         server_picture new.server,
         t.goes.said,
         option_to_list t.entry,
-        server_steps.took_core h.sound.history old.server new.server old.to_client new.to_client t.entry h.sound.server t.goes t.keeps (t.is_first h.sound.history h.sound.server),
-        server_steps.says_replies rules h.sound.history old.server new.server asked.took old.to_client new.to_client tt h.sound.server h.server t.goes,
+        server_steps.took_core h.past.history old.server new.server old.to_client new.to_client t.entry h.past.server t.goes t.keeps (t.is_first h.past.history h.past.server),
+        server_steps.says_replies rules h.past.history old.server new.server server_calls.took old.to_client new.to_client tt h.past.server h.server t.goes,
         ap (λ w. picture w h.trapped h.plain) t.rest ∙ ap (λ x. record (picture old h.trapped h.plain) { taken = old.taken ++ option_to_list t.entry; server = server_picture new.server; to_client = x }) t.goes.appended,
       ) h.tied;
-      server = server_steps.says_stays rules h.sound.history old.server new.server asked.took old.to_client new.to_client tt h.sound.server h.server t.goes;
+      server = server_steps.says_stays rules h.past.history old.server new.server server_calls.took old.to_client new.to_client tt h.past.server h.server t.goes;
       client = subst (λ (w : World). ClientStays rules w.client) (sym t.rest) h.client;
-      sound = sound;
+      past = sound;
     }
 
 -- a delivery to the server
@@ -156,21 +156,21 @@ holds_reaches s old new n none sound t h =
         record {
           got = t.feeds.items;
           reads = gains;
-          core = server_steps.feeds_core rules h.sound.history old.server new.server (take n old.to_server) old.to_client new.to_client h.sound.server h.server none.0 t.feeds fit calm;
-          replies = server_steps.feeds_replies rules h.sound.history old.server new.server (take n old.to_server) old.to_client new.to_client h.sound.server h.server none.0 t.feeds fit calm;
+          core = server_steps.feeds_core rules h.past.history old.server new.server (take n old.to_server) old.to_client new.to_client h.past.server h.server none.0 t.feeds fit calm;
+          replies = server_steps.feeds_replies rules h.past.history old.server new.server (take n old.to_server) old.to_client new.to_client h.past.server h.server none.0 t.feeds fit calm;
         },
         ap (λ w. picture w h.trapped h.plain) t.rest ∙ ap (λ x. record (picture old h.trapped h.plain) { server = server_picture new.server; to_server = drop n old.to_server; to_client = x }) t.feeds.appended,
       ) h.tied;
-      server = server_steps.feeds_stays rules h.sound.history old.server new.server (take n old.to_server) old.to_client new.to_client h.sound.server h.server none.0 t.feeds fit calm;
+      server = server_steps.feeds_stays rules h.past.history old.server new.server (take n old.to_server) old.to_client new.to_client h.past.server h.server none.0 t.feeds fit calm;
       client = subst (λ (w : World). ClientStays rules w.client) (sym t.rest) h.client;
-      sound = sound;
+      past = sound;
     }
 
 -- what a quiet delivery is to the relation
 quiet_there : (s : Canon) (old : World) (n : ℕ) → NoneFailed old → (h : IsRelated s old) → DeliversModesWhere (IsBetweenLines s) old n → ends.IsQuietEvent (rules_of s h.linemode) (picture old h.trapped h.plain) (ends.to_client n)
 quiet_there s old n none h quiet = λ got next gains.
     let rules = rules_of s h.linemode in
-    let c = (h.sound.told none.1).1 in
+    let c = (h.past.told none.1).1 in
     let d = cut_at old.client.decoder next n old.to_client h.tied.messages got h.tied.back gains in
     let calm = (all_parts (IsCalmToClient s.settings) got d.left (subst (λ l. All (IsCalmToClient s.settings) l) d.all h.tied.asked)).0 in
     client_steps.feeds_quiet rules c.history old.client old.typed h.trapped h.plain got refl c.stands h.client none.1 calm (quiet got next gains)
@@ -179,7 +179,7 @@ quiet_there s old n none h quiet = λ got next gains.
 holds_returns : (s : Canon) (old new : World) (n : ℕ) → NoneFailed old → HasPast new → DeliversModesWhere (IsBetweenLines s) old n → DeliversToClient old n new → IsRelated s old → IsRelated s new
 holds_returns s old new n none sound quiet t h =
     let rules = rules_of s h.linemode in
-    let c = (h.sound.told none.1).1 in
+    let c = (h.past.told none.1).1 in
     let gains = t.feeds.reads in
     let d = cut_at old.client.decoder new.client.decoder n old.to_client h.tied.messages t.feeds.items h.tied.back gains in
     let calm = (all_parts (IsCalmToClient s.settings) t.feeds.items d.left (subst (λ l. All (IsCalmToClient s.settings) l) d.all h.tied.asked)).0 in
@@ -196,7 +196,7 @@ holds_returns s old new n none sound quiet t h =
       ) h.tied;
       server = subst (λ (w : World). ServerStays rules w.server) (sym t.rest) h.server;
       client = client_steps.feeds_stay rules c.history old.client new.client (take n old.to_client) old.to_server new.to_server old.shown new.shown refl c.stands h.client t.feeds calm;
-      sound = sound;
+      past = sound;
     }
 
 holds_as : (s : Canon) (old new : World) → new ≡ old → IsRelated s old → IsRelated s new
@@ -221,7 +221,7 @@ holds_stops s old new a b is sound h =
       tied = subst (λ w. IsTied (rules_of s h.linemode) (picture w h.trapped h.plain)) (sym is) h.tied;
       server = subst (λ (w : World). ServerStays (rules_of s h.linemode) w.server) (sym is) h.server;
       client = subst (λ (w : World). ClientStays (rules_of s h.linemode) w.client) (sym is) h.client;
-      sound = sound;
+      past = sound;
     }
 
 -- an event that is done
@@ -229,16 +229,16 @@ pub holds_does : (s : Canon) (old new : World) (e : Event) → NoneFailed old �
 holds_does s old new (Key key) none sound quiet d h = unless s old.client_stopped old new (TypesKey old key new) (holds_types s old new key none sound) d h
 holds_does s old new (ToServer n) none sound quiet d h = unless s old.server_stopped old new (DeliversToServer old n new) (holds_reaches s old new n none sound) d h
 holds_does s old new (ToClient n) none sound quiet d h = holds_delivered s old new n old.client_stopped refl none sound quiet d h
-holds_does s old new (Write bytes) none sound quiet d h = unless s old.server_stopped old new (CallsServer old (asked.wrote bytes) new) (holds_asks s old new (asked.wrote bytes) tt sound) d h
+holds_does s old new (Write bytes) none sound quiet d h = unless s old.server_stopped old new (CallsServer old (server_calls.wrote bytes) new) (holds_asks s old new (server_calls.wrote bytes) tt sound) d h
 holds_does s old new (Pull n) none sound quiet d h =
-    unless s old.server_stopped old new (Pulls old n new) (λ p. holds_asks s old new (asked.pulled p.count) tt sound p.asks) d h
+    unless s old.server_stopped old new (Pulls old n new) (λ p. holds_asks s old new (server_calls.pulled p.count) tt sound p.asks) d h
 holds_does s old new Take none sound quiet d h = holds_takes s old new sound d h
-holds_does s old new (Wish editing) none sound quiet d h = unless s old.server_stopped old new (CallsServer old (asked.wished editing) new) (holds_asks s old new (asked.wished editing) tt sound) d h
+holds_does s old new (Wish editing) none sound quiet d h = unless s old.server_stopped old new (CallsServer old (server_calls.wished editing) new) (holds_asks s old new (server_calls.wished editing) tt sound) d h
 holds_does s old new (Resize width height) none sound quiet d h =
-    unless s old.client_stopped old new (CallsClient old (told.resized width height) new) (holds_resizes s old new width height none sound) d h
+    unless s old.client_stopped old new (CallsClient old (client_calls.resized width height) new) (holds_resizes s old new width height none sound) d h
 holds_does s old new (SetChar func value) none sound quiet d h = absurd (quiet)
 holds_does s old new (Propose func value) none sound quiet d h = absurd (quiet)
-holds_does s old new (Echo on) none sound quiet d h = unless s old.server_stopped old new (CallsServer old (asked.echo_set on) new) (holds_asks s old new (asked.echo_set on) tt sound) d h
+holds_does s old new (Echo on) none sound quiet d h = unless s old.server_stopped old new (CallsServer old (server_calls.echo_set on) new) (holds_asks s old new (server_calls.echo_set on) tt sound) d h
 holds_does s old new ServerStops none sound quiet d h = holds_stops s old new true old.client_stopped d sound h
 holds_does s old new ClientStops none sound quiet d h = holds_stops s old new old.server_stopped true d sound h
 
@@ -253,24 +253,24 @@ unless_keeps : (stopped : Bool) (old new : World) (happens : Type 0) → (happen
 unless_keeps true old new happens done is = as_before old new is
 unless_keeps false old new happens done is = done is
 
-asks_keeps : (old new : World) (e : asked.Event) → CallsServer old e new → FailsNone old new
+asks_keeps : (old new : World) (e : server_calls.Event) → CallsServer old e new → FailsNone old new
 asks_keeps old new e t = (t.keeps.failed, ap (λ (w : World). w.client.failed) t.rest)
 
-tells_keeps : (old new : World) (e : told.Event) → CallsClient old e new → FailsNone old new
+tells_keeps : (old new : World) (e : client_calls.Event) → CallsClient old e new → FailsNone old new
 tells_keeps old new e t = (ap (λ (w : World). w.server.failed) t.rest, t.keeps.failed)
 
 pub does_keeps : (old new : World) (e : Event) → RunsEvent old e new → FailsNone old new
 does_keeps old new (Key key) d = unless_keeps old.client_stopped old new (TypesKey old key new) (λ t. (ap (λ (w : World). w.server.failed) t.rest, t.keeps.failed)) d
 does_keeps old new (ToServer n) d = unless_keeps old.server_stopped old new (DeliversToServer old n new) (λ t. (t.feeds.failed, ap (λ (w : World). w.client.failed) t.rest)) d
 does_keeps old new (ToClient n) d = unless_keeps old.client_stopped old new (DeliversToClient old n new) (λ t. (ap (λ (w : World). w.server.failed) t.rest, t.feeds.failed)) d
-does_keeps old new (Write bytes) d = unless_keeps old.server_stopped old new (CallsServer old (asked.wrote bytes) new) (asks_keeps old new (asked.wrote bytes)) d
-does_keeps old new (Pull n) d = unless_keeps old.server_stopped old new (Pulls old n new) (λ p. asks_keeps old new (asked.pulled p.count) p.asks) d
+does_keeps old new (Write bytes) d = unless_keeps old.server_stopped old new (CallsServer old (server_calls.wrote bytes) new) (asks_keeps old new (server_calls.wrote bytes)) d
+does_keeps old new (Pull n) d = unless_keeps old.server_stopped old new (Pulls old n new) (λ p. asks_keeps old new (server_calls.pulled p.count) p.asks) d
 does_keeps old new Take d = (d.keeps.failed, ap (λ (w : World). w.client.failed) d.rest)
-does_keeps old new (Wish editing) d = unless_keeps old.server_stopped old new (CallsServer old (asked.wished editing) new) (asks_keeps old new (asked.wished editing)) d
-does_keeps old new (Resize width height) d = unless_keeps old.client_stopped old new (CallsClient old (told.resized width height) new) (tells_keeps old new (told.resized width height)) d
-does_keeps old new (SetChar func value) d = unless_keeps old.server_stopped old new (CallsServer old (asked.char_set func value) new) (asks_keeps old new (asked.char_set func value)) d
-does_keeps old new (Propose func value) d = unless_keeps old.client_stopped old new (CallsClient old (told.proposed func value) new) (tells_keeps old new (told.proposed func value)) d
-does_keeps old new (Echo on) d = unless_keeps old.server_stopped old new (CallsServer old (asked.echo_set on) new) (asks_keeps old new (asked.echo_set on)) d
+does_keeps old new (Wish editing) d = unless_keeps old.server_stopped old new (CallsServer old (server_calls.wished editing) new) (asks_keeps old new (server_calls.wished editing)) d
+does_keeps old new (Resize width height) d = unless_keeps old.client_stopped old new (CallsClient old (client_calls.resized width height) new) (tells_keeps old new (client_calls.resized width height)) d
+does_keeps old new (SetChar func value) d = unless_keeps old.server_stopped old new (CallsServer old (server_calls.char_set func value) new) (asks_keeps old new (server_calls.char_set func value)) d
+does_keeps old new (Propose func value) d = unless_keeps old.client_stopped old new (CallsClient old (client_calls.proposed func value) new) (tells_keeps old new (client_calls.proposed func value)) d
+does_keeps old new (Echo on) d = unless_keeps old.server_stopped old new (CallsServer old (server_calls.echo_set on) new) (asks_keeps old new (server_calls.echo_set on)) d
 does_keeps old new ServerStops d = (ap (λ (w : World). w.server.failed) d, ap (λ (w : World). w.client.failed) d)
 does_keeps old new ClientStops d = (ap (λ (w : World). w.server.failed) d, ap (λ (w : World). w.client.failed) d)
 
@@ -295,7 +295,7 @@ passes_ran may old new [] p none = both_ran old new (as_before old new p) none
 passes_ran may old new (e ∷ events) p none = occurs_ran may old p.0 e p.1 (passes_ran may p.0 new events p.2 none)
 
 holds_occurs : (s : Canon) (old new : World) (e : Event) → NoneFailed new → RunsQuietly (IsBetweenLines s) old e new → IsRelated s old → IsRelated s new
-holds_occurs s old new e none (inl d) h = holds_does s old new e (both_ran old new (does_keeps old new e d.1) none) (sound_does old new e d.1 h.sound) d.0 d.1 h
+holds_occurs s old new e none (inl d) h = holds_does s old new e (both_ran old new (does_keeps old new e d.1) none) (sound_does old new e d.1 h.past) d.0 d.1 h
 holds_occurs s old new e none (inr r) h = holds_as s old new (refused_same old new e r.0 r.1 none) h
 
 pub holds_passes : (s : Canon) (old new : World) (events : List Event) → NoneFailed new → PassesQuietly (IsBetweenLines s) old events new → IsRelated s old → IsRelated s new

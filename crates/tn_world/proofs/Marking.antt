@@ -69,8 +69,8 @@ askable_while s false wish h = inl refl
 -- the mask in force is one that the server may ask for
 mark_askable : (s : Canon) (w : World) → IsMark s w → IsAskable s.settings (bits w.client.mode)
 mark_askable s w m =
-    let stands = m.sound.server in
-    let h = m.sound.history in
+    let stands = m.past.server in
+    let h = m.past.history in
     let flags : terms.flags h ≡ s.settings.flags = ap (λ (x : Settings). x.flags) (sym stands.settings ∙ ap (λ (x : Canon). x.settings) m.rules) in
     let mask : terms.asked_mask h ≡ w.client.mode = sym (ap (λ (x : Modes). x.asked) stands.modes) ∙ m.settled.agreed.mask.0 ∙ m.settled.agreed.mask.1 in
     subst (λ (n : ℕ). IsAskable s.settings (bits n)) mask
@@ -103,12 +103,12 @@ mark_agrees s linemode w m =
 pub mark_holds : (s : Canon) (w : World) → IsMark s w → IsRelated s w
 mark_holds s w m =
     let lm = terms.linemode w.server.terms.options in
-    let stands = m.sound.server in
+    let stands = m.past.server in
     let is_settings : w.server.terminal.settings ≡ s.settings = ap (λ (x : Canon). x.settings) m.rules in
     let is_limit : w.server.terminal.line.limit ≡ s.limit = ap (λ (x : Canon). x.limit) m.rules in
     let chars : w.server.table ≡ s.settings.chars = stands.table ∙ sym (ap (λ (x : Settings). x.chars) stands.settings) ∙ ap (λ (x : Settings). x.chars) is_settings in
-    let there = m.sound.to_server m.settled.idle.server_failed in
-    let back = m.sound.to_client m.settled.idle.client_failed in
+    let there = m.past.to_server m.settled.idle.server_failed in
+    let back = m.past.to_client m.settled.idle.client_failed in
     let none : there.0 ≡ [] = no_items w.server.decoder there.0 (subst (λ x. InFlight w.server.decoder x there.0) m.settled.idle.to_server there.1) in
     let silent : back.0 ≡ [] = no_items w.client.decoder back.0 (subst (λ x. InFlight w.client.decoder x back.0) m.settled.idle.to_client back.1) in
     record {
@@ -130,6 +130,6 @@ mark_holds s w m =
         flags = subst (λ (x : Settings). w.server.terminal.settings.flags ≡ record (x.flags) { echo = w.server.terminal.settings.flags.echo }) is_settings refl;
         limit = is_limit;
       };
-      client = record { linemode = agreed_linemode w m.settled.agreed.linemode; chars = sym m.settled.agreed.chars ∙ chars; limit = m.sound.limit m.settled.idle.client_failed ∙ is_limit };
-      sound = m.sound;
+      client = record { linemode = agreed_linemode w m.settled.agreed.linemode; chars = sym m.settled.agreed.chars ∙ chars; limit = m.past.limit m.settled.idle.client_failed ∙ is_limit };
+      past = m.past;
     }

@@ -120,7 +120,7 @@ pub mark_follows : (w : World) → HasPast w → IsSettled w → FollowsMark (ca
 mark_follows w s m =
     record {
       start = with_new_lists w;
-      mark = record { sound = anew_sound w s; settled = anew_settled w m; rules = refl; typed = refl; taken = refl };
+      mark = record { past = anew_sound w s; settled = anew_settled w m; rules = refl; typed = refl; taken = refl };
       events = [];
       passes = refl;
     }

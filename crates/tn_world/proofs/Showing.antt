@@ -10,15 +10,15 @@ use Rattle.tn_discipline.specs.declared.echo.Symbol.TheVariants as symbol
 use Rattle.tn_nvt.specs.Spelling.{spells, Fits}
 use Rattle.tn_nvt.specs.Feeding.{DecoderState, LeadsTo}
 use Rattle.tn_nvt.specs.declared.items.Item.{Item}
-use Rattle.tn_server.specs.Events as asked
+use Rattle.tn_server.specs.Events as server_calls
 use Rattle.tn_server.specs.Faults.{IsOfItem}
 use Rattle.tn_server.specs.Replies.{opening, data_of}
 use Rattle.tn_server.specs.Screen.{queue}
 use Rattle.tn_server.specs.Calls as server
 use Rattle.tn_server.specs.declared.faults.ServerFault.{ServerFault}
-use Rattle.tn_server.specs.declared.faults.ServerFault.TheVariants as refused
+use Rattle.tn_server.specs.declared.faults.ServerFault.TheVariants as server_faults
 use Rattle.tn_server.proofs.lemmas.Fitting.{opening-fits}
-use Rattle.tn_client.specs.Events as told
+use Rattle.tn_client.specs.Events as client_calls
 use Rattle.tn_client.specs.Screen.{item_shown, text_shown as shown_of, symbol_shown}
 use Rattle.tn_client.specs.Calls as client
 use Rattle.tn_world.specs.Past.{HasPast}
@@ -33,12 +33,12 @@ use Rattle.tn_world.proofs.Cut.{start, said_behind, cut_at}
 use Rattle.tn_world.proofs.Soundness.{sound_does, opposite, Refusal, unchanged, by_server, by_client, refusal_of, goes_fit, feeds_fit, halts_fit}
 use Rattle.tn_world.proofs.ServerItems.{IsUnpulled, replies_none, opening_none, feeds_none, halts_none, feeds_queue, goes_queue, halts_queue}
 
-shown-items : (h : told.History) (items : List Item) → shown_of (told.gets h items) ≡ shown_of h ++ flat_map item_shown items
+shown-items : (h : client_calls.History) (items : List Item) → shown_of (client_calls.gets h items) ≡ shown_of h ++ flat_map item_shown items
 shown-items h [] = sym (append-nil (shown_of h))
-shown-items h (item ∷ items) = shown-items (told.next h (told.got item)) items ∙ append_assoc (shown_of h) (item_shown item) (flat_map item_shown items)
+shown-items h (item ∷ items) = shown-items (client_calls.next h (client_calls.got item)) items ∙ append_assoc (shown_of h) (item_shown item) (flat_map item_shown items)
 
 -- what is shown for a piece is what the server wrote
-feeds_text : (h : told.History) (old new : client.End) (piece before after seen now : List ℕ) → client.LeadsTo h old → (f : client.Feeds old piece before after seen now new) → f.text ≡ flat_map item_shown f.items
+feeds_text : (h : client_calls.History) (old new : client.End) (piece before after seen now : List ℕ) → client.LeadsTo h old → (f : client.Feeds old piece before after seen now new) → f.text ≡ flat_map item_shown f.items
 feeds_text h old new piece before after seen now s f =
     append_cancel_left (shown_of h) f.text (flat_map item_shown f.items) (sym (f.shows h s) ∙ shown-items h f.items)
 
@@ -93,7 +93,7 @@ types_grows : (old new : World) (key : ℕ) (text : List ℕ) → TypesKey old k
 types_grows old new key text t o =
     still_grows old new (Key key) text t.keeps.decoder (ap (λ (w : World). w.shown) t.rest) (ap (λ (w : World). w.to_client) t.rest) (ap (λ (w : World). w.server.terminal.queue) t.rest) o
 
-tells_grows : (old new : World) (call : told.Event) (e : Event) (text : List ℕ) → CallsClient old call new → IsOutput old text → OutputGrows old e new text
+tells_grows : (old new : World) (call : client_calls.Event) (e : Event) (text : List ℕ) → CallsClient old call new → IsOutput old text → OutputGrows old e new text
 tells_grows old new call e text t o =
     still_grows old new e text t.keeps.decoder (ap (λ (w : World). w.shown) t.rest) (ap (λ (w : World). w.to_client) t.rest) (ap (λ (w : World). w.server.terminal.queue) t.rest) o
 
@@ -103,7 +103,7 @@ pub record Took (old new : World) (text : List ℕ) : Type 0 where
   pub took : new.server.terminal.queue ≡ old.server.terminal.queue ++ symbols
   pub output : IsOutput new (text ++ screen symbols)
 
-goes_took : (old new : World) (e : asked.Event) (text : List ℕ) → IsUnpulled e → HasPast old → server.Advances old.server e old.to_client new.to_client new.server → new.client.decoder ≡ old.client.decoder → new.shown ≡ old.shown → IsOutput old text → Took old new text
+goes_took : (old new : World) (e : server_calls.Event) (text : List ℕ) → IsUnpulled e → HasPast old → server.Advances old.server e old.to_client new.to_client new.server → new.client.decoder ≡ old.client.decoder → new.shown ≡ old.shown → IsOutput old text → Took old new text
 goes_took old new e text is s g decoder shown o =
     let more = goes_queue s.history old.server new.server e old.to_client new.to_client is s.server g in
     record {
@@ -112,11 +112,11 @@ goes_took old new e text is s g decoder shown o =
       output = says_output old new text g.said more.0 (goes_fit s.history old.server new.server e old.to_client new.to_client s.server g) (ap text_of (sym (g.replies s.history s.server)) ∙ replies_none s.history e is) decoder shown g.appended more.1 o;
     }
 
-asks_took : (old new : World) (e : asked.Event) (text : List ℕ) → IsUnpulled e → HasPast old → CallsServer old e new → IsOutput old text → Took old new text
+asks_took : (old new : World) (e : server_calls.Event) (text : List ℕ) → IsUnpulled e → HasPast old → CallsServer old e new → IsOutput old text → Took old new text
 asks_took old new e text is s a o = goes_took old new e text is s a.goes (ap (λ (w : World). w.client.decoder) a.rest) (ap (λ (w : World). w.shown) a.rest) o
 
 takes_took : (old new : World) (text : List ℕ) → HasPast old → TakesEntry old new → IsOutput old text → Took old new text
-takes_took old new text s a o = goes_took old new asked.took text tt s a.goes (ap (λ (w : World). w.client.decoder) a.rest) (ap (λ (w : World). w.shown) a.rest) o
+takes_took old new text s a o = goes_took old new server_calls.took text tt s a.goes (ap (λ (w : World). w.client.decoder) a.rest) (ap (λ (w : World). w.shown) a.rest) o
 
 -- a delivery to the server
 reaches_took : (old new : World) (n : ℕ) (text : List ℕ) → HasPast old → DeliversToServer old n new → IsOutput old text → Took old new text
@@ -155,7 +155,7 @@ pulls_grows old new n text s p o =
         items = o.items ++ g.said;
         flight =
             subst (λ (d : DecoderState). InFlight d new.to_client (o.items ++ g.said)) (sym (ap (λ (w : World). w.client.decoder) p.asks.rest))
-            (said_behind old.client.decoder old.to_client new.to_client o.items g.said g.appended (goes_fit h old.server new.server (asked.pulled p.count) old.to_client new.to_client s.server g) o.flight);
+            (said_behind old.client.decoder old.to_client new.to_client o.items g.said g.appended (goes_fit h old.server new.server (server_calls.pulled p.count) old.to_client new.to_client s.server g) o.flight);
         is =
             append-nil text ∙ o.is
             ∙ ap (λ (x : List ℕ). old.shown ++ x) (moved (text_of o.items) (screen old.server.terminal.queue) (screen (take p.count (queue h))) (screen (drop p.count (queue h))) (cut_screen p.count (queue h) ∙ ap screen (sym s.server.queue)))
@@ -204,19 +204,19 @@ output_grows old new (ToServer n) text s runs d o =
     unless old.server_stopped old new (ToServer n) text (DeliversToServer old n new) (λ r. let t = reaches_took old new n text s r o in record { symbols = t.symbols; took = t.took; none = tt; output = t.output }) o d
 output_grows old new (ToClient n) text s runs d o = unless old.client_stopped old new (ToClient n) text (DeliversToClient old n new) (λ r. returns_grows old new n text s runs r o) o d
 output_grows old new (Write bytes) text s runs d o =
-    unless old.server_stopped old new (Write bytes) text (CallsServer old (asked.wrote bytes) new) (λ a. let t = asks_took old new (asked.wrote bytes) text tt s a o in record { symbols = t.symbols; took = t.took; none = tt; output = t.output }) o d
+    unless old.server_stopped old new (Write bytes) text (CallsServer old (server_calls.wrote bytes) new) (λ a. let t = asks_took old new (server_calls.wrote bytes) text tt s a o in record { symbols = t.symbols; took = t.took; none = tt; output = t.output }) o d
 output_grows old new (Pull n) text s runs d o = unless old.server_stopped old new (Pull n) text (Pulls old n new) (λ p. pulls_grows old new n text s p o) o d
 output_grows old new Take text s runs d o = let t = takes_took old new text s d o in record { symbols = t.symbols; took = t.took; none = tt; output = t.output }
 output_grows old new (Wish editing) text s runs d o =
-    unless old.server_stopped old new (Wish editing) text (CallsServer old (asked.wished editing) new) (λ a. let t = asks_took old new (asked.wished editing) text tt s a o in record { symbols = t.symbols; took = t.took; none = tt; output = t.output }) o d
+    unless old.server_stopped old new (Wish editing) text (CallsServer old (server_calls.wished editing) new) (λ a. let t = asks_took old new (server_calls.wished editing) text tt s a o in record { symbols = t.symbols; took = t.took; none = tt; output = t.output }) o d
 output_grows old new (Resize width height) text s runs d o =
-    unless old.client_stopped old new (Resize width height) text (CallsClient old (told.resized width height) new) (λ t. tells_grows old new (told.resized width height) (Resize width height) text t o) o d
+    unless old.client_stopped old new (Resize width height) text (CallsClient old (client_calls.resized width height) new) (λ t. tells_grows old new (client_calls.resized width height) (Resize width height) text t o) o d
 output_grows old new (SetChar func value) text s runs d o =
-    unless old.server_stopped old new (SetChar func value) text (CallsServer old (asked.char_set func value) new) (λ a. let t = asks_took old new (asked.char_set func value) text tt s a o in record { symbols = t.symbols; took = t.took; none = tt; output = t.output }) o d
+    unless old.server_stopped old new (SetChar func value) text (CallsServer old (server_calls.char_set func value) new) (λ a. let t = asks_took old new (server_calls.char_set func value) text tt s a o in record { symbols = t.symbols; took = t.took; none = tt; output = t.output }) o d
 output_grows old new (Propose func value) text s runs d o =
-    unless old.client_stopped old new (Propose func value) text (CallsClient old (told.proposed func value) new) (λ t. tells_grows old new (told.proposed func value) (Propose func value) text t o) o d
+    unless old.client_stopped old new (Propose func value) text (CallsClient old (client_calls.proposed func value) new) (λ t. tells_grows old new (client_calls.proposed func value) (Propose func value) text t o) o d
 output_grows old new (Echo on) text s runs d o =
-    unless old.server_stopped old new (Echo on) text (CallsServer old (asked.echo_set on) new) (λ a. let t = asks_took old new (asked.echo_set on) text tt s a o in record { symbols = t.symbols; took = t.took; none = tt; output = t.output }) o d
+    unless old.server_stopped old new (Echo on) text (CallsServer old (server_calls.echo_set on) new) (λ a. let t = asks_took old new (server_calls.echo_set on) text tt s a o in record { symbols = t.symbols; took = t.took; none = tt; output = t.output }) o d
 output_grows old new ServerStops text s runs d o =
     still_grows old new ServerStops text (ap (λ (w : World). w.client.decoder) d) (ap (λ (w : World). w.shown) d) (ap (λ (w : World). w.to_client) d) (ap (λ (w : World). w.server.terminal.queue) d) o
 output_grows old new ClientStops text s runs d o =
@@ -230,21 +230,21 @@ on_unless : (stopped : Bool) (old new : World) (happens : Type 0) → (happens �
 on_unless true old new happens done is = ap (λ (w : World). w.client.failed) is
 on_unless false old new happens done is = done is
 
-asks_on : (old new : World) (e : asked.Event) → CallsServer old e new → KeepsOn old new
+asks_on : (old new : World) (e : server_calls.Event) → CallsServer old e new → KeepsOn old new
 asks_on old new e a = ap (λ (w : World). w.client.failed) a.rest
 
 pub goes_on : (old new : World) (e : Event) → RunsEvent old e new → KeepsOn old new
 goes_on old new (Key key) d = on_unless old.client_stopped old new (TypesKey old key new) (λ t. t.keeps.failed) d
 goes_on old new (ToServer n) d = on_unless old.server_stopped old new (DeliversToServer old n new) (λ r. ap (λ (w : World). w.client.failed) r.rest) d
 goes_on old new (ToClient n) d = on_unless old.client_stopped old new (DeliversToClient old n new) (λ r. r.feeds.failed) d
-goes_on old new (Write bytes) d = on_unless old.server_stopped old new (CallsServer old (asked.wrote bytes) new) (asks_on old new (asked.wrote bytes)) d
-goes_on old new (Pull n) d = on_unless old.server_stopped old new (Pulls old n new) (λ p. asks_on old new (asked.pulled p.count) p.asks) d
+goes_on old new (Write bytes) d = on_unless old.server_stopped old new (CallsServer old (server_calls.wrote bytes) new) (asks_on old new (server_calls.wrote bytes)) d
+goes_on old new (Pull n) d = on_unless old.server_stopped old new (Pulls old n new) (λ p. asks_on old new (server_calls.pulled p.count) p.asks) d
 goes_on old new Take d = ap (λ (w : World). w.client.failed) d.rest
-goes_on old new (Wish editing) d = on_unless old.server_stopped old new (CallsServer old (asked.wished editing) new) (asks_on old new (asked.wished editing)) d
-goes_on old new (Resize width height) d = on_unless old.client_stopped old new (CallsClient old (told.resized width height) new) (λ t. t.keeps.failed) d
-goes_on old new (SetChar func value) d = on_unless old.server_stopped old new (CallsServer old (asked.char_set func value) new) (asks_on old new (asked.char_set func value)) d
-goes_on old new (Propose func value) d = on_unless old.client_stopped old new (CallsClient old (told.proposed func value) new) (λ t. t.keeps.failed) d
-goes_on old new (Echo on) d = on_unless old.server_stopped old new (CallsServer old (asked.echo_set on) new) (asks_on old new (asked.echo_set on)) d
+goes_on old new (Wish editing) d = on_unless old.server_stopped old new (CallsServer old (server_calls.wished editing) new) (asks_on old new (server_calls.wished editing)) d
+goes_on old new (Resize width height) d = on_unless old.client_stopped old new (CallsClient old (client_calls.resized width height) new) (λ t. t.keeps.failed) d
+goes_on old new (SetChar func value) d = on_unless old.server_stopped old new (CallsServer old (server_calls.char_set func value) new) (asks_on old new (server_calls.char_set func value)) d
+goes_on old new (Propose func value) d = on_unless old.client_stopped old new (CallsClient old (client_calls.proposed func value) new) (λ t. t.keeps.failed) d
+goes_on old new (Echo on) d = on_unless old.server_stopped old new (CallsServer old (server_calls.echo_set on) new) (asks_on old new (server_calls.echo_set on)) d
 goes_on old new ServerStops d = ap (λ (w : World). w.client.failed) d
 goes_on old new ClientStops d = ap (λ (w : World). w.client.failed) d
 
@@ -259,16 +259,16 @@ halted old new n fault text s r o x =
     }
 
 halts_took : (old new : World) (n : ℕ) (fault : ServerFault) (text : List ℕ) → HasPast old → ServerRefusesDelivery old n fault new → IsOutput old text → (f : ServerFault) → fault ≡ f → Took old new text
-halts_took old new n fault text s r o refused.Failed e =
+halts_took old new n fault text s r o server_faults.Failed e =
     let same = (r.again e).1 in
     record {
       symbols = [];
       took = ap (λ (w : World). w.server.terminal.queue) same ∙ sym (append-nil old.server.terminal.queue);
       output = still_output old new text (ap (λ (w : World). w.client.decoder) same) (ap (λ (w : World). w.shown) same) (ap (λ (w : World). w.to_client) same) (ap (λ (w : World). w.server.terminal.queue) same) o;
     }
-halts_took old new n fault text s r o (refused.Char f) e = absurd (subst IsDeliveryFault e r.is_fault)
-halts_took old new n fault text s r o (refused.Pty f) e = halted old new n fault text s r o (r.halts (subst IsOfItem (sym e) tt))
-halts_took old new n fault text s r o refused.Memory e = halted old new n fault text s r o (r.halts (subst IsOfItem (sym e) tt))
+halts_took old new n fault text s r o (server_faults.Char f) e = absurd (subst IsDeliveryFault e r.is_fault)
+halts_took old new n fault text s r o (server_faults.Pty f) e = halted old new n fault text s r o (r.halts (subst IsOfItem (sym e) tt))
+halts_took old new n fault text s r o server_faults.Memory e = halted old new n fault text s r o (r.halts (subst IsOfItem (sym e) tt))
 
 refused_grows : (old new : World) (e : Event) (text : List ℕ) → HasPast old → Refusal old e new → IsOutput old text → new.client.failed ≡ false → OutputGrows old e new text
 refused_grows old new e text s (unchanged is) o runs = same_grows old new e text is o

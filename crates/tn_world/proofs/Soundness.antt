@@ -11,26 +11,26 @@ use Rattle.tn_option.specs.Options.{Options}
 use Rattle.tn_option.proofs.lemmas.Agreement.{Moves, moves-LeadTo}
 use Rattle.tn_wire.specs.OptionWords.{words_in}
 use Rattle.tn_wire.proofs.lemmas.OptionWords.{words_in-append}
-use Rattle.tn_server.specs.Course as asked_course
-use Rattle.tn_server.specs.Events as asked
+use Rattle.tn_server.specs.Course as server_courses
+use Rattle.tn_server.specs.Events as server_calls
 use Rattle.tn_server.specs.Faults.{IsOfItem}
 use Rattle.tn_server.specs.Replies as server_says
 use Rattle.tn_server.specs.Calls as server
 use Rattle.tn_server.specs.declared.faults.ServerFault.{ServerFault}
-use Rattle.tn_server.specs.declared.faults.ServerFault.TheVariants as refused
-use Rattle.tn_server.proofs.lemmas.Courses as asked_on
+use Rattle.tn_server.specs.declared.faults.ServerFault.TheVariants as server_faults
+use Rattle.tn_server.proofs.lemmas.Courses as server_on
 use Rattle.tn_server.proofs.lemmas.Fitting as server_fits
 use Rattle.tn_server.proofs.lemmas.Histories.{limit-gets}
 use Rattle.tn_server.proofs.lemmas.Words as server_words
 use Rattle.tn_server.specs.Terms as server_terms
-use Rattle.tn_client.specs.Course as told_course
-use Rattle.tn_client.specs.Events as told
+use Rattle.tn_client.specs.Course as client_courses
+use Rattle.tn_client.specs.Events as client_calls
 use Rattle.tn_client.specs.Lines.{line_limit}
 use Rattle.tn_client.specs.Replies as client_says
 use Rattle.tn_client.specs.Calls as client
 use Rattle.tn_client.specs.declared.faults.ClientFault.{ClientFault}
-use Rattle.tn_client.specs.declared.faults.ClientFault.TheVariants as broken
-use Rattle.tn_client.proofs.lemmas.Courses as told_on
+use Rattle.tn_client.specs.declared.faults.ClientFault.TheVariants as client_faults
+use Rattle.tn_client.proofs.lemmas.Courses as client_on
 use Rattle.tn_client.proofs.lemmas.Fitting as client_fits
 use Rattle.tn_client.proofs.lemmas.Words as client_words
 use Rattle.tn_client.specs.Terms as client_terms
@@ -49,7 +49,7 @@ pub opposite : (b : Bool) (A : Type 0) → b ≡ true → b ≡ false → A
 opposite b A p q = absurd (cc)
 
 -- WHAT IS SAID FITS A STREAM
-pub goes_fit : (h : asked.History) (old new : server.End) (e : asked.Event) (before after : List ℕ) → server.LeadsTo h old → (g : server.Advances old e before after new) → All Fits g.said
+pub goes_fit : (h : server_calls.History) (old new : server.End) (e : server_calls.Event) (before after : List ℕ) → server.LeadsTo h old → (g : server.Advances old e before after new) → All Fits g.said
 goes_fit h old new e before after s g = subst (All Fits) (g.replies h s) (server_fits.replies-fit h e)
 
 later_fit : (all before said : List Item) → all ≡ before ++ said → All Fits all → All Fits said
@@ -58,53 +58,53 @@ later_fit all before said is fit = (all_parts Fits before said (subst (All Fits)
 front_fit : (all part rest : List Item) → all ≡ part ++ rest → All Fits all → All Fits part
 front_fit all part rest is fit = (all_parts Fits part rest (subst (All Fits) is fit)).0
 
-pub feeds_fit : (h : asked.History) (old new : server.End) (piece before after : List ℕ) → server.LeadsTo h old → (f : server.Feeds old piece before after new) → All Fits f.said
-feeds_fit h old new piece before after s f = later_fit (server_says.items_said (asked.gets h f.items)) (server_says.items_said h) f.said (f.sends h s) (server_fits.sent-fit (asked.gets h f.items))
+pub feeds_fit : (h : server_calls.History) (old new : server.End) (piece before after : List ℕ) → server.LeadsTo h old → (f : server.Feeds old piece before after new) → All Fits f.said
+feeds_fit h old new piece before after s f = later_fit (server_says.items_said (server_calls.gets h f.items)) (server_says.items_said h) f.said (f.sends h s) (server_fits.sent-fit (server_calls.gets h f.items))
 
-first_fit : (h : asked.History) (left part rest : List Item) → server.first_replies h left ≡ part ++ rest → All Fits part
+first_fit : (h : server_calls.History) (left part rest : List Item) → server.first_replies h left ≡ part ++ rest → All Fits part
 first_fit h [] part rest is = front_fit [] part rest is (All-nil Fits)
-first_fit h (item ∷ left) part rest is = front_fit (server_says.replies h (asked.got item)) part rest is (server_fits.replies-fit h (asked.got item))
+first_fit h (item ∷ left) part rest is = front_fit (server_says.replies h (server_calls.got item)) part rest is (server_fits.replies-fit h (server_calls.got item))
 
-pub halts_fit : (h : asked.History) (old new : server.End) (piece before after : List ℕ) (fault : ServerFault) → server.LeadsTo h old → (x : server.StopsWithin old piece fault before after new) → All Fits (x.said ++ x.part)
+pub halts_fit : (h : server_calls.History) (old new : server.End) (piece before after : List ℕ) (fault : ServerFault) → server.LeadsTo h old → (x : server.StopsWithin old piece fault before after new) → All Fits (x.said ++ x.part)
 halts_fit h old new piece before after fault s x =
     let b = x.begins h s in
     All-append Fits x.said x.part
-    (later_fit (server_says.items_said (asked.gets h x.done)) (server_says.items_said h) x.said (x.sends h s) (server_fits.sent-fit (asked.gets h x.done)))
-    (first_fit (asked.gets h x.done) x.left x.part b.0 b.1)
+    (later_fit (server_says.items_said (server_calls.gets h x.done)) (server_says.items_said h) x.said (x.sends h s) (server_fits.sent-fit (server_calls.gets h x.done)))
+    (first_fit (server_calls.gets h x.done) x.left x.part b.0 b.1)
 
-pub sends_fit : (h : told.History) (old : client.End) (e : told.Event) (before after : List ℕ) → client.LeadsTo h old → (g : client.Sends old e before after) → All Fits g.said
+pub sends_fit : (h : client_calls.History) (old : client.End) (e : client_calls.Event) (before after : List ℕ) → client.LeadsTo h old → (g : client.Sends old e before after) → All Fits g.said
 sends_fit h old e before after s g = subst (All Fits) (g.replies h s) (client_fits.replies-fit h e)
 
-pub came_fit : (h : told.History) (old new : client.End) (piece before after seen now : List ℕ) → client.LeadsTo h old → (f : client.Feeds old piece before after seen now new) → All Fits f.said
-came_fit h old new piece before after seen now s f = later_fit (client_says.items_said (told.gets h f.items)) (client_says.items_said h) f.said (f.sends h s) (client_fits.sent-fits (told.gets h f.items))
+pub came_fit : (h : client_calls.History) (old new : client.End) (piece before after seen now : List ℕ) → client.LeadsTo h old → (f : client.Feeds old piece before after seen now new) → All Fits f.said
+came_fit h old new piece before after seen now s f = later_fit (client_says.items_said (client_calls.gets h f.items)) (client_says.items_said h) f.said (f.sends h s) (client_fits.sent-fits (client_calls.gets h f.items))
 
-gave_fit : (h : told.History) (left part : List Item) (here : DecoderState) (back : List ℕ) → client.IsStopCause h left part here back → All Fits part
+gave_fit : (h : client_calls.History) (left part : List Item) (here : DecoderState) (back : List ℕ) → client.IsStopCause h left part here back → All Fits part
 gave_fit h [] part here back g = subst (All Fits) (sym g.0) (All-nil Fits)
-gave_fit h (item ∷ later) part here back g = front_fit (client_says.replies h (told.got item)) part g.rest g.whole (client_fits.replies-fit h (told.got item))
+gave_fit h (item ∷ later) part here back g = front_fit (client_says.replies h (client_calls.got item)) part g.rest g.whole (client_fits.replies-fit h (client_calls.got item))
 
-pub breaks_fit : (h : told.History) (old : client.End) (piece before after seen now stream : List ℕ) (had : List Item) → client.LeadsTo h old → LeadsTo stream had old.decoder → (x : client.StopsWithin old piece before after seen now) → All Fits (x.said ++ x.part)
+pub breaks_fit : (h : client_calls.History) (old : client.End) (piece before after seen now stream : List ℕ) (had : List Item) → client.LeadsTo h old → LeadsTo stream had old.decoder → (x : client.StopsWithin old piece before after seen now) → All Fits (x.said ++ x.part)
 breaks_fit h old piece before after seen now stream had s r x =
     All-append Fits x.said x.part
-    (later_fit (client_says.items_said (told.gets h x.done)) (client_says.items_said h) x.said (x.sends h s) (client_fits.sent-fits (told.gets h x.done)))
-    (gave_fit (told.gets h x.done) x.left x.part x.here x.back (x.why h stream had s r))
+    (later_fit (client_says.items_said (client_calls.gets h x.done)) (client_says.items_said h) x.said (x.sends h s) (client_fits.sent-fits (client_calls.gets h x.done)))
+    (gave_fit (client_calls.gets h x.done) x.left x.part x.here x.back (x.why h stream had s r))
 
 -- WHO IS ASKED GOES ON
 pub call_goes_on : (end : client.End) → client.call_fault end ≡ None → end.failed ≡ false
 call_goes_on end e = by_test end.failed refl
   where
     by_test : (b : Bool) → end.failed ≡ b → end.failed ≡ false
-    by_test true is = absurd (let f : (if true then Some broken.Failed else None) ≡ None = ap (λ (b : Bool). if b then Some broken.Failed else None) (sym is) ∙ e in cc)
+    by_test true is = absurd (let f : (if true then Some client_faults.Failed else None) ≡ None = ap (λ (b : Bool). if b then Some client_faults.Failed else None) (sym is) ∙ e in cc)
     by_test false is = is
 
-pub propose_goes_on : (end : client.End) (e : told.Event) → client_fault end e ≡ None → end.failed ≡ false
-propose_goes_on end (told.proposed func value) e = by_test end.failed refl
+pub propose_goes_on : (end : client.End) (e : client_calls.Event) → client_fault end e ≡ None → end.failed ≡ false
+propose_goes_on end (client_calls.proposed func value) e = by_test end.failed refl
   where
     by_test : (b : Bool) → end.failed ≡ b → end.failed ≡ false
     by_test true is = absurd (let f = ap (λ (b : Bool). client.propose_fault (record end { failed = b }) func value) (sym is) ∙ e in cc)
     by_test false is = is
-propose_goes_on end (told.typed key) e = call_goes_on end e
-propose_goes_on end (told.got item) e = call_goes_on end e
-propose_goes_on end (told.resized width height) e = call_goes_on end e
+propose_goes_on end (client_calls.typed key) e = call_goes_on end e
+propose_goes_on end (client_calls.got item) e = call_goes_on end e
+propose_goes_on end (client_calls.resized width height) e = call_goes_on end e
 
 -- THE OPTION WORDS in flight
 -- two engines of a server and a client, from their beginning
@@ -136,9 +136,9 @@ split_back here there ws all got left is l = subst (λ (x : List (Verb × ℕ)).
 
 -- EACH CALL AND DELIVERY
 -- the invariant of a world, part by part
-pub made : (w : World) (h : asked.History) → server.LeadsTo h w.server
-    → (w.server.failed ≡ false → (c : asked_course.Course) × asked_course.CourseLeadsTo c w.server)
-    → (w.client.failed ≡ false → (c : told_course.Course) × told_course.CourseLeadsTo c w.client)
+pub made : (w : World) (h : server_calls.History) → server.LeadsTo h w.server
+    → (w.server.failed ≡ false → (c : server_courses.Course) × server_courses.CourseLeadsTo c w.server)
+    → (w.client.failed ≡ false → (c : client_courses.Course) × client_courses.CourseLeadsTo c w.client)
     → (w.client.failed ≡ false → w.client.line.limit ≡ w.server.terminal.line.limit)
     → (there : w.server.failed ≡ false → (items : List Item) × InFlight w.server.decoder w.to_server items)
     → (here : w.client.failed ≡ false → (items : List Item) × InFlight w.client.decoder w.to_client items)
@@ -146,9 +146,9 @@ pub made : (w : World) (h : asked.History) → server.LeadsTo h w.server
 made w h stands asked told limit there here words = record { history = h; server = stands; asked = asked; told = told; limit = limit; to_server = there; to_client = here; words = words }
 
 -- a call of the client
-module _ (old new : World) (e : told.Event) (call : told_course.IsCall e) (g : client.Advances old.client e new.client) (k : client.ReadsNothing old.client new.client) (sends : client.Sends old.client e old.to_server new.to_server) (runs : old.client.failed ≡ false) (s : HasPast old) where
-  told_now : (c : told_course.Course) × told_course.CourseLeadsTo c new.client
-  told_now = let before = s.told runs in (told_course.called before.0 e, told_on.called_at before.0 old.client new.client e before.1 call g k)
+module _ (old new : World) (e : client_calls.Event) (call : client_courses.IsCall e) (g : client.Advances old.client e new.client) (k : client.ReadsNothing old.client new.client) (sends : client.Sends old.client e old.to_server new.to_server) (runs : old.client.failed ≡ false) (s : HasPast old) where
+  told_now : (c : client_courses.Course) × client_courses.CourseLeadsTo c new.client
+  told_now = let before = s.told runs in (client_courses.called before.0 e, client_on.called_at before.0 old.client new.client e before.1 call g k)
 
   pub told_limit : new.client.line.limit ≡ old.client.line.limit
   told_limit =
@@ -171,8 +171,8 @@ module _ (old new : World) (e : told.Event) (call : told_course.IsCall e) (g : c
 pub sound_as : (old new : World) → new.server ≡ old.server → new.client ≡ old.client → new.to_server ≡ old.to_server → new.to_client ≡ old.to_client → HasPast old → HasPast new
 sound_as old new a b c d s =
     made new s.history (subst (server.LeadsTo s.history) (sym a) s.server)
-    (λ r. let x = s.asked (sym (ap (λ e. e.failed) a) ∙ r) in (x.0, subst (asked_course.CourseLeadsTo x.0) (sym a) x.1))
-    (λ r. let x = s.told (sym (ap (λ e. e.failed) b) ∙ r) in (x.0, subst (told_course.CourseLeadsTo x.0) (sym b) x.1))
+    (λ r. let x = s.asked (sym (ap (λ e. e.failed) a) ∙ r) in (x.0, subst (server_courses.CourseLeadsTo x.0) (sym a) x.1))
+    (λ r. let x = s.told (sym (ap (λ e. e.failed) b) ∙ r) in (x.0, subst (client_courses.CourseLeadsTo x.0) (sym b) x.1))
     (λ r. ap (λ e. e.line.limit) b ∙ s.limit (sym (ap (λ e. e.failed) b) ∙ r) ∙ sym (ap (λ e. e.terminal.line.limit) a))
     (λ r. let f = s.to_server (sym (ap (λ e. e.failed) a) ∙ r) in (f.0, subst (λ x. InFlight new.server.decoder x f.0) (sym c) (subst (λ e. InFlight e.decoder old.to_server f.0) (sym a) f.1)))
     (λ r. let f = s.to_client (sym (ap (λ e. e.failed) b) ∙ r) in (f.0, subst (λ x. InFlight new.client.decoder x f.0) (sym d) (subst (λ e. InFlight e.decoder old.to_client f.0) (sym b) f.1)))
@@ -186,18 +186,18 @@ sound_as old new a b c d s =
 
 pub sound_types : (old new : World) (key : ℕ) → TypesKey old key new → HasPast old → HasPast new
 sound_types old new key t s =
-    let runs = propose_goes_on old.client (told.typed key) t.accepted in
+    let runs = propose_goes_on old.client (client_calls.typed key) t.accepted in
     subst (λ w. HasPast w) (sym t.rest)
     (sound_as (record old { client = new.client; to_server = new.to_server }) (record old { client = new.client; to_server = new.to_server; echoed = new.echoed; typed = old.typed ++ key ∷ [] }) refl refl refl refl
-    (told_sound old new (told.typed key) tt t.goes t.keeps t.sends runs s))
+    (told_sound old new (client_calls.typed key) tt t.goes t.keeps t.sends runs s))
 
-pub sound_tells : (old new : World) (e : told.Event) → told_course.IsCall e → CallsClient old e new → HasPast old → HasPast new
+pub sound_tells : (old new : World) (e : client_calls.Event) → client_courses.IsCall e → CallsClient old e new → HasPast old → HasPast new
 sound_tells old new e call t s =
     let runs = propose_goes_on old.client e t.accepted in
     subst (λ w. HasPast w) (sym t.rest) (told_sound old new e call t.goes t.keeps t.sends runs s)
 
 -- a call of the server
-module _ (old new : World) (e : asked.Event) (call : asked_course.IsCall e) (g : server.Advances old.server e old.to_client new.to_client new.server) (k : server.ReadsNothing old.server new.server) (s : HasPast old) where
+module _ (old new : World) (e : server_calls.Event) (call : server_courses.IsCall e) (g : server.Advances old.server e old.to_client new.to_client new.server) (k : server.ReadsNothing old.server new.server) (s : HasPast old) where
   asked_limit : new.server.terminal.line.limit ≡ old.server.terminal.line.limit
   asked_limit =
       let after = g.stands s.history s.server in
@@ -206,8 +206,8 @@ module _ (old new : World) (e : asked.Event) (call : asked_course.IsCall e) (g :
 
   pub asked_sound : HasPast (record old { server = new.server; to_client = new.to_client })
   asked_sound =
-      made (record old { server = new.server; to_client = new.to_client }) (asked.next s.history e) (g.stands s.history s.server)
-      (λ r. let x = s.asked (sym k.failed ∙ r) in (asked_course.called x.0 e, asked_on.called_on x.0 old.server new.server e old.to_client new.to_client x.1 call g k))
+      made (record old { server = new.server; to_client = new.to_client }) (server_calls.next s.history e) (g.stands s.history s.server)
+      (λ r. let x = s.asked (sym k.failed ∙ r) in (server_courses.called x.0 e, server_on.called_on x.0 old.server new.server e old.to_client new.to_client x.1 call g k))
       s.told
       (λ b. s.limit b ∙ sym asked_limit)
       (λ a. let f = s.to_server (sym k.failed ∙ a) in (f.0, subst (λ d. InFlight d old.to_server f.0) (sym k.decoder) f.1))
@@ -219,13 +219,13 @@ module _ (old new : World) (e : asked.Event) (call : asked_course.IsCall e) (g :
       (leads_on old.server.terms.options old.client.options new.server.terms.options old.client.options ws (words_in y) ws (words_in y ++ words_in g.said)
       (server_words.advances_moves s.history old.server new.server e old.to_client new.to_client old.client.options ws (words_in y) call s.server g) (s.words (sym k.failed ∙ a) b)))
 
-pub sound_asks : (old new : World) (e : asked.Event) → asked_course.IsCall e → CallsServer old e new → HasPast old → HasPast new
+pub sound_asks : (old new : World) (e : server_calls.Event) → server_courses.IsCall e → CallsServer old e new → HasPast old → HasPast new
 sound_asks old new e call t s = subst (λ w. HasPast w) (sym t.rest) (asked_sound old new e call t.goes t.keeps s)
 
 pub sound_takes : (old new : World) → TakesEntry old new → HasPast old → HasPast new
 sound_takes old new t s =
     subst (λ w. HasPast w) (sym t.rest)
-    (sound_as (record old { server = new.server; to_client = new.to_client }) _ refl refl refl refl (asked_sound old new asked.took tt t.goes t.keeps s))
+    (sound_as (record old { server = new.server; to_client = new.to_client }) _ refl refl refl refl (asked_sound old new server_calls.took tt t.goes t.keeps s))
 
 -- a delivery to the server
 pub sound_reaches : (old new : World) (n : ℕ) → DeliversToServer old n new → HasPast old → HasPast new
@@ -236,8 +236,8 @@ sound_reaches old new n t s =
     let before = s.server in
     let runs : new.server.failed ≡ false → old.server.failed ≡ false = λ r. sym f.failed ∙ r in
     subst (λ w. HasPast w) (sym t.rest)
-    (made (record old { server = new.server; to_server = drop n old.to_server; to_client = new.to_client }) (asked.gets s.history f.items) after
-    (λ r. let x = s.asked (runs r) in (asked_course.fed x.0 piece, asked_on.fed_on x.0 old.server new.server piece old.to_client new.to_client x.1 f))
+    (made (record old { server = new.server; to_server = drop n old.to_server; to_client = new.to_client }) (server_calls.gets s.history f.items) after
+    (λ r. let x = s.asked (runs r) in (server_courses.fed x.0 piece, server_on.fed_on x.0 old.server new.server piece old.to_client new.to_client x.1 f))
     s.told
     (λ b. s.limit b ∙ before.limit ∙ sym (limit-gets s.history f.items) ∙ sym after.limit)
     (λ a. let x = s.to_server (runs a) in let d = cut_at old.server.decoder new.server.decoder n old.to_server x.0 f.items x.1 f.reads in (d.left, d.flight))
@@ -252,9 +252,9 @@ sound_reaches old new n t s =
     (split_there old.server.terms.options old.client.options x.0 f.items d.left (words_in y) d.all (s.words (runs a) b)))))
 
 -- a delivery to the client
-line_limit-gets : (h : told.History) (items : List Item) → line_limit (told.gets h items) ≡ line_limit h
+line_limit-gets : (h : client_calls.History) (items : List Item) → line_limit (client_calls.gets h items) ≡ line_limit h
 line_limit-gets h [] = refl
-line_limit-gets h (item ∷ items) = line_limit-gets (told.next h (told.got item)) items
+line_limit-gets h (item ∷ items) = line_limit-gets (client_calls.next h (client_calls.got item)) items
 
 pub sound_returns : (old new : World) (n : ℕ) → DeliversToClient old n new → HasPast old → HasPast new
 sound_returns old new n t s =
@@ -267,7 +267,7 @@ sound_returns old new n t s =
     subst (λ w. HasPast w) (sym t.rest)
     (made (record old { client = new.client; to_client = drop n old.to_client; to_server = new.to_server; shown = new.shown }) s.history s.server
     s.asked
-    (λ r. let x = s.told runs in (told_course.fed x.0 piece, told_on.fed_at x.0 old.client new.client piece old.to_server new.to_server old.shown new.shown x.1 f))
+    (λ r. let x = s.told runs in (client_courses.fed x.0 piece, client_on.fed_at x.0 old.client new.client piece old.to_server new.to_server old.shown new.shown x.1 f))
     (λ b. after.limit ∙ line_limit-gets at.history f.items ∙ sym before.limit ∙ s.limit runs)
     (λ a. let x = s.to_server a in (x.0 ++ f.said, said_behind old.server.decoder old.to_server new.to_server x.0 f.said f.appended (came_fit at.history old.client new.client piece old.to_server new.to_server old.shown new.shown at.stands f) x.1))
     (λ b. let x = s.to_client runs in let d = cut_at old.client.decoder new.client.decoder n old.to_client x.0 f.items x.1 f.reads in (d.left, d.flight))
@@ -288,28 +288,28 @@ pub sound_does : (old new : World) (e : Event) → RunsEvent old e new → HasPa
 sound_does old new (Key key) d s = unless old.client_stopped old new (TypesKey old key new) (sound_types old new key) d s
 sound_does old new (ToServer n) d s = unless old.server_stopped old new (DeliversToServer old n new) (sound_reaches old new n) d s
 sound_does old new (ToClient n) d s = unless old.client_stopped old new (DeliversToClient old n new) (sound_returns old new n) d s
-sound_does old new (Write bytes) d s = unless old.server_stopped old new (CallsServer old (asked.wrote bytes) new) (sound_asks old new (asked.wrote bytes) tt) d s
+sound_does old new (Write bytes) d s = unless old.server_stopped old new (CallsServer old (server_calls.wrote bytes) new) (sound_asks old new (server_calls.wrote bytes) tt) d s
 sound_does old new (Pull n) d s =
-    unless old.server_stopped old new (Pulls old n new) (λ p. sound_asks old new (asked.pulled p.count) tt p.asks) d s
+    unless old.server_stopped old new (Pulls old n new) (λ p. sound_asks old new (server_calls.pulled p.count) tt p.asks) d s
 sound_does old new Take d s = sound_takes old new d s
-sound_does old new (Wish editing) d s = unless old.server_stopped old new (CallsServer old (asked.wished editing) new) (sound_asks old new (asked.wished editing) tt) d s
+sound_does old new (Wish editing) d s = unless old.server_stopped old new (CallsServer old (server_calls.wished editing) new) (sound_asks old new (server_calls.wished editing) tt) d s
 sound_does old new (Resize width height) d s =
-    unless old.client_stopped old new (CallsClient old (told.resized width height) new) (sound_tells old new (told.resized width height) tt) d s
+    unless old.client_stopped old new (CallsClient old (client_calls.resized width height) new) (sound_tells old new (client_calls.resized width height) tt) d s
 sound_does old new (SetChar func value) d s =
-    unless old.server_stopped old new (CallsServer old (asked.char_set func value) new) (sound_asks old new (asked.char_set func value) tt) d s
+    unless old.server_stopped old new (CallsServer old (server_calls.char_set func value) new) (sound_asks old new (server_calls.char_set func value) tt) d s
 sound_does old new (Propose func value) d s =
-    unless old.client_stopped old new (CallsClient old (told.proposed func value) new) (sound_tells old new (told.proposed func value) tt) d s
-sound_does old new (Echo on) d s = unless old.server_stopped old new (CallsServer old (asked.echo_set on) new) (sound_asks old new (asked.echo_set on) tt) d s
+    unless old.client_stopped old new (CallsClient old (client_calls.proposed func value) new) (sound_tells old new (client_calls.proposed func value) tt) d s
+sound_does old new (Echo on) d s = unless old.server_stopped old new (CallsServer old (server_calls.echo_set on) new) (sound_asks old new (server_calls.echo_set on) tt) d s
 sound_does old new ServerStops d s = subst (λ w. HasPast w) (sym d) (sound_as old _ refl refl refl refl s)
 sound_does old new ClientStops d s = subst (λ w. HasPast w) (sym d) (sound_as old _ refl refl refl refl s)
 
 -- REFUSALS
 -- the server stood where the items that were done lead, or failed before
-pub stood : (old : server.End) (new : server.End) (piece before after : List ℕ) (fault : ServerFault) (h : asked.History) → server.LeadsTo h old → (fault ≡ refused.Failed → new ≡ old) → (IsOfItem fault → server.StopsWithin old piece fault before after new) → ((f : _) → fault ≡ refused.Char f → ⊥) → (items : List Item) × server.LeadsTo (asked.gets h items) new
-stood old new piece before after (refused.Pty f) h s again halts no_char = let x = halts tt in (x.done, x.stands h s)
-stood old new piece before after refused.Memory h s again halts no_char = let x = halts tt in (x.done, x.stands h s)
-stood old new piece before after refused.Failed h s again halts no_char = ([], subst (server.LeadsTo h) (sym (again refl)) s)
-stood old new piece before after (refused.Char f) h s again halts no_char = absurd (no_char f refl)
+pub stood : (old : server.End) (new : server.End) (piece before after : List ℕ) (fault : ServerFault) (h : server_calls.History) → server.LeadsTo h old → (fault ≡ server_faults.Failed → new ≡ old) → (IsOfItem fault → server.StopsWithin old piece fault before after new) → ((f : _) → fault ≡ server_faults.Char f → ⊥) → (items : List Item) × server.LeadsTo (server_calls.gets h items) new
+stood old new piece before after (server_faults.Pty f) h s again halts no_char = let x = halts tt in (x.done, x.stands h s)
+stood old new piece before after server_faults.Memory h s again halts no_char = let x = halts tt in (x.done, x.stands h s)
+stood old new piece before after server_faults.Failed h s again halts no_char = ([], subst (server.LeadsTo h) (sym (again refl)) s)
+stood old new piece before after (server_faults.Char f) h s again halts no_char = absurd (no_char f refl)
 
 -- what it said before it failed
 pub record SaidOn (before after : List ℕ) : Type 0 where
@@ -317,20 +317,20 @@ pub record SaidOn (before after : List ℕ) : Type 0 where
   pub appended : after ≡ before ++ spells said
   pub fit : All Fits said
 
-pub said_on : (old new : server.End) (piece before after : List ℕ) (fault : ServerFault) (h : asked.History) → server.LeadsTo h old → (fault ≡ refused.Failed → after ≡ before) → (IsOfItem fault → server.StopsWithin old piece fault before after new) → ((f : _) → fault ≡ refused.Char f → ⊥) → SaidOn before after
-said_on old new piece before after (refused.Pty f) h s again halts no_char = let x = halts tt in record { said = x.said ++ x.part; appended = x.appended; fit = halts_fit h old new piece before after (refused.Pty f) s x }
-said_on old new piece before after refused.Memory h s again halts no_char = let x = halts tt in record { said = x.said ++ x.part; appended = x.appended; fit = halts_fit h old new piece before after refused.Memory s x }
-said_on old new piece before after refused.Failed h s again halts no_char = record { said = []; appended = again refl ∙ sym (append-nil before); fit = All-nil Fits }
-said_on old new piece before after (refused.Char f) h s again halts no_char = absurd (no_char f refl)
+pub said_on : (old new : server.End) (piece before after : List ℕ) (fault : ServerFault) (h : server_calls.History) → server.LeadsTo h old → (fault ≡ server_faults.Failed → after ≡ before) → (IsOfItem fault → server.StopsWithin old piece fault before after new) → ((f : _) → fault ≡ server_faults.Char f → ⊥) → SaidOn before after
+said_on old new piece before after (server_faults.Pty f) h s again halts no_char = let x = halts tt in record { said = x.said ++ x.part; appended = x.appended; fit = halts_fit h old new piece before after (server_faults.Pty f) s x }
+said_on old new piece before after server_faults.Memory h s again halts no_char = let x = halts tt in record { said = x.said ++ x.part; appended = x.appended; fit = halts_fit h old new piece before after server_faults.Memory s x }
+said_on old new piece before after server_faults.Failed h s again halts no_char = record { said = []; appended = again refl ∙ sym (append-nil before); fit = All-nil Fits }
+said_on old new piece before after (server_faults.Char f) h s again halts no_char = absurd (no_char f refl)
 
 -- the server failed, at a piece or before
-pub halts_sound : (old : World) (end : server.End) (piece left later : List ℕ) (fault : ServerFault) → (fault ≡ refused.Failed → end ≡ old.server) → (fault ≡ refused.Failed → later ≡ old.to_client) → (IsOfItem fault → server.StopsWithin old.server piece fault old.to_client later end) → ((f : _) → fault ≡ refused.Char f → ⊥) → end.failed ≡ true → HasPast old → HasPast (record old { server = end; to_server = left; to_client = later })
+pub halts_sound : (old : World) (end : server.End) (piece left later : List ℕ) (fault : ServerFault) → (fault ≡ server_faults.Failed → end ≡ old.server) → (fault ≡ server_faults.Failed → later ≡ old.to_client) → (IsOfItem fault → server.StopsWithin old.server piece fault old.to_client later end) → ((f : _) → fault ≡ server_faults.Char f → ⊥) → end.failed ≡ true → HasPast old → HasPast (record old { server = end; to_server = left; to_client = later })
 halts_sound old end piece left later fault again none halts no_char failed s =
     let at = stood old.server end piece old.to_client later fault s.history s.server again halts no_char in
     let more = said_on old.server end piece old.to_client later fault s.history s.server none halts no_char in
     let before = s.server in
     let after = at.1 in
-    made (record old { server = end; to_server = left; to_client = later }) (asked.gets s.history at.0) at.1
+    made (record old { server = end; to_server = left; to_client = later }) (server_calls.gets s.history at.0) at.1
     (λ r. opposite end.failed _ failed r) s.told
     (λ b. s.limit b ∙ before.limit ∙ sym (limit-gets s.history at.0) ∙ sym after.limit)
     (λ r. opposite end.failed _ failed r)
@@ -347,7 +347,7 @@ breaks_sound old end piece left later seen runs x failed s =
     (λ a. let f = s.to_server a in (
       f.0 ++ (x.said ++ x.part),
       said_behind old.server.decoder old.to_server later f.0 (x.said ++ x.part) x.appended
-          (breaks_fit here.history old.client piece old.to_server later old.shown seen (told_course.stream at.0) (told.items here.history) here.stands here.reads x) f.1,
+          (breaks_fit here.history old.client piece old.to_server later old.shown seen (client_courses.stream at.0) (client_calls.items here.history) here.stands here.reads x) f.1,
     ))
     (λ r. opposite end.failed _ failed r)
     (λ a b. opposite end.failed _ failed b)

@@ -11,7 +11,7 @@ use Rattle.tn_nvt.specs.Spelling.{spells, Fits}
 use Rattle.tn_nvt.specs.declared.items.Item.{Item}
 use Rattle.tn_nvt.specs.declared.items.Item.TheVariants.{Byte, Newline, Cmd, Neg, Sub}
 use Rattle.tn_option.specs.Options.{Options, options_after_word, reply_to}
-use Rattle.tn_server.specs.Events as asked
+use Rattle.tn_server.specs.Events as server_calls
 use Rattle.tn_server.specs.Events.{History, next, got, took, wrote, pulled, wished, char_set, echo_set, gets}
 use Rattle.tn_server.specs.Replies.{reply_items, replies, items_said}
 use Rattle.tn_server.specs.Screen.{queue, sends_ga, none_waits, due}
@@ -92,13 +92,13 @@ feeds_still h old new piece before after s f calm =
     let all = gets_still h f.items calm in
     subst (All IsStill) (append_cancel_left (items_said h) all.0 f.said (sym all.1 ∙ f.sends h s)) all.2
 
-abbrev IsStillCall : asked.Event → Type 0
+abbrev IsStillCall : server_calls.Event → Type 0
 IsStillCall (got item) = ⊥
 IsStillCall (wished editing) = ⊥
 IsStillCall (char_set func value) = ⊥
 IsStillCall _ = Unit {0}
 
-call_still : (h : History) (e : asked.Event) → IsStillCall e → All IsStill (replies h e)
+call_still : (h : History) (e : server_calls.Event) → IsStillCall e → All IsStill (replies h e)
 call_still h (got item) is = absurd is
 call_still h (wished editing) is = absurd is
 call_still h (char_set func value) is = absurd is
@@ -123,23 +123,23 @@ back_more old new said d t fit still b = (
   All-append IsStill b.0 said b.2 still,
 )
 
-back_goes : (old new : World) (e : asked.Event) → IsStillCall e → HasPast old → (g : server.Advances old.server e old.to_client new.to_client new.server) → new.client.decoder ≡ old.client.decoder → Back old → Back new
+back_goes : (old new : World) (e : server_calls.Event) → IsStillCall e → HasPast old → (g : server.Advances old.server e old.to_client new.to_client new.server) → new.client.decoder ≡ old.client.decoder → Back old → Back new
 back_goes old new e is sound g d b =
     let h = sound.history in
     back_more old new g.said d g.appended (goes_fit h old.server new.server e old.to_client new.to_client sound.server g)
     (subst (All IsStill) (g.replies h sound.server) (call_still h e is)) b
 
-back_asks : (old new : World) (e : asked.Event) → IsStillCall e → HasPast old → CallsServer old e new → Back old → Back new
+back_asks : (old new : World) (e : server_calls.Event) → IsStillCall e → HasPast old → CallsServer old e new → Back old → Back new
 back_asks old new e is sound t b = back_goes old new e is sound t.goes (ap (λ (w : World). w.client.decoder) t.rest) b
 
 back_reaches : (s : Canon) (old new : World) (n : ℕ) → IsRelated s old → DeliversToServer old n new → Back old → Back new
 back_reaches s old new n h t b =
-    let p = h.sound.history in
+    let p = h.past.history in
     let d = cut_at old.server.decoder new.server.decoder n old.to_server h.tied.items t.feeds.items h.tied.flight t.feeds.reads in
     let calm = (all_parts IsCalmToServer t.feeds.items d.left (subst (λ l. All IsCalmToServer l) d.all h.tied.calm)).0 in
     back_more old new t.feeds.said (ap (λ (w : World). w.client.decoder) t.rest) t.feeds.appended
-    (feeds_fit p old.server new.server (take n old.to_server) old.to_client new.to_client h.sound.server t.feeds)
-    (feeds_still p old.server new.server (take n old.to_server) old.to_client new.to_client h.sound.server t.feeds calm) b
+    (feeds_fit p old.server new.server (take n old.to_server) old.to_client new.to_client h.past.server t.feeds)
+    (feeds_still p old.server new.server (take n old.to_server) old.to_client new.to_client h.past.server t.feeds calm) b
 
 back_returns : (old new : World) (n : ℕ) → DeliversToClient old n new → Back old → Back new
 back_returns old new n t b =
@@ -158,16 +158,16 @@ back_does s old new (Key key) k h d b =
     unless_back old.client_stopped old new (TypesKey old key new) (λ t. back_same old new t.keeps.decoder (ap (λ (w : World). w.to_client) t.rest)) d b
 back_does s old new (ToServer n) k h d b = unless_back old.server_stopped old new (DeliversToServer old n new) (back_reaches s old new n h) d b
 back_does s old new (ToClient n) k h d b = unless_back old.client_stopped old new (DeliversToClient old n new) (back_returns old new n) d b
-back_does s old new (Write bytes) k h d b = unless_back old.server_stopped old new (CallsServer old (wrote bytes) new) (back_asks old new (wrote bytes) tt h.sound) d b
+back_does s old new (Write bytes) k h d b = unless_back old.server_stopped old new (CallsServer old (wrote bytes) new) (back_asks old new (wrote bytes) tt h.past) d b
 back_does s old new (Pull n) k h d b =
-    unless_back old.server_stopped old new (Pulls old n new) (λ p. back_asks old new (pulled p.count) tt h.sound p.asks) d b
-back_does s old new Take k h d b = back_goes old new took tt h.sound d.goes (ap (λ (w : World). w.client.decoder) d.rest) b
+    unless_back old.server_stopped old new (Pulls old n new) (λ p. back_asks old new (pulled p.count) tt h.past p.asks) d b
+back_does s old new Take k h d b = back_goes old new took tt h.past d.goes (ap (λ (w : World). w.client.decoder) d.rest) b
 back_does s old new (Wish editing) k h d b = absurd k
 back_does s old new (Resize width height) k h d b =
     unless_back old.client_stopped old new _ (λ t. back_same old new t.keeps.decoder (ap (λ (w : World). w.to_client) t.rest)) d b
 back_does s old new (SetChar func value) k h d b = absurd k
 back_does s old new (Propose func value) k h d b = absurd k
-back_does s old new (Echo on) k h d b = unless_back old.server_stopped old new (CallsServer old (echo_set on) new) (back_asks old new (echo_set on) tt h.sound) d b
+back_does s old new (Echo on) k h d b = unless_back old.server_stopped old new (CallsServer old (echo_set on) new) (back_asks old new (echo_set on) tt h.past) d b
 back_does s old new ServerStops k h d b = subst Back (sym d) b
 back_does s old new ClientStops k h d b = subst Back (sym d) b
 
@@ -202,7 +202,7 @@ stays_on s old new e k d x =
     let same = does_keeps old new e d in
     record {
       none = (same.0 ∙ x.none.0, same.1 ∙ x.none.1);
-      holds = holds_does s old new e x.none (sound_does old new e d x.holds.sound) (event_quiet s old e k x.back) d x.holds;
+      holds = holds_does s old new e x.none (sound_does old new e d x.holds.past) (event_quiet s old e k x.back) d x.holds;
       back = back_does s old new e k x.holds d x.back;
     }
 
@@ -212,7 +212,7 @@ all_quiet s w (e ∷ events) x k = λ mid does. (event_quiet s w e k.0 x.back, a
 
 pub mark_quiet : (s : Canon) (w : World) (events : List Event) → IsMark s w → EachKeepsTheMode events → AreQuiet (IsBetweenLines s) w events
 mark_quiet s w events m k =
-    let there = m.sound.to_client m.settled.idle.client_failed in
+    let there = m.past.to_client m.settled.idle.client_failed in
     let silent : there.0 ≡ [] = no_items w.client.decoder there.0 (subst (λ x. InFlight w.client.decoder x there.0) m.settled.idle.to_client there.1) in
     all_quiet s w events
     record {

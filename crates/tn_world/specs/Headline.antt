@@ -73,7 +73,7 @@ pub record IsSettled (w : World) : Type 0 where
 
 -- A settled moment, from which lists begin anew.
 pub record IsMark (canon : Canon) (w : World) : Type 0 where
-  pub sound : HasPast w
+  pub past : HasPast w
   pub settled : IsSettled w
   pub rules : canon_of w ≡ canon
   pub typed : w.typed ≡ []

@@ -2,11 +2,11 @@
 use Rattle.std.specs.Prelude.{◌≡◌, ◌⊎◌, ℕ, false, []}
 use Rattle.tn_discipline.specs.Canon.{Canon}
 use Rattle.tn_nvt.specs.Spelling.{spells}
-use Rattle.tn_server.specs.Course as asked
+use Rattle.tn_server.specs.Course as server_courses
 use Rattle.tn_server.specs.Replies.{opening}
-use Rattle.tn_server.specs.declared.faults.ServerFault.TheVariants as refused
-use Rattle.tn_client.specs.Course as told
-use Rattle.tn_client.specs.declared.faults.ClientFault.TheVariants as broken
+use Rattle.tn_server.specs.declared.faults.ServerFault.TheVariants as server_faults
+use Rattle.tn_client.specs.Course as client_courses
+use Rattle.tn_client.specs.declared.faults.ClientFault.TheVariants as client_faults
 use Rattle.tn_world.specs.Worlds.{World}
 use Rattle.tn_world.specs.declared.faults.Cause.TheVariants as cause
 use Rattle.tn_world.specs.declared.faults.WorldFault.{WorldFault}
@@ -14,8 +14,8 @@ use Rattle.tn_world.specs.declared.faults.WorldFault.{WorldFault}
 -- Both ends are where they start, with lines of the same limit, and have read nothing; the terminal takes keys, and the
 -- opening words are in flight.
 pub record IsOpened (canon : Canon) (width height : ℕ) (w : World) : Type 0 where
-  pub server : asked.CourseLeadsTo (asked.started canon) w.server
-  pub client : told.CourseLeadsTo (told.started width height canon.limit) w.client
+  pub server : server_courses.CourseLeadsTo (server_courses.started canon) w.server
+  pub client : client_courses.CourseLeadsTo (client_courses.started width height canon.limit) w.client
   pub takes_keys : w.server.terminal.closed ≡ false
   pub server_runs : w.server.failed ≡ false
   pub client_runs : w.client.failed ≡ false
@@ -36,7 +36,7 @@ pub record IsOpened (canon : Canon) (width height : ℕ) (w : World) : Type 0 wh
 abbrev pub IsOpenFault : WorldFault → Type 0
 IsOpenFault fault =
     (fault.at ≡ 0)
-    × ((fault.cause ≡ cause.Server refused.Memory) ⊎ (fault.cause ≡ cause.Client broken.Memory))
+    × ((fault.cause ≡ cause.Server server_faults.Memory) ⊎ (fault.cause ≡ cause.Client client_faults.Memory))
 
 abbrev pub with_new_lists : World → World
 with_new_lists w = record w { typed = []; taken = [] }

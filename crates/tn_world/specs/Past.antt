@@ -3,11 +3,11 @@ use Rattle.std.specs.Prelude.{◌≡◌, false, List}
 use Rattle.tn_nvt.specs.declared.items.Item.{Item}
 use Rattle.tn_option.specs.EnginePair.{EnginePair, LeadTo}
 use Rattle.tn_wire.specs.OptionWords.{words_in}
-use Rattle.tn_server.specs.Course as asked_course
-use Rattle.tn_server.specs.Events as asked
+use Rattle.tn_server.specs.Course as server_courses
+use Rattle.tn_server.specs.Events as server_calls
 use Rattle.tn_server.specs.Calls as server
 use Rattle.tn_server.specs.Terms as server_terms
-use Rattle.tn_client.specs.Course as told_course
+use Rattle.tn_client.specs.Course as client_courses
 use Rattle.tn_client.specs.Terms as client_terms
 use Rattle.tn_world.specs.Flight.{InFlight}
 use Rattle.tn_world.specs.Worlds.{World}
@@ -26,12 +26,12 @@ engines w there back =
 -- failed, it is where some pieces and calls lead, and what flies to it are whole items; both ends have lines of one limit.
 -- While neither has failed, both engines are where some wishes and words lead (RFC 1143).
 pub record HasPast (w : World) : Type 0 where
-  pub history : asked.History
+  pub history : server_calls.History
   pub server : server.LeadsTo history w.server
   pub asked : w.server.failed ≡ false
-      → (course : asked_course.Course) × asked_course.CourseLeadsTo course w.server
+      → (course : server_courses.Course) × server_courses.CourseLeadsTo course w.server
   pub told : w.client.failed ≡ false
-      → (course : told_course.Course) × told_course.CourseLeadsTo course w.client
+      → (course : client_courses.Course) × client_courses.CourseLeadsTo course w.client
   pub limit : w.client.failed ≡ false → w.client.line.limit ≡ w.server.terminal.line.limit
   pub to_server : w.server.failed ≡ false → (items : List Item) × InFlight w.server.decoder w.to_server items
   pub to_client : w.client.failed ≡ false → (items : List Item) × InFlight w.client.decoder w.to_client items

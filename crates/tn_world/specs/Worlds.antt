@@ -2,18 +2,18 @@
 use Rattle.std.specs.Prelude.{◌≡◌, ℕ, ◌<◌, Bool, true, false, min, Option, None, List, [], ◌∷◌, ◌++◌, length, take, drop, MatchOption, option_to_list}
 use Rattle.tn_discipline.specs.Canon.{Canon}
 use Rattle.tn_discipline.specs.declared.reads.Entry.{Entry}
-use Rattle.tn_server.specs.Events as asked
+use Rattle.tn_server.specs.Events as server_calls
 use Rattle.tn_server.specs.Faults as faults
 use Rattle.tn_server.specs.Faults.{IsOfItem, SaysSomething}
 use Rattle.tn_server.specs.Lines.{waiting}
 use Rattle.tn_server.specs.Screen.{queue}
 use Rattle.tn_server.specs.Calls as server
 use Rattle.tn_server.specs.declared.faults.ServerFault.{ServerFault}
-use Rattle.tn_server.specs.declared.faults.ServerFault.TheVariants as refused
-use Rattle.tn_client.specs.Events as told
+use Rattle.tn_server.specs.declared.faults.ServerFault.TheVariants as server_faults
+use Rattle.tn_client.specs.Events as client_calls
 use Rattle.tn_client.specs.Calls as client
 use Rattle.tn_client.specs.declared.faults.ClientFault.{ClientFault}
-use Rattle.tn_client.specs.declared.faults.ClientFault.TheVariants as broken
+use Rattle.tn_client.specs.declared.faults.ClientFault.TheVariants as client_faults
 use Rattle.tn_world.specs.declared.events.Event.{Event}
 use Rattle.tn_world.specs.declared.events.Event.TheVariants.{Key, ToServer, ToClient, Write, Pull, Take, Wish, Resize, SetChar, Propose, Echo, ServerStops, ClientStops}
 use Rattle.tn_world.specs.declared.faults.Cause.{Cause}
@@ -39,14 +39,14 @@ abbrev pub canon_of : World → Canon
 canon_of w = record { settings = w.server.terminal.settings; limit = w.server.terminal.line.limit }
 
 -- why a call of an end is refused whatever memory there is, if it is
-abbrev pub server_fault : server.End → asked.Event → Option ServerFault
-server_fault end (asked.wished editing) = server.call_fault end
-server_fault end (asked.echo_set on) = server.call_fault end
-server_fault end (asked.char_set func value) = server.char_fault_at end func value
+abbrev pub server_fault : server.End → server_calls.Event → Option ServerFault
+server_fault end (server_calls.wished editing) = server.call_fault end
+server_fault end (server_calls.echo_set on) = server.call_fault end
+server_fault end (server_calls.char_set func value) = server.char_fault_at end func value
 server_fault end _ = None
 
-abbrev pub client_fault : client.End → told.Event → Option ClientFault
-client_fault end (told.proposed func value) = client.propose_fault end func value
+abbrev pub client_fault : client.End → client_calls.Event → Option ClientFault
+client_fault end (client_calls.proposed func value) = client.propose_fault end func value
 client_fault end _ = client.call_fault end
 
 -- an end that was stopped does nothing
@@ -56,11 +56,11 @@ UnlessStopped false old new happens = happens
 
 -- A key is typed: what the client says joins the flight.
 pub record TypesKey (old : World) (key : ℕ) (new : World) : Type 0 where
-  pub accepted : client_fault old.client (told.typed key) ≡ None
-  pub goes : client.Advances old.client (told.typed key) new.client
+  pub accepted : client_fault old.client (client_calls.typed key) ≡ None
+  pub goes : client.Advances old.client (client_calls.typed key) new.client
   pub keeps : client.ReadsNothing old.client new.client
-  pub sends : client.Sends old.client (told.typed key) old.to_server new.to_server
-  pub shows : client.Shows old.client (told.typed key) old.echoed new.echoed
+  pub sends : client.Sends old.client (client_calls.typed key) old.to_server new.to_server
+  pub shows : client.Shows old.client (client_calls.typed key) old.echoed new.echoed
   pub rest : new
       ≡ record old {
         client = new.client;
@@ -70,7 +70,7 @@ pub record TypesKey (old : World) (key : ℕ) (new : World) : Type 0 where
       }
 
 -- Any other call of the client.
-pub record CallsClient (old : World) (e : told.Event) (new : World) : Type 0 where
+pub record CallsClient (old : World) (e : client_calls.Event) (new : World) : Type 0 where
   pub accepted : client_fault old.client e ≡ None
   pub goes : client.Advances old.client e new.client
   pub keeps : client.ReadsNothing old.client new.client
@@ -98,7 +98,7 @@ pub record DeliversToClient (old : World) (n : ℕ) (new : World) : Type 0 where
       }
 
 -- Any other call of the server: what it says joins the flight.
-pub record CallsServer (old : World) (e : asked.Event) (new : World) : Type 0 where
+pub record CallsServer (old : World) (e : server_calls.Event) (new : World) : Type 0 where
   pub accepted : server_fault old.server e ≡ None
   pub goes : server.Advances old.server e old.to_client new.to_client new.server
   pub keeps : server.ReadsNothing old.server new.server
@@ -107,15 +107,15 @@ pub record CallsServer (old : World) (e : asked.Event) (new : World) : Type 0 wh
 -- Symbols are sent: as many as there are, and no more than were asked for.
 pub record Pulls (old : World) (n : ℕ) (new : World) : Type 0 where
   pub count : ℕ
-  pub is_count : (h : asked.History) → server.LeadsTo h old.server → count ≡ min n (length (queue h))
-  pub asks : CallsServer old (asked.pulled count) new
+  pub is_count : (h : server_calls.History) → server.LeadsTo h old.server → count ≡ min n (length (queue h))
+  pub asks : CallsServer old (server_calls.pulled count) new
 
 -- The job takes the first entry that waits, if one does.
 pub record TakesEntry (old : World) (new : World) : Type 0 where
   pub entry : Option Entry
-  pub is_first : (h : asked.History) → server.LeadsTo h old.server
-      → MatchOption entry (waiting h ≡ []) (λ e. waiting h ≡ e ∷ waiting (asked.next h asked.took))
-  pub goes : server.Advances old.server asked.took old.to_client new.to_client new.server
+  pub is_first : (h : server_calls.History) → server.LeadsTo h old.server
+      → MatchOption entry (waiting h ≡ []) (λ e. waiting h ≡ e ∷ waiting (server_calls.next h server_calls.took))
+  pub goes : server.Advances old.server server_calls.took old.to_client new.to_client new.server
   pub keeps : server.ReadsNothing old.server new.server
   pub rest : new
       ≡ record old {
@@ -130,33 +130,33 @@ RunsEvent old (Key key) new = UnlessStopped old.client_stopped old new (TypesKey
 RunsEvent old (ToServer n) new = UnlessStopped old.server_stopped old new (DeliversToServer old n new)
 RunsEvent old (ToClient n) new = UnlessStopped old.client_stopped old new (DeliversToClient old n new)
 RunsEvent old (Write bytes) new =
-    UnlessStopped old.server_stopped old new (CallsServer old (asked.wrote bytes) new)
+    UnlessStopped old.server_stopped old new (CallsServer old (server_calls.wrote bytes) new)
 RunsEvent old (Pull n) new = UnlessStopped old.server_stopped old new (Pulls old n new)
 RunsEvent old Take new = TakesEntry old new
 RunsEvent old (Wish editing) new =
-    UnlessStopped old.server_stopped old new (CallsServer old (asked.wished editing) new)
+    UnlessStopped old.server_stopped old new (CallsServer old (server_calls.wished editing) new)
 RunsEvent old (Resize width height) new =
-    UnlessStopped old.client_stopped old new (CallsClient old (told.resized width height) new)
+    UnlessStopped old.client_stopped old new (CallsClient old (client_calls.resized width height) new)
 RunsEvent old (SetChar func value) new =
-    UnlessStopped old.server_stopped old new (CallsServer old (asked.char_set func value) new)
+    UnlessStopped old.server_stopped old new (CallsServer old (server_calls.char_set func value) new)
 RunsEvent old (Propose func value) new =
-    UnlessStopped old.client_stopped old new (CallsClient old (told.proposed func value) new)
+    UnlessStopped old.client_stopped old new (CallsClient old (client_calls.proposed func value) new)
 RunsEvent old (Echo on) new =
-    UnlessStopped old.server_stopped old new (CallsServer old (asked.echo_set on) new)
+    UnlessStopped old.server_stopped old new (CallsServer old (server_calls.echo_set on) new)
 RunsEvent old ServerStops new = new ≡ record old { server_stopped = true }
 RunsEvent old ClientStops new = new ≡ record old { client_stopped = true }
 
 -- no delivery is refused for a character
 abbrev pub IsDeliveryFault : ServerFault → Type 0
-IsDeliveryFault (refused.Char fault) = ⊥
+IsDeliveryFault (server_faults.Char fault) = ⊥
 IsDeliveryFault fault = Unit {0}
 
 -- A delivery that the server refused: its bytes have left the flight. An end that failed before did nothing more.
 pub record ServerRefusesDelivery (old : World) (n : ℕ) (fault : ServerFault) (new : World) : Type 0 where
   pub goes_on : old.server_stopped ≡ false
-  pub first : (old.server.failed ≡ true) → fault ≡ refused.Failed
+  pub first : (old.server.failed ≡ true) → fault ≡ server_faults.Failed
   pub is_fault : IsDeliveryFault fault
-  pub again : (fault ≡ refused.Failed)
+  pub again : (fault ≡ server_faults.Failed)
       → (old.server.failed ≡ true) × (new ≡ record old { to_server = drop n old.to_server })
   pub halts : IsOfItem fault
       → server.StopsWithin old.server (take n old.to_server) fault old.to_client new.to_client new.server
@@ -168,8 +168,8 @@ pub record ServerRefusesDelivery (old : World) (n : ℕ) (fault : ServerFault) (
 pub record ClientRefusesDelivery (old : World) (n : ℕ) (fault : ClientFault) (new : World) : Type 0 where
   pub goes_on : old.client_stopped ≡ false
   pub is_fault : client.IsFault (client.call_fault old.client) fault
-  pub again : (fault ≡ broken.Failed) → new ≡ record old { to_client = drop n old.to_client }
-  pub breaks : (fault ≡ broken.Memory)
+  pub again : (fault ≡ client_faults.Failed) → new ≡ record old { to_client = drop n old.to_client }
+  pub breaks : (fault ≡ client_faults.Memory)
       → client.StopsWithin old.client (take n old.to_client) old.to_server new.to_server old.shown new.shown
   pub failed : new.client.failed ≡ true
   pub rest : new
@@ -181,36 +181,36 @@ pub record ClientRefusesDelivery (old : World) (n : ℕ) (fault : ClientFault) (
       }
 
 -- A call of the server is refused for its cause, or for want of memory for what it says.
-pub record ServerRefusesCall (end : server.End) (e : asked.Event) (fault : ServerFault) : Type 0 where
+pub record ServerRefusesCall (end : server.End) (e : server_calls.Event) (fault : ServerFault) : Type 0 where
   pub cause : faults.IsFault (server_fault end e) fault
-  pub grows : (fault ≡ refused.Memory) → (h : asked.History) → server.LeadsTo h end → SaysSomething h e
+  pub grows : (fault ≡ server_faults.Memory) → (h : server_calls.History) → server.LeadsTo h end → SaysSomething h e
 
 -- The same of the client.
-pub record ClientRefusesCall (end : client.End) (e : told.Event) (fault : ClientFault) : Type 0 where
+pub record ClientRefusesCall (end : client.End) (e : client_calls.Event) (fault : ClientFault) : Type 0 where
   pub cause : client.IsFault (client_fault end e) fault
-  pub grows : (fault ≡ broken.Memory) → (h : told.History) → client.LeadsTo h end → client.SaysOrShows h e
+  pub grows : (fault ≡ client_faults.Memory) → (h : client_calls.History) → client.LeadsTo h end → client.SaysOrShows h e
 
 -- the event calls an end, other than by a delivery, and the call is refused for this fault: entries are taken from a
 -- server that was stopped, too
 abbrev pub ServerRefusesEvent : World → Event → ServerFault → Type 0
 ServerRefusesEvent w (Pull n) fault =
-    (w.server_stopped ≡ false) × ServerRefusesCall w.server (asked.pulled n) fault
-ServerRefusesEvent w Take fault = ServerRefusesCall w.server asked.took fault
+    (w.server_stopped ≡ false) × ServerRefusesCall w.server (server_calls.pulled n) fault
+ServerRefusesEvent w Take fault = ServerRefusesCall w.server server_calls.took fault
 ServerRefusesEvent w (Wish editing) fault =
-    (w.server_stopped ≡ false) × ServerRefusesCall w.server (asked.wished editing) fault
+    (w.server_stopped ≡ false) × ServerRefusesCall w.server (server_calls.wished editing) fault
 ServerRefusesEvent w (SetChar func value) fault =
-    (w.server_stopped ≡ false) × ServerRefusesCall w.server (asked.char_set func value) fault
+    (w.server_stopped ≡ false) × ServerRefusesCall w.server (server_calls.char_set func value) fault
 ServerRefusesEvent w (Echo on) fault =
-    (w.server_stopped ≡ false) × ServerRefusesCall w.server (asked.echo_set on) fault
+    (w.server_stopped ≡ false) × ServerRefusesCall w.server (server_calls.echo_set on) fault
 ServerRefusesEvent w e fault = ⊥
 
 abbrev pub ClientRefusesEvent : World → Event → ClientFault → Type 0
 ClientRefusesEvent w (Key key) fault =
-    (w.client_stopped ≡ false) × ClientRefusesCall w.client (told.typed key) fault
+    (w.client_stopped ≡ false) × ClientRefusesCall w.client (client_calls.typed key) fault
 ClientRefusesEvent w (Resize width height) fault =
-    (w.client_stopped ≡ false) × ClientRefusesCall w.client (told.resized width height) fault
+    (w.client_stopped ≡ false) × ClientRefusesCall w.client (client_calls.resized width height) fault
 ClientRefusesEvent w (Propose func value) fault =
-    (w.client_stopped ≡ false) × ClientRefusesCall w.client (told.proposed func value) fault
+    (w.client_stopped ≡ false) × ClientRefusesCall w.client (client_calls.proposed func value) fault
 ClientRefusesEvent w e fault = ⊥
 
 -- the world wants memory of its own: for a typed key, for the rest of a flight that is cut, for a taken entry

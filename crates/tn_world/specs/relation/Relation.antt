@@ -77,4 +77,4 @@ pub record IsRelated (canon : Canon) (w : World) : Type 0 where
   pub tied : IsTied (rules_of canon linemode) (picture w trapped plain)
   pub server : ServerStays (rules_of canon linemode) w.server
   pub client : ClientStays (rules_of canon linemode) w.client
-  pub sound : HasPast w
+  pub past : HasPast w

@@ -1,10 +1,10 @@
 use Rattle.std.proofs.Common.{Err, ap}
-use Rattle.tn_client.specs.Events as told
+use Rattle.tn_client.specs.Events as client_calls
 use Rattle.tn_world.proofs.Bodies.{tells_sound, resize_refused}
 use Rattle.tn_world.proofs.world.World.resize.Goals as goal
 
 pub invariant_of-self-2 : goal.invariant_of-self-2
-invariant_of-self-2 c = tells_sound _ _ (told.resized c.args.width c.args.height) _ tt c.in-Ok.ensures.accepted c.in-Ok.ensures.goes c.in-Ok.ensures.keeps c.in-Ok.ensures.sends c.self.invariant
+invariant_of-self-2 c = tells_sound _ _ (client_calls.resized c.args.width c.args.height) _ tt c.in-Ok.ensures.accepted c.in-Ok.ensures.goes c.in-Ok.ensures.keeps c.in-Ok.ensures.sends c.self.invariant
 
 pub returns-in-Err-clause-err : goal.returns-in-Err-clause-err
 returns-in-Err-clause-err c =
