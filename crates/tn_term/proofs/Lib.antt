@@ -1,0 +1,5 @@
+pub mod Following
+pub mod Doing
+pub mod Breaking
+pub mod Handling
+pub mod Turning
