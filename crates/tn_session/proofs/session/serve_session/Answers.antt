@@ -1,0 +1,13 @@
+use Rattle.tn_session.specs.Turning.{ids_of}
+use Rattle.tn_session.proofs.session.serve_session.Goals as goal
+
+pub returns-in-Ok-run : goal.returns-in-Ok-run
+returns-in-Ok-run g c =
+    let made = c.in_ok-made.made in
+    record {
+      jobs = made.table;
+      first = made.first;
+      others = ids_of made.line.items;
+      numbered = c.in_ok-made.ensures.numbered;
+      schedule = c.in-Ok-run.ensures (record { settings = c.args.settings; limit = c.args.limit }) c.args.editing made.table c.in-Ok.ensures.at c.in-Ok.ensures.out;
+    }
