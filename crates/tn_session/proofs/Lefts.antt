@@ -1,13 +1,11 @@
 -- Where each sender's list ends in its one Left, and all Lefts were handled, nothing is left over.
-use Rattle.std.proofs.Common.{◌≡◌, ◌+◌, ◌≤◌, ◌<◌, ◌⊎◌, ℕ, Bool, true, false, List, [], ◌∷◌, ◌++◌, length, refl, sym, ap, ◌∙◌, subst, append_assoc, arith}
+use Rattle.std.proofs.Common.{◌≡◌, ◌+◌, ◌≤◌, ◌<◌, ℕ, Bool, true, false, List, [], ◌∷◌, ◌++◌, refl, sym, ap, ◌∙◌, subst, arith}
 use Rattle.tn_session.specs.declared.mail.Sender.{Sender}
 use Rattle.tn_session.specs.declared.mail.Sender.TheVariants.{Net, Desk, Back, Keys}
-use Rattle.tn_term.specs.declared.messages.Message.{Message}
-use Rattle.tn_term.specs.declared.messages.Message.TheVariants.{Left}
 use Rattle.tn_session.specs.declared.mail.Mail.{Mail}
 use Rattle.tn_session.specs.Mailbox.{same, from}
 use Rattle.tn_session.specs.Turns.{left_one, lefts_of}
-use Rattle.tn_session.proofs.Mailbox.{from-append, same_true}
+use Rattle.tn_session.proofs.Mailbox.{from-append}
 
 pub lefts-append : (a b : List Mail) → lefts_of (a ++ b) ≡ lefts_of a + lefts_of b
 lefts-append [] b = omega arith

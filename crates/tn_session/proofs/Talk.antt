@@ -1,6 +1,5 @@
 -- The desk's list, message by message.
-use Rattle.std.proofs.Common.{◌≡◌, ◌⊎◌, List, [], ◌∷◌, ◌++◌, Option, Some, None, refl, sym, ap, ◌∙◌, subst, inl, inr, append_assoc, map, true, false, ⊎_elim}
-use Rattle.std.specs.List.{FoldsTo, flat_map}
+use Rattle.std.proofs.Common.{◌≡◌, List, [], ◌∷◌, ◌++◌, Some, sym, ap, ◌∙◌, append_assoc, map}
 use Rattle.std.proofs.lemmas.List.{map-append}
 use Rattle.std.proofs.lemmas.Grind.{flat_map-append}
 use Rattle.std.proofs.lemmas.Fn.{FoldsTo-push}
@@ -9,14 +8,12 @@ use Rattle.tn_jobs.specs.declared.reactions.Reaction.{Reaction}
 use Rattle.tn_jobs.specs.declared.verdicts.After.TheVariants.{Done}
 use Rattle.tn_session.specs.declared.mail.Mail.{Mail}
 use Rattle.tn_term.specs.declared.messages.Message.{Message}
-use Rattle.tn_term.specs.declared.messages.Message.TheVariants.{Take, Said, Refused, Left}
+use Rattle.tn_term.specs.declared.messages.Message.TheVariants.{Take, Said}
 use Rattle.tn_session.specs.declared.mail.Sender.TheVariants.{Desk}
 use Rattle.tn_session.specs.declared.channels.View.{View}
-use Rattle.tn_session.specs.declared.entries.Hand.{Hand}
 use Rattle.tn_session.specs.Mailbox.{mail, sender}
 use Rattle.tn_jobs.specs.declared.held_jobs.JobId.{JobId}
-use Rattle.tn_session.specs.Queue.{taker}
-use Rattle.tn_session.specs.Talk.{turn_said, turns_said, Answers, entries_of, desk_sends, ends_done, Closes, Talked}
+use Rattle.tn_session.specs.Talk.{turn_said, turns_said, Answers, entries_of, desk_sends, ends_done}
 
 -- what one call of `say` tells
 abbrev pub Says : Message → View → View → Type 0

@@ -1,5 +1,5 @@
 -- One more step of a background job.
-use Rattle.std.proofs.Common.{◌≡◌, ◌≢◌, ℕ, ◌==◌, Bool, true, false, List, [], ◌∷◌, ◌++◌, ◌⊎◌, ⊎_elim, inl, inr, map, append_assoc, Option, Some, None, IfSome, refl, sym, ap, ◌∙◌, subst, if◌then◌else◌, eq-eqb, eqb-true}
+use Rattle.std.proofs.Common.{◌≡◌, ℕ, ◌==◌, Bool, true, false, List, [], ◌∷◌, ◌++◌, ◌⊎◌, ⊎_elim, inl, inr, map, append_assoc, Option, Some, None, IfSome, refl, sym, ap, ◌∙◌, subst, if◌then◌else◌, eq-eqb, eqb-true}
 use Rattle.std.proofs.lemmas.Fn.{FoldsTo-push}
 use Rattle.std.specs.List.{FoldsTo}
 use Rattle.tn_jobs.specs.declared.held_jobs.JobId.{JobId}

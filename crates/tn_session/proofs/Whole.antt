@@ -1,8 +1,7 @@
 -- A whole session: its passes joined, and what its threads did.
-use Rattle.std.proofs.Common.{◌≡◌, ◌⊎◌, ℕ, ◌+◌, ◌≤◌, Bool, true, false, ◌&&◌, List, [], ◌∷◌, ◌++◌, length, Option, Some, None, IfSome, refl, sym, ap, ◌∙◌, ⊎_elim, map, subst, append-nil, append_assoc, arith}
+use Rattle.std.proofs.Common.{◌≡◌, ℕ, ◌+◌, ◌≤◌, Bool, true, false, ◌&&◌, List, [], ◌∷◌, ◌++◌, Option, Some, None, IfSome, refl, sym, ap, ◌∙◌, ⊎_elim, map, subst, append-nil, append_assoc, arith}
 use Rattle.std.proofs.lemmas.List.{map-append}
 use Rattle.std.specs.Io.KnownBytes.{Appends}
-use Rattle.std.specs.List.{flat_map}
 use Rattle.tn_discipline.specs.Canon.{Canon}
 use Rattle.tn_discipline.specs.declared.reads.Entry.{Entry}
 use Rattle.tn_jobs.specs.Jobs.{Jobs}
@@ -13,13 +12,13 @@ use Rattle.tn_server.specs.Replies.{sent}
 use Rattle.tn_server.specs.declared.wishes.Editing.{Editing}
 use Rattle.tn_session.proofs.Going.{appends_more}
 use Rattle.tn_session.proofs.Lefts.{EndsLeft, lefts-append, lefts_each, nothing_left}
-use Rattle.tn_session.specs.Joining.{Begins, handler, Settled}
+use Rattle.tn_session.specs.Joining.{handler, Settled}
 use Rattle.tn_session.specs.Mailbox.{Interleaves, from, four, sender, share, union, nobody, everyone, with_handled, mail, Total}
 use Rattle.tn_session.specs.Queue.{putter, taker, joined_hands, both_hands, no_hand, LeftOver}
 use Rattle.tn_session.specs.Reading.{NetSent, IsEnding, pieces_of}
 use Rattle.tn_session.specs.Session.{Opened, Schedule, report_of}
-use Rattle.tn_session.specs.Stepping.{Stepped, IsClose, step_said}
-use Rattle.tn_session.specs.Talk.{Talked, Closes, turn_said, turns_said}
+use Rattle.tn_session.specs.Stepping.{Stepped, step_said}
+use Rattle.tn_session.specs.Talk.{Talked, Closes, turns_said}
 use Rattle.tn_session.specs.Turns.{Acted, Writes, left_one, lefts_of}
 use Rattle.tn_session.specs.declared.channels.View.{View}
 use Rattle.tn_session.specs.declared.entries.Hand.{Hand}
@@ -29,10 +28,9 @@ use Rattle.tn_session.specs.declared.mail.Sender.TheVariants.{Net, Desk, Back, K
 use Rattle.tn_session.specs.declared.parties.Report.{Report}
 use Rattle.tn_term.specs.Marks.{opened, all_whole}
 use Rattle.tn_term.specs.Reaching.{IsAt}
-use Rattle.tn_term.specs.Run.{Run, start, opening}
+use Rattle.tn_term.specs.Run.{start, opening}
 use Rattle.tn_term.specs.declared.messages.Message.{Message}
 use Rattle.tn_term.specs.declared.messages.Message.TheVariants.{Piece, HangUp, ReadFailed, Take, Said, Refused, Left}
-use Rattle.tn_term.specs.declared.progress.Progress.{Progress}
 use Rattle.tn_term.specs.declared.terminal.Term.{Term}
 
 -- the passes are joined and cut again

@@ -1,6 +1,6 @@
 -- The running session, of what its ports give back, for every schedule.
-use Rattle.std.specs.Prelude.{◌≡◌, ℕ, Bool, true, false, ◌&&◌, Option, Some, None, List, [], ◌∷◌, ◌++◌, map}
-use Rattle.std.specs.Io.KnownBytes.{Appends, Consumes, IsAtEnd}
+use Rattle.std.specs.Prelude.{◌≡◌, ℕ, Bool, true, false, ◌&&◌, Option, Some, List, [], ◌++◌, map}
+use Rattle.std.specs.Io.KnownBytes.{Appends}
 use Rattle.crossbeam_channel.specs.Claims.{view}
 use Rattle.tn_discipline.specs.Canon.{Canon}
 use Rattle.tn_discipline.specs.declared.reads.Entry.{Entry}
@@ -8,7 +8,6 @@ use Rattle.tn_jobs.specs.Jobs.{Jobs}
 use Rattle.tn_jobs.specs.declared.held_jobs.JobId.{JobId}
 use Rattle.tn_jobs.specs.declared.reactions.Reaction.{Reaction}
 use Rattle.tn_nvt.specs.Spelling.{spells}
-use Rattle.tn_server.specs.Lines.{entries}
 use Rattle.tn_server.specs.Replies.{sent}
 use Rattle.tn_server.specs.declared.wishes.Editing.{Editing}
 use Rattle.tn_session.specs.Jobs.{Numbered}
@@ -25,11 +24,10 @@ use Rattle.tn_session.specs.declared.mail.Mail.{Mail}
 use Rattle.tn_session.specs.declared.mail.Sender.TheVariants.{Net, Desk, Back}
 use Rattle.tn_session.specs.declared.parties.Ports.{Ports}
 use Rattle.tn_session.specs.declared.parties.Report.{Report}
-use Rattle.tn_term.specs.Giving.{entries_put}
+use Rattle.tn_term.specs.Giving.{GivesFront}
 use Rattle.tn_term.specs.Marks.{Runs, opened, all_whole}
 use Rattle.tn_term.specs.Reaching.{IsAt}
 use Rattle.tn_term.specs.Run.{Run, start, opening}
-use Rattle.tn_term.specs.declared.faults.Ended.TheVariants.{HangUp}
 use Rattle.tn_term.specs.declared.messages.Mark.{Mark}
 use Rattle.tn_term.specs.declared.messages.Message.{Message}
 use Rattle.tn_term.specs.declared.progress.Progress.{Progress}
@@ -98,3 +96,5 @@ pub record RunningSession {J : Type 0} (fresh : J → Type 0) (reacts : J → En
   pub others : List ℕ
   pub numbered : Numbered jobs first others
   pub schedule : Schedule fresh reacts steps first others canon editing jobs given old new report net desk back term put took
+  -- five: what the foreground job took is a front of the entries that the bytes give
+  pub in_order : GivesFront schedule.taken schedule.run.history

@@ -1,14 +1,13 @@
 -- What the thread of the background jobs sends.
-use Rattle.std.specs.Prelude.{◌≡◌, ℕ, ◌==◌, Bool, true, false, List, [], ◌∷◌, ◌++◌, ◌⊎◌, map, if◌then◌else◌}
+use Rattle.std.specs.Prelude.{◌≡◌, ℕ, ◌==◌, List, [], ◌∷◌, ◌++◌, ◌⊎◌, map, if◌then◌else◌}
 use Rattle.std.specs.List.{FoldsTo}
 use Rattle.tn_jobs.specs.declared.held_jobs.JobId.{JobId}
-use Rattle.tn_jobs.specs.declared.verdicts.After.{After}
 use Rattle.tn_jobs.specs.declared.reactions.Reaction.{Reaction}
 use Rattle.tn_session.specs.declared.mail.Sender.TheVariants.{Back}
 use Rattle.tn_session.specs.declared.channels.View.{View}
 use Rattle.tn_session.specs.Mailbox.{mail, sender}
 use Rattle.tn_term.specs.declared.messages.Message.{Message}
-use Rattle.tn_term.specs.declared.messages.Message.TheVariants.{Piece, HangUp, ReadFailed, Take, Said, Refused, Left}
+use Rattle.tn_term.specs.declared.messages.Message.TheVariants.{Said, Refused, Left}
 
 -- a job's number, and what it did
 abbrev pub step_said : JobId × Reaction → Message

@@ -4,7 +4,6 @@ use Rattle.std.specs.List.{FoldsTo}
 use Rattle.tn_discipline.specs.declared.reads.Entry.{Entry}
 use Rattle.tn_jobs.specs.declared.reactions.Reaction.{Reaction}
 use Rattle.tn_jobs.specs.declared.held_jobs.JobId.{JobId}
-use Rattle.tn_session.specs.declared.mail.Mail.{Mail}
 use Rattle.tn_term.specs.declared.messages.Message.{Message}
 use Rattle.tn_term.specs.declared.messages.Message.TheVariants.{Take, Said, Refused, Left}
 use Rattle.tn_session.specs.declared.mail.Sender.TheVariants.{Desk}

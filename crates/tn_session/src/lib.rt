@@ -13,6 +13,8 @@ mod back;
 mod channels;
 mod desk;
 mod entries;
+#[cfg(test)]
+mod gate_tests;
 mod joining;
 mod mail;
 mod making;

@@ -21,7 +21,7 @@ fn text_of(alloc: Global, bytes: &[u8]) -> Result<Text, AllocError> {
     Ok(Text::from(text))
 }
 
-fn reaction(alloc: Global, bytes: &[u8], after: After) -> Result<Reaction, AllocError> {
+pub(crate) fn reaction(alloc: Global, bytes: &[u8], after: After) -> Result<Reaction, AllocError> {
     let text = text_of(alloc, bytes)?;
     Ok(Reaction { text, after })
 }
@@ -87,6 +87,7 @@ fn served<R: Threads + Wait + Copy + Send + 'static, const N: usize>(
     rt: R,
     alloc: Global,
     input: [u8; N],
+    editing: Editing,
     tostop: bool,
     jobs: u8,
 ) -> Result<(Vec<u8>, Report), Fail> {
@@ -97,14 +98,13 @@ fn served<R: Threads + Wait + Copy + Send + 'static, const N: usize>(
     let gate = Arc::new(alloc, Open)?;
     let maker = Jobs { left: jobs };
     let reader = Cursor::new(input);
-    let editing = Editing::Remote;
     let (report, _ports) = serve_session(
         rt, alloc, reader, &mut out, settings, limit, editing, maker, gate,
     )?;
     Ok((out, report))
 }
 
-fn ended(ended: Ended, pieces: u64, entries: u64, stops: u64) -> Report {
+pub(crate) fn ended(ended: Ended, pieces: u64, entries: u64, stops: u64) -> Report {
     Report {
         ended,
         pieces,
@@ -115,7 +115,7 @@ fn ended(ended: Ended, pieces: u64, entries: u64, stops: u64) -> Report {
 
 #[test]
 fn writes_a_line_back(rt: HostRuntime) -> Result<(), Fail> {
-    let (out, report) = served(rt, rt.alloc(), *b"a\r\0", false, 1)?;
+    let (out, report) = served(rt, rt.alloc(), *b"a\r\0", Editing::Remote, false, 1)?;
     assert_eq!(rt; out.get(OPENING..), Some(b"a\r\n\xff\xf9".as_slice()));
     assert_eq!(rt; report, ended(Ended::HangUp, 1, 1, 0));
     Ok(())
@@ -123,7 +123,7 @@ fn writes_a_line_back(rt: HostRuntime) -> Result<(), Fail> {
 
 #[test]
 fn counts_a_stop(rt: HostRuntime) -> Result<(), Fail> {
-    let (out, report) = served(rt, rt.alloc(), [26], false, 1)?;
+    let (out, report) = served(rt, rt.alloc(), [26], Editing::Remote, false, 1)?;
     assert_eq!(rt; out.get(OPENING..), Some(b"tstp\r\n\xff\xf9".as_slice()));
     assert_eq!(rt; report, ended(Ended::HangUp, 1, 1, 1));
     Ok(())
@@ -131,7 +131,7 @@ fn counts_a_stop(rt: HostRuntime) -> Result<(), Fail> {
 
 #[test]
 fn ends_with_its_job(rt: HostRuntime) -> Result<(), Fail> {
-    let (out, report) = served(rt, rt.alloc(), *b"exit\r\0", false, 1)?;
+    let (out, report) = served(rt, rt.alloc(), *b"exit\r\0", Editing::Remote, false, 1)?;
     assert_eq!(rt; out.get(OPENING..), Some(b"bye\r\n".as_slice()));
     assert_eq!(rt; report, ended(Ended::Done, 1, 1, 0));
     Ok(())
@@ -139,8 +139,23 @@ fn ends_with_its_job(rt: HostRuntime) -> Result<(), Fail> {
 
 #[test]
 fn stops_what_writes_in_the_background(rt: HostRuntime) -> Result<(), Fail> {
-    let (out, report) = served(rt, rt.alloc(), [], true, 2)?;
+    let (out, report) = served(rt, rt.alloc(), [], Editing::Remote, true, 2)?;
     assert_eq!(rt; out.len(), OPENING);
     assert_eq!(rt; report, ended(Ended::HangUp, 0, 0, 0));
+    Ok(())
+}
+
+/// The whole table of special characters, MODE with EDIT and TRAPSIG, the line, and GA.
+const EDITED: [u8; 43] = [
+    255, 250, 34, 3, 3, 2, 3, 7, 2, 28, 8, 2, 4, 9, 2, 26, 10, 2, 127, 11, 2, 21, 17, 0, 0, 18, 0,
+    0, 255, 240, 255, 250, 34, 1, 3, 255, 240, 97, 3, 13, 10, 255, 249,
+];
+
+#[test]
+fn reads_what_the_client_edited(rt: HostRuntime) -> Result<(), Fail> {
+    let input = [255, 251, 34, 255, 250, 34, 1, 7, 255, 240, 97, 3, 13, 10];
+    let (out, report) = served(rt, rt.alloc(), input, Editing::Local, false, 1)?;
+    assert_eq!(rt; out.get(OPENING..), Some(EDITED.as_slice()));
+    assert_eq!(rt; report, ended(Ended::HangUp, 1, 1, 0));
     Ok(())
 }

@@ -1,5 +1,5 @@
 -- What is left where a call is refused.
-use Rattle.std.proofs.Common.{◌≡◌, ℕ, Bool, true, false, List, [], ◌∷◌, ◌++◌, Option, Some, None, Result, Ok, Err, OnOk, OnErr, IfOk, IfErr, option_to_list, refl, sym, ap, ◌∙◌, subst, append-nil, append_assoc, length, arith, ◌≤◌, ◌<◌, All}
+use Rattle.std.proofs.Common.{◌≡◌, ℕ, Bool, true, false, List, [], ◌∷◌, ◌++◌, Option, Result, Ok, Err, OnOk, OnErr, IfOk, IfErr, refl, sym, ap, ◌∙◌, subst, append-nil, append_assoc, length, arith, ◌<◌, All}
 use Rattle.std.specs.List.{concat}
 use Rattle.std.proofs.lemmas.List.Elements.{All-append, All-nil, All-cons}
 use Rattle.tn_discipline.specs.declared.characters.CharFault.{CharFault}
@@ -22,7 +22,7 @@ use Rattle.tn_server.specs.Replies.{sent, replies}
 use Rattle.tn_server.specs.Screen.{queue}
 use Rattle.tn_term.specs.Counting.{halted, fed}
 use Rattle.tn_term.specs.Reaching.{IsAt, Does, Breaks, FeedBreaks, HaltsIf}
-use Rattle.tn_term.specs.Run.{Run, flushed, flush, show, ask, ask_if, answer, halt, halt_if, end_if, IsPart}
+use Rattle.tn_term.specs.Run.{Run, flushed, show, ask, ask_if, answer, halt, halt_if, end_if, IsPart}
 use Rattle.tn_term.specs.declared.progress.Progress.{Progress}
 use Rattle.tn_term.specs.declared.terminal.Term.{Term}
 

@@ -17,14 +17,11 @@ use Rattle.tn_discipline.specs.Canon.{Canon}
 use Rattle.tn_server.specs.Standing.{End, Stands, Goes, Keeps}
 use Rattle.tn_term.specs.declared.progress.Progress.{Progress}
 use Rattle.tn_term.specs.declared.terminal.Term.{Term}
-use Rattle.tn_term.specs.Counting.{answered, unanswered, fed, halted, ends, nothing_yet}
+use Rattle.tn_term.specs.Counting.{answered, unanswered, fed, halted, nothing_yet}
 use Rattle.tn_term.specs.Run.{Run, flushed, ask, answer, end_if, show, move, stop_job, end_job, in_foreground, halt, halt_if, start, opening}
-use Rattle.tn_term.specs.declared.faults.SessionFault.{SessionFault}
-use Rattle.tn_term.specs.declared.faults.Ended.TheVariants.{Fault}
-use Rattle.tn_term.specs.Reaching.{IsAt, IsLive, Follows, Does, Feeds, HaltsIf}
+use Rattle.tn_term.specs.Reaching.{IsAt, Follows, Does, Feeds, HaltsIf}
 use Rattle.tn_term.proofs.Following.{follows_took, follows_wrote, follows_then, follows_none, in_parts-push, spelled_on}
 use Rattle.tn_server.proofs.lemmas.Histories.{items-gets, opening-gets}
-use Rattle.tn_server.specs.Course.{in_parts}
 use Rattle.tn_nvt.specs.Spelling.{spells}
 use Rattle.tn_nvt.proofs.lemmas.Reading.{spells-append}
 

@@ -7,7 +7,7 @@ use Rattle.tn_nvt.specs.Spelling.{spells}
 use Rattle.tn_nvt.specs.declared.items.Item.{Item}
 use Rattle.tn_pty.specs.Terminal.{fitted}
 use Rattle.tn_server.specs.Course.{in_parts}
-use Rattle.tn_server.specs.Events.{History, begun, next, got, took, wrote, pulled, wished, char_set, echo_set, gets, items, opening_settings}
+use Rattle.tn_server.specs.Events.{History, begun, next, got, took, wrote, pulled, wished, char_set, echo_set}
 use Rattle.tn_server.specs.Replies.{sent, replies}
 use Rattle.tn_server.specs.Screen.{queue}
 use Rattle.tn_server.specs.Standing.{End, Stands, Goes, Keeps}

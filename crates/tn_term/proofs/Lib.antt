@@ -3,3 +3,4 @@ pub mod Doing
 pub mod Breaking
 pub mod Handling
 pub mod Turning
+pub mod lemmas

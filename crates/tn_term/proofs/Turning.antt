@@ -1,5 +1,5 @@
 -- One message with its mark.
-use Rattle.std.proofs.Common.{◌≡◌, ℕ, Bool, true, false, List, [], ◌∷◌, ◌++◌, Option, None, option_to_list, refl, sym, ap, ◌∙◌, subst, append-nil, append_assoc}
+use Rattle.std.proofs.Common.{◌≡◌, ℕ, Bool, true, false, List, [], ◌++◌, Option, None, option_to_list, refl, sym, ap, ◌∙◌, subst, append-nil, append_assoc}
 use Rattle.tn_discipline.specs.declared.reads.Entry.{Entry}
 use Rattle.tn_nvt.proofs.lemmas.Reading.{spells-append}
 use Rattle.tn_nvt.specs.Spelling.{spells}
@@ -10,11 +10,11 @@ use Rattle.tn_server.specs.declared.faults.ServerFault.{ServerFault}
 use Rattle.tn_term.proofs.Doing.{is_over}
 use Rattle.tn_term.specs.Counting.{ends, halted}
 use Rattle.tn_term.specs.Marks.{put_or_not}
-use Rattle.tn_term.specs.Reaching.{IsAt, Handled, Stops, IsTurn}
+use Rattle.tn_term.specs.Reaching.{Handled, Stops, IsTurn}
 use Rattle.tn_term.specs.Run.{Run, ActsUnless, idle, idle_puts, fail, end_if}
 use Rattle.tn_term.specs.declared.faults.Ended.TheVariants.{Fault}
 use Rattle.tn_term.specs.declared.faults.SessionFault.TheVariants as fault
-use Rattle.tn_term.specs.declared.messages.Mark.TheVariants.{Whole, WriteFailed, Refused}
+use Rattle.tn_term.specs.declared.messages.Mark.TheVariants.{Whole, Refused}
 use Rattle.tn_term.specs.declared.messages.Message.{Message}
 use Rattle.tn_term.specs.declared.progress.Progress.{Progress}
 use Rattle.tn_term.specs.declared.terminal.Term.{Term}

@@ -1,5 +1,5 @@
 -- How far a session is, after each thing that happens.
-use Rattle.std.specs.Prelude.{ℕ, ◌+◌, ◌-◌, ◌^◌, min, Bool, true, false, not}
+use Rattle.std.specs.Prelude.{ℕ, ◌+◌, ◌-◌, ◌^◌, min, true, false, not}
 use Rattle.tn_term.specs.declared.progress.Progress.{Progress}
 use Rattle.tn_term.specs.declared.faults.Ended.{Ended}
 use Rattle.tn_term.specs.declared.faults.Ended.TheVariants.{HangUp, Done, Fault}

@@ -8,6 +8,7 @@ pub use progress::Progress;
 pub use terminal::Term;
 
 mod faults;
+pub mod laws;
 mod messages;
 mod progress;
 mod terminal;

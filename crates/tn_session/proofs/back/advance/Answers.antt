@@ -1,6 +1,5 @@
-use Rattle.std.proofs.Common.{refl, inl, ap, ◌∙◌, ◌++◌, List, Option, option_to_list}
+use Rattle.std.proofs.Common.{refl, inl, ap, ◌∙◌, ◌++◌, option_to_list}
 use Rattle.std.specs.Result.{is_ok}
-use Rattle.tn_session.specs.declared.back.Runner.{Runner}
 use Rattle.tn_session.proofs.Turning.{kept_or_gone}
 use Rattle.tn_session.proofs.back.advance.Goals as goal
 

@@ -1,10 +1,10 @@
-use Rattle.std.proofs.Common.{◌≡◌, refl, [], ◌∷◌, ◌++◌, map}
+use Rattle.std.proofs.Common.{[], ◌∷◌, ◌++◌, map}
 use Rattle.crossbeam_channel.specs.Claims.{view}
 use Rattle.tn_jobs.specs.declared.held_jobs.JobId.{JobId}
 use Rattle.tn_jobs.specs.declared.reactions.Reaction.{Reaction}
 use Rattle.tn_session.specs.Stepping.{step_said}
 use Rattle.tn_session.specs.Turning.{ids_of}
-use Rattle.tn_term.specs.declared.messages.Message.TheVariants.{Said, Refused, Left}
+use Rattle.tn_term.specs.declared.messages.Message.TheVariants.{Refused, Left}
 use Rattle.tn_session.proofs.Turning.{said, role, said_step, closes_left, closes_refused, if_some, running_first, advanced}
 use Rattle.tn_session.proofs.back.run_back.Goals as goal
 

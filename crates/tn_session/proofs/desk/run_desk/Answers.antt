@@ -1,5 +1,4 @@
-use Rattle.std.proofs.Common.{◌≡◌, ◌∷◌, [], ◌++◌, ap, ◌∙◌, sym, inl, inr, Option}
-use Rattle.crossbeam_channel.specs.Claims.{view}
+use Rattle.std.proofs.Common.{◌∷◌, [], ◌++◌, ap, ◌∙◌, sym, inl, inr, Option}
 use Rattle.tn_discipline.specs.declared.reads.Entry.{Entry}
 use Rattle.tn_session.specs.Queue.{taker}
 use Rattle.tn_session.specs.Talk.{desk_sends, entries_of}

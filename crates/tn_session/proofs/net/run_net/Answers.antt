@@ -1,6 +1,5 @@
 use Rattle.std.proofs.Common.{[], ◌∷◌, ◌++◌}
-use Rattle.crossbeam_channel.specs.Claims.{view}
-use Rattle.tn_term.specs.declared.messages.Message.TheVariants.{ReadFailed, Left}
+use Rattle.tn_term.specs.declared.messages.Message.TheVariants.{ReadFailed}
 use Rattle.tn_session.proofs.Reading.{consumes_piece, consumes_end, said, said_two, said_piece, role, if_some}
 use Rattle.tn_session.proofs.net.run_net.Goals as goal
 

@@ -1,4 +1,4 @@
-use Rattle.std.proofs.Common.{refl, ◌≡◌, true, false}
+use Rattle.std.proofs.Common.{true, false}
 use Rattle.tn_session.proofs.Going.{writes_as, never_true}
 use Rattle.tn_session.proofs.session.open.Goals as goal
 

@@ -1,6 +1,5 @@
-use Rattle.std.proofs.Common.{◌≡◌, ap, refl, sym, ◌∙◌, [], ◌∷◌, ◌++◌, Option, List, option_to_list, arith, append-nil, append_assoc}
+use Rattle.std.proofs.Common.{ap, refl, sym, ◌∙◌, [], ◌∷◌, ◌++◌, Option, List, option_to_list, arith, append-nil}
 use Rattle.crossbeam_channel.specs.Claims.{view}
-use Rattle.tn_discipline.specs.declared.reads.Entry.{Entry}
 use Rattle.tn_session.specs.Queue.{putter}
 use Rattle.tn_session.specs.declared.mail.Mail.{Mail}
 use Rattle.tn_session.proofs.Mailbox.{handles, totals, handled_more}

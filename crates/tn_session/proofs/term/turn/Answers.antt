@@ -1,4 +1,4 @@
-use Rattle.std.proofs.Common.{refl, List, option_to_list, ◌++◌, sym, ◌∙◌}
+use Rattle.std.proofs.Common.{refl, option_to_list, ◌++◌, sym, ◌∙◌}
 use Rattle.crossbeam_channel.specs.Claims.{view}
 use Rattle.tn_session.proofs.Going.{turned_on, turned_off, writes_as, puts_two, if_some}
 use Rattle.tn_session.proofs.term.turn.Goals as goal

@@ -1,6 +1,6 @@
 use Rattle.std.proofs.Common.{None}
 use Rattle.tn_term.specs.declared.messages.Message.TheVariants.{HangUp, ReadFailed, Left}
-use Rattle.tn_term.proofs.Handling.{with_ok, with_stuck, said_whole, said_stuck, handled_hang_up, handled_fault, handled_left, stops_hang_up, stops_fault, stops_left}
+use Rattle.tn_term.proofs.Handling.{with_ok, with_stuck, handled_hang_up, handled_fault, handled_left, stops_hang_up, stops_fault, stops_left}
 use Rattle.tn_term.proofs.terminal.Term.act.Goals as goal
 
 pub returns-in-HangUp-clause-ok : goal.returns-in-HangUp-clause-ok

@@ -1,4 +1,4 @@
-use Rattle.std.proofs.Common.{ap, Err, ◌<◌, All}
+use Rattle.std.proofs.Common.{ap, Err, ◌<◌}
 use Rattle.std.proofs.lemmas.List.Elements.{All-from_get_or}
 use Rattle.tn_term.specs.declared.progress.Progress.{Progress}
 use Rattle.tn_term.proofs.Breaking.{feed_breaks}

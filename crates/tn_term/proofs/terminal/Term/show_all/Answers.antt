@@ -1,4 +1,4 @@
-use Rattle.std.proofs.Common.{refl, [], append-nil}
+use Rattle.std.proofs.Common.{refl, []}
 use Rattle.tn_term.specs.Run.{flush, show}
 use Rattle.tn_term.proofs.Breaking.{breaks_after, breaks_before, grows_flushed}
 use Rattle.tn_term.proofs.Doing.{does_then}

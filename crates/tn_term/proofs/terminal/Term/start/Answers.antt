@@ -1,6 +1,5 @@
 use Rattle.std.proofs.Common.{ap}
 use Rattle.tn_term.specs.declared.progress.Progress.{Progress}
-use Rattle.tn_term.specs.declared.terminal.Term.{Term}
 use Rattle.tn_term.proofs.Doing.{starts, start_sends}
 use Rattle.tn_term.proofs.terminal.Term.start.Goals as goal
 
