@@ -12,8 +12,10 @@
 #![tactic(auto)]
 
 pub use held_jobs::{JobFault, JobId, MOST_JOBS, Table};
+pub use reactions::{Job, Reaction};
 pub use verdicts::{After, JobState, Verdict, Why, judge};
 
 mod held_jobs;
 pub mod laws;
+mod reactions;
 mod verdicts;

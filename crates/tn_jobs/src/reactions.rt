@@ -1,0 +1,37 @@
+//! What a session runs: jobs that read the terminal's entries and write to its screen.
+
+ghost use Rattle.std.specs.Prelude.{IfOk};
+
+use crate::verdicts::After;
+use std::alloc::{AllocError, Global};
+use tn_discipline::{Entry, Text};
+
+/// What a job does at an entry, or at a step of its own: the text that it writes, and what comes next.
+#[derive(Debug, Drop)]
+pub struct Reaction {
+    pub text: Text,
+    pub after: After,
+}
+
+/// A job. It names what holds of it before it did anything, and what its calls promise.
+pub trait Job: Drop {
+    ghost use Rattle.tn_discipline.specs.declared.reads.Entry.{Entry};
+    ghost use Rattle.tn_jobs.specs.declared.reactions.Reaction.{Reaction};
+
+    /// The job has done nothing yet.
+    ghost fresh: { Self → Type 0 };
+
+    /// From the first state to the last, this reaction answers this entry.
+    ghost reacts: { Self → Entry → Reaction → Self → Type 0 };
+
+    /// From the first state to the last, this is a step of its own.
+    ghost steps: { Self → Reaction → Self → Type 0 };
+
+    /// Answers an entry that was read for it.
+    fn entry(&mut self, alloc: Global, entry: Entry) -> Result<Reaction, AllocError>
+        ensures { IfOk result (λ reaction. reacts self.old entry reaction self.new) };
+
+    /// Makes a step without reading.
+    fn step(&mut self, alloc: Global) -> Result<Reaction, AllocError>
+        ensures { IfOk result (λ reaction. steps self.old reaction self.new) };
+}

@@ -1,0 +1,267 @@
+-- What was written, and one message after another.
+use Rattle.std.proofs.Common.{◌≡◌, ℕ, ◌+◌, ◌≤◌, nat_le, Bool, true, false, not, ◌||◌, ◌&&◌, ◌⊎◌, ⊎_elim, inl, inr, map, List, [], ◌∷◌, ◌++◌, Option, Some, None, IfSome, Result, Ok, option_to_list, refl, sym, ap, ◌∙◌, subst, append_assoc, append-nil, take-append-drop, arith, length, take, drop, zero, suc}
+use Rattle.std.proofs.lemmas.Fn.{FoldsTo-push}
+use Rattle.std.specs.Io.KnownBytes.{Appends, Keeps, WriteAppends}
+use Rattle.tn_discipline.specs.declared.reads.Entry.{Entry}
+use Rattle.tn_nvt.specs.Spelling.{spells}
+use Rattle.tn_server.specs.Replies.{items_said}
+use Rattle.tn_session.specs.Turns.{Writes, TurnsMessage, GoesOn, left_one, lefts_of, messages_of}
+use Rattle.tn_session.specs.Queue.{putter}
+use Rattle.tn_session.specs.declared.entries.Hand.{Hand}
+use Rattle.tn_session.specs.declared.mail.Mail.{Mail}
+use Rattle.tn_term.specs.Marks.{Turns, is_whole, all_whole}
+use Rattle.tn_term.specs.Reaching.{IsTurn, LeadsTo}
+use Rattle.tn_term.specs.Run.{Run, fail}
+use Rattle.tn_term.specs.declared.faults.SessionFault.TheVariants as fault
+use Rattle.tn_term.specs.declared.messages.Mark.{Mark}
+use Rattle.tn_term.specs.declared.messages.Mark.TheVariants as mark
+use Rattle.tn_term.specs.declared.messages.Message.{Message}
+use Rattle.tn_term.specs.declared.messages.Message.TheVariants.{Left}
+use Rattle.tn_term.specs.declared.progress.Progress.{Progress}
+use Rattle.tn_term.specs.declared.terminal.Term.{Term}
+
+true_false : true ≡ false → ⊥
+true_false e = cc
+
+false_true : false ≡ true → ⊥
+false_true e = cc
+
+pub appends_more : (a b c : Option (List ℕ)) (xs ys : List ℕ) → Appends a b xs → Appends b c ys → Appends a c (xs ++ ys)
+appends_more None b c xs ys one two = tt
+appends_more (Some x) None c xs ys one two = absurd one
+appends_more (Some x) (Some y) None xs ys one two = absurd two
+appends_more (Some x) (Some y) (Some z) xs ys one two = two ∙ ap (λ (l : List ℕ). l ++ ys) one ∙ append_assoc x xs ys
+
+pub appends_kept : (a b c : Option (List ℕ)) (xs : List ℕ) → Appends a b xs → Keeps b c → Appends a c xs
+appends_kept None b c xs one two = tt
+appends_kept (Some x) None c xs one two = absurd one
+appends_kept (Some x) (Some y) None xs one two = absurd two
+appends_kept (Some x) (Some y) (Some z) xs one two = two ∙ one
+
+pub appends_none : (a : Option (List ℕ)) → Appends a a []
+appends_none None = tt
+appends_none (Some x) = sym (append-nil x)
+
+pub take_all : (n : ℕ) (l : List ℕ) → length l ≤ n → take n l ≡ l
+take_all zero [] h = refl
+take_all (suc n) [] h = refl
+take_all zero (x ∷ xs) h = absurd (omega arith)
+take_all (suc n) (x ∷ xs) h = ap (λ (k : List ℕ). x ∷ k) (take_all n xs (omega arith))
+
+pub stops_at : (a b : Option (List ℕ)) (n : ℕ) (bytes : List ℕ) → Appends a b (take n bytes) → Writes false a b bytes
+stops_at a b n bytes h = (take n bytes, drop n bytes, sym (take-append-drop n bytes), h)
+
+pub writes_all : (a b : Option (List ℕ)) (n : ℕ) (bytes : List ℕ) → length bytes ≤ n → Appends a b (take n bytes) → Writes true a b bytes
+writes_all a b n bytes all h = rw (take_all n bytes all) at h
+
+pub stops_now : (a b c : Option (List ℕ)) (n k : ℕ) (bytes rest : List ℕ) → k ≡ 0 → Appends a b (take n bytes) → Appends b c (take k rest) → Writes false a c bytes
+stops_now a b c n k bytes rest e one two =
+    let P : ℕ → Type 0 = λ m. Appends b c (take m rest) in
+    let Q : List ℕ → Type 0 = λ zs. Appends a c zs in
+    stops_at a c n bytes (subst Q (append-nil (take n bytes)) (appends_more a b c (take n bytes) [] one (subst P e two)))
+
+-- so many of the bytes were written
+pub writes_so_many : (b : Bool) (x y : Option (List ℕ)) (n : ℕ) (bytes : List ℕ) → nat_le (length bytes) n ≡ b → Appends x y (take n bytes) → Writes b x y bytes
+writes_so_many true x y n bytes e h = let all : length bytes ≤ n = grind arith in writes_all x y n bytes all h
+writes_so_many false x y n bytes e h = stops_at x y n bytes h
+
+-- where less was written than is to be, as if the rest had not been sent
+turn_front : (m : Mark) (old new : Term) (message : Message) (front back bytes : List ℕ) (put last : Option (Option Entry)) → bytes ≡ front ++ back → is_whole m ≡ false → IsTurn m old message bytes put last new → IsTurn m old message front put last new
+turn_front m old new message front back bytes put last e broken t = record {
+  leads = λ c at.
+      let l = t.leads c at in (
+        l.0,
+        l.1,
+        l.2,
+        l.3,
+        back ++ l.4,
+        l.5 ∙ ap (λ (bs : List ℕ). spells (items_said c.history) ++ (bs ++ l.4)) e ∙ ap (λ (bs : List ℕ). spells (items_said c.history) ++ bs) (append_assoc front back l.4),
+        λ w. absurd (true_false (sym w ∙ broken)),
+      );
+  over = t.over;
+  stays = t.stays;
+  idle = λ off. absurd (true_false (sym (t.idle off).1 ∙ broken));
+}
+
+-- a write failed after a message that was done wholly
+turn_unwritten : (old mid new : Term) (message : Message) (front back bytes : List ℕ) (put last : Option (Option Entry)) → bytes ≡ front ++ back → (old.progress.over ≡ true → ⊥) → IsTurn mark.Whole old message bytes put None mid → ((c : Run) → LeadsTo c mid → LeadsTo (fail fault.Write c) new) → ((c : Run) → LeadsTo c mid → (fail fault.Write c).puts ≡ c.puts ++ option_to_list last) → new.progress.over ≡ true → IsTurn mark.WriteFailed old message front put last new
+turn_unwritten old mid new message front back bytes put last e on t leads puts over = record {
+  leads = λ c at.
+      let l = t.leads c at in (
+        fail fault.Write l.0,
+        (is_on (c.progress.over) (λ off. on (ap (λ (p : Progress). p.over) at.progress ∙ off)), l.0, l.1, refl),
+        leads l.0 l.2,
+        puts l.0 l.2 ∙ ap (λ (ps : List (Option Entry)). ps ++ option_to_list last) (l.3 ∙ ap (λ (ps : List (Option Entry)). c.puts ++ ps) (append-nil (option_to_list put))) ∙ append_assoc c.puts (option_to_list put) (option_to_list last),
+        back,
+        l.5 ∙ ap (λ (bs : List ℕ). spells (items_said c.history) ++ bs) (ap (λ (bs : List ℕ). bytes ++ bs) (l.6 refl) ∙ append-nil bytes ∙ e),
+        λ w. absurd (false_true w),
+      );
+  over = λ w. over;
+  stays = λ off. absurd (on off);
+  idle = λ off. absurd (on off);
+}
+  where
+    is_on : (b : Bool) → (b ≡ true → ⊥) → b ≡ false
+    is_on true never = absurd (never refl)
+    is_on false never = refl
+
+pub writes_as : (b d : Bool) (x y : Option (List ℕ)) (bytes others : List ℕ) → b ≡ d → bytes ≡ others → Writes b x y bytes → Writes d x y others
+writes_as b d x y bytes others f e h =
+    let P : List ℕ → Type 0 = λ bs. Writes d x y bs in
+    let Q : Bool → Type 0 = λ u. Writes u x y bytes in
+    subst P e (subst Q f h)
+
+abbrev pub Puts : Hand → List (Option Entry) → Hand → Type 0
+Puts v ps w = (l : List (Option Entry)) → v ≡ putter l → w ≡ putter (l ++ ps)
+
+pub puts_two : (v u w : Hand) (ps qs : List (Option Entry)) → Puts v ps u → Puts u qs w → Puts v (ps ++ qs) w
+puts_two v u w ps qs one two l e = two (l ++ ps) (one l e) ∙ ap putter (append_assoc l ps qs)
+
+-- all was written, or the message was refused
+pub turned_on : (written : Bool) (m : Mark) (old new : Term) (message : Message) (bytes : List ℕ) (x y : Option (List ℕ)) (v w : Hand) (put last : Option (Option Entry)) → (written || not (is_whole m)) ≡ true → Writes written x y bytes → IsTurn m old message bytes put last new → Puts v (option_to_list put ++ option_to_list last) w → TurnsMessage old message x y v w new
+turned_on true m old new message bytes x y v w put last e h t p = record { mark = m; bytes = bytes; put = put; last = last; wrote = h; turn = t; puts = p }
+turned_on false m old new message bytes x y v w put last e h t p = record {
+  mark = m;
+  bytes = h.0;
+  put = put;
+  last = last;
+  wrote = h.3;
+  turn = turn_front m old new message h.0 h.1 bytes put last h.2 (broken (is_whole m) e) t;
+  puts = p;
+}
+  where
+    broken : (b : Bool) → not b ≡ true → b ≡ false
+    broken true e = absurd (false_true e)
+    broken false e = refl
+
+whole_mark : (m : Mark) → is_whole m ≡ true → m ≡ mark.Whole
+whole_mark mark.Whole e = refl
+whole_mark mark.WriteFailed e = absurd (false_true e)
+whole_mark (mark.Refused f put) e = absurd (false_true e)
+
+-- a write failed
+pub turned_off : (written : Bool) (m : Mark) (old mid new : Term) (message : Message) (bytes : List ℕ) (x y : Option (List ℕ)) (v w : Hand) (put other last : Option (Option Entry)) → (written || not (is_whole m)) ≡ false → Writes written x y bytes → (bytes ≡ [] → written ≡ true) → IsTurn m old message bytes put other mid → (is_whole m ≡ true → other ≡ None) → ((c : Run) → LeadsTo c mid → LeadsTo (fail fault.Write c) new) → ((c : Run) → LeadsTo c mid → (fail fault.Write c).puts ≡ c.puts ++ option_to_list last) → new.progress.over ≡ true → Puts v (option_to_list put ++ option_to_list last) w → TurnsMessage old message x y v w new
+turned_off true m old mid new message bytes x y v w put other last e h some t unsaid leads puts over p = absurd (true_false e)
+turned_off false m old mid new message bytes x y v w put other last e h some t unsaid leads puts over p =
+    let is_all = whole (is_whole m) e in
+    let M : Mark → Type 0 = λ n. IsTurn n old message bytes put other mid in
+    let L : Option (Option Entry) → Type 0 = λ o. IsTurn mark.Whole old message bytes put o mid in
+    let t' = subst L (unsaid is_all) (subst M (whole_mark m is_all) t) in
+    record {
+      mark = mark.WriteFailed;
+      bytes = h.0;
+      put = put;
+      last = last;
+      wrote = h.3;
+      turn = turn_unwritten old mid new message h.0 h.1 bytes put last h.2 (λ off. false_true (some (t.idle off).0)) t' leads puts over;
+      puts = p;
+    }
+  where
+    whole : (b : Bool) → not b ≡ false → b ≡ true
+    whole true e = refl
+    whole false e = absurd (true_false e)
+
+whole-push : (ms : List (Message × Mark)) (m : Message) (k : Mark) → all_whole (ms ++ (m, k) ∷ []) ≡ (all_whole ms && is_whole k)
+whole-push [] m mark.Whole = refl
+whole-push [] m mark.WriteFailed = refl
+whole-push [] m (mark.Refused f put) = refl
+whole-push ((n, mark.Whole) ∷ ms) m k = whole-push ms m k
+whole-push ((n, mark.WriteFailed) ∷ ms) m k = refl
+whole-push ((n, mark.Refused f put) ∷ ms) m k = refl
+
+map-push : (ms : List (Message × Mark)) (m : Message × Mark) (xs : List Message) → map (λ u. u.0) ms ≡ xs → map (λ u. u.0) (ms ++ m ∷ []) ≡ xs ++ m.0 ∷ []
+map-push [] m xs e = ap (λ (ys : List Message). ys ++ m.0 ∷ []) e
+map-push (n ∷ ms) m xs e = ap (λ (ys : List Message). n.0 ∷ ys) (map-push ms m (map (λ u. u.0) ms) refl) ∙ ap (λ (ys : List Message). ys ++ m.0 ∷ []) e
+
+-- what is left over after one more
+left_over : (a b : Bool) (s₀ s₁ s₂ b₁ b₂ r₁ r₂ : List ℕ) → s₁ ≡ s₀ ++ (b₁ ++ r₁) → s₂ ≡ s₁ ++ (b₂ ++ r₂) → (a ≡ true → r₁ ≡ []) → (b ≡ true → r₂ ≡ []) → (a ≡ false → (b₂ ≡ []) × (b ≡ true)) → (rest : List ℕ) × (s₂ ≡ s₀ ++ ((b₁ ++ b₂) ++ rest)) × ((a && b) ≡ true → rest ≡ [])
+left_over true b s₀ s₁ s₂ b₁ b₂ r₁ r₂ e₁ e₂ w₁ w₂ q = (
+  r₂,
+  e₂ ∙ ap (λ (s : List ℕ). s ++ (b₂ ++ r₂)) (e₁ ∙ ap (λ (r : List ℕ). s₀ ++ (b₁ ++ r)) (w₁ refl) ∙ ap (λ (r : List ℕ). s₀ ++ r) (append-nil b₁)) ∙ append_assoc s₀ b₁ (b₂ ++ r₂) ∙ ap (λ (r : List ℕ). s₀ ++ r) (sym (append_assoc b₁ b₂ r₂)),
+  w₂,
+)
+left_over false b s₀ s₁ s₂ b₁ b₂ r₁ r₂ e₁ e₂ w₁ w₂ q =
+    let n = q refl in (
+      r₁,
+      e₂ ∙ ap (λ (s : List ℕ). s₁ ++ s) (ap (λ (s : List ℕ). s ++ r₂) n.0 ∙ w₂ n.1) ∙ append-nil s₁ ∙ e₁ ∙ ap (λ (s : List ℕ). s₀ ++ (s ++ r₁)) (sym (append-nil b₁)) ∙ ap (λ (s : List ℕ). s₀ ++ ((b₁ ++ s) ++ r₁)) (sym n.0),
+      λ e. absurd (false_true e),
+    )
+
+and_false : (a b : Bool) → (a && b) ≡ false → (a ≡ false) ⊎ (b ≡ false)
+and_false true b e = inr e
+and_false false b e = inl refl
+
+pub going_on : (a b d : Term) (ms : List Message) (m : Message) (x y z : Option (List ℕ)) (puts : List (Option Entry)) (v w : Hand) → GoesOn a ms x y puts b → (t : TurnsMessage b m y z v w d) → GoesOn a (ms ++ m ∷ []) x z (puts ++ (option_to_list t.put ++ option_to_list t.last)) d
+going_on a b d ms m x y z puts v w one t = record {
+  marked = one.marked ++ (m, t.mark) ∷ [];
+  whole = map-push one.marked (m, t.mark) ms one.whole;
+  bytes = one.bytes ++ t.bytes;
+  wrote = appends_more x y z one.bytes t.bytes one.wrote t.wrote;
+  leads = λ c at.
+      let p = one.leads c at in
+      let q = t.turn.leads p.0 p.2 in
+      let rest = left_over (all_whole one.marked) (is_whole t.mark) (spells (items_said c.history)) (spells (items_said p.0.history)) (spells (items_said q.0.history)) one.bytes t.bytes p.4 q.4 p.5 q.5 p.6 q.6 (λ e. t.turn.idle (one.over e)) in (
+        q.0,
+        FoldsTo-push Turns c one.marked p.0 (m, t.mark) q.0 p.1 q.1,
+        q.2,
+        q.3 ∙ ap (λ (ps : List (Option Entry)). ps ++ (option_to_list t.put ++ option_to_list t.last)) p.3 ∙ append_assoc c.puts puts (option_to_list t.put ++ option_to_list t.last),
+        rest.0,
+        rest.1,
+        λ e. rest.2 (sym (whole-push one.marked m t.mark) ∙ e),
+      );
+  over = λ e. ⊎_elim (λ f. t.turn.stays (one.over f)) (λ f. t.turn.over f) (and_false (all_whole one.marked) (is_whole t.mark) (sym (whole-push one.marked m t.mark) ∙ e));
+  stays = λ off. t.turn.stays (one.stays off);
+  idle = λ off. ap (λ (bs : List ℕ). bs ++ t.bytes) (one.idle off) ∙ (t.turn.idle (one.stays off)).0;
+}
+
+pub going_none : (a : Term) (x : Option (List ℕ)) → GoesOn a [] x x [] a
+going_none a x = record {
+  marked = [];
+  whole = refl;
+  bytes = [];
+  wrote = appends_none x;
+  leads = λ c at. (c, refl, at, sym (append-nil c.puts), [], sym (append-nil (spells (items_said c.history))), λ w. refl);
+  over = λ e. absurd (true_false e);
+  stays = λ off. off;
+  idle = λ off. refl;
+}
+
+pub going_kept : (a b : Term) (ms : List Message) (x y z : Option (List ℕ)) (puts : List (Option Entry)) → Keeps y z → GoesOn a ms x y puts b → GoesOn a ms x z puts b
+going_kept a b ms x y z puts k g = record {
+  marked = g.marked;
+  whole = g.whole;
+  bytes = g.bytes;
+  wrote = appends_kept x y z g.bytes g.wrote k;
+  leads = g.leads;
+  over = g.over;
+  stays = g.stays;
+  idle = g.idle;
+}
+
+pub lefts_of-push : (xs : List Mail) (x : Mail) → lefts_of (xs ++ x ∷ []) ≡ lefts_of xs + left_one x.message
+lefts_of-push [] x = omega arith
+lefts_of-push (y ∷ ys) x = let ih = lefts_of-push ys x in omega arith
+
+pub left_small : (m : Message) → left_one m ≤ 1
+left_small Left = omega arith
+left_small _ = omega arith
+
+messages-push : (xs : List Mail) (x : Mail) → messages_of (xs ++ x ∷ []) ≡ messages_of xs ++ x.message ∷ []
+messages-push [] x = refl
+messages-push (y ∷ ys) x = ap (λ (ms : List Message). y.message ∷ ms) (messages-push ys x)
+
+pub going_next : (a b d : Term) (xs : List Mail) (x : Mail) (u y w z : Option (List ℕ)) (puts : List (Option Entry)) (v h : Hand) → Keeps w z → GoesOn a (messages_of xs) u y puts b → (t : TurnsMessage b x.message y w v h d) → GoesOn a (messages_of (xs ++ x ∷ [])) u z (puts ++ (option_to_list t.put ++ option_to_list t.last)) d
+going_next a b d xs x u y w z puts v h k one t =
+    let more = puts ++ (option_to_list t.put ++ option_to_list t.last) in
+    let P : List Message → Type 0 = λ ms. GoesOn a ms u z more d in
+    subst P (sym (messages-push xs x)) (going_kept a d _ u w z more k (going_on a b d (messages_of xs) x.message u y w puts v h one t))
+
+pub if_some : {A : Type 0} (P Q : A → Type 0) (o : Option A) → IfSome o P → ((x : A) → P x → Q x) → IfSome o Q
+if_some P Q (Some x) h f = f x h
+if_some P Q None h f = tt
+
+pub ok_writes : {E : Type 0} (old new : Option (List ℕ)) (r : Result ℕ E) (n : ℕ) (buf : List ℕ) → r ≡ Ok n → WriteAppends old new r buf → Appends old new (take n buf)
+ok_writes {E} old new r n buf e h = let P : Result ℕ E → Type 0 = λ u. WriteAppends old new u buf in subst P e h
+
+pub never_true : {A : Type 0} → true ≡ false → A
+never_true e = absurd (true_false e)

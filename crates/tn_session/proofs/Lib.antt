@@ -1,0 +1,10 @@
+pub mod Seats
+pub mod Mailbox
+pub mod Queue
+pub mod Reading
+pub mod Talk
+pub mod Turning
+pub mod Going
+pub mod Lefts
+pub mod Numbering
+pub mod Whole

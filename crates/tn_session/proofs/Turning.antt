@@ -1,0 +1,147 @@
+-- One more step of a background job.
+use Rattle.std.proofs.Common.{◌≡◌, ℕ, ◌==◌, Bool, true, false, List, [], ◌∷◌, ◌++◌, ◌⊎◌, ⊎_elim, inl, inr, map, append_assoc, Option, Some, None, IfSome, refl, sym, ap, ◌∙◌, subst, if◌then◌else◌, eq-eqb, eqb-true}
+use Rattle.std.proofs.lemmas.Fn.{FoldsTo-push}
+use Rattle.std.specs.List.{FoldsTo}
+use Rattle.tn_jobs.specs.declared.held_jobs.JobId.{JobId}
+use Rattle.tn_session.specs.declared.back.Runner.{Runner}
+use Rattle.tn_jobs.specs.declared.reactions.Reaction.{Reaction}
+use Rattle.tn_session.specs.Stepping.{IsIn, AreBy, Steps, AreSteps, reactions_of, step_said}
+use Rattle.tn_session.specs.Mailbox.{sender, mail}
+use Rattle.tn_session.specs.declared.channels.View.{View}
+use Rattle.tn_session.specs.declared.mail.Mail.{Mail}
+use Rattle.tn_session.specs.declared.mail.Sender.TheVariants.{Back}
+use Rattle.tn_term.specs.declared.messages.Message.{Message}
+use Rattle.tn_term.specs.declared.messages.Message.TheVariants.{Refused, Left}
+use Rattle.tn_session.specs.Turning.{ids_of, AreApart, EachFresh, IsLine, Chain, EachRuns, Running, AdvancesLine}
+
+abbrev Said : Type 0
+Said = JobId × Reaction
+
+one_more : (b : Bool) (x : Reaction) (xs ys : List Reaction) → xs ≡ ys → (if b then x ∷ xs else xs) ≡ (if b then x ∷ ys else ys)
+one_more true x xs ys e = ap (λ (zs : List Reaction). x ∷ zs) e
+one_more false x xs ys e = e
+
+out_of : (b : Bool) (x y : Reaction) (xs : List Reaction) → (if b then x ∷ (xs ++ y ∷ []) else xs ++ y ∷ []) ≡ (if b then x ∷ xs else xs) ++ y ∷ []
+out_of true x y xs = refl
+out_of false x y xs = refl
+
+same-push : (said : List Said) (s : Said) (id : ℕ) → (s.0.0 == id) ≡ true → reactions_of id (said ++ s ∷ []) ≡ reactions_of id said ++ s.1 ∷ []
+same-push [] s id e = ap (λ (b : Bool). if b then s.1 ∷ [] else []) e
+same-push (x ∷ said) s id e = one_more (x.0.0 == id) x.1 _ _ (same-push said s id e) ∙ out_of (x.0.0 == id) x.1 s.1 (reactions_of id said)
+
+other-push : (said : List Said) (s : Said) (id : ℕ) → (s.0.0 == id) ≡ false → reactions_of id (said ++ s ∷ []) ≡ reactions_of id said
+other-push [] s id e = ap (λ (b : Bool). if b then s.1 ∷ [] else []) e
+other-push (x ∷ said) s id e = one_more (x.0.0 == id) x.1 _ _ (other-push said s id e)
+
+module _ {J : Type 0} (fresh : J → Type 0) (steps : J → Reaction → J → Type 0) (ids : List ℕ) where
+  by-push : (said : List Said) (s : Said) → IsIn s.0.0 ids → AreBy ids said → AreBy ids (said ++ s ∷ [])
+  by-push [] s i b = (i, tt)
+  by-push (x ∷ said) s i b = (b.0, by-push said s i b.1)
+
+  chain_on : (said : List Said) (s : Said) (job new : J) → Chain fresh steps said s.0.0 job → steps job s.1 new → Chain fresh steps (said ++ s ∷ []) s.0.0 new
+  chain_on said s job new c step =
+      let P : List Reaction → Type 0 = λ xs. FoldsTo steps c.0 xs new in
+      (c.0, c.1, subst P (sym (same-push said s s.0.0 (eq-eqb s.0.0 s.0.0 refl))) (FoldsTo-push steps c.0 (reactions_of s.0.0 said) job s.1 new c.2 step))
+
+  chain_stays : (said : List Said) (s : Said) (id : ℕ) (job : J) → (s.0.0 == id) ≡ false → Chain fresh steps said id job → Chain fresh steps (said ++ s ∷ []) id job
+  chain_stays said s id job e c = let P : List Reaction → Type 0 = λ xs. FoldsTo steps c.0 xs job in (c.0, c.1, subst P (sym (other-push said s id e)) c.2)
+
+  is_other : (a b : ℕ) → (a ≡ b → ⊥) → (a == b) ≡ false
+  is_other a b apart = by (a == b) refl
+    where
+      by : (t : Bool) → (a == b) ≡ t → (a == b) ≡ false
+      by true e = absurd (apart (eqb-true a b e))
+      by false e = e
+
+  runs_stay : (said : List Said) (s : Said) (line : List (Runner J)) → (IsIn s.0.0 (ids_of line) → ⊥) → EachRuns fresh steps ids said line → EachRuns fresh steps ids (said ++ s ∷ []) line
+  runs_stay said s [] none e = tt
+  runs_stay said s (r ∷ rs) none e = (e.0, chain_stays said s r.id.0 r.job (is_other s.0.0 r.id.0 (λ same. none (inl same))) e.1, runs_stay said s rs (λ i. none (inr i)) e.2)
+
+  runs-push : (said : List Said) (line : List (Runner J)) (r : Runner J) → IsIn r.id.0 ids → Chain fresh steps said r.id.0 r.job → EachRuns fresh steps ids said line → EachRuns fresh steps ids said (line ++ r ∷ [])
+  runs-push said [] r i c e = (i, c, tt)
+  runs-push said (x ∷ line) r i c e = (e.0, e.1, runs-push said line r i c e.2)
+
+  in-push : (line : List (Runner J)) (r : Runner J) (id : ℕ) → IsIn id (ids_of (line ++ r ∷ [])) → IsIn id (ids_of line) ⊎ (id ≡ r.id.0)
+  in-push [] r id i = ⊎_elim (λ e. inr e) (λ none. absurd none) i
+  in-push (x ∷ line) r id i = ⊎_elim (λ e. inl (inl e)) (λ later. ⊎_elim (λ a. inl (inr a)) (λ b. inr b) (in-push line r id later)) i
+
+  apart-push : (line : List (Runner J)) (r : Runner J) → (IsIn r.id.0 (ids_of line) → ⊥) → AreApart (ids_of line) → AreApart (ids_of (line ++ r ∷ []))
+  apart-push [] r none a = (λ i. i, tt)
+  apart-push (x ∷ line) r none a = (
+    λ i. ⊎_elim (λ before. a.0 before) (λ same. none (inl (sym same))) (in-push line r x.id.0 i),
+    apart-push line r (λ i. none (inr i)) a.1,
+  )
+
+  each_of : (said : List Said) (s : Said) (job : J) → Chain fresh steps (said ++ s ∷ []) s.0.0 job → (other : ℕ) → Steps {J = J} fresh steps said other → (b : Bool) → (other == s.0.0) ≡ b → Steps {J = J} fresh steps (said ++ s ∷ []) other
+  each_of said s job next other old true e =
+      let P : ℕ → Type 0 = λ n. Steps {J = J} fresh steps (said ++ s ∷ []) n in
+      subst P (sym (eqb-true other s.0.0 e)) (next.0, job, next.1, next.2)
+  each_of said s job next other old false e =
+      let Q : List Reaction → Type 0 = λ xs. FoldsTo steps old.0 xs old.1 in
+      let apart = is_other s.0.0 other (λ same. let t = eq-eqb other s.0.0 (sym same) in cc) in
+      (old.0, old.1, old.2, subst Q (sym (other-push said s other apart)) old.3)
+
+  runs_fresh : (line : List (Runner J)) → ((id : ℕ) → IsIn id (ids_of line) → IsIn id ids) → EachFresh fresh line → EachRuns fresh steps ids [] line
+  runs_fresh [] inside f = tt
+  runs_fresh (r ∷ rs) inside f = (inside r.id.0 (inl refl), (r.job, f.0, refl), runs_fresh rs (λ id i. inside id (inr i)) f.1)
+
+  fresh_steps : (line : List (Runner J)) → EachFresh fresh line → (id : ℕ) → IsIn id (ids_of line) → Steps {J = J} fresh steps [] id
+  fresh_steps [] f id i = absurd i
+  fresh_steps (r ∷ rs) f id i = ⊎_elim (λ e. (r.job, r.job, f.0, refl)) (λ later. fresh_steps rs f.1 id later) i
+
+  pub advanced : (said : List Said) (old new : List (Runner J)) (id : JobId) (reaction : Reaction) → Running fresh steps ids said old → AdvancesLine steps old id reaction new → Running fresh steps ids (said ++ (id, reaction) ∷ []) new
+  advanced said old new id reaction run a =
+      let s : Said = (id, reaction) in
+      let P : List (Runner J) → Type 0 = λ l. EachRuns fresh steps ids said l × AreApart (ids_of l) in
+      let here = subst P a.was (run.runs, run.apart) in
+      let Q : JobId → Type 0 = λ i. IsIn i.0 ids × Chain fresh steps said i.0 a.runner.job × (IsIn i.0 (ids_of a.rest) → ⊥) in
+      let mine = subst Q (sym a.number) (here.0.0, here.0.1, here.1.0) in
+      let next = chain_on said s a.runner.job a.job mine.1 a.step in
+      let rest = runs_stay said s a.rest mine.2 here.0.2 in
+      let R : List (Runner J) → Type 0 = λ l. EachRuns fresh steps ids (said ++ s ∷ []) l × AreApart (ids_of l) in
+      let after = ⊎_elim (λ gone. subst R (sym gone) (rest, here.1.1)) (λ last. subst R (sym last) (runs-push (said ++ s ∷ []) a.rest (record { id = id; job = a.job }) mine.0 next rest, apart-push a.rest (record { id = id; job = a.job }) mine.2 here.1.1)) a.left in
+      record {
+        by = by-push said s mine.0 run.by;
+        each = λ other i. each_of said s a.job next other (run.each other i) (other == id.0) refl;
+        runs = after.0;
+        apart = after.1;
+      }
+
+pub running_first : {J : Type 0} (fresh : J → Type 0) (steps : J → Reaction → J → Type 0) (line : List (Runner J)) → IsLine fresh line → Running fresh steps (ids_of line) [] line
+running_first fresh steps line l = record {
+  by = tt;
+  each = fresh_steps fresh steps (ids_of line) line l.0;
+  runs = runs_fresh fresh steps (ids_of line) line (λ id i. i) l.0;
+  apart = l.1;
+}
+
+map-push : {A B : Type 0} (f : A → B) (xs : List A) (x : A) → map f (xs ++ x ∷ []) ≡ map f xs ++ f x ∷ []
+map-push f [] x = refl
+map-push f (y ∷ ys) x = ap (λ zs. f y ∷ zs) (map-push f ys x)
+
+pub back_sends : List Message → View
+back_sends ms = sender Back (map (mail Back) ms)
+
+pub said : (ms : List Message) (m : Message) (v w : View) → v ≡ sender Back (map (mail Back) ms) → ((l : List Mail) → v ≡ sender Back l → w ≡ sender Back (l ++ mail Back m ∷ [])) → w ≡ sender Back (map (mail Back) (ms ++ m ∷ []))
+said ms m v w e f = f (map (mail Back) ms) e ∙ ap (sender Back) (sym (map-push (mail Back) ms m))
+
+pub role : (ms : List Message) (v : View) → v ≡ sender Back (map (mail Back) ms) → (l : List Mail) × (v ≡ sender Back l)
+role ms v e = (map (mail Back) ms, e)
+
+pub said_step : (ss : List Said) (s : Said) (v : View) → v ≡ sender Back (map (mail Back) (map step_said ss ++ step_said s ∷ [])) → v ≡ sender Back (map (mail Back) (map step_said (ss ++ s ∷ [])))
+said_step ss s v e = e ∙ ap (λ (ms : List Message). sender Back (map (mail Back) ms)) (sym (map-push step_said ss s))
+
+pub closes_left : {J : Type 0} (fresh : J → Type 0) (steps : J → Reaction → J → Type 0) (ids : List ℕ) (ss : List Said) (line : List (Runner J)) (v : View) → Running fresh steps ids ss line → v ≡ sender Back (map (mail Back) (map step_said ss ++ Left ∷ [])) → AreSteps {J = J} fresh steps ids v
+closes_left fresh steps ids ss line v r e = (ss, Left ∷ [], inl refl, e, r.by, r.each)
+
+pub closes_refused : {J : Type 0} (fresh : J → Type 0) (steps : J → Reaction → J → Type 0) (ids : List ℕ) (ss : List Said) (line : List (Runner J)) (v : View) → Running fresh steps ids ss line → v ≡ sender Back (map (mail Back) ((map step_said ss ++ Refused ∷ []) ++ Left ∷ [])) → AreSteps {J = J} fresh steps ids v
+closes_refused fresh steps ids ss line v r e =
+    (ss, Refused ∷ Left ∷ [], inr refl, e ∙ ap (λ (ms : List Message). sender Back (map (mail Back) ms)) (append_assoc (map step_said ss) (Refused ∷ []) (Left ∷ [])), r.by, r.each)
+
+pub if_some : {A : Type 0} (P Q : A → Type 0) (o : Option A) → IfSome o P → ((x : A) → P x → Q x) → IfSome o Q
+if_some P Q (Some x) h f = f x h
+if_some P Q None h f = tt
+
+pub kept_or_gone : {J : Type 0} (b : Bool) (xs new : List (Runner J)) (r : Runner J) → new ≡ (if b then xs ++ r ∷ [] else xs) → (new ≡ xs) ⊎ (new ≡ xs ++ r ∷ [])
+kept_or_gone true xs new r e = inr e
+kept_or_gone false xs new r e = inl e

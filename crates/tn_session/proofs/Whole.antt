@@ -1,0 +1,277 @@
+-- A whole session: its passes joined, and what its threads did.
+use Rattle.std.proofs.Common.{◌≡◌, ℕ, ◌+◌, ◌≤◌, Bool, true, false, ◌&&◌, List, [], ◌∷◌, ◌++◌, Option, Some, None, IfSome, refl, sym, ap, ◌∙◌, ⊎_elim, map, subst, append-nil, append_assoc, arith}
+use Rattle.std.proofs.lemmas.List.{map-append}
+use Rattle.std.specs.Io.KnownBytes.{Appends}
+use Rattle.tn_discipline.specs.Canon.{Canon}
+use Rattle.tn_discipline.specs.declared.reads.Entry.{Entry}
+use Rattle.tn_jobs.specs.Jobs.{Jobs}
+use Rattle.tn_jobs.specs.declared.held_jobs.JobId.{JobId}
+use Rattle.tn_jobs.specs.declared.reactions.Reaction.{Reaction}
+use Rattle.tn_nvt.specs.Spelling.{spells}
+use Rattle.tn_server.specs.Replies.{items_said}
+use Rattle.tn_server.specs.declared.wishes.Editing.{Editing}
+use Rattle.tn_session.proofs.Going.{appends_more}
+use Rattle.tn_session.proofs.Lefts.{EndsLeft, lefts-append, lefts_each, nothing_left}
+use Rattle.tn_session.specs.Joining.{handler, AreSettled}
+use Rattle.tn_session.specs.Mailbox.{Interleaves, from, four, sender, share, union, nobody, everyone, with_handled, mail, Total}
+use Rattle.tn_session.specs.Queue.{putter, taker, joined_hands, both_hands, no_hand, LeftOver}
+use Rattle.tn_session.specs.Reading.{NetSends, IsEnding, pieces_of}
+use Rattle.tn_session.specs.Session.{IsOpening, Schedule, report_of}
+use Rattle.tn_session.specs.Stepping.{AreSteps, step_said}
+use Rattle.tn_session.specs.Talk.{IsTalk, Closes, turns_said}
+use Rattle.tn_session.specs.Turns.{HandlesAll, Writes, left_one, lefts_of}
+use Rattle.tn_session.specs.declared.channels.View.{View}
+use Rattle.tn_session.specs.declared.entries.Hand.{Hand}
+use Rattle.tn_session.specs.declared.mail.Mail.{Mail}
+use Rattle.tn_session.specs.declared.mail.Sender.{Sender}
+use Rattle.tn_session.specs.declared.mail.Sender.TheVariants.{Net, Desk, Back, Keys}
+use Rattle.tn_session.specs.declared.parties.Report.{Report}
+use Rattle.tn_term.specs.Marks.{run_after_opening, all_whole}
+use Rattle.tn_term.specs.Reaching.{LeadsTo}
+use Rattle.tn_term.specs.Run.{start, opening}
+use Rattle.tn_term.specs.declared.messages.Message.{Message}
+use Rattle.tn_term.specs.declared.messages.Message.TheVariants.{Piece, HangUp, ReadFailed, Take, Said, Refused, Left}
+use Rattle.tn_term.specs.declared.terminal.Term.{Term}
+
+-- the passes are joined and cut again
+
+all_joined : (v n d e p q r : View) (h a b c : List Mail) → v ≡ handler h → n ≡ sender Net a → d ≡ sender Desk b → e ≡ sender Back c → p ≡ union v n → q ≡ union p d → r ≡ union q e → r ≡ record { handled = Some h; net = Some a; desk = Some b; back = Some c; keys = Some [] }
+all_joined v n d e p q r h a b c ev en ed ee ep eq er =
+    er ∙ (λ i. union ((eq ∙ (λ j. union ((ep ∙ (λ k. union (ev k) (en k))) j) (ed j))) i) (ee i))
+
+both_joined : (v w u : Hand) (p t : List (Option Entry)) → v ≡ putter p → w ≡ taker t → u ≡ joined_hands v w → u ≡ record { put = Some p; taken = Some t }
+both_joined v w u p t ev ew eu = eu ∙ (λ i. joined_hands (ev i) (ew i))
+
+pub settles : (pass net desk back : View) (hand took : Hand) (p₁ p₂ p₃ p₄ n' p₅ d' p₆ b' t' : View) (j k l m : Hand)
+    → p₁ ≡ union pass net → p₂ ≡ union p₁ desk → p₃ ≡ union p₂ back → p₄ ≡ p₃ → (items : List Mail) × Total p₃ items
+    → j ≡ joined_hands hand took → k ≡ j → (items : List (Option Entry)) × LeftOver j items
+    → n' ≡ record nobody { net = p₄.net } → p₅ ≡ record p₄ { net = None }
+    → d' ≡ record nobody { desk = p₅.desk } → p₆ ≡ record p₅ { desk = None }
+    → b' ≡ record nobody { back = p₆.back } → t' ≡ record p₆ { back = None }
+    → l ≡ record k { taken = None } → m ≡ record no_hand { taken = k.taken }
+    → AreSettled pass net desk back hand took n' d' b' t' l m
+settles pass net desk back hand took p₁ p₂ p₃ p₄ n' p₅ d' p₆ b' t' j k l m e₁ e₂ e₃ e₄ held ej ek rest en e₅ ed e₆ eb et el em h a b c x t epass enet edesk eback ehand etook =
+    let whole = all_joined pass net desk back p₁ p₂ p₃ h a b c epass enet edesk eback e₁ e₂ e₃ in
+    let same = e₄ ∙ whole in
+    let fifth : p₅ ≡ record { handled = Some h; net = None; desk = Some b; back = Some c; keys = Some [] } = e₅ ∙ ap (λ (v : View). record v { net = None }) same in
+    let sixth : p₆ ≡ record { handled = Some h; net = None; desk = None; back = Some c; keys = Some [] } = e₆ ∙ ap (λ (v : View). record v { desk = None }) fifth in
+    let both = both_joined hand took j x t ehand etook ej in
+    let kept = ek ∙ both in
+    let mine : (s : Sender) → share p₃ (Some s) ≡ Some (four a b c [] s) = λ s. mine_of s p₃ h a b c whole in (
+      en ∙ ap (λ (v : View). record nobody { net = v.net }) same,
+      ed ∙ ap (λ (v : View). record nobody { desk = v.desk }) fifth,
+      eb ∙ ap (λ (v : View). record nobody { back = v.back }) sixth,
+      et ∙ ap (λ (v : View). record v { back = None }) sixth,
+      el ∙ ap (λ (v : Hand). record v { taken = None }) kept,
+      em ∙ ap (λ (v : Hand). record no_hand { taken = v.taken }) kept,
+      (held.0, λ s. held.1 s h (four a b c [] s) (ap (λ (v : View). v.handled) whole) (mine s)),
+      (rest.0, rest.1 x t (ap (λ (v : Hand). v.put) both) (ap (λ (v : Hand). v.taken) both)),
+    )
+  where
+    mine_of : (s : Sender) (v : View) (h a b c : List Mail) → v ≡ record { handled = Some h; net = Some a; desk = Some b; back = Some c; keys = Some [] } → share v (Some s) ≡ Some (four a b c [] s)
+    mine_of Net v h a b c e = ap (λ (w : View). w.net) e
+    mine_of Desk v h a b c e = ap (λ (w : View). w.desk) e
+    mine_of Back v h a b c e = ap (λ (w : View). w.back) e
+    mine_of Keys v h a b c e = ap (λ (w : View). w.keys) e
+
+-- Each thread sends one Left, its last message.
+
+abbrev NoLeft : List Message → Type 0
+NoLeft [] = Unit {0}
+NoLeft (m ∷ ms) = (left_one m ≡ 0) × NoLeft ms
+
+record OneLeft (mails : List Mail) : Type 0 where
+  ends : EndsLeft mails
+  one : lefts_of mails ≡ 1
+
+ends_last : (xs : List Mail) (x : Mail) → left_one x.message ≡ 1 → EndsLeft (xs ++ x ∷ [])
+ends_last [] x e = e
+ends_last (y ∷ []) x e = e
+ends_last (y ∷ z ∷ zs) x e = ends_last (z ∷ zs) x e
+
+none_left : (s : Sender) (ms : List Message) → NoLeft ms → lefts_of (map (mail s) ms) ≡ 0
+none_left s [] n = refl
+none_left s (m ∷ ms) n = let ih = none_left s ms n.1 in let e = n.0 in omega (arith, ih, e)
+
+no_left-append : (xs ys : List Message) → NoLeft xs → NoLeft ys → NoLeft (xs ++ ys)
+no_left-append [] ys n m = m
+no_left-append (x ∷ xs) ys n m = (n.0, no_left-append xs ys n.1 m)
+
+one_left : (s : Sender) (ms all : List Message) (mails : List Mail) → NoLeft ms → all ≡ ms ++ Left ∷ [] → mails ≡ map (mail s) all → OneLeft mails
+one_left s ms all mails n e is =
+    let split : mails ≡ map (mail s) ms ++ mail s Left ∷ [] = is ∙ ap (map (mail s)) e ∙ map-append (mail s) ms (Left ∷ []) in
+    record {
+      ends = subst EndsLeft (sym split) (ends_last (map (mail s) ms) (mail s Left) refl);
+      one = ap lefts_of split ∙ (let a = lefts-append (map (mail s) ms) (mail s Left ∷ []) in let z = none_left s ms n in omega (arith, a, z));
+    }
+
+pieces_stay : (pieces : List (List ℕ)) → NoLeft (pieces_of pieces)
+pieces_stay [] = tt
+pieces_stay (p ∷ ps) = (refl, pieces_stay ps)
+
+ending_stays : (m : Message) (left : Option (List ℕ)) → IsEnding m left → left_one m ≡ 0
+ending_stays HangUp left e = refl
+ending_stays ReadFailed left e = refl
+ending_stays Refused left e = refl
+ending_stays (Piece p) left e = refl
+ending_stays Take left e = refl
+ending_stays (Said id t a) left e = refl
+ending_stays Left left e = absurd e
+
+turns_stay : (id : JobId) (turns : List (Entry × Reaction)) → NoLeft (turns_said id turns)
+turns_stay id [] = tt
+turns_stay id (t ∷ ts) = (refl, (refl, turns_stay id ts))
+
+steps_stay : (ss : List (JobId × Reaction)) → NoLeft (map step_said ss)
+steps_stay [] = tt
+steps_stay (s ∷ ss) = (refl, steps_stay ss)
+
+-- what a sender's view says
+pub record Sent (s : Sender) (v : View) : Type 0 where
+  pub mails : List Mail
+  pub is : v ≡ sender s mails
+  pub ends : EndsLeft mails
+  pub one : lefts_of mails ≡ 1
+
+sent_by : (s : Sender) (ms all : List Message) (v : View) → NoLeft ms → all ≡ ms ++ Left ∷ [] → v ≡ sender s (map (mail s) all) → Sent s v
+sent_by s ms all v n e is =
+    let o = one_left s ms all (map (mail s) all) n e refl in
+    record { mails = map (mail s) all; is = is; ends = o.ends; one = o.one }
+
+pub net_sent : (given : Option (List ℕ)) (v : View) → NetSends given v → Sent Net v
+net_sent given v (pieces, left, last, consumed, ending, is) =
+    sent_by Net (pieces_of pieces ++ last ∷ []) (pieces_of pieces ++ last ∷ Left ∷ []) v (no_left-append (pieces_of pieces) (last ∷ []) (pieces_stay pieces) (ending_stays last left ending, tt)) (sym (append_assoc (pieces_of pieces) (last ∷ []) (Left ∷ []))) is
+
+pub record DeskSent (v : View) (w : Hand) : Type 0 where
+  pub sent : Sent Desk v
+  pub taken : List (Option Entry)
+  pub took : w ≡ taker taken
+
+pub desk_sent : {J : Type 0} (id : JobId) (fresh : J → Type 0) (reacts : J → Entry → Reaction → J → Type 0) (v : View) (w : Hand) → IsTalk {J = J} id fresh reacts v w → DeskSent v w
+desk_sent id fresh reacts v w talked = closed talked.0 talked.5
+  where
+    closed : (turns : List (Entry × Reaction)) → Closes id turns v w → DeskSent v w
+    closed turns c =
+        let said = turns_said id turns in
+        let stay = turns_stay id turns in
+        ⊎_elim
+        (λ x. record { sent = sent_by Desk (said ++ Take ∷ []) _ v (no_left-append said (Take ∷ []) stay (refl, tt)) (sym (append_assoc said (Take ∷ []) (Left ∷ []))) x.0; taken = _; took = x.1 })
+        (λ y. ⊎_elim
+        (λ x. record { sent = sent_by Desk said _ v stay refl x.0; taken = _; took = x.1 })
+        (λ x. record { sent = sent_by Desk (said ++ Take ∷ Refused ∷ []) _ v (no_left-append said (Take ∷ Refused ∷ []) stay (refl, (refl, tt))) (sym (append_assoc said (Take ∷ Refused ∷ []) (Left ∷ []))) x.1; taken = _; took = x.2 })
+        y)
+        c
+
+pub back_sent : {J : Type 0} (fresh : J → Type 0) (steps : J → Reaction → J → Type 0) (ids : List ℕ) (v : View) → AreSteps {J = J} fresh steps ids v → Sent Back v
+back_sent fresh steps ids v s =
+    let said = map step_said s.0 in
+    let stay = steps_stay s.0 in
+    let P : List Message → Type 0 = λ ms. v ≡ sender Back (map (mail Back) (said ++ ms)) in
+    ⊎_elim
+    (λ e. sent_by Back said (said ++ Left ∷ []) v stay refl (subst P e s.3))
+    (λ e. sent_by Back (said ++ Refused ∷ []) (said ++ Refused ∷ Left ∷ []) v (no_left-append said (Refused ∷ []) stay (refl, tt)) (sym (append_assoc said (Refused ∷ []) (Left ∷ []))) (subst P e s.3))
+    s.2
+
+-- all that was sent was handled
+pub none_over : (h items a b c : List Mail) → Interleaves (h ++ items) (four a b c []) → EndsLeft a → EndsLeft b → EndsLeft c → lefts_of a ≡ 1 → lefts_of b ≡ 1 → lefts_of c ≡ 1 → 3 ≤ lefts_of h → items ≡ []
+none_over h items a b c woven ea eb ec na nb nc enough =
+    let all : lefts_of a + lefts_of b + lefts_of c + lefts_of [] ≡ lefts_of (h ++ items) =
+    (λ i. lefts_of (sym (woven Net) i) + lefts_of (sym (woven Desk) i) + lefts_of (sym (woven Back) i) + lefts_of (sym (woven Keys) i)) ∙ lefts_each (h ++ items) in
+    nothing_left h items (four a b c []) woven ends (omega (arith, lefts-append h items, all, na, nb, nc, enough))
+  where
+    ends : (s : Sender) → EndsLeft (four a b c [] s)
+    ends Net = ea
+    ends Desk = eb
+    ends Back = ec
+    ends Keys = tt
+
+-- what was written, with the opening words
+wrote_all : (b : Bool) (words bytes rest sends : List ℕ) (x y z : Option (List ℕ)) (whole : Bool) → Writes b x y words → Appends y z bytes → (b ≡ false → bytes ≡ []) → sends ≡ words ++ (bytes ++ rest) → (whole ≡ true → rest ≡ []) → (written : List ℕ) × (unwritten : List ℕ) × Appends x z written × (sends ≡ written ++ unwritten) × ((b && whole) ≡ true → unwritten ≡ [])
+wrote_all true words bytes rest sends x y z whole one two idle is all = (words ++ bytes, rest, appends_more x y z words bytes one two, is ∙ sym (append_assoc words bytes rest), all)
+wrote_all false words bytes rest sends x y z whole one two idle is all = (
+  one.0 ++ bytes,
+  one.1 ++ rest,
+  appends_more x y z one.0 bytes one.3 two,
+  is ∙ ap (λ (bs : List ℕ). words ++ (bs ++ rest)) (idle refl) ∙ ap (λ (bs : List ℕ). bs ++ rest) one.2 ∙ append_assoc one.0 one.1 rest
+      ∙ ap (λ (bs : List ℕ). bs ++ (one.1 ++ rest)) (sym (append-nil one.0) ∙ ap (λ (bs : List ℕ). one.0 ++ bs) (sym (idle refl))),
+  λ e. absurd (false_true e),
+)
+  where
+    false_true : false ≡ true → ⊥
+    false_true e = cc
+
+no_puts : (b : Bool) (canon : Canon) (editing : Editing) (jobs : Jobs) → (run_after_opening b (start canon editing jobs)).puts ≡ []
+no_puts true canon editing jobs = refl
+no_puts false canon editing jobs = refl
+
+same_history : (b : Bool) (canon : Canon) (editing : Editing) (jobs : Jobs) → (run_after_opening b (start canon editing jobs)).history ≡ opening canon editing
+same_history true canon editing jobs = refl
+same_history false canon editing jobs = refl
+
+-- all of a session that ran
+pub scheduled : {J : Type 0} (fresh : J → Type 0) (reacts : J → Entry → Reaction → J → Type 0) (steps : J → Reaction → J → Type 0) (first : JobId) (others : List ℕ) (words : List ℕ) (given x y z : Option (List ℕ)) (term mid last : Term) (pass₀ pass₁ net desk back : View) (hand₀ hand₁ took : Hand) (n' d' b' t' : View) (p' k' : Hand) (report : Report)
+    → pass₀ ≡ handler [] → hand₀ ≡ putter [] → IsOpening term words x y mid → HandlesAll mid pass₀ pass₁ hand₀ hand₁ y z last
+    → NetSends given net → IsTalk {J = J} first fresh reacts desk took → AreSteps {J = J} fresh steps others back
+    → AreSettled pass₁ net desk back hand₁ took n' d' b' t' p' k' → report ≡ report_of last.progress
+    → (canon : Canon) (editing : Editing) (jobs : Jobs) → LeadsTo (start canon editing jobs) term → words ≡ spells (items_said (opening canon editing))
+    → Schedule {J = J} fresh reacts steps first others canon editing jobs given x z report n' d' b' t' p' k'
+scheduled {J} fresh reacts steps first others words given x y z term mid last pass₀ pass₁ net desk back hand₀ hand₁ took n' d' b' t' p' k' report ep eh o acted sn talked stepped settled er canon editing jobs at ew =
+    let begin = run_after_opening o.written (start canon editing jobs) in
+    let g = acted.goes.leads begin (o.leads (start canon editing jobs) at) in
+    let ns = net_sent given net sn in
+    let ds = desk_sent first fresh reacts desk took talked in
+    let bs = back_sent fresh steps others back stepped in
+    let puts : g.0.puts ≡ acted.puts = g.3 ∙ ap (λ (ps : List (Option Entry)). ps ++ acted.puts) (no_puts o.written canon editing jobs) in
+    let view : pass₁ ≡ handler acted.handled = acted.view ∙ ap (λ (v : View). with_handled v acted.handled) ep in
+    let s = settled acted.handled ns.mails ds.sent.mails bs.mails acted.puts ds.taken view ns.is ds.sent.is bs.is (acted.hand [] eh) ds.took in
+    let none = none_over acted.handled s.6.0 ns.mails ds.sent.mails bs.mails s.6.1 ns.ends ds.sent.ends bs.ends ns.one ds.sent.one bs.one acted.lefts in
+    let sends : spells (items_said g.0.history) ≡ words ++ (acted.goes.bytes ++ g.4) = g.5 ∙ ap (λ (bytes : List ℕ). bytes ++ (acted.goes.bytes ++ g.4)) (ap (λ h. spells (items_said h)) (same_history o.written canon editing jobs) ∙ sym ew) in
+    let w = wrote_all o.written words acted.goes.bytes g.4 (spells (items_said g.0.history)) x y z (all_whole acted.goes.marked) o.wrote acted.goes.wrote (λ e. acted.goes.idle (o.over e)) sends g.6 in
+    let N : View → Type 0 = λ v. NetSends given v in
+    let B : View → Type 0 = λ v. AreSteps {J = J} fresh steps others v in
+    record {
+      from_net = ns.mails;
+      from_desk = ds.sent.mails;
+      from_back = bs.mails;
+      handled = acted.handled;
+      net_is = s.0;
+      desk_is = s.1;
+      back_is = s.2;
+      term_is = ap (λ (v : View). v.handled) s.3;
+      woven = λ r. ap (from r) (sym (append-nil acted.handled) ∙ ap (λ (l : List Mail). acted.handled ++ l) (sym none)) ∙ s.6.1 r;
+      read = subst N (ns.is ∙ sym s.0) sn;
+      wrote_opening = o.written;
+      marked = acted.goes.marked;
+      messages = acted.goes.whole;
+      run = g.0;
+      runs = g.1;
+      written = w.0;
+      unwritten = w.1;
+      appended = w.2;
+      sends = w.3;
+      all_written = w.4;
+      put_is = s.4 ∙ ap putter (sym puts);
+      taken = ds.taken;
+      took_is = s.5;
+      took_first = (s.7.0, s.7.1 ∙ sym puts);
+      talked = subst (λ (u : View × Hand). IsTalk {J = J} first fresh reacts u.0 u.1) (λ i. ((ds.sent.is ∙ sym s.1) i, (ds.took ∙ sym s.5) i)) talked;
+      stepped = subst B (bs.is ∙ sym s.2) stepped;
+      report_is = er ∙ ap report_of g.2.progress;
+    }
+
+-- the passes before anything was sent
+pub ready_views : (v₀ v₁ v₂ v₃ n d k : View) → v₀ ≡ everyone → v₁ ≡ record v₀ { net = None } → n ≡ record nobody { net = v₀.net } → v₂ ≡ record v₁ { desk = None } → d ≡ record nobody { desk = v₁.desk } → v₃ ≡ record v₂ { back = None } → k ≡ record nobody { back = v₂.back } → (v₃ ≡ handler []) × (n ≡ sender Net []) × (d ≡ sender Desk []) × (k ≡ sender Back [])
+ready_views v₀ v₁ v₂ v₃ n d k e₀ e₁ en e₂ ed e₃ ek =
+    let a₁ = e₁ ∙ ap (λ (v : View). record v { net = None }) e₀ in
+    let a₂ = e₂ ∙ ap (λ (v : View). record v { desk = None }) a₁ in (
+      e₃ ∙ ap (λ (v : View). record v { back = None }) a₂,
+      en ∙ ap (λ (v : View). record nobody { net = v.net }) e₀,
+      ed ∙ ap (λ (v : View). record nobody { desk = v.desk }) a₁,
+      ek ∙ ap (λ (v : View). record nobody { back = v.back }) a₂,
+    )
+
+pub ready_hands : (v₀ v₁ t : Hand) → v₀ ≡ both_hands → v₁ ≡ record v₀ { taken = None } → t ≡ record no_hand { taken = v₀.taken } → (v₁ ≡ putter []) × (t ≡ taker [])
+ready_hands v₀ v₁ t e₀ e₁ et = (e₁ ∙ ap (λ (v : Hand). record v { taken = None }) e₀, et ∙ ap (λ (v : Hand). record no_hand { taken = v.taken }) e₀)
+
+pub of_some : {A : Type 0} (P : A → Type 0) (o : Option A) (x : A) → o ≡ Some x → IfSome o P → P x
+of_some {A} P o x e h = let R : Option A → Type 0 = λ u. IfSome u P in subst R e h

@@ -1,0 +1,15 @@
+use Rattle.std.proofs.Common.{◌≡◌, List, map}
+use Rattle.crossbeam_channel.specs.Claims.{view, IsSeatAt}
+use Rattle.crossbeam_channel.specs.Ends.{sends_on}
+use Rattle.tn_jobs.specs.declared.held_jobs.JobId.{JobId}
+use Rattle.tn_jobs.specs.declared.reactions.Reaction.{Reaction}
+use Rattle.tn_session.specs.declared.mail.Sender.TheVariants.{Back}
+use Rattle.tn_session.specs.Mailbox.{sender, mail}
+use Rattle.tn_session.specs.Stepping.{step_said}
+use Rattle.tn_session.specs.Turning.{Running, ids_of}
+use Rattle.tn_session.proofs.back.run_back.Given as goal
+
+abbrev pub invariant-loop : goal.invariant-loop
+invariant-loop g l =
+    IsSeatAt (sends_on l.to) l.pass
+    × ((said : List (JobId × Reaction)) × (view l.pass ≡ sender Back (map (mail Back) (map step_said said))) × Running g.J.Job.fresh g.J.Job.steps (ids_of l.fn.line.items) said l.line.items)

@@ -1,0 +1,13 @@
+use Rattle.std.proofs.Common.{◌≡◌, List}
+use Rattle.crossbeam_channel.specs.Claims.{view, IsSeatAt}
+use Rattle.crossbeam_channel.specs.Ends.{sends_on, receives_on}
+use Rattle.tn_discipline.specs.declared.reads.Entry.{Entry}
+use Rattle.tn_jobs.specs.declared.reactions.Reaction.{Reaction}
+use Rattle.tn_session.specs.Queue.{taker}
+use Rattle.tn_session.specs.Talk.{Answers, desk_sends, turns_said, entries_of}
+use Rattle.tn_session.proofs.desk.run_desk.Given as goal
+
+abbrev pub invariant-loop : goal.invariant-loop
+invariant-loop g l =
+    IsSeatAt (sends_on l.to) l.pass × IsSeatAt (receives_on l.from) l.hand ×
+    ((turns : List (Entry × Reaction)) × Answers g.J.Job.reacts l.fn.job turns l.job × (view l.pass ≡ desk_sends (turns_said l.id turns)) × (view l.hand ≡ taker (entries_of turns)))

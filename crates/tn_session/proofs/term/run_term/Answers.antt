@@ -1,0 +1,65 @@
+use Rattle.std.proofs.Common.{ap, refl, sym, ◌∙◌, [], ◌∷◌, ◌++◌, Option, List, option_to_list, arith, append-nil}
+use Rattle.crossbeam_channel.specs.Claims.{view}
+use Rattle.tn_session.specs.Queue.{putter}
+use Rattle.tn_session.specs.declared.mail.Mail.{Mail}
+use Rattle.tn_session.proofs.Mailbox.{handles, totals, handled_more}
+use Rattle.tn_session.proofs.Going.{going_next, going_none, going_kept, lefts_of-push, left_small, puts_two}
+use Rattle.tn_session.proofs.term.run_term.Goals as goal
+
+pub recv_as-requires-clause-rule : goal.recv_as-requires-clause-rule
+recv_as-requires-clause-rule g c = (handles c.loop.pass.id (view c.loop.pass) c.loop.invariant.2.0 (ap (λ v. v.handled) c.loop.invariant.2.2), totals c.loop.pass.id (view c.loop.pass))
+
+pub loop-init : goal.loop-init
+loop-init g c = (
+  c.requires.mailbox.0,
+  c.requires.entries.1,
+  (
+    [],
+    [],
+    ap (λ (o : Option (List Mail)). record (view c.args.pass) { handled = o }) c.requires.mailbox.1,
+    λ k e. e ∙ ap putter (sym (append-nil k)),
+    refl,
+    going_kept c.args.term.now _ [] _ _ _ [] c.close-closed.ensures (going_none c.args.term.now (g.W.Write.contents c.args.writer.now)),
+  ),
+  c.requires.out,
+  omega arith,
+)
+
+pub turn-requires-clause-role : goal.turn-requires-clause-role
+turn-requires-clause-role g c =
+    let i = c.loop.invariant.2 in
+    (c.requires.entries.0 ++ i.1, i.3 c.requires.entries.0 c.requires.entries.2)
+
+pub loop-preserved : goal.loop-preserved
+loop-preserved g c =
+    let i = c.loop.invariant.2 in
+    let x = c.in-Ok.mail in
+    let t = c.in_ok-hand.ensures.turned in
+    let small = left_small x.message in
+    let more = c.if-lefts-ge-SENDERS.false in (
+      c.in-Ok.ensures.channel.0,
+      c.in_ok-hand.ensures.seat,
+      (
+        i.0 ++ x ∷ [],
+        i.1 ++ (option_to_list t.put ++ option_to_list t.last),
+        handled_more (view c.args.pass) (view c.loop.pass) (view c.recv_as.new.pass) i.0 x i.2 c.in-Ok.ensures.rule,
+        puts_two (view c.args.hand) (view c.loop.hand) (view c.in_ok-hand.hand) i.1 (option_to_list t.put ++ option_to_list t.last) i.3 t.puts,
+        omega (arith, lefts_of-push i.0 x, c.leaves-left.ensures, i.4),
+        going_next c.args.term.now c.loop.term c.turn.new.term i.0 x _ _ _ _ i.1 (view c.loop.hand) (view c.in_ok-hand.hand) c.close-closed-in-loop.ensures i.5 t,
+      ),
+      c.turn.ensures.out,
+      omega (arith, small, more, c.leaves-left.ensures),
+    )
+
+pub returns-then-lefts-ge-SENDERS-clause-acted : goal.returns-then-lefts-ge-SENDERS-clause-acted
+returns-then-lefts-ge-SENDERS-clause-acted g c =
+    let i = c.loop.invariant.2 in
+    let enough = c.if-lefts-ge-SENDERS.true in
+    record {
+      handled = i.0;
+      puts = i.1;
+      view = i.2;
+      hand = i.3;
+      lefts = omega (arith, enough, i.4);
+      goes = going_kept c.args.term.now c.loop.term _ _ _ _ i.1 c.finish_unless.ensures i.5;
+    }

@@ -1,0 +1,52 @@
+-- The passes of a session, ready and put together.
+use Rattle.std.specs.Prelude.{◌≡◌, List, Option, Some, None, [], ◌++◌}
+use Rattle.crossbeam_channel.specs.Claims.{view, IsSeatAt}
+use Rattle.crossbeam_channel.specs.Ends.{sends_on, receives_on}
+use Rattle.tn_discipline.specs.declared.reads.Entry.{Entry}
+use Rattle.tn_session.specs.Mailbox.{Interleaves, four, sender}
+use Rattle.tn_session.specs.Queue.{putter, taker}
+use Rattle.tn_session.specs.declared.channels.View.{View}
+use Rattle.tn_session.specs.declared.entries.Hand.{Hand}
+use Rattle.tn_session.specs.declared.mail.Mail.{Mail}
+use Rattle.tn_session.specs.declared.mail.Sender.TheVariants.{Net, Desk, Back}
+use Rattle.tn_session.specs.declared.session.Channels.{Channels}
+
+-- the first of these, and then others
+abbrev pub IsPrefixOf : {A : Type 0} → List A → List A → Type 0
+IsPrefixOf {A} xs ys = (rest : List A) × (xs ++ rest ≡ ys)
+
+-- the view of the one that handles, in a session of three senders; nobody sends as Keys
+abbrev pub handler : List Mail → View
+handler h = record { handled = Some h; net = None; desk = None; back = None; keys = Some [] }
+
+-- nothing was sent, handled, put or taken
+pub record IsReady (c : Channels) : Type 0 where
+  pub one_mailbox : receives_on c.from ≡ sends_on c.to
+  pub net_to : sends_on c.net_to ≡ sends_on c.to
+  pub desk_to : sends_on c.desk_to ≡ sends_on c.to
+  pub back_to : sends_on c.back_to ≡ sends_on c.to
+  pub pass : IsSeatAt (sends_on c.to) c.pass
+  pub net : IsSeatAt (sends_on c.to) c.net
+  pub desk : IsSeatAt (sends_on c.to) c.desk
+  pub back : IsSeatAt (sends_on c.to) c.back
+  pub pass_is : view c.pass ≡ handler []
+  pub net_is : view c.net ≡ sender Net []
+  pub desk_is : view c.desk ≡ sender Desk []
+  pub back_is : view c.back ≡ sender Back []
+  pub one_queue : receives_on c.take ≡ sends_on c.put
+  pub hand : IsSeatAt (sends_on c.put) c.hand
+  pub took : IsSeatAt (sends_on c.put) c.took
+  pub hand_is : view c.hand ≡ putter []
+  pub took_is : view c.took ≡ taker []
+
+-- whatever the lists are: they are those of the new passes too, what was handled begins an interleaving of what was sent,
+-- and what was taken begins what was put
+abbrev pub AreSettled : View → View → View → View → Hand → Hand → View → View → View → View → Hand → Hand
+    → Type 0
+AreSettled pass net desk back hand took net' desk' back' term' put' took' =
+    (h a b c : List Mail) (p t : List (Option Entry)) → pass ≡ handler h → net ≡ sender Net a
+    → desk ≡ sender Desk b → back ≡ sender Back c
+    → hand ≡ putter p → took ≡ taker t
+    → (net' ≡ sender Net a) × (desk' ≡ sender Desk b) × (back' ≡ sender Back c) × (term' ≡ handler h)
+    × (put' ≡ putter p) × (took' ≡ taker t)
+    × ((items : List Mail) × Interleaves (h ++ items) (four a b c [])) × IsPrefixOf t p

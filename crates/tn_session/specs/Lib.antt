@@ -1,0 +1,11 @@
+pub mod Seats
+pub mod Mailbox
+pub mod Queue
+pub mod Reading
+pub mod Talk
+pub mod Stepping
+pub mod Turning
+pub mod Turns
+pub mod Jobs
+pub mod Joining
+pub mod Session

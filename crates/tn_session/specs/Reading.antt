@@ -1,0 +1,37 @@
+-- What the thread that reads sends.
+use Rattle.std.specs.Prelude.{◌≡◌, ℕ, List, Option, [], ◌∷◌, ◌++◌, map, ⊤}
+use Rattle.std.specs.List.{concat}
+use Rattle.std.specs.Io.KnownBytes.{Consumes, IsAtEnd}
+use Rattle.tn_session.specs.declared.net.Got.{Got}
+use Rattle.tn_session.specs.declared.net.Got.TheVariants.{Bytes, Again, Last}
+use Rattle.tn_term.specs.declared.messages.Message.{Message}
+use Rattle.tn_term.specs.declared.messages.Message.TheVariants.{Piece, HangUp, ReadFailed, Refused, Left}
+use Rattle.tn_session.specs.declared.mail.Sender.TheVariants.{Net}
+use Rattle.tn_session.specs.declared.channels.View.{View}
+use Rattle.tn_session.specs.Mailbox.{mail, sender}
+
+abbrev pub net_sends : List Message → View
+net_sends messages = sender Net (map (mail Net) messages)
+
+-- how the reading ended; after a hang-up nothing is left
+abbrev pub IsEnding : Message → Option (List ℕ) → Type 0
+IsEnding HangUp left = IsAtEnd left
+IsEnding ReadFailed left = ⊤
+IsEnding Refused left = ⊤
+IsEnding _ left = ⊥
+
+-- what one read gives
+abbrev pub Gives : Option (List ℕ) → Option (List ℕ) → Got → Type 0
+Gives old new (Bytes text) = Consumes old new text
+Gives old new Again = Consumes old new []
+Gives old new (Last last) = Consumes old new [] × IsEnding last new
+
+abbrev pub pieces_of : List (List ℕ) → List Message
+pieces_of pieces = map (λ p. Piece p) pieces
+
+-- the pieces joined are the first of the bytes that the reader gives, and then comes how it ended
+abbrev pub NetSends : Option (List ℕ) → View → Type 0
+NetSends given v =
+    (pieces : List (List ℕ)) × (left : Option (List ℕ)) × (last : Message)
+    × Consumes given left (concat pieces) × IsEnding last left
+    × (v ≡ net_sends (pieces_of pieces ++ last ∷ Left ∷ []))

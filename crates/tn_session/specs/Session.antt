@@ -1,0 +1,110 @@
+-- The running session, of what its ports give back, for every schedule.
+use Rattle.std.specs.Prelude.{◌≡◌, ℕ, Bool, true, false, ◌&&◌, Option, Some, List, [], ◌++◌, map}
+use Rattle.std.specs.Io.KnownBytes.{Appends}
+use Rattle.crossbeam_channel.specs.Claims.{view}
+use Rattle.tn_discipline.specs.Canon.{Canon}
+use Rattle.tn_discipline.specs.declared.reads.Entry.{Entry}
+use Rattle.tn_jobs.specs.Jobs.{Jobs}
+use Rattle.tn_jobs.specs.declared.held_jobs.JobId.{JobId}
+use Rattle.tn_jobs.specs.declared.reactions.Reaction.{Reaction}
+use Rattle.tn_nvt.specs.Spelling.{spells}
+use Rattle.tn_server.specs.Replies.{items_said}
+use Rattle.tn_server.specs.declared.wishes.Editing.{Editing}
+use Rattle.tn_session.specs.Jobs.{Numbered}
+use Rattle.tn_session.specs.Joining.{IsPrefixOf}
+use Rattle.tn_session.specs.Mailbox.{Interleaves, four, sender}
+use Rattle.tn_session.specs.Queue.{putter, taker}
+use Rattle.tn_session.specs.Reading.{NetSends}
+use Rattle.tn_session.specs.Stepping.{AreSteps}
+use Rattle.tn_session.specs.Talk.{IsTalk}
+use Rattle.tn_session.specs.Turns.{Writes, messages_of}
+use Rattle.tn_session.specs.declared.channels.View.{View}
+use Rattle.tn_session.specs.declared.entries.Hand.{Hand}
+use Rattle.tn_session.specs.declared.mail.Mail.{Mail}
+use Rattle.tn_session.specs.declared.mail.Sender.TheVariants.{Net, Desk, Back}
+use Rattle.tn_session.specs.declared.parties.Ports.{Ports}
+use Rattle.tn_session.specs.declared.parties.Report.{Report}
+use Rattle.tn_term.specs.Giving.{GivesFront}
+use Rattle.tn_term.specs.Marks.{Runs, run_after_opening, all_whole}
+use Rattle.tn_term.specs.Reaching.{LeadsTo}
+use Rattle.tn_term.specs.Run.{Run, start, opening}
+use Rattle.tn_term.specs.declared.messages.Mark.{Mark}
+use Rattle.tn_term.specs.declared.messages.Message.{Message}
+use Rattle.tn_term.specs.declared.progress.Progress.{Progress}
+use Rattle.tn_term.specs.declared.terminal.Term.{Term}
+
+abbrev pub report_of : Progress → Report
+report_of p = record { ended = p.ended; pieces = p.pieces; entries = p.entries; stops = p.stops }
+
+-- the opening words were written, or the first of them
+pub record IsOpening (old : Term) (words : List ℕ) (before after : Option (List ℕ))
+    (new : Term) : Type 0 where
+  pub written : Bool
+  pub wrote : Writes written before after words
+  pub leads : (c : Run) → LeadsTo c old → LeadsTo (run_after_opening written c) new
+  pub over : written ≡ false → new.progress.over ≡ true
+
+-- One, two, three, four and six of what is said of a session: of what the three threads sent, in the order that these passes
+-- know, of what the terminal handled, put and wrote, and of what the foreground job took.
+pub record Schedule {J : Type 0} (fresh : J → Type 0) (reacts : J → Entry → Reaction → J → Type 0)
+    (steps : J → Reaction → J → Type 0)
+    (first : JobId) (others : List ℕ) (canon : Canon) (editing : Editing) (jobs : Jobs)
+    (given old new : Option (List ℕ))
+    (report : Report) (net desk back term : View) (put took : Hand) : Type 0 where
+  -- what each sent, and what was handled
+  pub from_net : List Mail
+  pub from_desk : List Mail
+  pub from_back : List Mail
+  pub handled : List Mail
+  pub net_is : net ≡ sender Net from_net
+  pub desk_is : desk ≡ sender Desk from_desk
+  pub back_is : back ≡ sender Back from_back
+  pub term_is : term.handled ≡ Some handled
+  -- one: what was handled is an interleaving of all that was sent
+  pub woven : Interleaves handled (four from_net from_desk from_back [])
+  -- two: the pieces are a front of what the reader gave
+  pub read : NetSends given net
+  -- three: the run of the messages with their marks; what was written of what it sends, and what was put
+  pub wrote_opening : Bool
+  pub marked : List (Message × Mark)
+  pub messages : map (λ m. m.0) marked ≡ messages_of handled
+  pub run : Run
+  pub runs : Runs (run_after_opening wrote_opening (start canon editing jobs)) marked run
+  pub written : List ℕ
+  pub unwritten : List ℕ
+  pub appended : Appends old new written
+  pub sends : spells (items_said run.history) ≡ written ++ unwritten
+  pub all_written : (wrote_opening && all_whole marked) ≡ true → unwritten ≡ []
+  pub put_is : put ≡ putter run.puts
+  -- four: what was taken begins what was put, and what the jobs said is theirs
+  pub taken : List (Option Entry)
+  pub took_is : took ≡ taker taken
+  pub took_first : IsPrefixOf taken run.puts
+  pub talked : IsTalk first fresh reacts desk took
+  pub stepped : AreSteps fresh steps others back
+  -- six: the report
+  pub report_is : report ≡ report_of run.progress
+
+-- wherever the terminal is at first
+abbrev pub IsRun : {J : Type 0} → (J → Type 0) → (J → Entry → Reaction → J → Type 0)
+    → (J → Reaction → J → Type 0) → JobId → List ℕ → Term → List ℕ → Option (List ℕ) → Option (List ℕ)
+    → Option (List ℕ) → Report → Ports → Type 0
+IsRun fresh reacts steps first others term words given old new report ports =
+    (canon : Canon) (editing : Editing) (jobs : Jobs) → LeadsTo (start canon editing jobs) term
+    → words ≡ spells (items_said (opening canon editing))
+    → Schedule fresh reacts steps first others canon editing jobs given old new report (view ports.net)
+    (view ports.desk) (view ports.back) (view ports.term) (view ports.put) (view ports.took)
+
+-- The whole of it, for the jobs that were made.
+pub record RunningSession {J : Type 0} (fresh : J → Type 0) (reacts : J → Entry → Reaction → J → Type 0)
+    (steps : J → Reaction → J → Type 0)
+    (canon : Canon) (editing : Editing) (given old new : Option (List ℕ)) (report : Report)
+    (net desk back term : View) (put took : Hand) : Type 0 where
+  pub jobs : Jobs
+  pub first : JobId
+  pub others : List ℕ
+  pub numbered : Numbered jobs first others
+  pub schedule : Schedule fresh reacts steps first others canon editing jobs given old new report net desk
+      back term put took
+  -- five: what the foreground job took is a front of the entries that the bytes give
+  pub in_order : GivesFront schedule.taken schedule.run.history

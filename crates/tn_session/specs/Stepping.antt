@@ -1,0 +1,44 @@
+-- What the thread of the background jobs sends.
+use Rattle.std.specs.Prelude.{◌≡◌, ℕ, ◌==◌, List, [], ◌∷◌, ◌++◌, ◌⊎◌, map, if◌then◌else◌}
+use Rattle.std.specs.List.{FoldsTo}
+use Rattle.tn_jobs.specs.declared.held_jobs.JobId.{JobId}
+use Rattle.tn_jobs.specs.declared.reactions.Reaction.{Reaction}
+use Rattle.tn_session.specs.declared.mail.Sender.TheVariants.{Back}
+use Rattle.tn_session.specs.declared.channels.View.{View}
+use Rattle.tn_session.specs.Mailbox.{mail, sender}
+use Rattle.tn_term.specs.declared.messages.Message.{Message}
+use Rattle.tn_term.specs.declared.messages.Message.TheVariants.{Said, Refused, Left}
+
+-- a job's number, and what it did
+abbrev pub step_said : JobId × Reaction → Message
+step_said s = Said s.0 s.1.text s.1.after
+
+-- what the job of this number did, in order
+abbrev pub reactions_of : ℕ → List (JobId × Reaction) → List Reaction
+reactions_of id [] = []
+reactions_of id (s ∷ ss) = if s.0.0 == id then s.1 ∷ reactions_of id ss else reactions_of id ss
+
+-- there are states of the job of this number, the first fresh, through which each of its steps goes
+abbrev pub Steps : {J : Type 0} → (J → Type 0) → (J → Reaction → J → Type 0) → List (JobId × Reaction) → ℕ
+    → Type 0
+Steps {J} fresh steps said id =
+    (first : J) × (last : J) × fresh first × FoldsTo steps first (reactions_of id said) last
+
+abbrev pub IsClose : List Message → Type 0
+IsClose close = (close ≡ Left ∷ []) ⊎ (close ≡ Refused ∷ Left ∷ [])
+
+abbrev pub IsIn : ℕ → List ℕ → Type 0
+IsIn id [] = ⊥
+IsIn id (other ∷ ids) = (id ≡ other) ⊎ IsIn id ids
+
+-- each step is one of these jobs'
+abbrev pub AreBy : List ℕ → List (JobId × Reaction) → Type 0
+AreBy ids [] = Unit {0}
+AreBy ids (s ∷ ss) = IsIn s.0.0 ids × AreBy ids ss
+
+-- of these jobs: each step is one of theirs, those of each go through its states, and then comes the close
+abbrev pub AreSteps : {J : Type 0} → (J → Type 0) → (J → Reaction → J → Type 0) → List ℕ → View → Type 0
+AreSteps {J} fresh steps ids v =
+    (said : List (JobId × Reaction)) × (close : List Message) × IsClose close
+    × (v ≡ sender Back (map (mail Back) (map step_said said ++ close)))
+    × AreBy ids said × ((id : ℕ) → IsIn id ids → Steps {J = J} fresh steps said id)

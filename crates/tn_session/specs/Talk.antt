@@ -1,0 +1,52 @@
+-- What the desk says: it asks, and answers each entry that it gets.
+use Rattle.std.specs.Prelude.{◌≡◌, List, Option, Some, None, [], ◌∷◌, ◌++◌, ◌⊎◌, map, flat_map}
+use Rattle.std.specs.List.{FoldsTo}
+use Rattle.tn_discipline.specs.declared.reads.Entry.{Entry}
+use Rattle.tn_jobs.specs.declared.reactions.Reaction.{Reaction}
+use Rattle.tn_jobs.specs.declared.held_jobs.JobId.{JobId}
+use Rattle.tn_term.specs.declared.messages.Message.{Message}
+use Rattle.tn_term.specs.declared.messages.Message.TheVariants.{Take, Said, Refused, Left}
+use Rattle.tn_session.specs.declared.mail.Sender.TheVariants.{Desk}
+use Rattle.tn_jobs.specs.declared.verdicts.After.TheVariants.{Done}
+use Rattle.tn_session.specs.declared.channels.View.{View}
+use Rattle.tn_session.specs.declared.entries.Hand.{Hand}
+use Rattle.tn_session.specs.Queue.{taker}
+use Rattle.tn_session.specs.Mailbox.{mail, sender}
+
+-- an entry, and what the job answered
+abbrev pub turn_said : JobId → Entry × Reaction → List Message
+turn_said id t = Take ∷ Said id t.1.text t.1.after ∷ []
+
+abbrev pub turns_said : JobId → List (Entry × Reaction) → List Message
+turns_said id turns = flat_map (turn_said id) turns
+
+-- the job goes from one state to another by these turns
+abbrev pub Answers : {J : Type 0} → (J → Entry → Reaction → J → Type 0) → J → List (Entry × Reaction) → J
+    → Type 0
+Answers reacts s turns t = FoldsTo (λ a x b. reacts a x.0 x.1 b) s turns t
+
+abbrev pub entries_of : List (Entry × Reaction) → List (Option Entry)
+entries_of turns = map (λ t. Some t.0) turns
+
+abbrev pub ends_done : List (Entry × Reaction) → Type 0
+ends_done [] = ⊥
+ends_done (t ∷ []) = t.1.after ≡ Done
+ends_done (t ∷ u ∷ us) = ends_done (u ∷ us)
+
+abbrev pub desk_sends : List Message → View
+desk_sends messages = sender Desk (map (mail Desk) messages)
+
+-- how it ended: the end came, the job was done, or the job found no memory
+abbrev pub Closes : JobId → List (Entry × Reaction) → View → Hand → Type 0
+Closes id turns v w =
+    ((v ≡ desk_sends (turns_said id turns ++ Take ∷ Left ∷ [])) × (w ≡ taker (entries_of turns ++ None ∷ [])))
+    ⊎ ((v ≡ desk_sends (turns_said id turns ++ Left ∷ [])) × (w ≡ taker (entries_of turns)) × ends_done turns)
+    ⊎ ((e : Entry) × (v ≡ desk_sends (turns_said id turns ++ Take ∷ Refused ∷ Left ∷ []))
+    × (w ≡ taker (entries_of turns ++ Some e ∷ [])))
+
+-- it asked before each thing that it took, and answered each entry from the job's state, which began fresh
+abbrev pub IsTalk : {J : Type 0} → JobId → (J → Type 0) → (J → Entry → Reaction → J → Type 0) → View → Hand
+    → Type 0
+IsTalk {J} id fresh reacts v w =
+    (turns : List (Entry × Reaction)) × (first : J) × (last : J)
+    × fresh first × Answers reacts first turns last × Closes id turns v w

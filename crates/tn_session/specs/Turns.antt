@@ -1,0 +1,74 @@
+-- The messages that were handled, and what was put and written.
+use Rattle.std.specs.Prelude.{◌≡◌, ℕ, ◌+◌, ◌≤◌, Bool, true, false, Option, List, [], ◌∷◌, ◌++◌, map, option_to_list}
+use Rattle.std.specs.Io.KnownBytes.{Appends}
+use Rattle.tn_discipline.specs.declared.reads.Entry.{Entry}
+use Rattle.tn_nvt.specs.Spelling.{spells}
+use Rattle.tn_server.specs.Replies.{items_said}
+use Rattle.tn_session.specs.Mailbox.{with_handled}
+use Rattle.tn_session.specs.Queue.{putter}
+use Rattle.tn_session.specs.declared.channels.View.{View}
+use Rattle.tn_session.specs.declared.entries.Hand.{Hand}
+use Rattle.tn_session.specs.declared.mail.Mail.{Mail}
+use Rattle.tn_term.specs.Marks.{Runs, all_whole}
+use Rattle.tn_term.specs.Reaching.{LeadsTo, IsTurn}
+use Rattle.tn_term.specs.Run.{Run}
+use Rattle.tn_term.specs.declared.messages.Mark.{Mark}
+use Rattle.tn_term.specs.declared.messages.Message.{Message}
+use Rattle.tn_term.specs.declared.messages.Message.TheVariants.{Left}
+use Rattle.tn_term.specs.declared.terminal.Term.{Term}
+
+-- all of these bytes were written, or the first of them
+abbrev pub Writes : Bool → Option (List ℕ) → Option (List ℕ) → List ℕ → Type 0
+Writes true old new bytes = Appends old new bytes
+Writes false old new bytes =
+    (front : List ℕ) × (rest : List ℕ) × (bytes ≡ front ++ rest) × Appends old new front
+
+-- one message with its mark: what was written of what it sends, and what was put
+pub record TurnsMessage (old : Term) (message : Message) (before after : Option (List ℕ)) (v w : Hand)
+    (new : Term) : Type 0 where
+  pub mark : Mark
+  pub bytes : List ℕ
+  pub put : Option (Option Entry)
+  pub last : Option (Option Entry)
+  pub wrote : Appends before after bytes
+  pub turn : IsTurn mark old message bytes put last new
+  pub puts : (l : List (Option Entry)) → v ≡ putter l
+      → w ≡ putter (l ++ (option_to_list put ++ option_to_list last))
+
+-- Some messages with their marks, from wherever the terminal may have been: these bytes were written, the first of those that
+-- the run sends, and all of them unless something failed.
+pub record GoesOn (old : Term) (messages : List Message) (before after : Option (List ℕ))
+    (puts : List (Option Entry)) (new : Term) : Type 0 where
+  pub marked : List (Message × Mark)
+  pub whole : map (λ m. m.0) marked ≡ messages
+  pub bytes : List ℕ
+  pub wrote : Appends before after bytes
+  pub leads : (c : Run) → LeadsTo c old →
+      (next : Run) × Runs c marked next × LeadsTo next new × (next.puts ≡ c.puts ++ puts)
+      × (rest : List ℕ)
+      × (spells (items_said next.history) ≡ spells (items_said c.history) ++ (bytes ++ rest))
+      × (all_whole marked ≡ true → rest ≡ [])
+  pub over : all_whole marked ≡ false → new.progress.over ≡ true
+  pub stays : old.progress.over ≡ true → new.progress.over ≡ true
+  pub idle : old.progress.over ≡ true → bytes ≡ []
+
+abbrev pub left_one : Message → ℕ
+left_one Left = 1
+left_one _ = 0
+
+abbrev pub lefts_of : List Mail → ℕ
+lefts_of [] = 0
+lefts_of (x ∷ xs) = left_one x.message + lefts_of xs
+
+abbrev pub messages_of : List Mail → List Message
+messages_of mails = map (λ x. x.message) mails
+
+-- what the terminal did: of the views before and after, and of the bytes that the writer held before and after
+pub record HandlesAll (old : Term) (v w : View) (before_hand after_hand : Hand)
+    (before after : Option (List ℕ)) (new : Term) : Type 0 where
+  pub handled : List Mail
+  pub puts : List (Option Entry)
+  pub view : w ≡ with_handled v handled
+  pub hand : (l : List (Option Entry)) → before_hand ≡ putter l → after_hand ≡ putter (l ++ puts)
+  pub lefts : 3 ≤ lefts_of handled
+  pub goes : GoesOn old (messages_of handled) before after puts new

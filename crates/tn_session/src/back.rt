@@ -1,0 +1,134 @@
+//! The thread of the background jobs: each steps in turn.
+
+ghost use Rattle.std.specs.Prelude.{◌≡◌, List, [], ◌++◌, ◌∷◌, IfSome};
+ghost use Rattle.crossbeam_channel.specs.Claims.{view, IsSeatAt};
+ghost use Rattle.crossbeam_channel.specs.Ends.{sends_on};
+ghost use Rattle.tn_session.specs.Mailbox.{sender};
+ghost use Rattle.tn_session.specs.Stepping.{AreSteps};
+ghost use Rattle.tn_session.specs.Turning.{IsLine, ids_of, TakesTurn};
+ghost use Rattle.tn_session.specs.declared.mail.Sender.TheVariants.{Back};
+
+use crate::channels::{MailPass, MailSender};
+use crate::mail::Sender;
+use crate::parties::{Gate, Place};
+use crate::sending::say;
+use std::alloc::Global;
+use std::collections::VecDeque;
+use std::sync::Wait;
+use std::sync::atomic::{AtomicBool, Ordering};
+use tn_jobs::{After, Job, JobId, JobState, Reaction, Verdict, judge};
+use tn_term::Message;
+
+/// A background job that runs.
+#[derive(Drop)]
+pub(crate) struct Runner<J> {
+    pub(crate) id: JobId,
+    pub(crate) job: J,
+}
+
+// Whether the job still runs in the background after this reaction.
+fn goes_on(has_text: bool, after: After, tostop: bool) -> bool {
+    match judge(JobState::Background, has_text, after, tostop) {
+        Some(
+            Verdict {
+                write: _,
+                next: JobState::Background,
+            },
+        ) => true,
+        _ => false,
+    }
+}
+
+// What became of the line.
+#[derive(Drop)]
+enum Turn {
+    // No job runs.
+    Idle,
+    // The first job found no memory.
+    Refused,
+    // The first job made this step. Where it runs on and no memory for that is found, it is let go.
+    Did {
+        id: JobId,
+        reaction: Reaction,
+        refused: bool,
+    },
+}
+
+fn advance<J: Job>(line: &mut VecDeque<Runner<J>>, alloc: Global, tostop: bool) -> Turn
+    ensures { TakesTurn J.steps line.old.items result line.new.items }
+{
+    let Some(Runner { id, mut job }) = line.pop_front() else {
+        return Turn::Idle;
+    };
+    let Ok(reaction) = job.step(alloc) else {
+        return Turn::Refused;
+    };
+    let on = goes_on(!reaction.text.as_slice().is_empty(), reaction.after, tostop);
+    if !on {
+        return Turn::Did {
+            id,
+            reaction,
+            refused: false,
+        };
+    }
+    let refused = line.push_back(Runner { id, job }).is_err();
+    Turn::Did {
+        id,
+        reaction,
+        refused,
+    }
+}
+
+/// Runs the jobs in turn, until none of them runs or the flag is set.
+pub(crate) fn run_back<R: Wait, J: Job, G: Gate>(
+    rt: &R,
+    alloc: Global,
+    to: &MailSender,
+    mut pass: MailPass,
+    mut line: VecDeque<Runner<J>>,
+    tostop: bool,
+    stop: &AtomicBool,
+    gate: &G,
+) -> Option<MailPass>
+    requires mailbox { IsSeatAt (sends_on to.now) pass × (view pass ≡ sender Back []) }
+    requires jobs { IsLine J.fresh line.items }
+    ensures seat { IfSome result (λ p. IsSeatAt (sends_on to.now) p) }
+    ensures stepped { IfSome result (λ p. AreSteps J.fresh J.steps (ids_of line.items) (view p)) }
+{
+    for _ in rt.forever() {
+        if stop.load(Ordering::SeqCst) {
+            return say(rt, to, pass, Sender::Back, Message::Left);
+        }
+        gate.at(Place::BackStep);
+        match advance(&mut line, alloc, tostop) {
+            Turn::Idle => return say(rt, to, pass, Sender::Back, Message::Left),
+            Turn::Refused => {
+                pass = say(rt, to, pass, Sender::Back, Message::Refused)?;
+                return say(rt, to, pass, Sender::Back, Message::Left);
+            },
+            Turn::Did {
+                id,
+                reaction,
+                refused,
+            } => {
+                let Reaction { text, after } = reaction;
+                pass = say(
+                    rt,
+                    to,
+                    pass,
+                    Sender::Back,
+                    Message::Said {
+                        job: id,
+                        text,
+                        after,
+                    },
+                )?;
+                if refused {
+                    pass = say(rt, to, pass, Sender::Back, Message::Refused)?;
+                    return say(rt, to, pass, Sender::Back, Message::Left);
+                }
+            },
+        }
+    }
+    unreachable!()
+}

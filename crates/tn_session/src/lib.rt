@@ -1,0 +1,29 @@
+//! Running sessions: a server end, its jobs and its connection, each in a thread of its own, and the
+//! channels between them.
+#![tactic(auto)]
+
+pub use channels::{AllRoles, Knows, MailPass, MailReceiver, MailSender, View};
+pub use entries::{EntryPass, EntryReceiver, EntrySender, Hand, InTurn};
+pub use mail::{Mail, Sender};
+pub use parties::{Finish, Gate, Maker, Place, Ports, Report};
+pub use session::serve_session;
+pub use tn_term::{Ended, Message, SessionFault};
+
+mod back;
+mod channels;
+mod desk;
+mod entries;
+#[cfg(test)]
+mod gate_tests;
+mod joining;
+mod mail;
+mod making;
+mod net;
+mod parties;
+mod sending;
+mod session;
+mod term;
+#[cfg(test)]
+mod tests;
+mod threads;
+mod writing;

@@ -1,0 +1,83 @@
+//! The jobs of a session are made, and a table holds them.
+
+ghost use Rattle.std.specs.Prelude.{◌≡◌, IfOk};
+ghost use Rattle.tn_session.specs.Jobs.{IsMade};
+
+use crate::back::Runner;
+use crate::parties::Maker;
+use std::alloc::Global;
+use std::collections::VecDeque;
+use tn_jobs::laws::one_job_changes;
+use tn_jobs::{Job, JobId, Table};
+use tn_term::SessionFault;
+
+/// How many jobs run in the background at most.
+const MOST_OTHERS: u8 = 15;
+
+/// The jobs of a session: the foreground job with its number, and those in the background.
+#[derive(Drop)]
+pub(crate) struct Made<J> {
+    pub(crate) table: Table,
+    pub(crate) first: JobId,
+    pub(crate) job: J,
+    pub(crate) line: VecDeque<Runner<J>>,
+}
+
+// The first job stands in the foreground.
+fn make_first<J: Job>(alloc: Global, job: J) -> Result<Made<J>, SessionFault>
+    requires { J.fresh job }
+    ensures { IfOk result (λ made. IsMade J.fresh made) }
+{
+    let mut table = Table::new(alloc);
+    let Ok(first) = table.add() else {
+        return Err(SessionFault::Memory);
+    };
+    let Ok(()) = table.foreground(first) else {
+        return Err(SessionFault::Memory);
+    };
+    one_job_changes();
+    Ok(Made {
+        table,
+        first,
+        job,
+        line: VecDeque::new(alloc),
+    })
+}
+
+// One more job stands in the background.
+fn make_more<J: Job>(mut made: Made<J>, job: J) -> Result<Made<J>, SessionFault>
+    requires made { IsMade J.fresh made }
+    requires fresh { J.fresh job }
+    ensures { IfOk result (λ more. IsMade J.fresh more) }
+{
+    let Ok(id) = made.table.add() else {
+        return Err(SessionFault::Memory);
+    };
+    let Ok(()) = made.line.push_back(Runner { id, job }) else {
+        return Err(SessionFault::Memory);
+    };
+    Ok(made)
+}
+
+/// Makes all jobs: `Start` where there is no first one, `Memory` where memory is wanting.
+pub(crate) fn make_jobs<M: Maker>(
+    alloc: Global,
+    maker: &mut M,
+) -> Result<Made<M::Job>, SessionFault>
+    ensures { IfOk result (λ made. IsMade M.Job.fresh made) }
+{
+    let job = match maker.next(alloc) {
+        Ok(Some(job)) => job,
+        Ok(None) => return Err(SessionFault::Start),
+        Err(_) => return Err(SessionFault::Memory),
+    };
+    let mut made = make_first(alloc, job)?;
+    for _ in 0..MOST_OTHERS {
+        match maker.next(alloc) {
+            Ok(Some(job)) => made = make_more(made, job)?,
+            Ok(None) => return Ok(made),
+            Err(_) => return Err(SessionFault::Memory),
+        }
+    }
+    Ok(made)
+}

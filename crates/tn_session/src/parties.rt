@@ -1,0 +1,72 @@
+//! Who takes part in a session, and what it gives back.
+
+ghost use Rattle.std.specs.Prelude.{IfOk, IfSome};
+ghost use Rattle.std.specs.Io.KnownBytes.{Keeps};
+
+use crate::channels::MailPass;
+use crate::entries::EntryPass;
+use std::alloc::{AllocError, Global};
+use std::io::Write;
+use tn_jobs::{Job, JobId};
+use tn_term::Ended;
+
+/// Who makes the jobs of a session: the first is the foreground job, and up to fifteen more run in the
+/// background.
+pub trait Maker {
+    type Job: Job;
+
+    /// The next job, which has done nothing yet; `None` where there is no more.
+    fn next(&mut self, alloc: Global) -> Result<Option<Self::Job>, AllocError>
+        ensures { IfOk result (λ next. IfSome next (λ job. Self.Job.fresh job)) };
+}
+
+/// A place that a thread of a session comes by.
+#[derive(Clone, Copy, Debug, PartialEq, Eq)]
+pub enum Place {
+    /// A piece was read from the network and sent on.
+    NetPiece,
+    /// A piece of keys was read and sent on.
+    KeysPiece,
+    /// The foreground job is to answer an entry.
+    DeskEntry,
+    /// A background job is to make a step.
+    BackStep,
+    /// The terminal has handled what this job said.
+    TermSaid(JobId),
+    /// The terminal has put an entry for the foreground job.
+    TermTook,
+}
+
+/// Who watches the threads. It changes no answer.
+pub trait Gate {
+    fn at(&self, place: Place);
+}
+
+/// A writer that is told when no more comes from this end. Nothing is said of what that does.
+pub trait Finish: Write {
+    fn finish(&mut self)
+        ensures { Keeps (Self.contents self.old) (Self.contents self.new) };
+}
+
+/// What a session tells at its end. A count that has reached the greatest `u64` stays there.
+#[derive(Clone, Copy, Debug, PartialEq, Eq)]
+pub struct Report {
+    pub ended: Ended,
+    /// The pieces that had their effect.
+    pub pieces: u64,
+    /// The entries that went to the foreground job.
+    pub entries: u64,
+    /// The stops of the foreground job.
+    pub stops: u64,
+}
+
+/// The passes of the channels, in which contracts see what was sent and handled.
+#[derive(Drop)]
+pub struct Ports {
+    pub net: MailPass,
+    pub desk: MailPass,
+    pub back: MailPass,
+    pub term: MailPass,
+    pub put: EntryPass,
+    pub took: EntryPass,
+}

@@ -1,0 +1,26 @@
+//! What the terminal appends is written out, as far as the writer takes it.
+
+ghost use Rattle.std.specs.Prelude.{◌≡◌, [], true};
+ghost use Rattle.tn_session.specs.Turns.{Writes};
+
+use std::io::{ErrorKind, Write};
+
+/// Writes these bytes, or the first of them where a write fails. A write that takes none has failed.
+pub(crate) fn write_out<W: Write>(writer: &mut W, bytes: &[u8]) -> bool
+    ensures writes { Writes result (W.contents writer.old) (W.contents writer.new) bytes.now }
+    ensures none { bytes.now ≡ [] → result ≡ true }
+{
+    let mut at = 0;
+    for _write in 0..u64::MAX {
+        if at >= bytes.len() {
+            return true;
+        }
+        match writer.write(&bytes[at..]) {
+            Ok(0) => return false,
+            Ok(n) => at += n,
+            Err(error) if error.kind() == ErrorKind::Interrupted => continue,
+            Err(_) => return false,
+        }
+    }
+    at >= bytes.len()
+}

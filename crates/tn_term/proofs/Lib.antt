@@ -1,0 +1,6 @@
+pub mod Following
+pub mod Doing
+pub mod Breaking
+pub mod Handling
+pub mod Turning
+pub mod lemmas

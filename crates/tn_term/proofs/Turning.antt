@@ -1,0 +1,91 @@
+-- One message with its mark.
+use Rattle.std.proofs.Common.{◌≡◌, ℕ, Bool, true, false, List, [], ◌++◌, Option, None, option_to_list, refl, sym, ap, ◌∙◌, subst, append-nil, append_assoc}
+use Rattle.tn_discipline.specs.declared.reads.Entry.{Entry}
+use Rattle.tn_nvt.proofs.lemmas.Reading.{spells-append}
+use Rattle.tn_nvt.specs.Spelling.{spells}
+use Rattle.tn_nvt.specs.declared.items.Item.{Item}
+use Rattle.tn_server.specs.Events.{History}
+use Rattle.tn_server.specs.Replies.{items_said}
+use Rattle.tn_server.specs.declared.faults.ServerFault.{ServerFault}
+use Rattle.tn_term.proofs.Doing.{is_over}
+use Rattle.tn_term.specs.Counting.{after_end, after_halt}
+use Rattle.tn_term.specs.Marks.{put_or_not}
+use Rattle.tn_term.specs.Reaching.{DoesWhole, StopsWithin, IsTurn}
+use Rattle.tn_term.specs.Run.{Run, ActsUnless, idle, idle_puts, fail, end_if}
+use Rattle.tn_term.specs.declared.faults.Ended.TheVariants.{Fault}
+use Rattle.tn_term.specs.declared.faults.SessionFault.TheVariants as fault
+use Rattle.tn_term.specs.declared.messages.Mark.TheVariants.{Whole, Refused}
+use Rattle.tn_term.specs.declared.messages.Message.{Message}
+use Rattle.tn_term.specs.declared.progress.Progress.{Progress}
+use Rattle.tn_term.specs.declared.terminal.Term.{Term}
+
+true_false : true ≡ false → ⊥
+true_false e = cc
+
+false_true : false ≡ true → ⊥
+false_true e = cc
+
+-- nothing has any effect
+pub turn_idle : (old : Term) (message : Message) (bytes : List ℕ) (put : Option (Option Entry)) → bytes ≡ [] → old.progress.over ≡ true → option_to_list put ≡ idle_puts message → IsTurn Whole old message bytes put None old
+turn_idle old message bytes put none off is = record {
+  leads = λ c at.
+      let P : Bool → Type 0 = λ b. ActsUnless b c message (idle message c) in (
+        idle message c,
+        subst P (sym off ∙ ap (λ (p : Progress). p.over) at.progress) refl,
+        is_over (idle message c) old off at.progress,
+        ap (λ (ps : List (Option Entry)). c.puts ++ ps) (sym (append-nil (option_to_list put) ∙ is)),
+        [],
+        sym (append-nil (spells (items_said c.history))) ∙ ap (λ (bs : List ℕ). spells (items_said c.history) ++ bs) (sym (append-nil bytes ∙ none)),
+        λ w. refl,
+      );
+  over = λ e. absurd (true_false e);
+  stays = λ e. e;
+  idle = λ e. (none, refl);
+}
+
+-- the bytes of a message that was done wholly
+all_said : (h k : History) (x y : List ℕ) (said : List Item) → x ≡ [] → y ≡ x ++ spells said → items_said k ≡ items_said h ++ said → spells (items_said k) ≡ spells (items_said h) ++ (y ++ [])
+all_said h k x y said none is e =
+    ap spells e ∙ spells-append (items_said h) said ∙ ap (λ (bs : List ℕ). spells (items_said h) ++ bs) (sym (append-nil y ∙ is ∙ ap (λ (bs : List ℕ). bs ++ spells said) none))
+
+pub turn_whole : (old new : Term) (message : Message) (x y : List ℕ) (put : Option (Option Entry)) → x ≡ [] → old.progress.over ≡ false → DoesWhole old message x y put new → IsTurn Whole old message y put None new
+turn_whole old new message x y put none on h = record {
+  leads = λ c at.
+      let l = h.leads c at in (
+        l.0,
+        l.1,
+        l.2,
+        l.4 ∙ ap (λ (ps : List (Option Entry)). c.puts ++ ps) (sym (append-nil (option_to_list put))),
+        [],
+        all_said c.history l.0.history x y h.said none h.appended l.3,
+        λ w. refl,
+      );
+  over = λ e. absurd (true_false e);
+  stays = λ e. absurd (true_false (sym e ∙ on));
+  idle = λ e. absurd (true_false (sym e ∙ on));
+}
+
+same_history : (given : Bool) (m : Message) (c whole : Run) → (put_or_not given m c whole).history ≡ whole.history
+same_history true m c whole = refl
+same_history false m c whole = refl
+
+pub turn_refused : (old mid new : Term) (message : Message) (f : ServerFault) (given : Bool) (x y : List ℕ) (put last : Option (Option Entry)) → x ≡ [] → old.progress.over ≡ false → StopsWithin old message given x y put mid → new.progress ≡ after_halt (after_end (Fault (fault.Server f)) mid.progress) → option_to_list last ≡ end_if mid.progress.asks → IsTurn (Refused f given) old message y put last new
+turn_refused old mid new message f given x y put last none on h is puts = record {
+  leads = λ c at.
+      let l = h.leads c at in
+      let done = put_or_not given message c l.0 in
+      let next = fail (fault.Server f) done in
+      let over : new.progress.over ≡ true = ap (λ (p : Progress). p.over) is in (
+        next,
+        (sym (ap (λ (p : Progress). p.over) at.progress) ∙ on, l.0, l.1, refl),
+        is_over next new over (is ∙ ap (λ (p : Progress). after_halt (after_end (Fault (fault.Server f)) p)) l.4),
+        ap (λ (ps : List (Option Entry)). ps ++ end_if done.progress.asks) l.5 ∙ append_assoc c.puts (option_to_list put) (end_if done.progress.asks)
+            ∙ ap (λ (ps : List (Option Entry)). c.puts ++ (option_to_list put ++ ps)) (ap (λ (p : Progress). end_if p.asks) (sym l.4) ∙ sym puts),
+        l.2,
+        ap (λ (k : History). spells (items_said k)) (same_history given message c l.0) ∙ l.3 ∙ ap (λ (bs : List ℕ). spells (items_said c.history) ++ (bs ++ l.2)) (sym (h.appended ∙ ap (λ (bs : List ℕ). bs ++ h.part) none)),
+        λ w. absurd (false_true w),
+      );
+  over = λ e. ap (λ (p : Progress). p.over) is;
+  stays = λ e. absurd (true_false (sym e ∙ on));
+  idle = λ e. absurd (true_false (sym e ∙ on));
+}

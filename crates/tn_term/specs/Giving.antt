@@ -1,0 +1,20 @@
+-- The entries that went to the foreground job.
+use Rattle.std.specs.Prelude.{◌≡◌, ◌≤◌, Option, Some, None, List, [], ◌∷◌, ◌++◌, length}
+use Rattle.tn_discipline.specs.declared.reads.Entry.{Entry}
+use Rattle.tn_server.specs.Events.{History}
+use Rattle.tn_server.specs.Lines.{entries, taken_count, waiting}
+
+-- the entries among what was put
+abbrev pub entries_put : List (Option Entry) → List Entry
+entries_put [] = []
+entries_put (None ∷ puts) = entries_put puts
+entries_put (Some entry ∷ puts) = entry ∷ entries_put puts
+
+-- what was put is the history's entries up to those that wait
+pub record Gives (puts : List (Option Entry)) (h : History) : Type 0 where
+  pub all : entries_put puts ++ waiting h ≡ entries h
+  pub taken : taken_count h ≤ length (entries h)
+
+-- what was put is a front of the history's entries
+abbrev pub GivesFront : List (Option Entry) → History → Type 0
+GivesFront puts h = (rest : List Entry) × (entries_put puts ++ rest ≡ entries h)

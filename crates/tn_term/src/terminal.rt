@@ -1,0 +1,593 @@
+//! The terminal of a session, which alone uses the server end.
+
+ghost use Rattle.std.specs.Prelude.{◌≡◌, ◌&&◌, ℕ, List, true, false, OnOk, OnErr, IfOk, IfErr, IfNone, None, Some, [], ◌∷◌, ◌++◌, option_to_list, All, MatchResult};
+ghost use Rattle.std.specs.List.{concat};
+ghost use Rattle.tn_discipline.specs.Canon.{Canon};
+ghost use Rattle.tn_jobs.specs.Jobs.{state_at, with_state, is_stopped, is_foreground};
+ghost use Rattle.tn_nvt.specs.Spelling.{spells};
+ghost use Rattle.tn_server.specs.Replies.{items_said};
+ghost use Rattle.tn_term.specs.Counting as counting;
+ghost use Rattle.tn_term.specs.Marks.{is_whole};
+ghost use Rattle.tn_term.specs.Run as run;
+ghost use Rattle.tn_term.specs.Run.{Run};
+ghost use Rattle.tn_term.specs.Reaching.{FollowsPath, AdvancesRun, BreaksOff, Feeds, FeedBreaksOff, HaltsIf, Says, SayBreaksOff, DoesWhole, StopsWithin, IsTurn, LeadsTo};
+
+use crate::faults::{Ended, SessionFault};
+use crate::messages::{Mark, Message, Outcome};
+use crate::progress::Progress;
+use std::alloc::Global;
+use tn_discipline::{Entry, Limit, Settings};
+use tn_jobs::{After, JobId, JobState, Table, Verdict, Why, judge};
+use tn_server::{Editing, ServerEnd, ServerFault};
+
+/// How many symbols a screen holds at most.
+const MOST_SYMBOLS: usize = 4096;
+
+/// The terminal of a session.
+#[derive(Drop)]
+pub struct Term {
+    pub(crate) end: ServerEnd,
+    pub(crate) table: Table,
+    pub(crate) tostop: bool,
+    pub(crate) progress: Progress,
+}
+
+// A call of the end that was refused, what goes to the foreground job all the same, and whether what the
+// message gives it is among that.
+#[derive(Drop)]
+struct Stuck {
+    fault: ServerFault,
+    put: Option<Option<Entry>>,
+    given: bool,
+}
+
+// Pulls all symbols.
+fn pull_all(end: &mut ServerEnd, out: &mut Vec<u8>) -> Result<(), ServerFault>
+    ensures ok { OnOk result (FollowsPath run.flushed_history end.old out.old.items out.new.items end.new) }
+    ensures err { OnErr result (end.new ≡ end.old) }
+    ensures err_appends { OnErr result (out.new.items ≡ out.old.items) }
+{
+    match end.pull(MOST_SYMBOLS, out) {
+        Ok(_) => Ok(()),
+        Err(fault) => Err(fault),
+    }
+}
+
+impl Term {
+    /// Starts the end, appends the opening words, and wishes for editing at one side.
+    pub fn start(
+        alloc: Global,
+        settings: Settings,
+        limit: Limit,
+        editing: Editing,
+        table: Table,
+        out: &mut Vec<u8>,
+    ) -> Result<Term, ServerFault>
+        requires { out.old.items ≡ [] }
+        ensures at { IfOk result (λ term.
+            LeadsTo (run.start (record { settings = settings; limit = limit }) editing table) term) }
+        ensures out { OnOk result (out.new.items ≡
+            spells (items_said (run.opening (record { settings = settings; limit = limit }) editing))) }
+        ensures progress { IfOk result (λ term. term.progress.over ≡ false) }
+    {
+        let flags = settings.flags;
+        let tostop = flags.tostop;
+        let mut end = match ServerEnd::start(alloc, settings, limit, out) {
+            Ok(end) => end,
+            Err(fault) => return Err(fault),
+        };
+        match end.wish(editing, out) {
+            Ok(_) => {},
+            Err(fault) => return Err(fault),
+        }
+        match pull_all(&mut end, out) {
+            Ok(()) => {},
+            Err(fault) => return Err(fault),
+        }
+        Ok(Term {
+            end,
+            table,
+            tostop,
+            progress: Progress::new(),
+        })
+    }
+
+    // All symbols are pulled.
+    fn flush(&mut self, out: &mut Vec<u8>) -> Result<(), ServerFault>
+        requires { self.old.progress.over ≡ false }
+        ensures ok { OnOk result (AdvancesRun run.flush self.old out.old.items out.new.items [] self.new) }
+        ensures err { OnErr result (BreaksOff run.flush self.old out.old.items out.new.items [] self.new) }
+        ensures progress { self.new.progress ≡ self.old.progress }
+    {
+        match pull_all(&mut self.end, out) {
+            Ok(()) => Ok(()),
+            Err(fault) => Err(fault),
+        }
+    }
+
+    // A part of a text is written, and all symbols are pulled.
+    fn show_part(&mut self, part: &[u8], out: &mut Vec<u8>) -> Result<(), ServerFault>
+        requires { self.old.progress.over ≡ false }
+        ensures ok { OnOk result
+            (AdvancesRun (run.show (part.now ∷ [])) self.old out.old.items out.new.items [] self.new) }
+        ensures err { OnErr result
+            (BreaksOff (run.show (part.now ∷ [])) self.old out.old.items out.new.items [] self.new) }
+        ensures progress { self.new.progress ≡ self.old.progress }
+    {
+        self.end.write(part);
+        match pull_all(&mut self.end, out) {
+            Ok(()) => Ok(()),
+            Err(fault) => Err(fault),
+        }
+    }
+
+    // A text is written in parts, and each is pulled.
+    fn show(&mut self, text: &[u8], out: &mut Vec<u8>) -> Result<(), ServerFault>
+        requires { self.old.progress.over ≡ false }
+        ensures ok { OnOk result ((parts : List (List ℕ)) × (concat parts ≡ text.now) × All run.IsPart parts ×
+            AdvancesRun (run.show parts) self.old out.old.items out.new.items [] self.new) }
+        ensures err { OnErr result ((parts : List (List ℕ)) × (concat parts ≡ text.now) ×
+            All run.IsPart parts ×
+            BreaksOff (run.show parts) self.old out.old.items out.new.items [] self.new) }
+        ensures progress { self.new.progress ≡ self.old.progress }
+    {
+        let mut rest = text;
+        while !rest.is_empty() {
+            let (part, later) = rest.split_at(rest.len().min(MOST_SYMBOLS));
+            match self.show_part(part, out) {
+                Ok(()) => {},
+                Err(fault) => return Err(fault),
+            }
+            rest = later;
+        }
+        Ok(())
+    }
+
+    // A text whose verdict lets it be written.
+    fn show_if(&mut self, writes: bool, text: &[u8], out: &mut Vec<u8>) -> Result<(), ServerFault>
+        requires { self.old.progress.over ≡ false }
+        ensures ok { OnOk result ((parts : List (List ℕ)) × run.Cuts writes text.now parts ×
+            AdvancesRun (run.show parts) self.old out.old.items out.new.items [] self.new) }
+        ensures err { OnErr result ((parts : List (List ℕ)) × run.Cuts writes text.now parts ×
+            BreaksOff (run.show parts) self.old out.old.items out.new.items [] self.new) }
+        ensures progress { self.new.progress ≡ self.old.progress }
+    {
+        if writes {
+            match self.show(text, out) {
+                Ok(()) => return Ok(()),
+                Err(fault) => return Err(fault),
+            }
+        }
+        Ok(())
+    }
+
+    // A text whose verdict lets it be written, and then all symbols are pulled.
+    fn show_all(&mut self, writes: bool, text: &[u8], out: &mut Vec<u8>) -> Result<(), ServerFault>
+        requires { self.old.progress.over ≡ false }
+        ensures ok { OnOk result ((parts : List (List ℕ)) × run.Cuts writes text.now parts ×
+            AdvancesRun (λ c.
+            run.flush (run.show parts c)) self.old out.old.items out.new.items [] self.new) }
+        ensures err { OnErr result ((parts : List (List ℕ)) × run.Cuts writes text.now parts ×
+            BreaksOff (λ c. run.flush (run.show parts c)) self.old out.old.items out.new.items [] self.new) }
+        ensures progress { self.new.progress ≡ self.old.progress }
+    {
+        match self.show_if(writes, text, out) {
+            Ok(()) => {},
+            Err(fault) => return Err(fault),
+        }
+        match self.flush(out) {
+            Ok(()) => Ok(()),
+            Err(fault) => Err(fault),
+        }
+    }
+
+    // The first entry that waits is asked for: it goes to the foreground job, or the request waits or is
+    // answered by the end.
+    fn ask(&mut self, out: &mut Vec<u8>) -> Result<Option<Option<Entry>>, ServerFault>
+        requires { self.old.progress.over ≡ false }
+        ensures ok { IfOk result (λ put.
+            AdvancesRun run.ask self.old out.old.items out.new.items (option_to_list put) self.new) }
+        ensures over { self.new.progress.over ≡ false }
+        ensures err { OnErr result (self.new ≡ self.old) }
+        ensures err_appends { OnErr result (out.new.items ≡ out.old.items) }
+    {
+        match self.end.take(out) {
+            Ok(Some(entry)) => {
+                self.progress = self.progress.answered();
+                Ok(Some(Some(entry)))
+            },
+            Ok(None) => {
+                let put = end_if(self.progress.at_end);
+                self.progress = self.progress.unanswered();
+                Ok(put)
+            },
+            Err(fault) => Err(fault),
+        }
+    }
+
+    // What comes from the network.
+    fn feed(&mut self, piece: &[u8], out: &mut Vec<u8>) -> Result<(), ServerFault>
+        requires { self.old.progress.over ≡ false }
+        ensures ok { OnOk result (Feeds self.old piece.now out.old.items out.new.items self.new) }
+        ensures err { OnErr result (FeedBreaksOff self.old piece.now out.old.items out.new.items self.new) }
+        ensures asks { self.new.progress.asks ≡ self.old.progress.asks }
+        ensures over { self.new.progress.over ≡ false }
+    {
+        match self.end.feed(piece, out) {
+            Ok(()) => {
+                self.progress = self.progress.fed();
+                Ok(())
+            },
+            Err(fault) => {
+                self.progress = self.progress.fed();
+                Err(fault)
+            },
+        }
+    }
+
+    // A request that waits is answered by the end, and no more bytes come.
+    fn hang_up(&mut self) -> Option<Option<Entry>>
+        requires { self.old.progress.over ≡ false }
+        ensures does { (x : List ℕ) → AdvancesRun run.hang_up self.old x x (option_to_list result) self.new }
+        ensures over { self.new.progress.over ≡ false }
+    {
+        let put = end_if(self.progress.asks);
+        self.progress = self.progress.hung_up();
+        put
+    }
+
+    // A request that waits is answered by the end, and nothing has any effect from here on.
+    fn halt(&mut self) -> Option<Option<Entry>>
+        ensures is { self.new ≡ record self.old { progress = counting.after_halt self.old.progress } }
+        ensures put { option_to_list result ≡ run.end_if self.old.progress.asks }
+    {
+        let put = end_if(self.progress.asks);
+        self.progress = self.progress.halted();
+        put
+    }
+
+    fn ends_by(&mut self, ended: Ended)
+        requires { self.old.progress.over ≡ false }
+        ensures does { (x : List ℕ) → AdvancesRun (run.ends_by ended) self.old x x [] self.new }
+        ensures over { self.new.progress.over ≡ false }
+    {
+        self.progress = self.progress.ends(ended);
+    }
+
+    // Where a job that could go on stands from here on.
+    fn moves(&mut self, id: JobId, state: JobState, next: JobState)
+        requires on { self.old.progress.over ≡ false }
+        requires held { state_at self.old.table id.0 ≡ Some state }
+        requires runs { is_stopped state ≡ false }
+        ensures does { (x : List ℕ) → AdvancesRun (run.move id.0 next) self.old x x [] self.new }
+        ensures over { self.new.progress.over ≡ false }
+    {
+        match next {
+            JobState::Foreground | JobState::Background => {},
+            JobState::Stopped(why) => self.stop(id, state, why, is_foreground(state)),
+            JobState::Ended => self.end(id, state, is_foreground(state)),
+        }
+    }
+
+    fn stop(&mut self, id: JobId, state: JobState, why: Why, in_foreground: bool)
+        requires on { self.old.progress.over ≡ false }
+        requires held { state_at self.old.table id.0 ≡ Some state }
+        requires runs { is_stopped state ≡ false }
+        ensures does { (x : List ℕ) →
+            AdvancesRun (run.stop_job id.0 why in_foreground) self.old x x [] self.new }
+        ensures over { self.new.progress.over ≡ false }
+    {
+        if in_foreground {
+            self.progress = self.progress.stops();
+            return;
+        }
+        match self.table.stopped(id, why) {
+            Ok(()) => {},
+            Err(_) => {},
+        }
+    }
+
+    fn end(&mut self, id: JobId, state: JobState, in_foreground: bool)
+        requires on { self.old.progress.over ≡ false }
+        requires held { state_at self.old.table id.0 ≡ Some state }
+        ensures does { (x : List ℕ) → AdvancesRun (run.end_job id.0 in_foreground) self.old x x [] self.new }
+        ensures over { self.new.progress.over ≡ false }
+    {
+        take_out(&mut self.table, id, state);
+        if in_foreground {
+            self.progress = self.progress.ends(Ended::Done);
+        }
+    }
+
+    // What is done once a message has had its effect.
+    fn finish(
+        &mut self,
+        put: Option<Option<Entry>>,
+        out: &mut Vec<u8>,
+    ) -> Result<Option<Option<Entry>>, Stuck>
+        requires { self.old.progress.over ≡ false }
+        ensures ok { IfOk result (λ p. (p ≡ put) ×
+            AdvancesRun run.flush self.old out.old.items out.new.items [] self.new) }
+        ensures err { IfErr result (λ s. (s.put ≡ put) × (s.given ≡ true) ×
+            BreaksOff run.flush self.old out.old.items out.new.items [] self.new) }
+    {
+        match self.flush(out) {
+            Ok(()) => Ok(put),
+            Err(fault) => Err(Stuck {
+                fault,
+                put,
+                given: true,
+            }),
+        }
+    }
+
+    // A reaction that the table's verdict lets have its effect.
+    fn judged(
+        &mut self,
+        id: JobId,
+        text: &[u8],
+        state: JobState,
+        verdict: Verdict,
+        out: &mut Vec<u8>,
+    ) -> Result<Option<Option<Entry>>, Stuck>
+        requires on { self.old.progress.over ≡ false }
+        requires held { state_at self.old.table id.0 ≡ Some state }
+        requires runs { is_stopped state ≡ false }
+        ensures ok { IfOk result (λ put.
+            Says id.0 text.now (Some verdict) self.old out.old.items out.new.items put self.new) }
+        ensures err { IfErr result (λ s. (s.given ≡ true) ×
+            SayBreaksOff id.0 text.now (Some verdict) self.old out.old.items out.new.items s.put self.new) }
+    {
+        let is_over = ends_all(state, verdict.next);
+        self.moves(id, state, verdict.next);
+        let shown = self.show_all(verdict.write, text, out);
+        let put = self.halt_if(is_over);
+        match shown {
+            Ok(()) => Ok(put),
+            Err(fault) => Err(Stuck {
+                fault,
+                put,
+                given: true,
+            }),
+        }
+    }
+
+    fn halt_if(&mut self, is_over: bool) -> Option<Option<Entry>>
+        requires { self.old.progress.over ≡ false }
+        ensures { HaltsIf is_over self.old (option_to_list result) self.new }
+    {
+        if is_over {
+            return self.halt();
+        }
+        None
+    }
+
+    fn said(
+        &mut self,
+        id: JobId,
+        text: &[u8],
+        after: After,
+        out: &mut Vec<u8>,
+    ) -> Result<Option<Option<Entry>>, Stuck>
+        requires { self.old.progress.over ≡ false }
+        ensures ok { IfOk result (λ put.
+            Says id.0 text.now
+            (run.verdict_at (state_at self.old.table id.0) (run.has_text text.now) after self.old.tostop)
+            self.old out.old.items out.new.items put self.new) }
+        ensures err { IfErr result (λ s. (s.given ≡ true) ×
+            SayBreaksOff id.0 text.now
+            (run.verdict_at (state_at self.old.table id.0) (run.has_text text.now) after self.old.tostop)
+            self.old out.old.items out.new.items s.put self.new) }
+    {
+        let Some(state) = self.table.state(id) else {
+            return self.finish(None, out);
+        };
+        match judge(state, !text.is_empty(), after, self.tostop) {
+            Some(verdict) => self.judged(id, text, state, verdict, out),
+            None => self.finish(None, out),
+        }
+    }
+
+    fn piece(&mut self, piece: &[u8], out: &mut Vec<u8>) -> Result<Option<Option<Entry>>, Stuck>
+        requires { self.old.progress.over ≡ false }
+        ensures ok { IfOk result (λ put.
+            DoesWhole self.old (Message.Piece piece.now) out.old.items out.new.items put self.new) }
+        ensures err { IfErr result (λ s.
+            StopsWithin self.old (Message.Piece piece.now) s.given out.old.items out.new.items s.put
+            self.new) }
+    {
+        let asks = self.progress.asks;
+        match self.feed(piece, out) {
+            Ok(()) => {},
+            Err(fault) => {
+                return Err(Stuck {
+                    fault,
+                    put: None,
+                    given: false,
+                });
+            },
+        }
+        if asks {
+            match self.ask(out) {
+                Ok(put) => self.finish(put, out),
+                Err(fault) => Err(Stuck {
+                    fault,
+                    put: None,
+                    given: false,
+                }),
+            }
+        } else {
+            self.finish(None, out)
+        }
+    }
+
+    fn take(&mut self, out: &mut Vec<u8>) -> Result<Option<Option<Entry>>, Stuck>
+        requires { self.old.progress.over ≡ false }
+        ensures ok { IfOk result (λ put.
+            DoesWhole self.old Message.Take out.old.items out.new.items put self.new) }
+        ensures err { IfErr result (λ s.
+            StopsWithin self.old Message.Take s.given out.old.items out.new.items s.put self.new) }
+    {
+        match self.ask(out) {
+            Ok(put) => self.finish(put, out),
+            Err(fault) => {
+                self.progress = self.progress.asking();
+                Err(Stuck {
+                    fault,
+                    put: None,
+                    given: false,
+                })
+            },
+        }
+    }
+
+    fn refused(&mut self, out: &mut Vec<u8>) -> Result<Option<Option<Entry>>, Stuck>
+        requires { self.old.progress.over ≡ false }
+        ensures ok { IfOk result (λ put.
+            DoesWhole self.old Message.Refused out.old.items out.new.items put self.new) }
+        ensures err { IfErr result (λ s.
+            StopsWithin self.old Message.Refused s.given out.old.items out.new.items s.put self.new) }
+    {
+        self.ends_by(Ended::Fault(SessionFault::Memory));
+        let pulled = self.flush(out);
+        let put = self.halt();
+        match pulled {
+            Ok(()) => Ok(put),
+            Err(fault) => Err(Stuck {
+                fault,
+                put,
+                given: true,
+            }),
+        }
+    }
+
+    // A message that has its effect.
+    fn act(&mut self, message: Message, out: &mut Vec<u8>) -> Result<Option<Option<Entry>>, Stuck>
+        requires { self.old.progress.over ≡ false }
+        ensures ok { IfOk result (λ put.
+            DoesWhole self.old message out.old.items out.new.items put self.new) }
+        ensures err { IfErr result (λ s.
+            StopsWithin self.old message s.given out.old.items out.new.items s.put self.new) }
+    {
+        match message {
+            Message::Piece(piece) => self.piece(piece.as_slice(), out),
+            Message::Take => self.take(out),
+            Message::Said { job, text, after } => self.said(job, text.as_slice(), after, out),
+            Message::HangUp => {
+                let put = self.hang_up();
+                self.finish(put, out)
+            },
+            Message::ReadFailed => {
+                self.ends_by(Ended::Fault(SessionFault::Read));
+                let put = self.hang_up();
+                self.finish(put, out)
+            },
+            Message::Refused => self.refused(out),
+            Message::Left => self.finish(None, out),
+        }
+    }
+
+    // Something failed: nothing has any effect from here on. Answers what goes to the foreground job.
+    fn fails(&mut self, fault: SessionFault) -> Option<Option<Entry>>
+        ensures progress { self.new.progress ≡
+            counting.after_halt (counting.after_end (Ended.Fault fault) self.old.progress) }
+        ensures put { option_to_list result ≡ run.end_if self.old.progress.asks }
+    {
+        let put = end_if(self.progress.asks);
+        self.progress = self.progress.ends(Ended::Fault(fault)).halted();
+        put
+    }
+
+    /// Tells that a write failed: nothing has any effect from here on. Answers what goes to the
+    /// foreground job.
+    pub fn write_failed(&mut self) -> Option<Option<Entry>>
+        ensures leads { (c : Run) → LeadsTo c self.old → LeadsTo (run.fail SessionFault.Write c) self.new }
+        ensures puts { (c : Run) → LeadsTo c self.old →
+            (run.fail SessionFault.Write c).puts ≡ c.puts ++ option_to_list result }
+        ensures over { self.new.progress.over ≡ true }
+    {
+        self.fails(SessionFault::Write)
+    }
+
+    /// How far the session is.
+    pub fn progress(&self) -> Progress
+        ensures { result ≡ self.now.progress }
+    {
+        self.progress
+    }
+
+    /// Handles one message, and appends what is to be sent to the network.
+    pub fn handle(&mut self, message: Message, out: &mut Vec<u8>) -> Outcome
+        requires { out.old.items ≡ [] }
+        ensures turns { IsTurn result.mark self.old message out.new.items result.put result.last self.new }
+        ensures none { is_whole result.mark ≡ true → result.last ≡ None }
+    {
+        if self.progress.over {
+            return Outcome {
+                put: idle_put(&message),
+                last: None,
+                mark: Mark::Whole,
+            };
+        }
+        match self.act(message, out) {
+            Ok(put) => Outcome {
+                put,
+                last: None,
+                mark: Mark::Whole,
+            },
+            Err(Stuck { fault, put, given }) => {
+                let last = self.fails(SessionFault::Server(fault));
+                Outcome {
+                    put,
+                    last,
+                    mark: Mark::Refused { fault, put: given },
+                }
+            },
+        }
+    }
+}
+
+fn is_foreground(state: JobState) -> bool
+    ensures { result ≡ is_foreground (Some state) }
+{
+    match state {
+        JobState::Foreground => true,
+        JobState::Background | JobState::Stopped(_) | JobState::Ended => false,
+    }
+}
+
+fn ends_all(state: JobState, next: JobState) -> bool
+    ensures { result ≡ (run.is_end next && is_foreground (Some state)) }
+{
+    match next {
+        JobState::Ended => is_foreground(state),
+        JobState::Background | JobState::Stopped(_) | JobState::Foreground => false,
+    }
+}
+
+fn take_out(table: &mut Table, id: JobId, state: JobState)
+    requires { state_at table.old id.0 ≡ Some state }
+    ensures { table.new ≡ with_state table.old id.0 None }
+{
+    match table.done(id) {
+        Ok(()) => {},
+        Err(_) => {},
+    }
+}
+
+// What a message leads to once nothing has any effect.
+fn idle_put(message: &Message) -> Option<Option<Entry>>
+    ensures { option_to_list result ≡ run.idle_puts message.now }
+{
+    match message {
+        Message::Take => Some(None),
+        _ => None,
+    }
+}
+
+// The end, where a request is answered so.
+fn end_if(ends: bool) -> Option<Option<Entry>>
+    ensures { option_to_list result ≡ run.end_if ends }
+{
+    if ends { Some(None) } else { None }
+}
