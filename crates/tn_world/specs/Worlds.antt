@@ -114,7 +114,8 @@ pub record Pulls (old : World) (n : ℕ) (new : World) : Type 0 where
 pub record TakesEntry (old : World) (new : World) : Type 0 where
   pub entry : Option Entry
   pub is_first : (h : server_calls.History) → server.LeadsTo h old.server
-      → MatchOption entry (waiting h ≡ []) (λ e. waiting h ≡ e ∷ waiting (server_calls.next h server_calls.took))
+      → MatchOption entry (waiting h ≡ [])
+      (λ e. waiting h ≡ e ∷ waiting (server_calls.next h server_calls.took))
   pub goes : server.Advances old.server server_calls.took old.to_client new.to_client new.server
   pub keeps : server.ReadsNothing old.server new.server
   pub rest : new
@@ -183,12 +184,14 @@ pub record ClientRefusesDelivery (old : World) (n : ℕ) (fault : ClientFault) (
 -- A call of the server is refused for its cause, or for want of memory for what it says.
 pub record ServerRefusesCall (end : server.End) (e : server_calls.Event) (fault : ServerFault) : Type 0 where
   pub cause : faults.IsFault (server_fault end e) fault
-  pub grows : (fault ≡ server_faults.Memory) → (h : server_calls.History) → server.LeadsTo h end → SaysSomething h e
+  pub grows : (fault ≡ server_faults.Memory) → (h : server_calls.History) → server.LeadsTo h end
+      → SaysSomething h e
 
 -- The same of the client.
 pub record ClientRefusesCall (end : client.End) (e : client_calls.Event) (fault : ClientFault) : Type 0 where
   pub cause : client.IsFault (client_fault end e) fault
-  pub grows : (fault ≡ client_faults.Memory) → (h : client_calls.History) → client.LeadsTo h end → client.SaysOrShows h e
+  pub grows : (fault ≡ client_faults.Memory) → (h : client_calls.History) → client.LeadsTo h end
+      → client.SaysOrShows h e
 
 -- the event calls an end, other than by a delivery, and the call is refused for this fault: entries are taken from a
 -- server that was stopped, too
