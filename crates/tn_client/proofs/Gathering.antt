@@ -11,7 +11,7 @@ use Rattle.tn_client.specs.Lines.{line}
 use Rattle.tn_client.specs.Replies.{replies, items_said, end_of_edit_items}
 use Rattle.tn_client.specs.Screen.{text_shown, item_shown}
 use Rattle.tn_client.specs.Calls.{End, LeadsTo, ReadsNothing, AdvancesAll}
-use Rattle.tn_client.specs.Steps.{line_left, end_after_item, says_got}
+use Rattle.tn_client.specs.Steps.{line_left, count_left, count_told, end_after_item, says_got}
 use Rattle.tn_client.proofs.lemmas.Histories.{gets-append}
 use Rattle.tn_wire.proofs.lemmas.Cutting.{spelled_on}
 use Rattle.tn_client.proofs.Standings.{stands_got, replies_got}
@@ -72,12 +72,19 @@ ending_same : (b : Bool) (bytes : List ℕ) → end_of_edit_items b b bytes ≡ 
 ending_same true bytes = refl
 ending_same false bytes = refl
 
-line_same : (b : Bool) (l : HalfLine) → line_left b b l ≡ l
-line_same true l = refl
-line_same false l = refl
+line_same : (b : Bool) (n : ℕ) (l : HalfLine) → line_left b b n l ≡ l
+line_same true n l = refl
+line_same false n l = refl
+
+count_same : (b : Bool) (l : HalfLine) (n : ℕ) → count_left b b l n ≡ n
+count_same true l n = refl
+count_same false l n = refl
 
 after_byte : (old : End) (byte : ℕ) → end_after_item old (Byte byte) ≡ old
-after_byte old byte = ap (λ (l : HalfLine). record old { line = l }) (line_same (edits old.mode) old.line)
+after_byte old byte =
+    ap (λ (l : HalfLine). record old { line = l; trapped = count_left (edits old.mode) (edits old.mode) old.line old.trapped; plain = count_left (edits old.mode) (edits old.mode) old.line old.plain }) (line_same (edits old.mode) (count_told old.mode old.trapped old.plain) old.line)
+    ∙ ap (λ (n : ℕ). record old { trapped = n; plain = count_left (edits old.mode) (edits old.mode) old.line old.plain }) (count_same (edits old.mode) old.line old.trapped)
+    ∙ ap (λ (n : ℕ). record old { plain = n }) (count_same (edits old.mode) old.line old.plain)
 
 replies_byte : (h : History) (byte : ℕ) → replies h (got (Byte byte)) ≡ []
 replies_byte h byte = ap (λ (xs : List Item). xs ++ []) (ending_same (edits (mode h)) (line h).held)

@@ -3,3 +3,4 @@ pub mod Growing
 pub mod Standings
 pub mod Gathering
 pub mod Loans
+pub mod Undoing

@@ -82,7 +82,7 @@ same_loan = kept_by_all TakesItems RefusesItems IsSameLoan (λ x. record { end =
 -- the decoder alone changed
 stands_decoder : (h : History) (old : End) (d : DecoderState) → LeadsTo h old → LeadsTo h (record old { decoder = d })
 stands_decoder h old d s =
-    record { options = s.options; mode = s.mode; table = s.table; leaves = s.leaves; ahead = s.ahead; limit = s.limit; size = s.size }
+    record { options = s.options; mode = s.mode; forward = s.forward; table = s.table; leaves = s.leaves; ahead = s.ahead; limit = s.limit; trapped = s.trapped; plain = s.plain; size = s.size }
 
 -- the end was lent without its decoder
 lends : (h : History) (old : End) (held : DecoderState) (a : Lent) → a.end.now ≡ record old { decoder = held } → LeadsTo h old → LeadsTo h a.end.now

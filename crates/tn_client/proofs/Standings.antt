@@ -1,25 +1,28 @@
 -- Where an event leads, from a history to the end.
-use Rattle.std.proofs.Common.{◌≡◌, ◌≢◌, ◌⊎◌, inl, inr, ℕ, Bool, true, false, ◌&&◌, List, [], ◌++◌, refl, sym, ap, ◌∙◌, if◌then◌else◌, arith, subst}
+use Rattle.std.proofs.Common.{◌≡◌, ◌≢◌, ◌⊎◌, inl, inr, ℕ, Bool, true, false, ◌&&◌, min, Option, List, [], ◌++◌, length, refl, sym, ap, ◌∙◌, if◌then◌else◌, arith, subst}
+use Rattle.tn_codes.specs.declared.masks.Mask.{Mask}
+use Rattle.tn_discipline.specs.Admitted.{count_after, count_of}
 use Rattle.tn_discipline.specs.Characters.{Characters}
-use Rattle.tn_discipline.specs.Keys.{roles_from}
-use Rattle.tn_discipline.specs.HalfLine.{HalfLine, empty_line}
+use Rattle.tn_discipline.specs.Entries.{half_of}
+use Rattle.tn_discipline.specs.Keys.{role_of_key, roles_from}
+use Rattle.tn_discipline.specs.HalfLine.{HalfLine, empty_line, line_length, line_after}
 use Rattle.tn_discipline.specs.Advancing as discipline
 use Rattle.tn_discipline.specs.declared.keys.Role.{Role}
-use Rattle.tn_discipline.proofs.lemmas.Lines.{advances}
-use Rattle.tn_linemode.specs.Modes.{edits}
+use Rattle.tn_discipline.proofs.lemmas.Lines.{advances, released_keeps, resumed_leads, after_least, length_at, count_at, count_more}
+use Rattle.tn_linemode.specs.Modes.{edits, traps}
 use Rattle.tn_nvt.specs.Spelling.{spells}
 use Rattle.tn_nvt.specs.declared.items.Item.{Item}
 use Rattle.tn_option.specs.Options.{Options}
 use Rattle.tn_client.specs.Events.{History, next, typed, got}
-use Rattle.tn_client.specs.Terms.{mode, chars, size, options_after, mode_at, chars_by, payload_at, is_echoed}
-use Rattle.tn_client.specs.Lines.{key_settings, role_of_typed, role_at, edited_roles, line}
+use Rattle.tn_client.specs.Terms.{options, mode, forward, chars, size, options_after, mode_at, forward_at, chars_by, payload_at, is_echoed}
+use Rattle.tn_client.specs.Lines.{settings_by, key_settings, role_of_typed, role_at, roles_under, edited_roles, line_limit, half_line, sends_ahead, is_sent_ahead, ahead, count_under, line}
 use Rattle.tn_client.specs.Replies.{replies, key_items, item_replies}
 use Rattle.tn_client.specs.Screen.{shows, key_shown}
 use Rattle.tn_client.specs.Calls.{End, LeadsTo, ReadsNothing, Advances, Sends, Shows, SaysOrShows, ReadsList, MayWantMemory, RefusesItem}
-use Rattle.tn_client.specs.Steps.{role_now, line_typed, end_after_key, says_key, shows_key, line_left, end_after_item, says_got, MayWantMemoryNow}
+use Rattle.tn_client.specs.Steps.{role_now, is_sent_now, line_sent, line_typed, count_typed, end_after_key, says_key, shows_key, line_left, count_left, count_told, end_after_item, says_got, MayWantMemoryNow}
 use Rattle.tn_wire.specs.Fronts.{AppendsFront}
-use Rattle.tn_client.proofs.lemmas.Histories.{ahead-none, unedited}
-use Rattle.tn_client.proofs.lemmas.Ends.{none_ahead, line_is}
+use Rattle.tn_client.proofs.lemmas.Histories.{unedited, unedited-ahead, edited-typed, edited-stays, edited-begins, under-typed, under-ends, under-stays, count-none, count-is, ahead-typed, ahead-stays, ahead-begins}
+use Rattle.tn_client.proofs.lemmas.Ends.{line_is}
 
 -- no role leaves an empty line
 leaves_none : (limit : ℕ) → discipline.LeadsTo [] (empty_line limit)
@@ -32,40 +35,98 @@ same_role m n c d key a b = ap (λ (x : ℕ). role_of_typed x c key) a ∙ ap (�
 pub role_is : (h : History) (old : End) (key : ℕ) → LeadsTo h old → role_now old key ≡ role_at h key
 role_is h old key s = same_role old.mode (mode h) old.table (chars h) key s.mode s.table
 
-typed_leaves : (b : Bool) (roles : List Role) (l : HalfLine) (r : Role) → discipline.LeadsTo roles l → (b ≡ false → roles ≡ []) → discipline.LeadsTo (if b then roles ++ roles_from r else []) (line_typed b l r)
-typed_leaves true roles l r leaves none = (advances l r).half roles leaves
-typed_leaves false roles l r leaves none = subst (λ (rs : List Role). discipline.LeadsTo rs l) (none refl) leaves
+-- what is sent ahead stays in the half line
+sent_leaves : (sends : Bool) (roles : List Role) (l : HalfLine) → discipline.LeadsTo roles l → discipline.LeadsTo roles (line_sent sends l)
+sent_leaves true roles l leaves = released_keeps l roles leaves
+sent_leaves false roles l leaves = leaves
 
-typed_ahead : (b : Bool) (l : HalfLine) (r : Role) → l.ahead ≡ 0 → (line_typed b l r).ahead ≡ 0
-typed_ahead true l r none = let low = (advances l r).ahead in omega (arith, low, none)
-typed_ahead false l r none = none
+typed_leaves : (h : History) (old : End) (key : ℕ) (b : Bool) → edits (mode h) ≡ b → LeadsTo h old → discipline.LeadsTo (edited_roles (next h (typed key))) (line_typed b old.forward old.line (role_now old key))
+typed_leaves h old key true e s =
+    let l = old.line in
+    let r = role_now old key in
+    subst (λ (rs : List Role). discipline.LeadsTo rs (line_typed true old.forward l r)) (ap (λ (x : Role). edited_roles h ++ roles_from x) (role_is h old key s) ∙ sym (edited-typed h key e))
+    (sent_leaves (is_sent_now old.forward l r) (edited_roles h ++ roles_from r) (line_after l r) ((advances l r).half (edited_roles h) s.leaves))
+typed_leaves h old key false e s = subst (λ (rs : List Role). discipline.LeadsTo rs old.line) (unedited h e ∙ sym (unedited (next h (typed key)) e)) s.leaves
 
-typed_limit : (b : Bool) (l : HalfLine) (r : Role) → (line_typed b l r).limit ≡ l.limit
-typed_limit true l r = (advances l r).limit
-typed_limit false l r = refl
+-- the count of a half line that the server edits
+typed_count : (isig : Bool) (h : History) (old : End) (key count : ℕ) (b : Bool) → edits (mode h) ≡ b → LeadsTo h old → count ≡ count_under isig h → count_typed b isig old count key ≡ count_under isig (next h (typed key))
+typed_count isig h old key count true e s is = is ∙ count-none isig h e ∙ sym (count-none isig (next h (typed key)) e)
+typed_count isig h old key count false e s is =
+    let n = length (half_of (line_limit h) (roles_under isig h)) in
+    let told : Characters → List Role = λ c. roles_from (role_of_key (settings_by isig c) key) in
+    ap (λ (m : ℕ). count_after old.line.limit m (told old.table)) (is ∙ count-is isig h e)
+    ∙ ap (λ (c : Characters). count_after old.line.limit n (told c)) s.table
+    ∙ ap (λ (m : ℕ). count_after m n (told (chars h))) s.limit
+    ∙ sym (count_more (line_limit h) (roles_under isig h) (role_of_key (settings_by isig (chars h)) key))
+    ∙ ap (λ (rs : List Role). length (half_of (line_limit h) rs)) (sym (under-typed isig h key e))
+    ∙ sym (count-is isig (next h (typed key)) e)
+
+sent_least : (sends : Bool) (l : HalfLine) (r : Role) → (line_sent sends (line_after l r)).ahead ≡ (if sends then line_length (line_after l r) else min (line_length (line_after l r)) l.ahead)
+sent_least true l r = refl
+sent_least false l r = after_least l r
+
+-- the line is as long as the half line of the history
+long_typed : (h : History) (old : End) (key : ℕ) → edits (mode h) ≡ true → LeadsTo h old → line_length (line_after old.line (role_now old key)) ≡ length (half_line (next h (typed key)))
+long_typed h old key e s =
+    let r = role_now old key in
+    let roles = edited_roles h ++ roles_from r in
+    let leaves = advances old.line r in
+    sym (length_at roles (line_after old.line r) (leaves.half (edited_roles h) s.leaves))
+    ∙ ap (λ (n : ℕ). length (half_of n roles)) (leaves.limit ∙ s.limit)
+    ∙ ap (λ (x : Role). length (half_of (line_limit h) (edited_roles h ++ roles_from x))) (role_is h old key s)
+    ∙ ap (λ (rs : List Role). length (half_of (line_limit h) rs)) (sym (edited-typed h key e))
+
+-- and the key sends what it sends in the history
+sent_typed : (h : History) (old : End) (key : ℕ) → LeadsTo h old → is_sent_now old.forward old.line (role_now old key) ≡ is_sent_ahead h key
+sent_typed h old key s =
+    let l = old.line in
+    ap (λ (n : ℕ). sends_ahead old.forward l.limit n (role_now old key)) (sym (count_at (edited_roles h) l s.leaves))
+    ∙ ap (λ (n : ℕ). sends_ahead old.forward n (count_of n (edited_roles h)) (role_now old key)) s.limit
+    ∙ ap (λ (f : Option Mask). sends_ahead f (line_limit h) (count_of (line_limit h) (edited_roles h)) (role_now old key)) s.forward
+    ∙ ap (λ (r : Role). sends_ahead (forward h) (line_limit h) (count_of (line_limit h) (edited_roles h)) r) (role_is h old key s)
+
+typed_ahead : (h : History) (old : End) (key : ℕ) (b : Bool) → edits (mode h) ≡ b → LeadsTo h old → (line_typed b old.forward old.line (role_now old key)).ahead ≡ ahead (next h (typed key))
+typed_ahead h old key true e s =
+    let l = old.line in
+    let r = role_now old key in
+    let n = length (half_line (next h (typed key))) in
+    sent_least (is_sent_now old.forward l r) l r
+    ∙ ap (λ (m : ℕ). if is_sent_now old.forward l r then m else min m l.ahead) (long_typed h old key e s)
+    ∙ ap (λ (b : Bool). if b then n else min n l.ahead) (sent_typed h old key s)
+    ∙ ap (λ (m : ℕ). if is_sent_ahead h key then n else min n m) s.ahead
+    ∙ sym (ahead-typed h key e)
+typed_ahead h old key false e s = s.ahead ∙ unedited-ahead h e ∙ sym (unedited-ahead (next h (typed key)) e)
+
+sent_limit : (sends : Bool) (l : HalfLine) → (line_sent sends l).limit ≡ l.limit
+sent_limit true l = refl
+sent_limit false l = refl
+
+typed_limit : (b : Bool) (f : Option Mask) (l : HalfLine) (r : Role) → (line_typed b f l r).limit ≡ l.limit
+typed_limit true f l r = sent_limit (is_sent_now f l r) (line_after l r) ∙ (advances l r).limit
+typed_limit false f l r = refl
 
 pub stands_typed : (h : History) (old : End) (key : ℕ) → LeadsTo h old → LeadsTo (next h (typed key)) (end_after_key old key)
 stands_typed h old key s =
     let edit = ap edits s.mode in
-    let role = role_is h old key s in
     record {
       options = s.options;
       mode = s.mode;
+      forward = s.forward;
       table = s.table;
-      leaves =
-          let P : Role → Type 0 = λ r. discipline.LeadsTo (if edits (mode h) then edited_roles h ++ roles_from r else []) (line_typed (edits old.mode) old.line (role_now old key)) in
-          let Q : Bool → Type 0 = λ b. discipline.LeadsTo (if b then edited_roles h ++ roles_from (role_now old key) else []) (line_typed (edits old.mode) old.line (role_now old key)) in
-          subst P role (subst Q edit (typed_leaves (edits old.mode) (edited_roles h) old.line (role_now old key) s.leaves (λ e. unedited h (sym edit ∙ e))));
-      ahead = typed_ahead (edits old.mode) old.line (role_now old key) (none_ahead h old s) ∙ sym (ahead-none (next h (typed key)));
-      limit = typed_limit (edits old.mode) old.line (role_now old key) ∙ s.limit;
+      leaves = typed_leaves h old key (edits old.mode) (sym edit) s;
+      ahead = typed_ahead h old key (edits old.mode) (sym edit) s;
+      limit = typed_limit (edits old.mode) old.forward old.line (role_now old key) ∙ s.limit;
+      trapped = typed_count true h old key old.trapped (edits old.mode) (sym edit) s s.trapped;
+      plain = typed_count false h old key old.plain (edits old.mode) (sym edit) s s.plain;
       size = s.size;
     }
 
 pub replies_typed : (h : History) (old : End) (key : ℕ) → LeadsTo h old → replies h (typed key) ≡ says_key old key
 replies_typed h old key s =
-    ap (λ (b : Bool). key_items b (role_at h key) (line h) key) (sym (ap edits s.mode))
-    ∙ ap (λ (r : Role). key_items (edits old.mode) r (line h) key) (sym (role_is h old key s))
-    ∙ ap (λ (l : HalfLine). key_items (edits old.mode) (role_now old key) l key) (sym (line_is h old s))
+    ap (λ (b : Bool). key_items b (forward h) (role_at h key) (line h) key) (sym (ap edits s.mode))
+    ∙ ap (λ (f : Option Mask). key_items (edits old.mode) f (role_at h key) (line h) key) (sym s.forward)
+    ∙ ap (λ (r : Role). key_items (edits old.mode) old.forward r (line h) key) (sym (role_is h old key s))
+    ∙ ap (λ (l : HalfLine). key_items (edits old.mode) old.forward (role_now old key) l key) (sym (line_is h old s))
 
 pub shows_typed : (h : History) (old : End) (key : ℕ) → LeadsTo h old → shows h (typed key) ≡ shows_key old key
 shows_typed h old key s =
@@ -92,20 +153,49 @@ grows_typed old key (inl some) h s = inl (λ e. some (sym (replies_typed h old k
 grows_typed old key (inr some) h s = inr (λ e. some (sym (shows_typed h old key s) ∙ e))
 
 -- AN ITEM
-left_leaves : (before after : Bool) (roles : List Role) (l : HalfLine) → discipline.LeadsTo roles l → (before ≡ false → roles ≡ []) → discipline.LeadsTo (if before && after then roles else []) (line_left before after l)
-left_leaves true true roles l leaves none = leaves
-left_leaves true false roles l leaves none = leaves_none l.limit
-left_leaves false after roles l leaves none = subst (λ (rs : List Role). discipline.LeadsTo rs l) (none refl) leaves
+-- how many bytes are ahead where EDIT begins
+told_count : (h : History) (old : End) (isig : Bool) → edits (mode h) ≡ false → LeadsTo h old → (if isig then old.trapped else old.plain) ≡ length (half_of (line_limit h) (roles_under isig h))
+told_count h old true e s = s.trapped ∙ count-is true h e
+told_count h old false e s = s.plain ∙ count-is false h e
 
-left_ahead : (before after : Bool) (l : HalfLine) → l.ahead ≡ 0 → (line_left before after l).ahead ≡ 0
-left_ahead true true l none = none
-left_ahead true false l none = refl
-left_ahead false after l none = none
+begun_count : (h : History) (old : End) (item : Item) (mask : ℕ) → mask ≡ mode (next h (got item)) → edits (mode h) ≡ false → edits (mode (next h (got item))) ≡ true → LeadsTo h old → count_told mask old.trapped old.plain ≡ length (half_line (next h (got item)))
+begun_count h old item mask is e f s =
+    ap (λ (m : ℕ). count_told m old.trapped old.plain) is
+    ∙ told_count h old (traps (mode (next h (got item)))) e s
+    ∙ ap (λ (rs : List Role). length (half_of (line_limit h) rs)) (sym (edited-begins h item e f))
 
-left_limit : (before after : Bool) (l : HalfLine) → (line_left before after l).limit ≡ l.limit
-left_limit true true l = refl
-left_limit true false l = refl
-left_limit false after l = refl
+left_leaves : (h : History) (old : End) (item : Item) (mask : ℕ) (before after : Bool) → mask ≡ mode (next h (got item)) → edits (mode h) ≡ before → edits (mode (next h (got item))) ≡ after → LeadsTo h old → discipline.LeadsTo (edited_roles (next h (got item))) (line_left before after (count_told mask old.trapped old.plain) old.line)
+left_leaves h old item mask true true is e f s = subst (λ (rs : List Role). discipline.LeadsTo rs old.line) (sym (edited-stays h item e f)) s.leaves
+left_leaves h old item mask true false is e f s = subst (λ (rs : List Role). discipline.LeadsTo rs (empty_line old.line.limit)) (sym (unedited (next h (got item)) f)) (leaves_none old.line.limit)
+left_leaves h old item mask false true is e f s =
+    resumed_leads old.line.limit (count_told mask old.trapped old.plain) (edited_roles (next h (got item)))
+    (ap (λ (n : ℕ). length (half_of n (edited_roles (next h (got item))))) s.limit ∙ sym (begun_count h old item mask is e f s))
+left_leaves h old item mask false false is e f s = subst (λ (rs : List Role). discipline.LeadsTo rs old.line) (unedited h e ∙ sym (unedited (next h (got item)) f)) s.leaves
+
+left_ahead : (h : History) (old : End) (item : Item) (mask : ℕ) (before after : Bool) → mask ≡ mode (next h (got item)) → edits (mode h) ≡ before → edits (mode (next h (got item))) ≡ after → LeadsTo h old → (line_left before after (count_told mask old.trapped old.plain) old.line).ahead ≡ ahead (next h (got item))
+left_ahead h old item mask true true is e f s = s.ahead ∙ sym (ahead-stays h item e f)
+left_ahead h old item mask true false is e f s = sym (unedited-ahead (next h (got item)) f)
+left_ahead h old item mask false true is e f s = begun_count h old item mask is e f s ∙ sym (ahead-begins h item e f)
+left_ahead h old item mask false false is e f s = s.ahead ∙ unedited-ahead h e ∙ sym (unedited-ahead (next h (got item)) f)
+
+left_count : (isig : Bool) (h : History) (old : End) (item : Item) (count : ℕ) (before after : Bool) → edits (mode h) ≡ before → edits (mode (next h (got item))) ≡ after → LeadsTo h old → count ≡ count_under isig h → count_left before after old.line count ≡ count_under isig (next h (got item))
+left_count isig h old item count true true e f s is = is ∙ count-none isig h e ∙ sym (count-none isig (next h (got item)) f)
+left_count isig h old item count true false e f s is =
+    sym (length_at (edited_roles h) old.line s.leaves)
+    ∙ ap (λ (n : ℕ). length (half_of n (edited_roles h))) s.limit
+    ∙ ap (λ (rs : List Role). length (half_of (line_limit h) rs)) (sym (under-ends isig h item e))
+    ∙ sym (count-is isig (next h (got item)) f)
+left_count isig h old item count false true e f s is = sym (count-none isig (next h (got item)) f)
+left_count isig h old item count false false e f s is =
+    is ∙ count-is isig h e
+    ∙ ap (λ (rs : List Role). length (half_of (line_limit h) rs)) (sym (under-stays isig h item f))
+    ∙ sym (count-is isig (next h (got item)) f)
+
+left_limit : (before after : Bool) (n : ℕ) (l : HalfLine) → (line_left before after n l).limit ≡ l.limit
+left_limit true true n l = refl
+left_limit true false n l = refl
+left_limit false true n l = refl
+left_limit false false n l = refl
 
 same_mode : (o p : Options) (m n : ℕ) (item : Item) → o ≡ p → m ≡ n → mode_at o m item ≡ mode_at p n item
 same_mode o p m n item a b = ap (λ (x : Options). mode_at x m item) a ∙ ap (λ (x : ℕ). mode_at p x item) b
@@ -119,17 +209,19 @@ stands_got h old item s =
     let edit = ap edits s.mode in
     let is_mode = same_mode _ _ _ _ item s.options s.mode in
     let later = ap edits is_mode in
+    let mask = mode_at old.options old.mode item in
+    let before = edits old.mode in
+    let after = edits mask in
     record {
       options = ap (λ (o : Options). options_after o item) s.options;
       mode = is_mode;
+      forward = ap (λ (o : Options). forward_at o old.forward item) s.options ∙ ap (λ (f : Option Mask). forward_at (options h) f item) s.forward;
       table = same_chars _ _ _ _ item s.options s.table;
-      leaves =
-          let there = edits (mode_at old.options old.mode item) in
-          let P : Bool → Type 0 = λ b. discipline.LeadsTo (if b && there then edited_roles h else []) (line_left (edits old.mode) there old.line) in
-          let Q : Bool → Type 0 = λ b. discipline.LeadsTo (if edits (mode h) && b then edited_roles h else []) (line_left (edits old.mode) there old.line) in
-          subst Q later (subst P edit (left_leaves (edits old.mode) there (edited_roles h) old.line s.leaves (λ e. unedited h (sym edit ∙ e))));
-      ahead = left_ahead (edits old.mode) (edits (mode_at old.options old.mode item)) old.line (none_ahead h old s) ∙ sym (ahead-none (next h (got item)));
-      limit = left_limit (edits old.mode) (edits (mode_at old.options old.mode item)) old.line ∙ s.limit;
+      leaves = left_leaves h old item mask before after is_mode (sym edit) (sym later) s;
+      ahead = left_ahead h old item mask before after is_mode (sym edit) (sym later) s;
+      limit = left_limit before after (count_told mask old.trapped old.plain) old.line ∙ s.limit;
+      trapped = left_count true h old item old.trapped before after (sym edit) (sym later) s s.trapped;
+      plain = left_count false h old item old.plain before after (sym edit) (sym later) s s.plain;
       size = s.size;
     }
 

@@ -1,6 +1,7 @@
 -- Where a history leads a client end, and what a call adds to it, whatever the history was.
-use Rattle.std.specs.Prelude.{◌≡◌, ◌≢◌, ◌⊎◌, ℕ, Bool, Option, Some, None, option_map, if◌then◌else◌, List, [], ◌∷◌, ◌++◌}
+use Rattle.std.specs.Prelude.{◌≡◌, ◌≢◌, ◌⊎◌, ℕ, Bool, true, false, Option, Some, None, option_map, if◌then◌else◌, List, [], ◌∷◌, ◌++◌}
 use Rattle.tn_codes.specs.declared.codes.Func.{Func}
+use Rattle.tn_codes.specs.declared.masks.Mask.{Mask}
 use Rattle.tn_discipline.specs.Characters.{Characters, char_fault}
 use Rattle.tn_discipline.specs.HalfLine.{HalfLine}
 use Rattle.tn_discipline.specs.Advancing as discipline
@@ -12,8 +13,8 @@ use Rattle.tn_option.specs.Options.{Options}
 use Rattle.tn_wire.specs.Fronts.{WantsMemory}
 use Rattle.tn_wire.specs.Words.{IsList}
 use Rattle.tn_client.specs.Events.{History, Event, got, next, gets}
-use Rattle.tn_client.specs.Terms.{options, mode, chars, size, linemode, payload_at}
-use Rattle.tn_client.specs.Lines.{line_limit, edited_roles, ahead}
+use Rattle.tn_client.specs.Terms.{options, mode, forward, chars, size, linemode, payload_at}
+use Rattle.tn_client.specs.Lines.{line_limit, edited_roles, ahead, count_under}
 use Rattle.tn_client.specs.Replies.{replies, items_said}
 use Rattle.tn_client.specs.Screen.{shows, text_shown}
 use Rattle.tn_client.specs.declared.faults.ClientFault.{ClientFault}
@@ -24,8 +25,12 @@ pub record End : Type 0 where
   pub decoder : DecoderState
   pub options : Options
   pub mode : ℕ
+  pub forward : Option Mask
   pub table : Characters
   pub line : HalfLine
+  -- the length of a half line that the server edits, with ISIG and without
+  pub trapped : ℕ
+  pub plain : ℕ
   pub width : ℕ
   pub height : ℕ
   pub failed : Bool
@@ -34,10 +39,13 @@ pub record End : Type 0 where
 pub record LeadsTo (h : History) (end : End) : Type 0 where
   pub options : end.options ≡ options h
   pub mode : end.mode ≡ mode h
+  pub forward : end.forward ≡ forward h
   pub table : end.table ≡ chars h
   pub leaves : discipline.LeadsTo (edited_roles h) end.line
   pub ahead : end.line.ahead ≡ ahead h
   pub limit : end.line.limit ≡ line_limit h
+  pub trapped : end.trapped ≡ count_under true h
+  pub plain : end.plain ≡ count_under false h
   pub size : (end.width, end.height) ≡ size h
 
 -- what every call but a piece of the stream leaves as it is

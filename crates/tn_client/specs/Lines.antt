@@ -1,14 +1,18 @@
 -- The half line that is edited at a client end, and its two parts.
-use Rattle.std.specs.Prelude.{ℕ, min, Bool, ◌&&◌, List, [], ◌++◌, length, drop, if◌then◌else◌}
+use Rattle.std.specs.Prelude.{ℕ, min, Bool, true, false, not, ◌&&◌, Option, Some, None, List, [], ◌∷◌, ◌++◌, length, drop, if◌then◌else◌}
+use Rattle.tn_codes.specs.Masks.{has_character}
+use Rattle.tn_codes.specs.declared.masks.Mask.{Mask}
+use Rattle.tn_discipline.specs.Admitted.{is_dropped, count_of}
 use Rattle.tn_discipline.specs.Characters.{Characters}
 use Rattle.tn_discipline.specs.Keys.{standard_flags, role_of_key, roles_from}
 use Rattle.tn_discipline.specs.Entries.{half_of}
 use Rattle.tn_discipline.specs.HalfLine.{HalfLine}
 use Rattle.tn_discipline.specs.declared.keys.Role.{Role}
+use Rattle.tn_discipline.specs.declared.keys.Role.TheVariants as role
 use Rattle.tn_discipline.specs.declared.termios.Settings.{Settings}
 use Rattle.tn_linemode.specs.Modes.{edits, traps}
 use Rattle.tn_client.specs.Events.{typed, got, History, begun, next}
-use Rattle.tn_client.specs.Terms.{mode, chars}
+use Rattle.tn_client.specs.Terms.{mode, forward, chars}
 
 -- the settings that a client has its keys by: a carriage return ends the line as a line feed does, the
 -- characters are those of its table, and ISIG is TRAPSIG
@@ -25,14 +29,27 @@ role_of_typed mask c key = role_of_key (key_settings mask c) key
 abbrev pub role_at : History → ℕ → Role
 role_at h key = role_of_typed (mode h) (chars h) key
 
--- the roles of the keys that were typed since EDIT began, each by the mode and the characters that it met
+-- the role of a key, where the server's ISIG is this: only a client that does not edit needs to be told
+abbrev pub role_under : Bool → History → ℕ → Role
+role_under isig h key =
+    if edits (mode h) then role_at h key else role_of_key (settings_by isig (chars h)) key
+
+-- where EDIT begins, TRAPSIG tells the server's ISIG
+abbrev pub isig_told : Bool → Bool → ℕ → Bool
+isig_told isig edit mask = if not edit && edits mask then traps mask else isig
+
+-- The roles of the typed keys, by which a half line goes on whichever end edits it: with EDIT each by the mode and
+-- the characters that it met, and without it under this ISIG.
+abbrev pub roles_under : Bool → History → List Role
+roles_under isig (begun width height limit) = []
+roles_under isig (next h (typed key)) = roles_under isig h ++ roles_from (role_under isig h key)
+roles_under isig (next h (got item)) =
+    roles_under (isig_told isig (edits (mode h)) (mode (next h (got item)))) h
+roles_under isig (next h _) = roles_under isig h
+
+-- those of a half line that is edited here
 abbrev pub edited_roles : History → List Role
-edited_roles (begun width height limit) = []
-edited_roles (next h (typed key)) =
-    if edits (mode h) then edited_roles h ++ roles_from (role_at h key) else []
-edited_roles (next h (got item)) =
-    if edits (mode h) && edits (mode (next h (got item))) then edited_roles h else []
-edited_roles (next h _) = edited_roles h
+edited_roles h = if edits (mode h) then roles_under (traps (mode h)) h else []
 
 -- how many bytes a line has at most, with its closing byte
 abbrev pub line_limit : History → ℕ
@@ -43,17 +60,63 @@ line_limit (next h e) = line_limit h
 abbrev pub half_line : History → List ℕ
 half_line h = half_of (line_limit h) (edited_roles h)
 
--- How much of it was sent before it was closed: the least length that it has had since a byte of the forward
--- mask sent all of it. No forward mask is taken, so nothing is sent before.
+-- RFC 1184, section 2.3: the byte is in the forward mask
+abbrev pub is_forward : Option Mask → ℕ → Bool
+is_forward None byte = false
+is_forward (Some mask) byte = has_character mask byte
+
+-- a key of this role sends all that is held, where the line has this limit and count: it is an ordinary byte of
+-- the forward mask, and admitted
+abbrev pub sends_ahead : Option Mask → ℕ → ℕ → Role → Bool
+sends_ahead forward limit count (role.Ordinary byte) =
+    not (is_dropped limit count (role.Ordinary byte)) && is_forward forward byte
+sends_ahead forward limit count _ = false
+
+abbrev pub is_sent_ahead : History → ℕ → Bool
+is_sent_ahead h key =
+    sends_ahead (forward h) (line_limit h) (count_of (line_limit h) (edited_roles h)) (role_at h key)
+
+-- these lengths and one more: they begin anew where all was sent
+abbrev pub lengths_with : Bool → ℕ → List ℕ → List ℕ
+lengths_with true length lengths = length ∷ []
+lengths_with false length lengths = length ∷ lengths
+
+-- and where EDIT begins, before which all that was typed was sent
+abbrev pub lengths_kept : Bool → Bool → ℕ → List ℕ → List ℕ
+lengths_kept true true length lengths = lengths
+lengths_kept false true length lengths = length ∷ []
+lengths_kept edit false length lengths = []
+
+-- The lengths that the half line has had since EDIT began, or since a key sent all of it, whichever is later; the
+-- latest first.
+abbrev pub lengths_since_sent : History → List ℕ
+lengths_since_sent (begun width height limit) = []
+lengths_since_sent (next h (typed key)) =
+    if edits (mode h)
+    then lengths_with (is_sent_ahead h key) (length (half_line (next h (typed key)))) (lengths_since_sent h)
+    else []
+lengths_since_sent (next h (got item)) =
+    lengths_kept (edits (mode h)) (edits (mode (next h (got item))))
+    (length (half_line (next h (got item)))) (lengths_since_sent h)
+lengths_since_sent (next h _) = lengths_since_sent h
+
+-- the least of these, and 0 of none
+abbrev pub least : List ℕ → ℕ
+least [] = 0
+least (n ∷ []) = n
+least (n ∷ m ∷ ns) = min n (least (m ∷ ns))
+
+-- How much of it was sent: the least length that it has had since all of it was sent.
 abbrev pub ahead : History → ℕ
-ahead (begun width height limit) = 0
-ahead (next h (typed key)) = min (ahead h) (length (half_line (next h (typed key))))
-ahead (next h (got item)) = if edits (mode h) && edits (mode (next h (got item))) then ahead h else 0
-ahead (next h _) = ahead h
+ahead h = least (lengths_since_sent h)
 
 -- what the client holds of it
 abbrev pub held_bytes : History → List ℕ
 held_bytes h = drop (ahead h) (half_line h)
+
+-- how long the half line is that the server edits, where its ISIG is this; with EDIT none is counted
+abbrev pub count_under : Bool → History → ℕ
+count_under isig h = if edits (mode h) then 0 else length (half_of (line_limit h) (roles_under isig h))
 
 abbrev pub line : History → HalfLine
 line h = record { held = held_bytes h; ahead = ahead h; limit = line_limit h }

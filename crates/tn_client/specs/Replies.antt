@@ -4,10 +4,11 @@ use Rattle.tn_codes.specs.declared.codes.Command.{Command}
 use Rattle.tn_codes.specs.declared.codes.Command.TheVariants as command
 use Rattle.tn_codes.specs.declared.codes.Func.{Func}
 use Rattle.tn_codes.specs.declared.codes.Func.TheVariants as func
+use Rattle.tn_codes.specs.declared.masks.Mask.{Mask}
 use Rattle.tn_codes.specs.declared.payloads.Payload.{Payload}
-use Rattle.tn_codes.specs.declared.payloads.Payload.TheVariants.{Naws, Mode, ForwardOn, ForwardOff, ForwardNo, Slc}
+use Rattle.tn_codes.specs.declared.payloads.Payload.TheVariants.{Naws, Mode, ForwardOn, ForwardOff, ForwardYes, ForwardNo, Slc}
 use Rattle.tn_discipline.specs.Characters.{Characters}
-use Rattle.tn_discipline.specs.HalfLine.{HalfLine, has_held, has_ahead}
+use Rattle.tn_discipline.specs.HalfLine.{HalfLine, line_length, has_held, has_ahead, line_after}
 use Rattle.tn_discipline.specs.declared.keys.Role.{Role}
 use Rattle.tn_discipline.specs.declared.keys.Role.TheVariants as role
 use Rattle.tn_discipline.specs.declared.reads.Sig.TheVariants.{Int, Quit, Tstp}
@@ -19,8 +20,8 @@ use Rattle.tn_nvt.specs.declared.items.Item.TheVariants.{Byte, Newline, Cmd, Neg
 use Rattle.tn_option.specs.Options.{Options, reply_to}
 use Rattle.tn_wire.specs.Words.{word_items, payload_items, mode_items, list_items}
 use Rattle.tn_client.specs.Events.{Event, typed, got, resized, proposed, History, begun, next}
-use Rattle.tn_client.specs.Terms.{options, mode, chars, size, payload_at, options_after, mode_at, tells_size}
-use Rattle.tn_client.specs.Lines.{role_at, line}
+use Rattle.tn_client.specs.Terms.{options, mode, forward, chars, size, payload_at, options_after, mode_at, tells_size}
+use Rattle.tn_client.specs.Lines.{role_at, sends_ahead, line}
 
 -- bytes of data
 abbrev pub byte_items : List ℕ → List Item
@@ -73,9 +74,15 @@ edited_key_items role.Kill l = if has_ahead l then command_items (command_of rol
 edited_key_items role.Ignored l = []
 edited_key_items (role.Ordinary byte) l = []
 
-abbrev pub key_items : Bool → Role → HalfLine → ℕ → List Item
-key_items true r l key = edited_key_items r l
-key_items false r l key = raw_key_items r key
+-- RFC 1184, section 2.3: after a byte of the forward mask all that is held is sent, that byte the last
+abbrev pub sent_ahead_items : Bool → HalfLine → List Item
+sent_ahead_items true l = byte_items l.held
+sent_ahead_items false l = []
+
+abbrev pub key_items : Bool → Option Mask → Role → HalfLine → ℕ → List Item
+key_items true forward r l key =
+    edited_key_items r l ++ sent_ahead_items (sends_ahead forward l.limit (line_length l) r) (line_after l r)
+key_items false forward r l key = raw_key_items r key
 
 -- RFC 1073: the window's size
 abbrev pub size_items : ℕ × ℕ → List Item
@@ -85,10 +92,10 @@ size_items (width, height) = payload_items (Naws width height)
 abbrev pub new_size_items : Bool → Bool → ℕ × ℕ → List Item
 new_size_items was on z = if on && not was then size_items z else []
 
--- the answer to a payload; a forward mask is refused, and none is there to drop
+-- the answer to a payload: a forward mask is taken, and dropped again
 abbrev pub payload_answers : ℕ → Characters → Option Payload → List Item
 payload_answers m c (Some (Mode mask)) = mode_items (mode_answer m mask)
-payload_answers m c (Some (ForwardOn mask)) = payload_items ForwardNo
+payload_answers m c (Some (ForwardOn mask)) = payload_items ForwardYes
 payload_answers m c (Some ForwardOff) = payload_items ForwardNo
 payload_answers m c (Some (Slc triples)) = list_items (client_answers c triples)
 payload_answers m c _ = []
@@ -121,7 +128,7 @@ resize_items on old new = if on && not (is_same_size old new) then size_items ne
 
 -- what the client says at an event
 abbrev pub replies : History → Event → List Item
-replies h (typed key) = key_items (edits (mode h)) (role_at h key) (line h) key
+replies h (typed key) = key_items (edits (mode h)) (forward h) (role_at h key) (line h) key
 replies h (got item) = item_replies (options h) (mode h) (chars h) (size h) (line h) item
 replies h (resized width height) = resize_items (tells_size (options h)) (size h) (width, height)
 replies h (proposed func value) = list_items (triple_of func value ∷ [])

@@ -1,12 +1,18 @@
 -- One event at a client end, as a step from what the end knows now. `Calls` ties these steps to histories.
-use Rattle.std.specs.Prelude.{◌≡◌, ◌≢◌, ◌⊎◌, ℕ, Bool, true, false, Option, List, [], ◌++◌, length, take}
+use Rattle.std.specs.Prelude.{◌≡◌, ◌≢◌, ◌⊎◌, ℕ, Bool, true, false, Option, List, [], ◌++◌, length, take, if◌then◌else◌}
+use Rattle.tn_codes.specs.declared.masks.Mask.{Mask}
 use Rattle.tn_codes.specs.declared.payloads.Payload.{Payload}
-use Rattle.tn_discipline.specs.HalfLine.{HalfLine, empty_line, line_after}
+use Rattle.tn_discipline.specs.Admitted.{count_after}
+use Rattle.tn_discipline.specs.Keys.{role_of_key, roles_from}
+use Rattle.tn_discipline.specs.HalfLine.{HalfLine, empty_line, line_length, line_released, line_resumed, line_after}
+use Rattle.tn_discipline.specs.declared.half_line.Effect.{Effect}
+use Rattle.tn_discipline.specs.declared.half_line.Effect.TheVariants as effect
 use Rattle.tn_discipline.specs.declared.keys.Role.{Role}
-use Rattle.tn_linemode.specs.Modes.{edits}
+use Rattle.tn_discipline.specs.declared.keys.Role.TheVariants as role
+use Rattle.tn_linemode.specs.Modes.{edits, traps}
 use Rattle.tn_nvt.specs.declared.items.Item.{Item}
-use Rattle.tn_client.specs.Terms.{options_after, mode_at, mode_by, chars_by, payload_at, is_echoed, tells_size}
-use Rattle.tn_client.specs.Lines.{key_settings, role_of_typed}
+use Rattle.tn_client.specs.Terms.{options_after, mode_at, mode_by, forward_by, forward_at, chars_by, payload_at, is_echoed, tells_size}
+use Rattle.tn_client.specs.Lines.{settings_by, key_settings, role_of_typed, is_forward, sends_ahead}
 use Rattle.tn_client.specs.Replies.{key_items, item_replies, end_of_edit_items, payload_answers, resize_items}
 use Rattle.tn_client.specs.Screen.{key_shown, item_shown}
 use Rattle.tn_client.specs.Calls.{End, ReadsList}
@@ -15,30 +21,97 @@ use Rattle.tn_client.specs.Calls.{End, ReadsList}
 abbrev pub role_now : End → ℕ → Role
 role_now old key = role_of_typed old.mode old.table key
 
-abbrev pub line_typed : Bool → HalfLine → Role → HalfLine
-line_typed true l r = line_after l r
-line_typed false l r = l
+-- the key sends all that is held
+abbrev pub is_sent_now : Option Mask → HalfLine → Role → Bool
+is_sent_now forward l r = sends_ahead forward l.limit (line_length l) r
+
+abbrev pub line_sent : Bool → HalfLine → HalfLine
+line_sent true l = line_released l
+line_sent false l = l
+
+abbrev pub line_typed : Bool → Option Mask → HalfLine → Role → HalfLine
+line_typed true forward l r = line_sent (is_sent_now forward l r) (line_after l r)
+line_typed false forward l r = l
+
+-- the plain count of a half line after one more key, where the server edits it under this ISIG
+abbrev pub count_typed : Bool → Bool → End → ℕ → ℕ → ℕ
+count_typed true isig old count key = count
+count_typed false isig old count key =
+    count_after old.line.limit count (roles_from (role_of_key (settings_by isig old.table) key))
 
 -- the end after a key
 abbrev pub end_after_key : End → ℕ → End
-end_after_key old key = record old { line = line_typed (edits old.mode) old.line (role_now old key) }
+end_after_key old key =
+    record old {
+      line = line_typed (edits old.mode) old.forward old.line (role_now old key);
+      trapped = count_typed (edits old.mode) true old old.trapped key;
+      plain = count_typed (edits old.mode) false old old.plain key;
+    }
+
+-- the end after a key that the server edits
+abbrev pub end_after_count : End → ℕ → End
+end_after_count old key =
+    record old {
+      trapped = count_typed false true old old.trapped key;
+      plain = count_typed false false old old.plain key;
+    }
 
 abbrev pub says_key : End → ℕ → List Item
-says_key old key = key_items (edits old.mode) (role_now old key) old.line key
+says_key old key = key_items (edits old.mode) old.forward (role_now old key) old.line key
+
+-- the key had this effect: its byte was kept, and is in the forward mask
+abbrev pub sends_where : Option Mask → Role → Effect → Bool
+sends_where forward (role.Ordinary byte) effect.Kept = is_forward forward byte
+sends_where forward _ _ = false
 
 abbrev pub shows_key : End → ℕ → List ℕ
 shows_key old key =
     let terminal = key_settings old.mode old.table in
     key_shown (is_echoed old.options) (edits old.mode) terminal (role_now old key) old.line key
 
--- the line where the mask changes: EDIT ends with nothing held
-abbrev pub line_left : Bool → Bool → HalfLine → HalfLine
-line_left true false l = empty_line l.limit
-line_left true true l = l
-line_left false after l = l
+-- the line where the mask changes: EDIT ends with nothing held, and begins with so many bytes ahead
+abbrev pub line_left : Bool → Bool → ℕ → HalfLine → HalfLine
+line_left true false count l = empty_line l.limit
+line_left false true count l = line_resumed l.limit count
+line_left true true count l = l
+line_left false false count l = l
+
+-- a count where the mask changes: the whole half line is counted once EDIT ends, and none once it begins
+abbrev pub count_left : Bool → Bool → HalfLine → ℕ → ℕ
+count_left true false l count = line_length l
+count_left false true l count = 0
+count_left true true l count = count
+count_left false false l count = count
+
+-- the count that TRAPSIG names
+abbrev pub count_told : ℕ → ℕ → ℕ → ℕ
+count_told mask trapped plain = if traps mask then trapped else plain
+
+-- the end once the server edits the half line, and once it is edited here
+abbrev pub end_handed_over : End → End
+end_handed_over old =
+    record old {
+      line = empty_line old.line.limit;
+      trapped = line_length old.line;
+      plain = line_length old.line;
+    }
+
+abbrev pub end_taken_over : End → Bool → End
+end_taken_over old isig =
+    record old {
+      line = line_resumed old.line.limit (if isig then old.trapped else old.plain);
+      trapped = 0;
+      plain = 0;
+    }
 
 abbrev pub with_mode : End → ℕ → End
-with_mode old mask = record old { mode = mask; line = line_left (edits old.mode) (edits mask) old.line }
+with_mode old mask =
+    record old {
+      mode = mask;
+      line = line_left (edits old.mode) (edits mask) (count_told mask old.trapped old.plain) old.line;
+      trapped = count_left (edits old.mode) (edits mask) old.line old.trapped;
+      plain = count_left (edits old.mode) (edits mask) old.line old.plain;
+    }
 
 -- what is held is told where EDIT ends
 abbrev pub says_mode : End → ℕ → List Item
@@ -49,6 +122,7 @@ abbrev pub end_after_item : End → Item → End
 end_after_item old item =
     record (with_mode old (mode_at old.options old.mode item)) {
       options = options_after old.options item;
+      forward = forward_at old.options old.forward item;
       table = chars_by old.table (payload_at old.options item);
     }
 
@@ -58,7 +132,10 @@ says_got old item = item_replies old.options old.mode old.table (old.width, old.
 -- the end after a payload
 abbrev pub end_after_payload : End → Option Payload → End
 end_after_payload old payload =
-    record (with_mode old (mode_by old.mode payload)) { table = chars_by old.table payload }
+    record (with_mode old (mode_by old.mode payload)) {
+      forward = forward_by old.forward payload;
+      table = chars_by old.table payload;
+    }
 
 abbrev pub says_sub : End → Option Payload → List Item
 says_sub old payload = says_mode old (mode_by old.mode payload) ++ payload_answers old.mode old.table payload

@@ -1,7 +1,9 @@
--- What a client end has agreed on with its server: options, special characters and the mode of editing.
+-- What a client end has agreed on with its server: options, special characters, the mode of editing and the
+-- forward mask.
 use Rattle.std.specs.Prelude.{ℕ, Bool, true, false, ◌&&◌, ◌==◌, Option, Some, None, [], ◌∷◌, if◌then◌else◌}
+use Rattle.tn_codes.specs.declared.masks.Mask.{Mask}
 use Rattle.tn_codes.specs.declared.payloads.Payload.{Payload}
-use Rattle.tn_codes.specs.declared.payloads.Payload.TheVariants.{Mode, Slc}
+use Rattle.tn_codes.specs.declared.payloads.Payload.TheVariants.{Mode, ForwardOn, ForwardOff, Slc}
 use Rattle.tn_discipline.specs.Characters.{Characters, standard_characters}
 use Rattle.tn_linemode.specs.Modes.{client_mask_after}
 use Rattle.tn_linemode.specs.Exchange.{client_after}
@@ -65,6 +67,24 @@ abbrev pub mode : History → ℕ
 mode (begun width height limit) = 0
 mode (next h (got item)) = mode_at (options h) (mode h) item
 mode (next h _) = mode h
+
+-- RFC 1184, section 2.3: the client takes a forward mask, and drops it again
+abbrev pub forward_by : Option Mask → Option Payload → Option Mask
+forward_by forward (Some (ForwardOn mask)) = Some mask
+forward_by forward (Some ForwardOff) = None
+forward_by forward _ = forward
+
+-- the forward mask after an item: LINEMODE begins and ends without one
+abbrev pub forward_at : Options → Option Mask → Item → Option Mask
+forward_at o forward (Neg verb option) =
+    if changes o (options_after_word o verb option) then None else forward
+forward_at o forward (Sub option params) = forward_by forward (payload_at o (Sub option params))
+forward_at o forward _ = forward
+
+abbrev pub forward : History → Option Mask
+forward (begun width height limit) = None
+forward (next h (got item)) = forward_at (options h) (forward h) item
+forward (next h _) = forward h
 
 abbrev pub chars_by : Characters → Option Payload → Characters
 chars_by c (Some (Slc triples)) = client_after c triples

@@ -7,7 +7,7 @@ ghost use Rattle.tn_nvt.specs.Feeding as nvt;
 ghost use Rattle.tn_option.specs.Options.{state_of};
 ghost use Rattle.tn_client.specs.Events.{History, begun, next, typed, resized, proposed};
 ghost use Rattle.tn_client.specs.Terms.{options, mode, chars};
-ghost use Rattle.tn_client.specs.Lines.{held_bytes, ahead};
+ghost use Rattle.tn_client.specs.Lines.{held_bytes, ahead, count_under};
 ghost use Rattle.tn_client.specs.Replies.{replies, size_items};
 ghost use Rattle.tn_client.specs.Calls.{LeadsTo, Advances, Sends, Shows, ReadsNothing, SaysOrShows, Feeds, StopsWithin, call_fault, propose_fault, IsFault};
 ghost use Rattle.tn_client.specs.Steps.{end_after_resize, says_resize};
@@ -17,7 +17,7 @@ use crate::taking::Lent;
 use std::alloc::{AllocError, Global};
 use std::marker::Model;
 use std::mem;
-use tn_codes::{Func, Payload};
+use tn_codes::{Func, Mask, Payload};
 use tn_discipline::{Chars, Limit, Line};
 use tn_linemode::{ClientMode, ClientTable};
 use tn_nvt::Decoder;
@@ -32,14 +32,20 @@ pub struct ClientEnd {
     pub(crate) decoder: Decoder,
     pub(crate) options: Engine,
     pub(crate) mode: ClientMode,
+    pub(crate) forward: Option<Mask>,
     pub(crate) table: ClientTable,
     pub(crate) line: Line,
+    /// The length of a half line that the server edits, where its ISIG is set.
+    pub(crate) trapped: u16,
+    /// The same where it is clear.
+    pub(crate) plain: u16,
     pub(crate) width: u16,
     pub(crate) height: u16,
     pub(crate) failed: bool,
 }
 
 impl Model for ClientEnd {
+    ghost use Rattle.std.specs.Prelude.{◌<◌};
     ghost use Rattle.tn_client.specs.Calls.{End};
 
     ghost Value = { End };
@@ -48,12 +54,17 @@ impl Model for ClientEnd {
       decoder = e.decoder;
       options = e.options;
       mode = e.mode;
+      forward = e.forward;
       table = e.table;
       line = e.line;
+      trapped = e.trapped;
+      plain = e.plain;
       width = e.width;
       height = e.height;
       failed = e.failed;
     } };
+
+    ghost invariant = { λ e. (e.trapped < e.line.limit) × (e.plain < e.line.limit) };
 }
 
 impl ClientEnd {
@@ -82,8 +93,11 @@ impl ClientEnd {
                 them: [true, true, false, false],
             }),
             mode: ClientMode::new(),
+            forward: None,
             table: ClientTable::new(),
             line,
+            trapped: 0,
+            plain: 0,
             width,
             height,
             failed: false,
@@ -274,6 +288,16 @@ impl ClientEnd {
         ensures stands { (h : History) → LeadsTo h self.now → result ≡ ahead h }
     {
         self.line.ahead()
+    }
+
+    /// How many bytes the half line has, where the server edits it: with its ISIG set, and with it clear.
+    /// Both are 0 with EDIT.
+    pub fn counts(&self) -> (u16, u16)
+        ensures value { result ≡ (self.now.trapped, self.now.plain) }
+        ensures stands { (h : History) → LeadsTo h self.now →
+            result ≡ (count_under true h, count_under false h) }
+    {
+        (self.trapped, self.plain)
     }
 
     /// The special characters in force.

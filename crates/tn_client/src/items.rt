@@ -1,6 +1,6 @@
 //! What a client end does with an item that came.
 
-ghost use Rattle.std.specs.Prelude.{◌≡◌, ◌≢◌, ◌⊎◌, ◌≤◌, ◌++◌, ℕ, ◌==◌, ◌&&◌, Some, [], length, if◌then◌else◌, OnOk, OnErr};
+ghost use Rattle.std.specs.Prelude.{◌≡◌, ◌≢◌, ◌⊎◌, ◌≤◌, ◌++◌, ℕ, ◌==◌, ◌&&◌, Some, None, [], length, if◌then◌else◌, OnOk, OnErr};
 ghost use Rattle.tn_codes.specs.declared.payloads.Payload.TheVariants as payload;
 ghost use Rattle.tn_nvt.specs.Spelling.{spells};
 ghost use Rattle.tn_nvt.specs.declared.items.Item.TheVariants as item;
@@ -8,14 +8,16 @@ ghost use Rattle.tn_client.specs.Terms.{linemode, changes, tells_size, payload_a
 ghost use Rattle.tn_client.specs.Replies.{new_size_items};
 ghost use Rattle.tn_client.specs.Screen.{item_shown};
 ghost use Rattle.tn_client.specs.Calls.{ReadsList};
-ghost use Rattle.tn_client.specs.Steps.{MayWantMemoryNow, with_mode, says_mode, end_after_item, says_got, end_after_payload, says_sub};
+ghost use Rattle.tn_client.specs.Steps.{MayWantMemoryNow, with_mode, end_handed_over, end_taken_over, says_mode, end_after_item, says_got, end_after_payload, says_sub};
 ghost use Rattle.tn_wire.specs.Fronts.{AppendsFront};
+ghost use Rattle.tn_wire.specs.Words.{payload_items};
+ghost use Rattle.tn_codes.specs.Payloads.{IsShort};
 
 use crate::end::ClientEnd;
 use crate::screen::{show_byte, show_new_line};
 use crate::sending::put_bytes;
 use std::alloc::AllocError;
-use tn_codes::{Payload, Triples, Verb};
+use tn_codes::{Mask, Payload, Triples, Verb};
 use tn_linemode::ClientMode;
 use tn_nvt::{Item, Params};
 use tn_option::{Engine, LINEMODE, NAWS, Side};
@@ -61,10 +63,33 @@ impl ClientEnd {
     fn set_mode(&mut self, mode: ClientMode)
         ensures { self.new ≡ with_mode self.old mode }
     {
-        if self.mode.current().edit() && !mode.current().edit() {
-            let _effect = self.line.kill();
+        match (self.mode.current().edit(), mode.current().edit()) {
+            (true, false) => self.hand_over(),
+            (false, true) => self.take_over(mode.current().trapsig()),
+            (true, true) | (false, false) => {},
         }
         self.mode = mode;
+    }
+
+    // From here on the server edits the half line, of which it has all bytes.
+    fn hand_over(&mut self)
+        ensures { self.new ≡ end_handed_over self.old }
+    {
+        let length = self.line.length();
+        let _effect = self.line.kill();
+        self.trapped = length;
+        self.plain = length;
+    }
+
+    // From here on the half line is edited here, and the server has all that was typed of it, by this ISIG.
+    fn take_over(&mut self, isig: bool)
+        ensures { self.new ≡ end_taken_over self.old isig }
+    {
+        let length = if isig { self.trapped } else { self.plain };
+        let _effect = self.line.kill();
+        self.line.resume(length);
+        self.trapped = 0;
+        self.plain = 0;
     }
 
     // An option word: it is answered, and what follows from it is said.
@@ -79,10 +104,12 @@ impl ClientEnd {
         let mut options = self.options;
         let said = options.got(verb, option);
         let mode = self.mode_with(&options);
+        let forward = self.forward_with(&options);
         self.put_held(mode, out)?;
         put_word(said, out)?;
         self.put_size_on(options.is_on(Side::Us, NAWS), out)?;
         self.options = options;
+        self.forward = forward;
         self.set_mode(mode);
         Ok(())
     }
@@ -96,6 +123,16 @@ impl ClientEnd {
             mode.reset();
         }
         mode
+    }
+
+    // The forward mask once the options are these, in the same way.
+    fn forward_with(&self, options: &Engine) -> Option<Mask>
+        ensures { result ≡ (if changes self.now.options options.now then None else self.now.forward) }
+    {
+        if self.options.is_on(Side::Us, LINEMODE) != options.is_on(Side::Us, LINEMODE) {
+            return None;
+        }
+        self.forward
     }
 
     // Tells the size where NAWS came on.
@@ -132,9 +169,10 @@ impl ClientEnd {
         match read_under(self.alloc, self.is_read(option), option, params)? {
             Some(Payload::Mode(mask)) => self.mode_got(mask, out),
             Some(Payload::Slc(triples)) => self.list(&triples, out),
-            Some(Payload::ForwardOn(_) | Payload::ForwardOff) => {
-                put_payload(self.alloc, &Payload::ForwardNo, out)
+            Some(Payload::ForwardOn(mask)) => {
+                self.forward_got(Some(mask), &Payload::ForwardYes, out)
             },
+            Some(Payload::ForwardOff) => self.forward_got(None, &Payload::ForwardNo, out),
             Some(
                 Payload::Naws {
                     width: _,
@@ -168,6 +206,23 @@ impl ClientEnd {
         self.put_held(mode, out)?;
         put_mode(self.alloc, answer, out)?;
         self.set_mode(mode);
+        Ok(())
+    }
+
+    // A forward mask of the server, or none any more, and what answers it.
+    fn forward_got(
+        &mut self,
+        forward: Option<Mask>,
+        answer: &Payload,
+        out: &mut Vec<u8>,
+    ) -> Result<(), AllocError>
+        requires { IsShort answer.now }
+        ensures ok { OnOk result (self.new ≡ record self.old { forward = forward }) }
+        ensures out { OnOk result (out.new.items ≡ out.old.items ++ spells (payload_items answer.now)) }
+        ensures err { OnErr result (out.new.items ≡ out.old.items) }
+    {
+        put_payload(self.alloc, answer, out)?;
+        self.forward = forward;
         Ok(())
     }
 

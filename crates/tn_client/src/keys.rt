@@ -1,21 +1,39 @@
 //! What a client end does with a key.
 
-ghost use Rattle.std.specs.Prelude.{◌≡◌, ◌≢◌, ◌⊎◌, ◌++◌, ℕ, [], true, false, OnOk, OnErr};
+ghost use Rattle.std.specs.Prelude.{◌≡◌, ◌≢◌, ◌⊎◌, ◌<◌, ◌++◌, ℕ, [], true, false, IfOk, OnOk, OnErr};
 ghost use Rattle.tn_nvt.specs.Spelling.{spells};
-ghost use Rattle.tn_client.specs.Lines.{key_settings};
+ghost use Rattle.tn_client.specs.Lines.{settings_by, key_settings};
 ghost use Rattle.tn_client.specs.Terms.{is_echoed};
-ghost use Rattle.tn_client.specs.Replies.{raw_key_items, edited_key_items};
+ghost use Rattle.tn_client.specs.Replies.{byte_items, raw_key_items, key_items};
 ghost use Rattle.tn_client.specs.Screen.{passed_shown, edited_shown, echoed_edited};
 ghost use Rattle.tn_discipline.specs.Characters.{Characters};
-ghost use Rattle.tn_discipline.specs.HalfLine.{line_after};
-ghost use Rattle.tn_client.specs.Steps.{role_now, end_after_key, says_key, shows_key, Begins};
+ghost use Rattle.tn_discipline.specs.HalfLine.{line_released, effect_of};
+ghost use Rattle.tn_discipline.specs.Admitted.{count_after};
+ghost use Rattle.tn_discipline.specs.Keys.{role_of_key, roles_from};
+ghost use Rattle.tn_client.specs.Steps.{role_now, end_after_count, line_typed, sends_where, end_after_key, says_key, shows_key, Begins};
 
 use crate::end::ClientEnd;
 use crate::screen::{echo_raw, make_room, show_all};
-use crate::sending::{put_edited, put_raw};
+use crate::sending::{put_bytes, put_edited, put_raw};
 use std::alloc::AllocError;
-use tn_discipline::{Line, Role, Settings, echo_of, role_of};
+use tn_discipline::{Effect, Limit, Line, Role, Settings, echo_of, role_of};
 use tn_option::{ECHO, Side};
+
+// The plain count of a half line after one more key (MAX_CANON; XBD 11.1.6).
+fn count_after(limit: Limit, count: u16, role: Role) -> u16
+    requires { count < limit }
+    ensures value { result ≡ count_after limit count (roles_from role) }
+    ensures within { result < limit }
+{
+    let most_counted = limit.bytes() - 1;
+    match role {
+        Role::Ordinary(_) if count == most_counted => count,
+        Role::Ordinary(_) => count + 1,
+        Role::Erase => count.saturating_sub(1),
+        Role::Signal(_) | Role::Ignored => count,
+        Role::Nl | Role::Eol(_) | Role::Eol2(_) | Role::Eof | Role::Kill => 0,
+    }
+}
 
 // Whether a key of this role shows something of the line, where it is echoed.
 fn is_shown(role: Role, line: &Line) -> bool
@@ -36,8 +54,15 @@ impl ClientEnd {
     fn settings(&self) -> Settings
         ensures { result ≡ key_settings self.now.mode self.now.table }
     {
+        self.settings_under(self.mode.current().trapsig())
+    }
+
+    // The same under this ISIG.
+    fn settings_under(&self, isig: bool) -> Settings
+        ensures { result ≡ settings_by isig self.now.table }
+    {
         let mut settings = Settings::standard();
-        settings.flags.isig = self.mode.current().trapsig();
+        settings.flags.isig = isig;
         settings.chars = self.table.chars();
         settings
     }
@@ -86,28 +111,53 @@ impl ClientEnd {
     }
 
     // A key that is sent at once.
-    fn pass(&self, key: u8, out: &mut Vec<u8>, screen: &mut Vec<u8>) -> Result<(), AllocError>
+    fn pass(&mut self, key: u8, out: &mut Vec<u8>, screen: &mut Vec<u8>) -> Result<(), AllocError>
+        ensures ok { OnOk result (self.new ≡ end_after_count self.old key) }
         ensures out { OnOk result
-            (out.new.items ≡ out.old.items ++ spells (raw_key_items (role_now self.now key) key)) }
+            (out.new.items ≡ out.old.items ++ spells (raw_key_items (role_now self.old key) key)) }
         ensures screen { OnOk result
-            (screen.new.items ≡ screen.old.items ++ passed_shown (is_echoed self.now.options) key) }
+            (screen.new.items ≡ screen.old.items ++ passed_shown (is_echoed self.old.options) key) }
+        ensures err { OnErr result (self.new ≡ self.old) }
         ensures err_out { OnErr result (Begins out.old.items out.new.items) }
         ensures err_screen { OnErr result (screen.new.items ≡ screen.old.items) }
-        ensures grows { raw_key_items (role_now self.now key) key ≢ [] }
+        ensures grows { raw_key_items (role_now self.old key) key ≢ [] }
     {
         put_raw(role_of(&self.settings(), key), key, out)?;
+        self.echo_passed(key, screen)?;
+        self.count(key);
+        Ok(())
+    }
+
+    // Shows a key that is sent at once, where the server does not echo.
+    fn echo_passed(&self, key: u8, screen: &mut Vec<u8>) -> Result<(), AllocError>
+        ensures ok { OnOk result
+            (screen.new.items ≡ screen.old.items ++ passed_shown (is_echoed self.now.options) key) }
+        ensures err { OnErr result (screen.new.items ≡ screen.old.items) }
+    {
         if self.is_echoed() {
             return Ok(());
         }
         echo_raw(key, screen)
     }
 
+    // Counts a key in the half line that the server edits.
+    fn count(&mut self, key: u8)
+        ensures { self.new ≡ end_after_count self.old key }
+    {
+        let limit = self.line.limit();
+        let trapping = role_of(&self.settings_under(true), key);
+        let plain = role_of(&self.settings_under(false), key);
+        self.trapped = count_after(limit, self.trapped, trapping);
+        self.plain = count_after(limit, self.plain, plain);
+    }
+
     // A key of the line that is edited here.
     fn edit(&mut self, key: u8, out: &mut Vec<u8>, screen: &mut Vec<u8>) -> Result<(), AllocError>
-        ensures ok { let line = line_after self.old.line (role_now self.old key) in
+        ensures ok { let line = line_typed true self.old.forward self.old.line (role_now self.old key) in
             OnOk result (self.new ≡ record self.old { line = line }) }
-        ensures out { let says = edited_key_items (role_now self.old key) self.old.line in
-            OnOk result (out.new.items ≡ out.old.items ++ spells says) }
+        ensures out { let role = role_now self.old key in
+            OnOk result (out.new.items ≡
+            out.old.items ++ spells (key_items true self.old.forward role self.old.line key)) }
         ensures screen { let terminal = key_settings self.old.mode self.old.table in
             let role = role_now self.old key in
             let text = edited_shown (is_echoed self.old.options) terminal role self.old.line in
@@ -118,17 +168,75 @@ impl ClientEnd {
         ensures grows { let terminal = key_settings self.old.mode self.old.table in
             let role = role_now self.old key in
             let text = edited_shown (is_echoed self.old.options) terminal role self.old.line in
-            OnErr result ((edited_key_items role self.old.line ≢ []) ⊎ (text ≢ [])) }
+            OnErr result ((key_items true self.old.forward role self.old.line key ≢ []) ⊎ (text ≢ [])) }
     {
         let settings = self.settings();
         let role = role_of(&settings, key);
         let echo = self.echoes(role);
         make_room(echo, screen)?;
-        put_edited(role, &self.line, out)?;
-        let effect = self.line.key(&settings, key)?;
+        let effect = self.type_edited(&settings, key, out)?;
         if echo {
             show_all(&echo_of(&effect, key, &settings), screen);
         }
         Ok(())
+    }
+
+    // Types a key into the line and sends what it sends.
+    fn type_edited(
+        &mut self,
+        settings: &Settings,
+        key: u8,
+        out: &mut Vec<u8>,
+    ) -> Result<Effect, AllocError>
+        ensures ok { let role = role_of_key settings.now key in
+            OnOk result (self.new ≡
+            record self.old { line = line_typed true self.old.forward self.old.line role }) }
+        ensures effect { IfOk result
+            (λ effect. effect ≡ effect_of self.old.line (role_of_key settings.now key)) }
+        ensures out { let role = role_of_key settings.now key in
+            OnOk result (out.new.items ≡
+            out.old.items ++ spells (key_items true self.old.forward role self.old.line key)) }
+        ensures err { OnErr result (self.new ≡ self.old) }
+        ensures err_out { OnErr result (Begins out.old.items out.new.items) }
+        ensures grows { let role = role_of_key settings.now key in
+            OnErr result (key_items true self.old.forward role self.old.line key ≢ []) }
+    {
+        let role = role_of(settings, key);
+        put_edited(role, &self.line, out)?;
+        let effect = self.line.key(settings, key)?;
+        if !self.is_sent_ahead(role, &effect) {
+            return Ok(effect);
+        }
+        match self.send_held(out) {
+            Ok(()) => Ok(effect),
+            Err(fault) => {
+                let _erased = self.line.erase();
+                Err(fault)
+            },
+        }
+    }
+
+    // Whether a key of this role, which had this effect, sends all that is held: its byte was kept, and
+    // is in the forward mask.
+    fn is_sent_ahead(&self, role: Role, effect: &Effect) -> bool
+        ensures { result ≡ sends_where self.now.forward role effect.now }
+    {
+        match (role, effect, self.forward) {
+            (Role::Ordinary(byte), Effect::Kept, Some(mask)) => mask.has(byte),
+            _ => false,
+        }
+    }
+
+    // Sends all that is held. After a refusal the line is as it was, and the bytes begin as they did.
+    fn send_held(&mut self, out: &mut Vec<u8>) -> Result<(), AllocError>
+        ensures ok { OnOk result (self.new ≡ record self.old { line = line_released self.old.line }) }
+        ensures out { OnOk result (out.new.items ≡ out.old.items ++ spells (byte_items self.old.line.held)) }
+        ensures err { OnErr result (self.new ≡ self.old) }
+        ensures err_out { OnErr result (Begins out.old.items out.new.items) }
+    {
+        // The line hands its bytes on as they are; what is sent are their spellings.
+        let mut held = Vec::new(self.alloc);
+        put_bytes(self.line.held(), out)?;
+        self.line.release(&mut held)
     }
 }

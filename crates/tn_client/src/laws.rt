@@ -1,12 +1,12 @@
 //! Laws of the definitions alone.
 
-ghost use Rattle.std.specs.Prelude.{◌≡◌, ◌↔◌, ◌<◌, ◌++◌, ℕ, List, All, false, []};
+ghost use Rattle.std.specs.Prelude.{◌≡◌, ◌↔◌, ◌<◌, ◌≤◌, ◌++◌, ℕ, Bool, true, List, All, false, None, [], length, take};
 ghost use Rattle.tn_linemode.specs.Modes.{edits};
 ghost use Rattle.tn_nvt.specs.Feeding as nvt;
 ghost use Rattle.tn_nvt.specs.declared.items.Item.{Item};
 ghost use Rattle.tn_client.specs.Events.{Event, History, begun, items, keys, gets};
-ghost use Rattle.tn_client.specs.Terms.{options, mode, linemode};
-ghost use Rattle.tn_client.specs.Lines.{ahead, held_bytes, half_line};
+ghost use Rattle.tn_client.specs.Terms.{options, mode, forward, linemode};
+ghost use Rattle.tn_client.specs.Lines.{ahead, held_bytes, half_line, count_under};
 ghost use Rattle.tn_client.specs.Replies.{items_said};
 ghost use Rattle.tn_client.specs.Screen.{text_shown};
 ghost use Rattle.tn_client.specs.Calls.{End, LeadsTo, Advances, ReadsNothing, Feeds, StopsWithin};
@@ -20,16 +20,20 @@ pub fn items_come()
     ensures keys { (h : History) (more : List Item) → keys (gets h more) ≡ keys h }
 {}
 
-/// Nothing of a line is sent before it is closed, so the client holds the whole half line.
-pub fn nothing_is_ahead()
-    ensures ahead { (h : History) → ahead h ≡ 0 }
-    ensures held { (h : History) → held_bytes h ≡ half_line h }
+/// What was sent ahead is a front of the half line, and the client holds the rest.
+pub fn ahead_is_a_front()
+    ensures within { (h : History) → ahead h ≤ length (half_line h) }
+    ensures parts { (h : History) → half_line h ≡ take (ahead h) (half_line h) ++ held_bytes h }
 {}
 
-/// Without EDIT no half line is here, and without LINEMODE there is no mode.
+/// Without EDIT no half line is here, and with it none is counted; without LINEMODE there are no mode and
+/// no forward mask.
 pub fn nothing_without_edit()
     ensures line { (h : History) → edits (mode h) ≡ false → half_line h ≡ [] }
+    ensures ahead { (h : History) → edits (mode h) ≡ false → ahead h ≡ 0 }
+    ensures counts { (isig : Bool) (h : History) → edits (mode h) ≡ true → count_under isig h ≡ 0 }
     ensures mode { (h : History) → linemode (options h) ≡ false → mode h ≡ 0 }
+    ensures forward { (h : History) → linemode (options h) ≡ false → forward h ≡ None }
 {}
 
 /// A course has one history.

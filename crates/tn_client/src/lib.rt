@@ -6,8 +6,7 @@
 //! end.key(0x61, &mut out, &mut screen)?; // sent, or kept and echoed, as the mode has it
 //! ```
 //!
-//! It opens no socket and sets no terminal: keys and screen are bytes. It never proposes an option,
-//! and refuses forward masks.
+//! It opens no socket and sets no terminal: keys and screen are bytes. It never proposes an option.
 #![tactic(auto)]
 
 pub use end::ClientEnd;

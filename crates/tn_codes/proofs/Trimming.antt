@@ -7,6 +7,7 @@ use Rattle.std.proofs.lemmas.Bool.Decides.{eqb_tells}
 use Rattle.tn_codes.specs.declared.payloads.Payload.{Payload}
 use Rattle.tn_codes.specs.declared.payloads.Payload.TheVariants.{Naws, Mode, ForwardOn, ForwardOff, ForwardYes, ForwardNo, Slc}
 use Rattle.tn_codes.specs.Masks.{before, filled_octets, trimmed_octets}
+use Rattle.tn_codes.proofs.lemmas.Masks.{length-trimmed}
 use Rattle.tn_codes.specs.Payloads.{Says, Fits, option_of, parameters_of}
 
 pub trimmed_none : trimmed_octets [] ≡ []
@@ -33,15 +34,6 @@ trimmed_more xs i lt differs = rw (take_more xs i 0 lt) (trimmed_push (take i xs
 
 pub trimmed_more_zero : (xs : List ℕ) (i : ℕ) → i < length xs → get_or xs i 0 ≡ 0 → trimmed_octets (take (i + 1) xs) ≡ trimmed_octets (take i xs)
 trimmed_more_zero xs i lt zero = rw (take_more xs i 0 lt, zero) (trimmed_push_zero (take i xs))
-
-length-before : (b : ℕ) (xs : List ℕ) → length (before b xs) ≤ length xs + 1
-length-before b [] = elim (eqb_tells b 0) [ inl e ↦ let is : b ≡ 0 = e.1 in rw is (omega arith) | inr e ↦ let differs : b ≢ 0 = e.1 in rw (ne_eqb b 0 differs) (omega arith) ]
-length-before b (x ∷ xs) = omega arith
-
-pub length-trimmed : (xs : List ℕ) → length (trimmed_octets xs) ≤ length xs
-unfolding trimmed_octets
-length-trimmed [] = omega arith
-length-trimmed (x ∷ xs) = omega (arith, length-before x (trimmed_octets xs), length-trimmed xs)
 
 before_zeros : (b : ℕ) (xs : List ℕ) (n : ℕ) → (m : ℕ) × (b ∷ (xs ++ replicate n 0) ≡ before b xs ++ replicate m 0)
 before_zeros b [] n = elim (eqb_tells b 0) [ inl e ↦ let is : b ≡ 0 = e.1 in (suc n, rw is refl) | inr e ↦ let differs : b ≢ 0 = e.1 in (n, rw (ne_eqb b 0 differs) refl) ]

@@ -4,7 +4,6 @@ ghost use Rattle.std.specs.Prelude.{◌≡◌, ◌≢◌, ◌↔◌, ◌⊎◌, 
 ghost use Rattle.std.specs.Prelude.{IsOk, IfOk, IsErrOf, MatchResult};
 ghost use Rattle.tn_codes.specs.declared.payloads.Payload.{Payload};
 ghost use Rattle.tn_codes.specs.Codes.{verb_code};
-ghost use Rattle.tn_codes.specs.Masks.{filled_octets};
 ghost use Rattle.tn_codes.specs.Payloads.{naws, linemode, mode, forwardmask, slc, Says, Tells};
 ghost use Rattle.tn_codes.specs.Payloads.{IsUnknownOption, IsUnknownSub, HasBadLength, TakesMemory};
 ghost use Rattle.tn_codes.specs.PayloadOf.{payload_of};
@@ -121,17 +120,7 @@ fn read_command(verb: Verb, octets: &[u8]) -> Result<Payload, PayloadFault>
     Ok(match verb {
         Verb::Will => Payload::ForwardYes,
         Verb::Wont => Payload::ForwardNo,
-        Verb::DoIt => Payload::ForwardOn(mask_of(octets)),
+        Verb::DoIt => Payload::ForwardOn(Mask::from_octets(octets)),
         Verb::DontIt => Payload::ForwardOff,
     })
-}
-
-// The mask of these octets.
-fn mask_of(octets: &[u8]) -> Mask
-    requires { length octets.now ≤ 32 }
-    ensures { result.0 ≡ filled_octets octets.now }
-{
-    let mut mask = [0; 32];
-    mask[..octets.len()].copy_from_slice(octets);
-    Mask(mask)
 }

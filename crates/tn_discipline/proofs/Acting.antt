@@ -7,9 +7,9 @@ use Rattle.tn_discipline.specs.declared.half_line.Effect.{Effect}
 use Rattle.tn_discipline.specs.declared.half_line.Effect.TheVariants as effect
 use Rattle.tn_discipline.specs.Entries.{line_of}
 use Rattle.tn_discipline.specs.Keys.{roles_from}
-use Rattle.tn_discipline.specs.HalfLine.{HalfLine, empty_line, effect_of, line_after, effect_entries, GivesText}
-use Rattle.tn_discipline.specs.Advancing.{Advances, DropsExactly}
-use Rattle.tn_discipline.proofs.lemmas.Lines.{advances, advances_erase, drops_exactly}
+use Rattle.tn_discipline.specs.HalfLine.{HalfLine, empty_line, line_released, line_resumed, effect_of, line_after, effect_entries, GivesText}
+use Rattle.tn_discipline.specs.Advancing.{Advances, DropsExactly, KeepsHalf, LeadsWhereLong}
+use Rattle.tn_discipline.proofs.lemmas.Lines.{advances, advances_erase, drops_exactly, released_keeps, resumed_leads}
 
 -- the same of an effect and a line that are known to be those
 pub advances_to : (old new : HalfLine) (r : Role) (e : Effect) → e ≡ effect_of old r → new ≡ line_after old r → Advances old (roles_from r) (effect_entries e) new
@@ -20,6 +20,12 @@ erases_to old new leaves = rw leaves (advances_erase old)
 
 pub kills_to : (old new : HalfLine) → new ≡ empty_line old.limit → Advances old (role.Kill ∷ []) [] new
 kills_to old new leaves = rw leaves (advances old role.Kill)
+
+pub releases_to : (old new : HalfLine) → new ≡ line_released old → KeepsHalf old new
+releases_to old new leaves = rw leaves (released_keeps old)
+
+pub resumes_to : (old new : HalfLine) (ahead : ℕ) → new ≡ line_resumed old.limit ahead → LeadsWhereLong old.limit ahead new
+resumes_to old new ahead leaves = rw leaves (resumed_leads old.limit ahead)
 
 pub drops_to : (line : HalfLine) (r : Role) (e : Effect) → e ≡ effect_of line r → DropsExactly line (roles_from r) e
 drops_to line r e is = rw is (drops_exactly line r)

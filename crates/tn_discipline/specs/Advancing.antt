@@ -24,6 +24,15 @@ pub record Advances (old : HalfLine) (roles : List Role) (gain : List Entry) (ne
   pub ahead : new.ahead ≤ old.ahead
   pub limit : new.limit ≡ old.limit
 
+-- Whatever keys left the old line, they leave the new one.
+abbrev pub KeepsHalf : HalfLine → HalfLine → Type 0
+KeepsHalf old new = (history : List Role) → LeadsTo history old → LeadsTo history new
+
+-- Whatever keys leave a half line of this length, they leave the line.
+abbrev pub LeadsWhereLong : ℕ → ℕ → HalfLine → Type 0
+LeadsWhereLong limit count line =
+    (history : List Role) → length (half_of limit history) ≡ count → LeadsTo history line
+
 -- The effect is Dropped exactly where these keys, after any keys that left the line, are not admitted.
 abbrev pub DropsExactly : HalfLine → List Role → Effect → Type 0
 DropsExactly line roles e =

@@ -56,6 +56,14 @@ line_erased line =
     if has_held line then record line { held = front line.held }
     else record line { held = []; ahead = line.ahead - 1 }
 
+-- the line once all that is held was handed on
+abbrev pub line_released : HalfLine → HalfLine
+line_released line = record line { held = []; ahead = line_length line }
+
+-- a line of which so many bytes were handed on, and none is held
+abbrev pub line_resumed : ℕ → ℕ → HalfLine
+line_resumed limit ahead = record { held = []; ahead = ahead; limit = limit }
+
 -- what a key of this role leaves: KILL and the keys that close the line leave nothing of it
 abbrev pub line_after : HalfLine → Role → HalfLine
 line_after line role.Ignored = line

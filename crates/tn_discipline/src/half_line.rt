@@ -1,8 +1,8 @@
 ghost use Rattle.std.specs.Prelude.{◌≡◌, ◌==◌, ◌<◌, ◌+◌, ◌-◌, [], ◌∷◌, ◌++◌, length, IfOk, OnOk, OnErr};
 ghost use Rattle.tn_discipline.specs.Keys.{roles_of, role_of_key, literal_role};
 ghost use Rattle.tn_discipline.specs.Entries.{line_of};
-ghost use Rattle.tn_discipline.specs.HalfLine.{empty_line, line_length, effect_of, line_after, line_kept, line_erased, effect_entries, GivesText};
-ghost use Rattle.tn_discipline.specs.Advancing.{Advances, DropsExactly};
+ghost use Rattle.tn_discipline.specs.HalfLine.{empty_line, line_length, line_released, line_resumed, effect_of, line_after, line_kept, line_erased, effect_entries, GivesText};
+ghost use Rattle.tn_discipline.specs.Advancing.{Advances, DropsExactly, KeepsHalf, LeadsWhereLong};
 ghost use Rattle.tn_discipline.specs.declared.half_line.Effect.TheVariants as effect;
 ghost use Rattle.tn_discipline.specs.declared.keys.Role.TheVariants as role;
 
@@ -80,6 +80,23 @@ impl Line {
         self.ahead
     }
 
+    /// How many bytes the half line has, handed on or held.
+    pub fn length(&self) -> u16
+        ensures value { result ≡ line_length self.now }
+        ensures within { line_length self.now < self.now.limit }
+    {
+        // Nothing is done here; the proof that the sum fits begins with what every limit is.
+        let _limit = self.limit.bytes();
+        self.ahead + self.held.len() as u16
+    }
+
+    /// How many bytes the line has at most, with its closing byte.
+    pub fn limit(&self) -> Limit
+        ensures { result ≡ self.now.limit }
+    {
+        self.limit
+    }
+
     /// Types a key, a byte from 0 to 255 as the terminal gets it: its role is that of `role_of`. Memory is
     /// wanted for a text alone, and after a refusal the line is as it was.
     pub fn key(&mut self, settings: &Settings, key: u8) -> Result<Effect, AllocError>
@@ -152,6 +169,35 @@ impl Line {
         ensures err { OnErr result (self.new ≡ self.old) }
     {
         self.act(Role::Eof)
+    }
+
+    /// Hands on the bytes that are held: they are appended to `out`, and from now on they are ahead. After
+    /// a refusal all is as it was.
+    pub fn release(&mut self, out: &mut Vec<u8>) -> Result<(), AllocError>
+        // No key is typed: whatever keys led to this half line lead to the one that is there now.
+        ensures half { OnOk result (KeepsHalf self.old self.new) }
+        ensures line { OnOk result (self.new ≡ line_released self.old) }
+        ensures out { OnOk result (out.new.items ≡ out.old.items ++ self.old.held) }
+
+        ensures err { OnErr result (self.new ≡ self.old) }
+        ensures err_out { OnErr result (out.new.items ≡ out.old.items) }
+        ensures some { OnErr result (0 < length self.old.held) }
+    {
+        out.extend_from_slice(self.held.as_slice())?;
+        self.ahead += self.held.len() as u16;
+        self.held.clear();
+        Ok(())
+    }
+
+    /// Goes on with a half line that is elsewhere: so many bytes of it were handed on, and none is held.
+    pub fn resume(&mut self, ahead: u16)
+        requires empty { self.old.held ≡ [] }
+        requires fits { ahead < self.old.limit }
+        // Whatever keys led to a half line of this length lead to the line that is there now.
+        ensures half { LeadsWhereLong self.old.limit ahead self.new }
+        ensures line { self.new ≡ line_resumed self.old.limit ahead }
+    {
+        self.ahead = ahead;
     }
 
     // What a key of this role does.

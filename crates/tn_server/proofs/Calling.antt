@@ -7,6 +7,7 @@ use Rattle.tn_discipline.specs.declared.echo.Symbol.{Symbol}
 use Rattle.tn_discipline.specs.declared.termios.Flags.{Flags}
 use Rattle.tn_discipline.specs.declared.termios.Settings.{Settings}
 use Rattle.tn_codes.specs.declared.codes.Command.TheVariants.{Ga}
+use Rattle.tn_codes.specs.declared.masks.Mask.{Mask}
 use Rattle.tn_linemode.specs.Modes.{Modes}
 use Rattle.tn_nvt.specs.Spelling.{spells}
 use Rattle.tn_nvt.specs.declared.items.Item.{Item}
@@ -14,12 +15,12 @@ use Rattle.tn_nvt.specs.declared.items.Item.TheVariants.{Cmd}
 use Rattle.tn_option.specs.Options.{Options, state_of, is_yes}
 use Rattle.tn_option.specs.declared.q_method.Side.TheVariants.{Us}
 use Rattle.tn_pty.specs.Terminal.{Terminal, fitting_count, output_symbols}
-use Rattle.tn_server.specs.Events.{History, next, took, wrote, pulled, wished, echo_set}
+use Rattle.tn_server.specs.Events.{History, next, took, wrote, pulled, wished, echo_set, mask_set}
 use Rattle.tn_server.specs.Terms.{Terms, terms, terms_by, flags, chars, settings, asked_mask, asked_mask_of, asked_mask_while, changes, mask_after, linemode, mask_for, asks_echo, options_with_echo, wants_echo, mask_told}
-use Rattle.tn_wire.specs.Words.{differ, mode_items}
+use Rattle.tn_wire.specs.Words.{differ, payload_items, mode_items}
 use Rattle.tn_server.specs.Lines.{entries, taken_count}
 use Rattle.tn_server.specs.Screen.{queue, due}
-use Rattle.tn_server.specs.Replies.{items_by, echo_items, new_table_items}
+use Rattle.tn_server.specs.Replies.{items_by, echo_items, new_table_items, forward_payload}
 use Rattle.tn_server.specs.Calls.{End, LeadsTo, Advances}
 use Rattle.tn_server.specs.Steps.{end_after_wish, says_wished, negotiation_of, with_negotiated}
 use Rattle.tn_server.specs.declared.terms.Negotiation.{Negotiation}
@@ -261,5 +262,15 @@ goes_pulled_none old before = record {
   appended = sym (append-nil before);
   replies = λ h s. refl;
   stands = λ h s. record { settings = s.settings; table = s.table; terms = s.terms; modes = s.modes; limit = s.limit; leaves = s.leaves; ahead = s.ahead; read = s.read; count = s.count; waits = s.waits; queue = s.queue; size = s.size; due = s.due ∙ sym (or_false (due h)) };
+  closed = refl;
+}
+
+-- a forward mask is sent
+pub goes_mask : (old : End) (mask : Option Mask) (before after : List ℕ) → after ≡ before ++ spells (payload_items (forward_payload mask)) → Advances old (mask_set mask) before after old
+goes_mask old mask before after said = record {
+  said = payload_items (forward_payload mask);
+  appended = said;
+  replies = λ h s. refl;
+  stands = λ h s. record { settings = s.settings; table = s.table; terms = s.terms; modes = s.modes; limit = s.limit; leaves = s.leaves; ahead = s.ahead; read = s.read; count = s.count; waits = s.waits; queue = s.queue; size = s.size; due = s.due };
   closed = refl;
 }

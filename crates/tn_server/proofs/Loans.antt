@@ -1,6 +1,5 @@
 -- What a server end did while it was lent to its decoder.
 use Rattle.std.proofs.Common.{◌≡◌, ◌≢◌, ◌↔◌, true, false, ℕ, List, [], ◌∷◌, ◌++◌, Result, Err, OnOk, IsErrOf, refl, sym, ap, ◌∙◌, append-nil, append_assoc, subst}
-use Rattle.tn_discipline.specs.declared.characters.CharFault.{CharFault}
 use Rattle.tn_nvt.specs.Spelling.{spells}
 use Rattle.tn_nvt.specs.Sinks.{TakesEach, FeedsTo, StopsAtSink as RefusesRest, StopsForMemory, all_of, calls_of, bytes_of}
 use Rattle.tn_nvt.specs.Feeding.{DecoderState, failed}
@@ -11,12 +10,12 @@ use Rattle.tn_nvt.specs.declared.items.Item.{Item}
 use Rattle.tn_nvt.proofs.lemmas.Folding.{taken_all, refused_items, kept_by_all}
 use Rattle.tn_pty.specs.declared.pty.PtyFault.TheVariants.{Closed}
 use Rattle.tn_server.specs.Events.{History, got, gets}
-use Rattle.tn_server.specs.Faults.{IsOfItem}
+use Rattle.tn_server.specs.Faults.{IsOfItem, IsOfPiece}
 use Rattle.tn_server.specs.Replies.{items_said}
 use Rattle.tn_server.specs.Calls.{End, LeadsTo, Advances, AdvancesAll, Feeds, RefusesItem, StopsWithin}
 use Rattle.tn_server.specs.Lending.{IsSameLoan, TakesItems, RefusesItems}
 use Rattle.tn_server.specs.declared.faults.ServerFault.{ServerFault}
-use Rattle.tn_server.specs.declared.faults.ServerFault.TheVariants.{Pty, Memory, Failed, Char}
+use Rattle.tn_server.specs.declared.faults.ServerFault.TheVariants.{Pty, Memory, Failed, Char, NotOn}
 use Rattle.tn_server.specs.declared.taking.Lent.{Lent}
 use Rattle.tn_wire.proofs.lemmas.Cutting.{spelled_on}
 use Rattle.tn_server.proofs.Passing.{gets_none, gets_one, gets_both, stands_decoder, stops_at}
@@ -187,12 +186,14 @@ never_failed (Pty x) of is = cc
 never_failed Memory of is = cc
 never_failed Failed of is = of
 never_failed (Char x) of is = of
+never_failed NotOn of is = of
 
-never_char : (f : ServerFault) → IsOfItem f → (c : CharFault) → ◌≢◌ {A = Result (Unit {0}) ServerFault} (Err f) (Err (Char c))
-never_char (Pty x) of c is = cc
-never_char Memory of c is = cc
-never_char Failed of c is = of
-never_char (Char x) of c is = of
+of_piece : (f : ServerFault) → IsOfItem f → IsOfPiece f
+of_piece (Pty x) of = tt
+of_piece Memory of = tt
+of_piece Failed of = tt
+of_piece (Char x) of = of
+of_piece NotOn of = of
 
 pub true_is_not_false : true ≡ false → ⊥
 true_is_not_false e = cc
@@ -203,10 +204,10 @@ same_fault f g is = cc
 -- of any refusal of a piece by an end that had not failed before
 pub record IsRefusal (old : End) (f : ServerFault) : Type 0 where
   pub runs : IsErrOf {T = Unit {0}} (Err f) Failed → ⊥
-  pub no_char : (c : CharFault) → ◌≢◌ {A = Result (Unit {0}) ServerFault} (Err f) (Err (Char c))
+  pub of_piece : IsOfPiece f
   pub shut : IsErrOf {T = Unit {0}} (Err f) (Pty Closed) → old.terminal.closed ≡ true
 
 pub is_refusal : (r : Result (Unit {0}) NvtFault) (e : NvtFault) → r ≡ Err e → (old : DecoderState) (piece : List ℕ) (a b : Lent) → a.cause ≡ Memory → (IsErrOf r nvt.Refused → RefusesRest TakesItems RefusesItems old piece a b) → (IsErrOf r nvt.Memory → StopsForMemory TakesItems old piece a b) → (IsErrOf r nvt.Failed → b ≡ a) → IsRefusal a.end.now b.cause
 is_refusal r e is old piece a b none refused memory same =
     let c = for_any r e is old piece a b none refused memory same in
-    record { runs = never_failed b.cause c.is_of_item; no_char = never_char b.cause c.is_of_item; shut = λ f. c.shut (same_fault b.cause (Pty Closed) f) }
+    record { runs = never_failed b.cause c.is_of_item; of_piece = of_piece b.cause c.is_of_item; shut = λ f. c.shut (same_fault b.cause (Pty Closed) f) }

@@ -12,7 +12,7 @@ use Rattle.tn_nvt.specs.declared.items.Item.{Item}
 use Rattle.tn_pty.specs.Terminal.{Terminal}
 use Rattle.tn_wire.specs.Fronts.{WantsMemory}
 use Rattle.tn_server.specs.Events.{History, Event, next, got, gets, limit}
-use Rattle.tn_server.specs.Terms.{Terms, terms, asked_mask, mode, settings, chars}
+use Rattle.tn_server.specs.Terms.{Terms, terms, linemode, asked_mask, mode, settings, chars}
 use Rattle.tn_server.specs.Lines.{roles, entries, taken_count}
 use Rattle.tn_server.specs.Screen.{queue, due, size}
 use Rattle.tn_server.specs.Replies.{replies, items_said}
@@ -138,3 +138,8 @@ call_fault end = if end.failed then Some fault.Failed else None
 abbrev pub char_fault_at : End → Func → Option ℕ → Option ServerFault
 char_fault_at end func value =
     if end.failed then Some fault.Failed else option_map fault.Char (char_fault end.table func value)
+
+-- or LINEMODE is not on, and nobody takes a forward mask
+abbrev pub mask_fault : End → Option ServerFault
+mask_fault end =
+    if end.failed then Some fault.Failed else (if linemode end.terms.options then None else Some fault.NotOn)

@@ -1,6 +1,7 @@
 -- What happens at a server end: items come and calls are made.
 use Rattle.std.specs.Prelude.{ℕ, Bool, Option, List, [], ◌∷◌, ◌++◌}
 use Rattle.tn_codes.specs.declared.codes.Func.{Func}
+use Rattle.tn_codes.specs.declared.masks.Mask.{Mask}
 use Rattle.tn_discipline.specs.Canon.{Canon}
 use Rattle.tn_discipline.specs.declared.termios.Settings.{Settings}
 use Rattle.tn_nvt.specs.declared.items.Item.{Item}
@@ -15,6 +16,7 @@ pub data Event : Type 0 where
   wished : Editing → Event
   char_set : Func → Option ℕ → Event
   echo_set : Bool → Event
+  mask_set : Option Mask → Event
 
 -- what has happened since the end was started over a terminal, the latest at the right
 pub data History : Type 0 where

@@ -11,7 +11,7 @@ use Rattle.tn_server.specs.Lines.{role_of_item, line, waiting}
 use Rattle.tn_server.specs.Replies.{replies}
 use Rattle.tn_server.specs.Terms.{options, payload_at}
 use Rattle.tn_server.specs.declared.faults.ServerFault.{ServerFault}
-use Rattle.tn_server.specs.declared.faults.ServerFault.TheVariants.{Pty, Memory, Failed, Char}
+use Rattle.tn_server.specs.declared.faults.ServerFault.TheVariants.{Pty, Memory, Failed, Char, NotOn}
 
 -- an event makes the server send something
 abbrev pub SaysSomething : History → Event → Type 0
@@ -27,6 +27,7 @@ IsCause h item (Pty pty.Closed) = Unit {0}
 IsCause h item Memory = SaysSomething h (got item) ⊎ IsList (payload_at (options h) item)
 IsCause h item Failed = ⊥
 IsCause h item (Char fault) = ⊥
+IsCause h item NotOn = ⊥
 
 -- an item is refused by the pair or for want of memory
 abbrev pub IsOfItem : ServerFault → Type 0
@@ -34,6 +35,13 @@ IsOfItem (Pty fault) = Unit {0}
 IsOfItem Memory = Unit {0}
 IsOfItem Failed = ⊥
 IsOfItem (Char fault) = ⊥
+IsOfItem NotOn = ⊥
+
+-- a piece is refused for no special character and no forward mask
+abbrev pub IsOfPiece : ServerFault → Type 0
+IsOfPiece (Char fault) = ⊥
+IsOfPiece NotOn = ⊥
+IsOfPiece f = Unit {0}
 
 -- a call that is not refused for such a cause is refused for want of memory alone
 abbrev pub IsFault : Option ServerFault → ServerFault → Type 0

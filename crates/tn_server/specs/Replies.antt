@@ -1,11 +1,12 @@
 -- What a server end sends, as items; its bytes are their spellings, one after another.
-use Rattle.std.specs.Prelude.{ℕ, Bool, true, false, not, ◌&&◌, Option, Some, Result, Ok, Err, List, [], ◌∷◌, ◌++◌, map, take, if◌then◌else◌}
+use Rattle.std.specs.Prelude.{ℕ, Bool, true, false, not, ◌&&◌, Option, Some, None, Result, Ok, Err, List, [], ◌∷◌, ◌++◌, map, take, if◌then◌else◌}
 use Rattle.tn_codes.specs.declared.codes.Command.TheVariants.{Ga}
 use Rattle.tn_codes.specs.declared.codes.Func.{Func}
 use Rattle.tn_codes.specs.declared.codes.Verb.{Verb}
 use Rattle.tn_codes.specs.declared.codes.Verb.TheVariants as verb
+use Rattle.tn_codes.specs.declared.masks.Mask.{Mask}
 use Rattle.tn_codes.specs.declared.payloads.Payload.{Payload}
-use Rattle.tn_codes.specs.declared.payloads.Payload.TheVariants.{Slc}
+use Rattle.tn_codes.specs.declared.payloads.Payload.TheVariants.{ForwardOn, ForwardOff, Slc}
 use Rattle.tn_discipline.specs.Characters.{Characters, slot}
 use Rattle.tn_discipline.specs.declared.termios.Flags.{Flags}
 use Rattle.tn_discipline.specs.declared.echo.Symbol.{Symbol}
@@ -17,10 +18,10 @@ use Rattle.tn_nvt.specs.declared.items.Item.TheVariants.{Byte, Newline, Cmd, Neg
 use Rattle.tn_option.specs.Options.{Options, reply_to, answer_to}
 use Rattle.tn_option.specs.declared.q_method.AskFault.{AskFault}
 use Rattle.tn_option.specs.declared.q_method.Side.TheVariants.{Us}
-use Rattle.tn_server.specs.Events.{Event, got, took, wrote, pulled, wished, char_set, echo_set, History, begun, next}
+use Rattle.tn_server.specs.Events.{Event, got, took, wrote, pulled, wished, char_set, echo_set, mask_set, History, begun, next}
 use Rattle.tn_server.specs.Terms.{Terms, terms, options, flags, chars, linemode, payload_at, options_after, asked_mask_of, wish_after, wish_at, wants_echo, mask_told, asks_echo, is_echo_set, chars_after}
 use Rattle.tn_server.specs.declared.wishes.Editing.{Editing}
-use Rattle.tn_wire.specs.Words.{word_items, mode_items, list_items}
+use Rattle.tn_wire.specs.Words.{word_items, payload_items, mode_items, list_items}
 use Rattle.tn_server.specs.Screen.{sends_ga, none_waits, due, queue}
 
 -- a wish that is refused says nothing
@@ -77,6 +78,11 @@ triple_items false func value = []
 abbrev pub character_items : Bool → Option ℕ → Func → Option ℕ → List Item
 character_items on old func new = triple_items (on && not (is_same_value old new)) func new
 
+-- RFC 1184, section 2.3: a forward mask by its 32 octets, or that there is none any more
+abbrev pub forward_payload : Option Mask → Payload
+forward_payload (Some mask) = ForwardOn (record { 0 = take 32 mask.0 })
+forward_payload None = ForwardOff
+
 -- DO LINEMODE, DO NAWS, WILL SUPPRESS-GO-AHEAD, DO SUPPRESS-GO-AHEAD, WILL ECHO
 abbrev pub opening : List Item
 opening = Neg verb.DoIt 34 ∷ Neg verb.DoIt 31 ∷ Neg verb.Will 3 ∷ Neg verb.DoIt 3 ∷ Neg verb.Will 1 ∷ []
@@ -96,6 +102,7 @@ replies h (pulled n) = map data_of (take n (queue h))
 replies h (wished editing) = items_at (flags h) (chars h) (terms h) (wished editing)
 replies h (char_set func value) = character_items (linemode (options h)) (slot (chars h) func) func value
 replies h (echo_set on) = items_at (flags (next h (echo_set on))) (chars h) (terms h) (echo_set on)
+replies h (mask_set mask) = payload_items (forward_payload mask)
 
 -- what was sent
 abbrev pub items_said : History → List Item

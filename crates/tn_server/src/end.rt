@@ -2,7 +2,6 @@
 
 ghost use Rattle.std.specs.Prelude.{◌≡◌, ◌≢◌, ◌↔◌, ◌⊎◌, ◌&&◌, not, ℕ, List, true, false, Some, None, Err, [], ◌++◌, ◌∷◌, length, min, IfOk, IfErr, OnOk, OnErr, IsErrOf, MatchOption, option_copied, slice_get};
 ghost use Rattle.tn_discipline.specs.Characters.{char_fault};
-ghost use Rattle.tn_discipline.specs.declared.characters.CharFault.{CharFault};
 ghost use Rattle.tn_nvt.specs.Spelling.{spells};
 ghost use Rattle.tn_nvt.specs.Feeding as nvt;
 ghost use Rattle.tn_option.specs.Options.{state_of, is_yes};
@@ -10,24 +9,24 @@ ghost use Rattle.tn_option.specs.declared.q_method.Side.TheVariants.{Us};
 ghost use Rattle.tn_pty.specs.Terminal.{fitting_count, first_signal};
 ghost use Rattle.tn_pty.specs.declared.pty.PtyFault.{PtyFault};
 ghost use Rattle.tn_pty.specs.declared.pty.PtyFault.TheVariants.{Closed};
-ghost use Rattle.tn_server.specs.Events.{History, begun, next, took, wrote, pulled, wished, char_set, echo_set};
+ghost use Rattle.tn_server.specs.Events.{History, begun, next, took, wrote, pulled, wished, char_set, echo_set, mask_set};
 ghost use Rattle.tn_server.specs.Lines.{half, waiting};
 ghost use Rattle.tn_server.specs.Screen.{queue, size, sends_ga, none_waits, due};
 ghost use Rattle.tn_server.specs.Terms.{mode, asked_mask, chars, options, sends_mode};
 ghost use Rattle.tn_server.specs.Replies.{opening};
-ghost use Rattle.tn_server.specs.Faults.{IsOfItem, IsFault, SaysSomething};
-ghost use Rattle.tn_server.specs.Calls.{LeadsTo, Advances, ReadsNothing, Feeds, StopsWithin, call_fault, char_fault_at};
+ghost use Rattle.tn_server.specs.Faults.{IsOfItem, IsOfPiece, IsFault, SaysSomething};
+ghost use Rattle.tn_server.specs.Calls.{LeadsTo, Advances, ReadsNothing, Feeds, StopsWithin, call_fault, char_fault_at, mask_fault};
 
 use crate::faults::ServerFault;
 use crate::screen::{SYMBOL_BYTES, spell_all};
-use crate::sending::put_char;
+use crate::sending::{put_char, put_mask};
 use crate::taking::Lent;
 use crate::terms::Negotiation;
 use crate::wishes::Editing;
 use std::alloc::Global;
 use std::marker::Model;
 use std::mem;
-use tn_codes::{Command, Func};
+use tn_codes::{Command, Func, Mask};
 use tn_discipline::{CharFault, Chars, Entry, Limit, Settings, Sig};
 use tn_linemode::ServerTable;
 use tn_nvt::{Decoder, put_cmd};
@@ -118,7 +117,7 @@ impl ServerEnd {
         ensures halts { IfErr result (λ fault. IsOfItem fault →
             StopsWithin self.old piece.now fault out.old.items out.new.items self.new) }
         ensures err { OnErr result (self.new.failed ≡ true) }
-        ensures no_char { (fault : CharFault) → result ≢ Err (ServerFault.Char fault) }
+        ensures of_piece { IfErr result IsOfPiece }
         ensures shut { IsErrOf result (ServerFault.Pty Closed) → self.old.terminal.closed ≡ true }
     {
         if self.failed {
@@ -304,6 +303,30 @@ impl ServerEnd {
                 self.pair.set_flags(flags);
                 Ok(())
             },
+            Err(_) => Err(ServerFault::Memory),
+        }
+    }
+
+    /// Asks the client to send what it holds at each character of this mask, or by `None` at none any more
+    /// (RFC 1184, section 2.3). Only a client with LINEMODE is asked.
+    pub fn set_mask(&mut self, mask: Option<Mask>, out: &mut Vec<u8>) -> Result<(), ServerFault>
+        ensures ok { OnOk result (Advances self.old (mask_set mask) out.old.items out.new.items self.new) }
+        ensures keeps { OnOk result (ReadsNothing self.old self.new) }
+        ensures grows { IsErrOf result ServerFault.Memory → (h : History) → LeadsTo h self.old →
+            SaysSomething h (mask_set mask) }
+        ensures accepted { OnOk result (mask_fault self.old ≡ None) }
+        ensures fault { IfErr result (IsFault (mask_fault self.old)) }
+        ensures err { OnErr result (self.new ≡ self.old) }
+        ensures err_appends { OnErr result (out.new.items ≡ out.old.items) }
+    {
+        if self.failed {
+            return Err(ServerFault::Failed);
+        }
+        if !self.terms.has_linemode() {
+            return Err(ServerFault::NotOn);
+        }
+        match put_mask(self.alloc, mask, out) {
+            Ok(()) => Ok(()),
             Err(_) => Err(ServerFault::Memory),
         }
     }

@@ -23,6 +23,9 @@ pub enum ServerFault {
     /// A special character was not changed.
     #[error("special character: {0}")]
     Char(CharFault),
+    /// A forward mask was not sent, since LINEMODE is not on.
+    #[error("LINEMODE is not on")]
+    NotOn,
 }
 
 impl From<AllocError> for ServerFault {

@@ -10,7 +10,7 @@
 //! ```
 //!
 //! It opens no socket, starts no thread and runs no job; it does not hold back a peer that types
-//! faster than its job reads, but fails after 1,024 entries. Forward masks are not sent.
+//! faster than its job reads, but fails after 1,024 entries.
 #![tactic(auto)]
 
 pub use end::ServerEnd;

@@ -1,13 +1,14 @@
-//! What a server end says of its special characters.
+//! What a server end says of its special characters and forward masks.
 
 ghost use Rattle.std.specs.Prelude.{◌≡◌, ◌++◌, true, OnOk, OnErr};
 ghost use Rattle.tn_nvt.specs.Spelling.{spells};
-ghost use Rattle.tn_server.specs.Replies.{triple_items};
+ghost use Rattle.tn_server.specs.Replies.{triple_items, forward_payload};
+ghost use Rattle.tn_wire.specs.Words.{payload_items};
 
 use std::alloc::{AllocError, Global};
-use tn_codes::Func;
+use tn_codes::{Func, Mask, Payload};
 use tn_linemode::triple_of;
-use tn_wire::put_triple;
+use tn_wire::{put_payload, put_triple};
 
 /// Appends the triple of one character, where it is to be told.
 pub(crate) fn put_char(
@@ -25,4 +26,20 @@ pub(crate) fn put_char(
         return Ok(());
     }
     put_triple(alloc, triple_of(func, value), out)
+}
+
+/// Appends a forward mask, or that there is none any more.
+pub(crate) fn put_mask(
+    alloc: Global,
+    mask: Option<Mask>,
+    out: &mut Vec<u8>,
+) -> Result<(), AllocError>
+    ensures ok { OnOk result (out.new.items ≡
+        out.old.items ++ spells (payload_items (forward_payload mask))) }
+    ensures err { OnErr result (out.new.items ≡ out.old.items) }
+{
+    match mask {
+        Some(mask) => put_payload(alloc, &Payload::ForwardOn(mask), out),
+        None => put_payload(alloc, &Payload::ForwardOff, out),
+    }
 }

@@ -89,7 +89,7 @@ key-agrees rules typed taken v c key true is_edit a =
       ahead = λ e. f.ahead;
       none = λ e. absurd (cc);
       plain = f.plain;
-      count = λ r e allowed. absurd (cc);
+      count = λ e allowed. absurd (cc);
     }
 key-agrees rules typed taken v c key false is_remote a =
     let ok = remote_of rules.canon.settings c.mask a.askable is_remote in
@@ -117,27 +117,20 @@ key-agrees rules typed taken v c key false is_remote a =
       ahead = λ e. absurd (cc);
       none = a.none;
       plain = a.plain;
-      count = λ r e allowed. count-step rules.canon.limit rules.canon.settings key c.trapped c.plain a.half rules.canon.settings.flags.isig refl allowed (a.count r e allowed);
+      count = λ e allowed. count-step rules.canon.limit rules.canon.settings key c.trapped c.plain a.half rules.canon.settings.flags.isig refl allowed (a.count e allowed);
     }
 
 same_if : (b : Bool) (n : ℕ) → (if b then n else n) ≡ n
 same_if true n = refl
 same_if false n = refl
 
-empty_left : (xs ys : List ℕ) → xs ++ ys ≡ [] → xs ≡ []
-empty_left [] ys h = refl
-empty_left (x ∷ xs) ys h = absurd (cc)
-
 -- how many bytes are ahead where EDIT begins
-resumed : (rules : Rules) (typed half : List ℕ) (c : Client) (m : Mode) (b : Bool) → rules.resumes ≡ b → m ≡ local_mode rules.canon.settings → typed_half rules.canon typed ≡ half ++ c.held → (rules.resumes ≡ true → (if rules.canon.settings.flags.isig then c.trapped else c.plain) ≡ length half) → (rules.resumes ≡ false → typed_half rules.canon typed ≡ []) → length half ≡ (if b then (if m.trapsig then c.trapped else c.plain) else 0)
-resumed rules typed half c m true is local line count quiet =
-    sym (count is) ∙ ap (λ (n : Mode). if n.trapsig then c.trapped else c.plain) (sym local)
-resumed rules typed half c m false is local line count quiet =
-    ap length (empty_left half c.held (sym line ∙ quiet is))
+resumed : (s : Settings) (half : List ℕ) (c : Client) (m : Mode) → m ≡ local_mode s → (if s.flags.isig then c.trapped else c.plain) ≡ length half → length half ≡ (if m.trapsig then c.trapped else c.plain)
+resumed s half c m local count = sym count ∙ ap (λ (n : Mode). if n.trapsig then c.trapped else c.plain) (sym local)
 
 -- a mode that changes something
-taken-agrees : (rules : Rules) (typed : List ℕ) (taken : List Entry) (v : Server) (c : Client) (m : Mode) (e f : Bool) → c.mask.edit ≡ e → m.edit ≡ f → Agrees rules typed taken v c → IsAskable rules.canon.settings m → (rules.resumes ≡ false → typed_half rules.canon typed ≡ []) → Agrees rules typed taken (read_all rules.canon v (client_with_mode rules c m e f).items) (client_with_mode rules c m e f).client
-taken-agrees rules typed taken v c m true false before after a askable quiet =
+taken-agrees : (rules : Rules) (typed : List ℕ) (taken : List Entry) (v : Server) (c : Client) (m : Mode) (e f : Bool) → c.mask.edit ≡ e → m.edit ≡ f → Agrees rules typed taken v c → IsAskable rules.canon.settings m → Agrees rules typed taken (read_all rules.canon v (client_with_mode rules c m e f).items) (client_with_mode rules c m e f).client
+taken-agrees rules typed taken v c m true false before after a askable =
     record {
       half = a.half ++ c.held;
       waiting = a.waiting;
@@ -152,12 +145,12 @@ taken-agrees rules typed taken v c m true false before after a askable quiet =
       ahead = λ e. absurd (cc);
       none = λ e. refl;
       plain = tt;
-      count = λ r e allowed.
+      count = λ e allowed.
           same_if rules.canon.settings.flags.isig (c.ahead + length c.held)
           ∙ ap (λ n. n + length c.held) (sym (a.ahead before))
           ∙ sym (length-append a.half c.held);
     }
-taken-agrees rules typed taken v c m false true before after a askable quiet =
+taken-agrees rules typed taken v c m false true before after a askable =
     record {
       half = a.half;
       waiting = a.waiting;
@@ -165,12 +158,12 @@ taken-agrees rules typed taken v c m false true before after a askable quiet =
       entries = a.entries;
       line = a.line ∙ ap (λ x. a.half ++ x) (a.none before);
       askable = askable;
-      ahead = λ e. resumed rules typed a.half c m rules.resumes refl (local_of rules.canon.settings m askable after).1 a.line (λ r. a.count r before (local_of rules.canon.settings m askable after).0) quiet;
+      ahead = λ e. let ok = local_of rules.canon.settings m askable after in resumed rules.canon.settings a.half c m ok.1 (a.count before ok.0);
       none = λ e. refl;
       plain = tt;
-      count = λ r e allowed. absurd (cc);
+      count = λ e allowed. absurd (cc);
     }
-taken-agrees rules typed taken v c m true true before after a askable quiet =
+taken-agrees rules typed taken v c m true true before after a askable =
     record {
       half = a.half;
       waiting = a.waiting;
@@ -181,9 +174,9 @@ taken-agrees rules typed taken v c m true true before after a askable quiet =
       ahead = λ e. a.ahead before;
       none = λ e. absurd (cc);
       plain = a.plain;
-      count = λ r e allowed. absurd (cc);
+      count = λ e allowed. absurd (cc);
     }
-taken-agrees rules typed taken v c m false false before after a askable quiet =
+taken-agrees rules typed taken v c m false false before after a askable =
     record {
       half = a.half;
       waiting = a.waiting;
@@ -194,24 +187,19 @@ taken-agrees rules typed taken v c m false false before after a askable quiet =
       ahead = λ e. absurd (cc);
       none = λ e. a.none before;
       plain = a.plain;
-      count = λ r e allowed. a.count r before allowed;
+      count = λ e allowed. a.count before allowed;
     }
 
-mode-agrees : (rules : Rules) (typed : List ℕ) (taken : List Entry) (v : Server) (c : Client) (m : Mode) (b : Bool) → is_same c.mask m ≡ b → Agrees rules typed taken v c → IsAskable rules.canon.settings m → (rules.resumes ≡ false → is_same c.mask m ≡ false → typed_half rules.canon typed ≡ []) → Agrees rules typed taken (read_all rules.canon v (client_after_mode rules c m b).items) (client_after_mode rules c m b).client
-mode-agrees rules typed taken v c m true same a askable quiet = a
-mode-agrees rules typed taken v c m false differs a askable quiet =
-    taken-agrees rules typed taken v c m c.mask.edit m.edit refl refl a askable (λ r. quiet r differs)
+mode-agrees : (rules : Rules) (typed : List ℕ) (taken : List Entry) (v : Server) (c : Client) (m : Mode) (b : Bool) → is_same c.mask m ≡ b → Agrees rules typed taken v c → IsAskable rules.canon.settings m → Agrees rules typed taken (read_all rules.canon v (client_after_mode rules c m b).items) (client_after_mode rules c m b).client
+mode-agrees rules typed taken v c m true same a askable = a
+mode-agrees rules typed taken v c m false differs a askable =
+    taken-agrees rules typed taken v c m c.mask.edit m.edit refl refl a askable
 
 -- the modes of these messages
 abbrev pub IsAskableMessage : Settings → Message → Type 0
 IsAskableMessage s (mode m) = IsAskable s m
 IsAskableMessage s (forward_at f) = Unit
 IsAskableMessage s chatter = Unit
-
-abbrev pub IsCalm : Rules → List ℕ → Client → Message → Type 0
-IsCalm rules typed c (mode m) = is_same c.mask m ≡ false → typed_half rules.canon typed ≡ []
-IsCalm rules typed c (forward_at f) = Unit
-IsCalm rules typed c chatter = Unit
 
 -- an item that has no role and changes no mode
 pub skipped : (rules : Rules) (typed : List ℕ) (taken : List Entry) (v : Server) (c new : Client) (item : Item) → ((e : Bool) (h : List ℕ) (w : List Entry) → read rules.canon (server_at e h w) item ≡ server_at e h (w ++ [])) → new ≡ record c { forward = new.forward } → Agrees rules typed taken v c → Agrees rules typed taken (read rules.canon v item) new
@@ -229,7 +217,7 @@ skipped rules typed taken v c new item silent same a =
       count = a.count;
     })
 
-pub message-agrees : (rules : Rules) (typed : List ℕ) (taken : List Entry) (v : Server) (c : Client) (m : Message) → Agrees rules typed taken v c → IsAskableMessage rules.canon.settings m → (rules.resumes ≡ false → IsCalm rules typed c m) → Agrees rules typed taken (read_all rules.canon v (client_after_message rules c m).items) (client_after_message rules c m).client
-message-agrees rules typed taken v c (mode m) a askable quiet = mode-agrees rules typed taken v c m (is_same c.mask m) refl a askable quiet
-message-agrees rules typed taken v c (forward_at f) a askable quiet = skipped rules typed taken v c (record c { forward = f }) other (λ e h w. refl) refl a
-message-agrees rules typed taken v c chatter a askable quiet = skipped rules typed taken v c c other (λ e h w. refl) refl a
+pub message-agrees : (rules : Rules) (typed : List ℕ) (taken : List Entry) (v : Server) (c : Client) (m : Message) → Agrees rules typed taken v c → IsAskableMessage rules.canon.settings m → Agrees rules typed taken (read_all rules.canon v (client_after_message rules c m).items) (client_after_message rules c m).client
+message-agrees rules typed taken v c (mode m) a askable = mode-agrees rules typed taken v c m (is_same c.mask m) refl a askable
+message-agrees rules typed taken v c (forward_at f) a askable = skipped rules typed taken v c (record c { forward = f }) other (λ e h w. refl) refl a
+message-agrees rules typed taken v c chatter a askable = skipped rules typed taken v c c other (λ e h w. refl) refl a

@@ -1,10 +1,13 @@
 -- What a client end writes, and what that says to a server.
-use Rattle.std.proofs.Common.{◌≡◌, ◌≢◌, ◌⊎◌, inl, inr, ℕ, ◌==◌, Bool, true, false, not, ◌&&◌, Option, Some, None, List, [], ◌∷◌, ◌++◌, refl, sym, ap, ◌∙◌, if◌then◌else◌, subst, arith, append-nil}
+use Rattle.std.proofs.Common.{◌≡◌, ◌≢◌, ◌⊎◌, inl, inr, ℕ, ◌==◌, Bool, true, false, not, ◌&&◌, Option, Some, None, List, [], ◌∷◌, ◌++◌, map, length, nat_le, ◌≤◌, refl, sym, ap, ◌∙◌, if◌then◌else◌, subst, arith, append-nil}
+use Rattle.std.specs.Prelude.{All}
+use Rattle.std.proofs.lemmas.Bool.Decides.{nat_tests}
 use Rattle.std.proofs.lemmas.List.{map-append}
 use Rattle.std.proofs.lemmas.List.Elements.{All-nil, All-cons, All-append}
 use Rattle.tn_codes.specs.Payloads.{parameters_of}
 use Rattle.tn_codes.specs.PayloadOf.{payload_of}
 use Rattle.tn_codes.specs.declared.codes.Verb.{Verb}
+use Rattle.tn_codes.specs.declared.masks.Mask.{Mask}
 use Rattle.tn_codes.specs.declared.payloads.Payload.{Payload}
 use Rattle.tn_codes.specs.declared.payloads.Payload.TheVariants as payload
 use Rattle.tn_codes.proofs.lemmas.Telling.{says}
@@ -20,7 +23,7 @@ use Rattle.tn_option.specs.Options.{Options, options_after_word, reply_to, is_ye
 use Rattle.tn_option.specs.QMethod.{side_of, cause_of}
 use Rattle.tn_option.specs.declared.q_method.Side.TheVariants.{Us}
 use Rattle.tn_option.proofs.lemmas.OptionLaws.{LeavesOthers-moved}
-use Rattle.tn_client.specs.Terms.{linemode, tells_size, payload_at, mode_by, mode_at, chars_by}
+use Rattle.tn_client.specs.Terms.{linemode, tells_size, payload_at, mode_by, mode_at, forward_by, forward_at, chars_by}
 use Rattle.tn_wire.specs.Words.{differ, word_items, payload_items}
 use Rattle.tn_client.specs.Replies.{byte_items, size_items, new_size_items, payload_answers, answer_items}
 use Rattle.tn_world.specs.relation.Machine as machine
@@ -120,8 +123,8 @@ abbrev pub IsChatter : Option Payload → Type 0
 IsChatter None = Unit {0}
 IsChatter (Some (payload.Naws width height)) = Unit {0}
 IsChatter (Some (payload.Mode mask)) = ⊥
-IsChatter (Some (payload.ForwardOn mask)) = Unit {0}
-IsChatter (Some payload.ForwardOff) = Unit {0}
+IsChatter (Some (payload.ForwardOn mask)) = ⊥
+IsChatter (Some payload.ForwardOff) = ⊥
 IsChatter (Some payload.ForwardYes) = Unit {0}
 IsChatter (Some payload.ForwardNo) = Unit {0}
 IsChatter (Some (payload.Slc triples)) = ⊥
@@ -130,8 +133,8 @@ pub chatter-mode : (m : ℕ) (p : Option Payload) → IsChatter p → mode_by m 
 chatter-mode m None i = refl
 chatter-mode m (Some (payload.Naws width height)) i = refl
 chatter-mode m (Some (payload.Mode mask)) i = absurd i
-chatter-mode m (Some (payload.ForwardOn mask)) i = refl
-chatter-mode m (Some payload.ForwardOff) i = refl
+chatter-mode m (Some (payload.ForwardOn mask)) i = absurd i
+chatter-mode m (Some payload.ForwardOff) i = absurd i
 chatter-mode m (Some payload.ForwardYes) i = refl
 chatter-mode m (Some payload.ForwardNo) i = refl
 chatter-mode m (Some (payload.Slc triples)) i = absurd i
@@ -140,8 +143,8 @@ pub chatter-chars : (c : Characters) (p : Option Payload) → IsChatter p → ch
 chatter-chars c None i = refl
 chatter-chars c (Some (payload.Naws width height)) i = refl
 chatter-chars c (Some (payload.Mode mask)) i = absurd i
-chatter-chars c (Some (payload.ForwardOn mask)) i = refl
-chatter-chars c (Some payload.ForwardOff) i = refl
+chatter-chars c (Some (payload.ForwardOn mask)) i = absurd i
+chatter-chars c (Some payload.ForwardOff) i = absurd i
 chatter-chars c (Some payload.ForwardYes) i = refl
 chatter-chars c (Some payload.ForwardNo) i = refl
 chatter-chars c (Some (payload.Slc triples)) i = absurd i
@@ -151,26 +154,44 @@ chatter-heard false p i = refl
 chatter-heard true None i = refl
 chatter-heard true (Some (payload.Naws width height)) i = refl
 chatter-heard true (Some (payload.Mode mask)) i = absurd i
-chatter-heard true (Some (payload.ForwardOn mask)) i = refl
-chatter-heard true (Some payload.ForwardOff) i = refl
+chatter-heard true (Some (payload.ForwardOn mask)) i = absurd i
+chatter-heard true (Some payload.ForwardOff) i = absurd i
 chatter-heard true (Some payload.ForwardYes) i = refl
 chatter-heard true (Some payload.ForwardNo) i = refl
 chatter-heard true (Some (payload.Slc triples)) i = absurd i
 
--- a forward mask is refused, which says nothing of lines
-no-other : (on : Bool) → server_item on (Sub 34 (parameters_of payload.ForwardNo)) ≡ other
-no-other true = refl
-no-other false = refl
+pub chatter-forward : (f : Option Mask) (p : Option Payload) → IsChatter p → forward_by f p ≡ f
+chatter-forward f None i = refl
+chatter-forward f (Some (payload.Naws width height)) i = refl
+chatter-forward f (Some (payload.Mode mask)) i = absurd i
+chatter-forward f (Some (payload.ForwardOn mask)) i = absurd i
+chatter-forward f (Some payload.ForwardOff) i = absurd i
+chatter-forward f (Some payload.ForwardYes) i = refl
+chatter-forward f (Some payload.ForwardNo) i = refl
+chatter-forward f (Some (payload.Slc triples)) i = absurd i
 
-no-writes : (rules : Rules) → SaysItems rules [] (payload_items payload.ForwardNo)
-no-writes rules = writes-hushed rules (payload_items payload.ForwardNo) (writes-one rules (Sub 34 (parameters_of payload.ForwardNo)) other (omega arith) tt (no-other rules.linemode))
+-- a forward mask is taken or dropped, and the answer says nothing of lines
+abbrev pub forward_of : Option Mask → Payload
+forward_of (Some mask) = payload.ForwardOn mask
+forward_of None = payload.ForwardOff
+
+answered-other : (on : Bool) (f : Option Mask) → (m : ℕ) (c : Characters) → All Fits (payload_answers m c (Some (forward_of f))) × All IsCalmToServer (payload_answers m c (Some (forward_of f))) × (map (server_item on) (payload_answers m c (Some (forward_of f))) ≡ other ∷ [])
+answered-other true (Some mask) m c = (All-cons Fits _ [] (omega arith) (All-nil Fits), All-cons IsCalmToServer _ [] tt (All-nil IsCalmToServer), refl)
+answered-other true None m c = (All-cons Fits _ [] (omega arith) (All-nil Fits), All-cons IsCalmToServer _ [] tt (All-nil IsCalmToServer), refl)
+answered-other false (Some mask) m c = (All-cons Fits _ [] (omega arith) (All-nil Fits), All-cons IsCalmToServer _ [] tt (All-nil IsCalmToServer), refl)
+answered-other false None m c = (All-cons Fits _ [] (omega arith) (All-nil Fits), All-cons IsCalmToServer _ [] tt (All-nil IsCalmToServer), refl)
+
+pub forward-answered : (rules : Rules) (f : Option Mask) (m : ℕ) (c : Characters) → SaysItems rules (other ∷ []) (payload_answers m c (Some (forward_of f)))
+forward-answered rules f m c =
+    let a = answered-other rules.linemode f m c in
+    record { fit = a.0; calm = a.1; says_so = λ v. ap (λ (xs : List machine.Item). read_all rules.canon v xs) a.2 }
 
 pub chatter-answered : (rules : Rules) (m : ℕ) (c : Characters) (p : Option Payload) → IsChatter p → SaysItems rules [] (payload_answers m c p)
 chatter-answered rules m c None i = writes-none rules
 chatter-answered rules m c (Some (payload.Naws width height)) i = writes-none rules
 chatter-answered rules m c (Some (payload.Mode mask)) i = absurd i
-chatter-answered rules m c (Some (payload.ForwardOn mask)) i = no-writes rules
-chatter-answered rules m c (Some payload.ForwardOff) i = no-writes rules
+chatter-answered rules m c (Some (payload.ForwardOn mask)) i = absurd i
+chatter-answered rules m c (Some payload.ForwardOff) i = absurd i
 chatter-answered rules m c (Some payload.ForwardYes) i = writes-none rules
 chatter-answered rules m c (Some payload.ForwardNo) i = writes-none rules
 chatter-answered rules m c (Some (payload.Slc triples)) i = absurd i
@@ -179,19 +200,23 @@ pub chatter-if : (b : Bool) (p : Option Payload) → IsChatter p → IsChatter (
 chatter-if true p i = i
 chatter-if false p i = tt
 
--- a calm payload is such a one, or a mode that is asked for
+-- a calm payload is such a one, or a forward mask, or a mode that is asked for
+pub record Forwards (p : Option Payload) : Type 0 where
+  pub mask : Option Mask
+  pub is : p ≡ Some (forward_of mask)
+
 pub record Asks (s : Settings) (p : Option Payload) : Type 0 where
   pub mask : ℕ
   pub is : p ≡ Some (payload.Mode mask)
   pub plain : is_acknowledged mask ≡ false
   pub askable : IsAskable s (bits mask)
 
-pub calm-kinds : (s : Settings) (p : Option Payload) → AsksCalmly s p → IsChatter p ⊎ Asks s p
+pub calm-kinds : (s : Settings) (p : Option Payload) → AsksCalmly s p → IsChatter p ⊎ (Forwards p ⊎ Asks s p)
 calm-kinds s None a = inl tt
 calm-kinds s (Some (payload.Naws width height)) a = inl tt
-calm-kinds s (Some (payload.Mode mask)) a = inr (record { mask = mask; is = refl; plain = a.0; askable = a.1 })
-calm-kinds s (Some (payload.ForwardOn mask)) a = inl tt
-calm-kinds s (Some payload.ForwardOff) a = inl tt
+calm-kinds s (Some (payload.Mode mask)) a = inr (inr (record { mask = mask; is = refl; plain = a.0; askable = a.1 }))
+calm-kinds s (Some (payload.ForwardOn mask)) a = inr (inl (record { mask = Some mask; is = refl }))
+calm-kinds s (Some payload.ForwardOff) a = inr (inl (record { mask = None; is = refl }))
 calm-kinds s (Some payload.ForwardYes) a = inl tt
 calm-kinds s (Some payload.ForwardNo) a = inl tt
 calm-kinds s (Some (payload.Slc triples)) a = absurd a
@@ -205,3 +230,43 @@ said-mode o option params mask e =
     by_test : (b : Bool) → (if b && true then Some (payload.Mode mask) else None) ≡ (if b then Some (payload.Mode mask) else None)
     by_test true = refl
     by_test false = refl
+
+-- the same of a forward mask
+short_params : (n : ℕ) → n ≤ 512 → nat_le n 512 ≡ true
+short_params n h = grind (arith, nat_tests)
+
+said-on : (o : Options) (option : ℕ) (params : List ℕ) (mask : Mask) → payload_of option params ≡ Some (payload.ForwardOn mask) → payload_at o (Sub option params) ≡ (if linemode o then Some (payload.ForwardOn mask) else None)
+said-on o option params mask e =
+    let told = says option params (payload.ForwardOn mask) e in
+    let octets = told.1.0 in
+    let long : nat_le (length params) 512 ≡ true = short_params (length params) (omega (arith, ap length told.1.1, told.1.2)) in
+    ap (λ (p : Option Payload). if ((option == 34) && linemode o) && nat_le (length params) 512 then p else None) e
+    ∙ ap (λ (b : Bool). if ((option == 34) && linemode o) && b then Some (payload.ForwardOn mask) else None) long
+    ∙ ap (λ (n : ℕ). if ((n == 34) && linemode o) && true then Some (payload.ForwardOn mask) else None) told.0
+    ∙ by_test (linemode o)
+  where
+    by_test : (b : Bool) → (if b && true then Some (payload.ForwardOn mask) else None) ≡ (if b then Some (payload.ForwardOn mask) else None)
+    by_test true = refl
+    by_test false = refl
+
+said-off : (o : Options) (option : ℕ) (params : List ℕ) → payload_of option params ≡ Some payload.ForwardOff → payload_at o (Sub option params) ≡ (if linemode o then Some payload.ForwardOff else None)
+said-off o option params e =
+    let told = says option params payload.ForwardOff e in
+    ap (λ (n : ℕ). payload_at o (Sub n params)) told.0 ∙ ap (λ (xs : List ℕ). payload_at o (Sub 34 xs)) told.1 ∙ by_test (linemode o)
+  where
+    by_test : (b : Bool) → (if b && true then Some payload.ForwardOff else None) ≡ (if b then Some payload.ForwardOff else None)
+    by_test true = refl
+    by_test false = refl
+
+pub said-forward : (o : Options) (option : ℕ) (params : List ℕ) (f : Option Mask) → payload_of option params ≡ Some (forward_of f) → payload_at o (Sub option params) ≡ (if linemode o then Some (forward_of f) else None)
+said-forward o option params (Some mask) e = said-on o option params mask e
+said-forward o option params None e = said-off o option params e
+
+pub word-forward : (o : Options) (f : Option Mask) (verb : Verb) (code : ℕ) → (code == 34) ≡ false → forward_at o f (Neg verb code) ≡ f
+word-forward o f verb code e = same_or_dropped (linemode o) (linemode (options_after_word o verb code)) (word-keeps o verb code e)
+  where
+    same_or_dropped : (was on : Bool) → on ≡ was → (if differ was on then None else f) ≡ f
+    same_or_dropped true true e = refl
+    same_or_dropped true false e = cc
+    same_or_dropped false true e = cc
+    same_or_dropped false false e = refl

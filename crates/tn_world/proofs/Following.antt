@@ -10,15 +10,15 @@ use Rattle.tn_nvt.specs.declared.items.Item.{Item}
 use Rattle.tn_server.specs.Events as server_calls
 use Rattle.tn_client.specs.Events as client_calls
 use Rattle.tn_world.specs.Past.{HasPast}
-use Rattle.tn_world.specs.Headline.{IsBetweenLines, RunsQuietly, DeliversModesWhere, IsQuietEvent, PassesQuietly, NoneFailed}
+use Rattle.tn_world.specs.Headline.{RunsQuietly, IsQuietEvent, PassesQuietly, NoneFailed}
 use Rattle.tn_world.specs.relation.Calm.{IsCalmToServer, IsCalmToClient}
 use Rattle.tn_world.specs.relation.Ends as ends
-use Rattle.tn_world.specs.relation.Ends.{AreReplies, ServerFeeds, ServerSays, TakesFirst, SaysItems, ClientKeys, client_after_messages, ClientFeeds, ClientSays, AreBetweenLines, server_items, client_messages, Happens}
+use Rattle.tn_world.specs.relation.Ends.{AreReplies, ServerFeeds, ServerSays, TakesFirst, SaysItems, ClientKeys, client_after_messages, ClientFeeds, ClientSays, server_items, client_messages, Happens}
 use Rattle.tn_world.specs.Flight.{InFlight}
 use Rattle.tn_world.specs.relation.Pictures.{server_core, server_picture, client_picture, ServerStays, ClientStays}
 use Rattle.tn_world.specs.Worlds.{World, UnlessStopped, TypesKey, CallsClient, DeliversToServer, DeliversToClient, CallsServer, Pulls, TakesEntry, RunsEvent, Refuses}
 use Rattle.tn_world.specs.declared.events.Event.{Event}
-use Rattle.tn_world.specs.declared.events.Event.TheVariants.{Key, ToServer, ToClient, Write, Pull, Take, Wish, Resize, SetChar, Propose, Echo, ServerStops, ClientStops}
+use Rattle.tn_world.specs.declared.events.Event.TheVariants.{Key, ToServer, ToClient, Write, Pull, Take, Wish, Resize, SetChar, Propose, Echo, Mask, ServerStops, ClientStops}
 use Rattle.tn_world.specs.declared.faults.Cause.{Cause}
 use Rattle.tn_world.proofs.ClientSteps as client_steps
 use Rattle.tn_world.proofs.ServerSteps as server_steps
@@ -34,6 +34,7 @@ calls (server_calls.wrote bytes) p = tt
 calls (server_calls.pulled n) p = tt
 calls (server_calls.wished editing) p = tt
 calls (server_calls.echo_set on) p = tt
+calls (server_calls.mask_set mask) p = tt
 calls (server_calls.got item) p = absurd (p)
 calls server_calls.took p = absurd (p)
 calls (server_calls.char_set func value) p = absurd (p)
@@ -58,16 +59,14 @@ holds_types : (s : Canon) (old new : World) (key : ℕ) → NoneFailed old → H
 holds_types s old new key none sound t h =
     let rules = rules_of s h.linemode in
     let c = (h.past.told none.1).1 in
-    let k = client_steps.keys_done rules c.history old.client new.client key h.trapped h.plain old.to_server new.to_server c.stands h.client h.tied.agrees.askable none.1 t.goes t.keeps t.sends in
+    let k = client_steps.keys_done rules c.history old.client new.client key old.to_server new.to_server c.stands h.client h.tied.agrees.askable none.1 t.goes t.keeps t.sends in
     record {
       linemode = h.linemode;
-      trapped = k.0;
-      plain = k.1;
-      tied = happens-tied rules (picture old h.trapped h.plain) (picture new k.0 k.1) (ends.key key) (λ r. tt) (
-        client_picture new.client k.0 k.1,
+      tied = happens-tied rules (picture old) (picture new) (ends.key key) (
+        client_picture new.client,
         t.sends.said,
-        k.2,
-        ap (λ w. picture w k.0 k.1) t.rest ∙ ap (λ x. record (picture old h.trapped h.plain) { typed = old.typed ++ key ∷ []; client = client_picture new.client k.0 k.1; to_server = x }) t.sends.appended,
+        k,
+        ap picture t.rest ∙ ap (λ x. record (picture old) { typed = old.typed ++ key ∷ []; client = client_picture new.client; to_server = x }) t.sends.appended,
       ) h.tied;
       server = subst (λ (w : World). ServerStays rules w.server) (sym t.rest) h.server;
       client = client_steps.keys_stay rules c.history old.client new.client key c.stands h.client t.goes;
@@ -81,13 +80,11 @@ holds_resizes s old new width height none sound t h =
     let c = (h.past.told none.1).1 in
     record {
       linemode = h.linemode;
-      trapped = h.trapped;
-      plain = h.plain;
-      tied = happens-tied rules (picture old h.trapped h.plain) (picture new h.trapped h.plain) ends.client_call (λ r. tt) (
-        client_picture new.client h.trapped h.plain,
+      tied = happens-tied rules (picture old) (picture new) ends.client_call (
+        client_picture new.client,
         t.sends.said,
-        client_steps.resized_done rules c.history old.client new.client width height h.trapped h.plain old.to_server new.to_server c.stands none.1 t.goes t.keeps t.sends,
-        ap (λ w. picture w h.trapped h.plain) t.rest ∙ ap (λ x. record (picture old h.trapped h.plain) { client = client_picture new.client h.trapped h.plain; to_server = x }) t.sends.appended,
+        client_steps.resized_done rules c.history old.client new.client width height old.to_server new.to_server c.stands none.1 t.goes t.keeps t.sends,
+        ap picture t.rest ∙ ap (λ x. record (picture old) { client = client_picture new.client; to_server = x }) t.sends.appended,
       ) h.tied;
       server = subst (λ (w : World). ServerStays rules w.server) (sym t.rest) h.server;
       client = client_steps.resized_stays rules c.history old.client new.client width height c.stands h.client t.goes;
@@ -100,9 +97,7 @@ holds_asks s old new e plain sound t h =
     let rules = rules_of s h.linemode in
     record {
       linemode = h.linemode;
-      trapped = h.trapped;
-      plain = h.plain;
-      tied = happens-tied rules (picture old h.trapped h.plain) (picture new h.trapped h.plain) ends.server_call (λ r. tt) (
+      tied = happens-tied rules (picture old) (picture new) ends.server_call (
         server_picture new.server,
         t.goes.said,
         record {
@@ -110,7 +105,7 @@ holds_asks s old new e plain sound t h =
               ∙ ap (λ c. record { decoder = old.server.decoder; core = c }) (server_steps.says_core h.past.history old.server new.server e old.to_client new.to_client plain h.past.server t.goes t.keeps);
           replies = server_steps.says_replies rules h.past.history old.server new.server e old.to_client new.to_client (calls e plain) h.past.server h.server t.goes;
         },
-        ap (λ w. picture w h.trapped h.plain) t.rest ∙ ap (λ x. record (picture old h.trapped h.plain) { server = server_picture new.server; to_client = x }) t.goes.appended,
+        ap picture t.rest ∙ ap (λ x. record (picture old) { server = server_picture new.server; to_client = x }) t.goes.appended,
       ) h.tied;
       server = server_steps.says_stays rules h.past.history old.server new.server e old.to_client new.to_client (calls e plain) h.past.server h.server t.goes;
       client = subst (λ (w : World). ClientStays rules w.client) (sym t.rest) h.client;
@@ -123,15 +118,13 @@ holds_takes s old new sound t h =
     let rules = rules_of s h.linemode in
     record {
       linemode = h.linemode;
-      trapped = h.trapped;
-      plain = h.plain;
-      tied = happens-tied rules (picture old h.trapped h.plain) (picture new h.trapped h.plain) ends.take_entry (λ r. tt) (
+      tied = happens-tied rules (picture old) (picture new) ends.take_entry (
         server_picture new.server,
         t.goes.said,
         option_to_list t.entry,
         server_steps.took_core h.past.history old.server new.server old.to_client new.to_client t.entry h.past.server t.goes t.keeps (t.is_first h.past.history h.past.server),
         server_steps.says_replies rules h.past.history old.server new.server server_calls.took old.to_client new.to_client tt h.past.server h.server t.goes,
-        ap (λ w. picture w h.trapped h.plain) t.rest ∙ ap (λ x. record (picture old h.trapped h.plain) { taken = old.taken ++ option_to_list t.entry; server = server_picture new.server; to_client = x }) t.goes.appended,
+        ap picture t.rest ∙ ap (λ x. record (picture old) { taken = old.taken ++ option_to_list t.entry; server = server_picture new.server; to_client = x }) t.goes.appended,
       ) h.tied;
       server = server_steps.says_stays rules h.past.history old.server new.server server_calls.took old.to_client new.to_client tt h.past.server h.server t.goes;
       client = subst (λ (w : World). ClientStays rules w.client) (sym t.rest) h.client;
@@ -148,9 +141,7 @@ holds_reaches s old new n none sound t h =
     let calm = (all_parts IsCalmToServer t.feeds.items d.left (subst (λ l. All IsCalmToServer l) d.all h.tied.calm)).0 in
     record {
       linemode = h.linemode;
-      trapped = h.trapped;
-      plain = h.plain;
-      tied = happens-tied rules (picture old h.trapped h.plain) (picture new h.trapped h.plain) (ends.to_server n) (λ r. tt) (
+      tied = happens-tied rules (picture old) (picture new) (ends.to_server n) (
         server_picture new.server,
         t.feeds.said,
         record {
@@ -159,43 +150,32 @@ holds_reaches s old new n none sound t h =
           core = server_steps.feeds_core rules h.past.history old.server new.server (take n old.to_server) old.to_client new.to_client h.past.server h.server none.0 t.feeds fit calm;
           replies = server_steps.feeds_replies rules h.past.history old.server new.server (take n old.to_server) old.to_client new.to_client h.past.server h.server none.0 t.feeds fit calm;
         },
-        ap (λ w. picture w h.trapped h.plain) t.rest ∙ ap (λ x. record (picture old h.trapped h.plain) { server = server_picture new.server; to_server = drop n old.to_server; to_client = x }) t.feeds.appended,
+        ap picture t.rest ∙ ap (λ x. record (picture old) { server = server_picture new.server; to_server = drop n old.to_server; to_client = x }) t.feeds.appended,
       ) h.tied;
       server = server_steps.feeds_stays rules h.past.history old.server new.server (take n old.to_server) old.to_client new.to_client h.past.server h.server none.0 t.feeds fit calm;
       client = subst (λ (w : World). ClientStays rules w.client) (sym t.rest) h.client;
       past = sound;
     }
 
--- what a quiet delivery is to the relation
-quiet_there : (s : Canon) (old : World) (n : ℕ) → NoneFailed old → (h : IsRelated s old) → DeliversModesWhere (IsBetweenLines s) old n → ends.IsQuietEvent (rules_of s h.linemode) (picture old h.trapped h.plain) (ends.to_client n)
-quiet_there s old n none h quiet = λ got next gains.
-    let rules = rules_of s h.linemode in
-    let c = (h.past.told none.1).1 in
-    let d = cut_at old.client.decoder next n old.to_client h.tied.messages got h.tied.back gains in
-    let calm = (all_parts (IsCalmToClient s.settings) got d.left (subst (λ l. All (IsCalmToClient s.settings) l) d.all h.tied.asked)).0 in
-    client_steps.feeds_quiet rules c.history old.client old.typed h.trapped h.plain got refl c.stands h.client none.1 calm (quiet got next gains)
-
 -- a delivery to the client
-holds_returns : (s : Canon) (old new : World) (n : ℕ) → NoneFailed old → HasPast new → DeliversModesWhere (IsBetweenLines s) old n → DeliversToClient old n new → IsRelated s old → IsRelated s new
-holds_returns s old new n none sound quiet t h =
+holds_returns : (s : Canon) (old new : World) (n : ℕ) → NoneFailed old → HasPast new → DeliversToClient old n new → IsRelated s old → IsRelated s new
+holds_returns s old new n none sound t h =
     let rules = rules_of s h.linemode in
     let c = (h.past.told none.1).1 in
     let gains = t.feeds.reads in
     let d = cut_at old.client.decoder new.client.decoder n old.to_client h.tied.messages t.feeds.items h.tied.back gains in
     let calm = (all_parts (IsCalmToClient s.settings) t.feeds.items d.left (subst (λ l. All (IsCalmToClient s.settings) l) d.all h.tied.asked)).0 in
-    let k = client_steps.feeds_done rules c.history old.client new.client h.trapped h.plain (take n old.to_client) old.to_server new.to_server old.shown new.shown refl c.stands h.client none.1 t.feeds calm in
+    let k = client_steps.feeds_done rules c.history old.client new.client (take n old.to_client) old.to_server new.to_server old.shown new.shown c.stands h.client none.1 t.feeds calm in
     record {
       linemode = h.linemode;
-      trapped = k.0;
-      plain = k.1;
-      tied = happens-tied rules (picture old h.trapped h.plain) (picture new k.0 k.1) (ends.to_client n) (λ r. quiet_there s old n none h quiet) (
-        client_picture new.client k.0 k.1,
+      tied = happens-tied rules (picture old) (picture new) (ends.to_client n) (
+        client_picture new.client,
         t.feeds.said,
-        record { got = t.feeds.items; reads = gains; core = k.2; writes = k.3 },
-        ap (λ w. picture w k.0 k.1) t.rest ∙ ap (λ x. record (picture old h.trapped h.plain) { client = client_picture new.client k.0 k.1; to_client = drop n old.to_client; to_server = x }) t.feeds.appended,
+        record { got = t.feeds.items; reads = gains; core = k.0; writes = k.1 },
+        ap picture t.rest ∙ ap (λ x. record (picture old) { client = client_picture new.client; to_client = drop n old.to_client; to_server = x }) t.feeds.appended,
       ) h.tied;
       server = subst (λ (w : World). ServerStays rules w.server) (sym t.rest) h.server;
-      client = client_steps.feeds_stay rules c.history old.client new.client (take n old.to_client) old.to_server new.to_server old.shown new.shown refl c.stands h.client t.feeds calm;
+      client = client_steps.feeds_stay rules c.history old.client new.client (take n old.to_client) old.to_server new.to_server old.shown new.shown c.stands h.client t.feeds calm;
       past = sound;
     }
 
@@ -206,29 +186,22 @@ unless : (s : Canon) (stopped : Bool) (old new : World) (happens : Type 0) → (
 unless s true old new happens done is h = holds_as s old new is h
 unless s false old new happens done is h = done is h
 
--- a delivery to a client that may have been stopped
-holds_delivered : (s : Canon) (old new : World) (n : ℕ) (stopped : Bool) → old.client_stopped ≡ stopped → NoneFailed old → HasPast new → IsQuietEvent (IsBetweenLines s) old (ToClient n) → UnlessStopped stopped old new (DeliversToClient old n new) → IsRelated s old → IsRelated s new
-holds_delivered s old new n true stopped none sound quiet is h = holds_as s old new is h
-holds_delivered s old new n false goes none sound quiet t h = holds_returns s old new n none sound (quiet goes none.1) t h
-
 -- an end that stops changes nothing of it
 holds_stops : (s : Canon) (old new : World) (a b : Bool) → new ≡ record old { server_stopped = a; client_stopped = b } → HasPast new → IsRelated s old → IsRelated s new
 holds_stops s old new a b is sound h =
     record {
       linemode = h.linemode;
-      trapped = h.trapped;
-      plain = h.plain;
-      tied = subst (λ w. IsTied (rules_of s h.linemode) (picture w h.trapped h.plain)) (sym is) h.tied;
+      tied = subst (λ w. IsTied (rules_of s h.linemode) (picture w)) (sym is) h.tied;
       server = subst (λ (w : World). ServerStays (rules_of s h.linemode) w.server) (sym is) h.server;
       client = subst (λ (w : World). ClientStays (rules_of s h.linemode) w.client) (sym is) h.client;
       past = sound;
     }
 
 -- an event that is done
-pub holds_does : (s : Canon) (old new : World) (e : Event) → NoneFailed old → HasPast new → IsQuietEvent (IsBetweenLines s) old e → RunsEvent old e new → IsRelated s old → IsRelated s new
+pub holds_does : (s : Canon) (old new : World) (e : Event) → NoneFailed old → HasPast new → IsQuietEvent e → RunsEvent old e new → IsRelated s old → IsRelated s new
 holds_does s old new (Key key) none sound quiet d h = unless s old.client_stopped old new (TypesKey old key new) (holds_types s old new key none sound) d h
 holds_does s old new (ToServer n) none sound quiet d h = unless s old.server_stopped old new (DeliversToServer old n new) (holds_reaches s old new n none sound) d h
-holds_does s old new (ToClient n) none sound quiet d h = holds_delivered s old new n old.client_stopped refl none sound quiet d h
+holds_does s old new (ToClient n) none sound quiet d h = unless s old.client_stopped old new (DeliversToClient old n new) (holds_returns s old new n none sound) d h
 holds_does s old new (Write bytes) none sound quiet d h = unless s old.server_stopped old new (CallsServer old (server_calls.wrote bytes) new) (holds_asks s old new (server_calls.wrote bytes) tt sound) d h
 holds_does s old new (Pull n) none sound quiet d h =
     unless s old.server_stopped old new (Pulls old n new) (λ p. holds_asks s old new (server_calls.pulled p.count) tt sound p.asks) d h
@@ -239,6 +212,7 @@ holds_does s old new (Resize width height) none sound quiet d h =
 holds_does s old new (SetChar func value) none sound quiet d h = absurd (quiet)
 holds_does s old new (Propose func value) none sound quiet d h = absurd (quiet)
 holds_does s old new (Echo on) none sound quiet d h = unless s old.server_stopped old new (CallsServer old (server_calls.echo_set on) new) (holds_asks s old new (server_calls.echo_set on) tt sound) d h
+holds_does s old new (Mask mask) none sound quiet d h = unless s old.server_stopped old new (CallsServer old (server_calls.mask_set mask) new) (holds_asks s old new (server_calls.mask_set mask) tt sound) d h
 holds_does s old new ServerStops none sound quiet d h = holds_stops s old new true old.client_stopped d sound h
 holds_does s old new ClientStops none sound quiet d h = holds_stops s old new old.server_stopped true d sound h
 
@@ -271,6 +245,7 @@ does_keeps old new (Resize width height) d = unless_keeps old.client_stopped old
 does_keeps old new (SetChar func value) d = unless_keeps old.server_stopped old new (CallsServer old (server_calls.char_set func value) new) (asks_keeps old new (server_calls.char_set func value)) d
 does_keeps old new (Propose func value) d = unless_keeps old.client_stopped old new (CallsClient old (client_calls.proposed func value) new) (tells_keeps old new (client_calls.proposed func value)) d
 does_keeps old new (Echo on) d = unless_keeps old.server_stopped old new (CallsServer old (server_calls.echo_set on) new) (asks_keeps old new (server_calls.echo_set on)) d
+does_keeps old new (Mask mask) d = unless_keeps old.server_stopped old new (CallsServer old (server_calls.mask_set mask) new) (asks_keeps old new (server_calls.mask_set mask)) d
 does_keeps old new ServerStops d = (ap (λ (w : World). w.server.failed) d, ap (λ (w : World). w.client.failed) d)
 does_keeps old new ClientStops d = (ap (λ (w : World). w.server.failed) d, ap (λ (w : World). w.client.failed) d)
 
@@ -286,19 +261,19 @@ unrefused old new e (by_client n fault is r) none = opposite new.client.failed (
 refused_same : (old new : World) (e : Event) (c : Cause) → Refuses old e c new → NoneFailed new → new ≡ old
 refused_same old new e c r none = unrefused old new e (refusal_of old new e c r) none
 
-occurs_ran : (may : List ℕ → Type 0) (old new : World) (e : Event) → RunsQuietly may old e new → NoneFailed new → NoneFailed old
-occurs_ran may old new e (inl d) none = both_ran old new (does_keeps old new e d.1) none
-occurs_ran may old new e (inr r) none = both_ran old new (as_before old new (refused_same old new e r.0 r.1 none)) none
+occurs_ran : (old new : World) (e : Event) → RunsQuietly old e new → NoneFailed new → NoneFailed old
+occurs_ran old new e (inl d) none = both_ran old new (does_keeps old new e d.1) none
+occurs_ran old new e (inr r) none = both_ran old new (as_before old new (refused_same old new e r.0 r.1 none)) none
 
-pub passes_ran : (may : List ℕ → Type 0) (old new : World) (events : List Event) → PassesQuietly may old events new → NoneFailed new → NoneFailed old
-passes_ran may old new [] p none = both_ran old new (as_before old new p) none
-passes_ran may old new (e ∷ events) p none = occurs_ran may old p.0 e p.1 (passes_ran may p.0 new events p.2 none)
+pub passes_ran : (old new : World) (events : List Event) → PassesQuietly old events new → NoneFailed new → NoneFailed old
+passes_ran old new [] p none = both_ran old new (as_before old new p) none
+passes_ran old new (e ∷ events) p none = occurs_ran old p.0 e p.1 (passes_ran p.0 new events p.2 none)
 
-holds_occurs : (s : Canon) (old new : World) (e : Event) → NoneFailed new → RunsQuietly (IsBetweenLines s) old e new → IsRelated s old → IsRelated s new
+holds_occurs : (s : Canon) (old new : World) (e : Event) → NoneFailed new → RunsQuietly old e new → IsRelated s old → IsRelated s new
 holds_occurs s old new e none (inl d) h = holds_does s old new e (both_ran old new (does_keeps old new e d.1) none) (sound_does old new e d.1 h.past) d.0 d.1 h
 holds_occurs s old new e none (inr r) h = holds_as s old new (refused_same old new e r.0 r.1 none) h
 
-pub holds_passes : (s : Canon) (old new : World) (events : List Event) → NoneFailed new → PassesQuietly (IsBetweenLines s) old events new → IsRelated s old → IsRelated s new
+pub holds_passes : (s : Canon) (old new : World) (events : List Event) → NoneFailed new → PassesQuietly old events new → IsRelated s old → IsRelated s new
 holds_passes s old new [] none p h = holds_as s old new p h
 holds_passes s old new (e ∷ events) none p h =
-    holds_passes s p.0 new events none p.2 (holds_occurs s old p.0 e (passes_ran (IsBetweenLines s) p.0 new events p.2 none) p.1 h)
+    holds_passes s p.0 new events none p.2 (holds_occurs s old p.0 e (passes_ran p.0 new events p.2 none) p.1 h)

@@ -14,6 +14,5 @@ pub mod ServerItems
 pub mod ServerSteps
 pub mod Showing
 pub mod Soundness
-pub mod Staying
 pub mod Tied
 pub mod Typing

@@ -7,11 +7,12 @@ use Rattle.tn_discipline.specs.Canon.{Canon}
 use Rattle.tn_discipline.specs.declared.termios.Settings.{Settings}
 use Rattle.tn_linemode.specs.Modes.{Modes, edits, mode_of}
 use Rattle.tn_option.specs.Options.{is_yes}
-use Rattle.tn_server.specs.Events.{History, begun, next, got, took, wrote, pulled, wished, char_set, echo_set}
+use Rattle.tn_server.specs.Events.{History, begun, next, got, took, wrote, pulled, wished, char_set, echo_set, mask_set}
 use Rattle.tn_server.specs.Terms as terms
 use Rattle.tn_server.specs.Terms.{mask_for, wish_after, asked_mask_while, allows_local}
 use Rattle.tn_server.specs.declared.wishes.Editing.{Editing}
 use Rattle.tn_server.specs.declared.wishes.Editing.TheVariants.{Remote, Local}
+use Rattle.tn_client.specs.Lines.{is_forward}
 use Rattle.tn_client.specs.Terms as client_terms
 use Rattle.tn_world.specs.Headline.{IsMark, AgreeOnLinemode}
 use Rattle.tn_world.specs.relation.Calm.{bits, IsCalmToServer, IsCalmToClient}
@@ -46,6 +47,7 @@ wish_allowed (next h (pulled n)) = wish_allowed h
 wish_allowed (next h (wished editing)) = allowed_after (terms.flags h) (terms.terms h).wish (Some editing) (wish_allowed h)
 wish_allowed (next h (char_set func value)) = wish_allowed h
 wish_allowed (next h (echo_set on)) = wish_allowed h
+wish_allowed (next h (mask_set mask)) = wish_allowed h
 
 local_askable : (s : Settings) (isig allows : Bool) (wish : ℕ) → s.flags.isig ≡ isig → allows_local s.flags ≡ allows → (if allows then Some (if isig then 3 else 1) else None) ≡ Some wish → IsAskable s (bits (mode_of wish))
 local_askable s true true wish a b e = inr (b, subst (λ (n : ℕ). bits (mode_of n) ≡ record { edit = true; trapsig = s.flags.isig }) (some_is 3 wish e) (ap (λ t. record { edit = true; trapsig = t }) (sym a)))
@@ -87,18 +89,20 @@ core_is e f b half entries p q r t =
     ∙ ap (λ x. record { edit = f; half = []; waiting = x; failed = b }) r
     ∙ ap (λ x. record { edit = f; half = []; waiting = []; failed = x }) t
 
-mark_agrees : (s : Canon) (linemode : Bool) (w : World) → IsMark s w → Agrees (rules_of s linemode) w.typed w.taken (server_core w.server) (picture w 0 0).client.core
+mark_agrees : (s : Canon) (linemode : Bool) (w : World) → IsMark s w → Agrees (rules_of s linemode) w.typed w.taken (server_core w.server) (picture w).client.core
 mark_agrees s linemode w m =
     let rules = rules_of s linemode in
-    let c = (picture w 0 0).client.core in
+    let c = (picture w).client.core in
     let settled = m.settled in
     subst (λ x. Agrees rules x w.taken (server_core w.server) c) (sym m.typed)
     (subst (λ x. Agrees rules [] x (server_core w.server) c) (sym m.taken)
     (subst (λ x. Agrees rules [] [] x c) (sym (core_is (edits w.server.modes.current) (edits w.client.mode) w.server.failed w.server.terminal.line.held w.server.terminal.entries (ap edits settled.agreed.mask.1) settled.empty.half settled.empty.waiting settled.idle.server_failed))
     (subst (λ (x : List ℕ). Agrees rules [] [] (server_at (edits w.client.mode) [] []) (record c { held = x })) (sym settled.empty.held)
     (subst (λ (x : ℕ). Agrees rules [] [] (server_at (edits w.client.mode) [] []) (record c { held = []; ahead = x })) (sym settled.empty.ahead)
-    (subst (λ (x : Bool). Agrees rules [] [] (server_at (edits w.client.mode) [] []) (record c { held = []; ahead = 0; failed = x })) (sym settled.idle.client_failed)
-    (rest-agrees rules (bits w.client.mode) (λ b. false) (mark_askable s w m)))))))
+    (subst (λ (x : ℕ). Agrees rules [] [] (server_at (edits w.client.mode) [] []) (record c { held = []; ahead = 0; trapped = x })) (sym settled.empty.counts.0)
+    (subst (λ (x : ℕ). Agrees rules [] [] (server_at (edits w.client.mode) [] []) (record c { held = []; ahead = 0; trapped = 0; plain = x })) (sym settled.empty.counts.1)
+    (subst (λ (x : Bool). Agrees rules [] [] (server_at (edits w.client.mode) [] []) (record c { held = []; ahead = 0; trapped = 0; plain = 0; failed = x })) (sym settled.idle.client_failed)
+    (rest-agrees rules (bits w.client.mode) (is_forward w.client.forward) (mark_askable s w m)))))))))
 
 pub mark_holds : (s : Canon) (w : World) → IsMark s w → IsRelated s w
 mark_holds s w m =
@@ -113,8 +117,6 @@ mark_holds s w m =
     let silent : back.0 ≡ [] = no_items w.client.decoder back.0 (subst (λ x. InFlight w.client.decoder x back.0) m.settled.idle.to_client back.1) in
     record {
       linemode = lm;
-      trapped = 0;
-      plain = 0;
       tied = record {
         items = [];
         flight = subst (λ x. InFlight w.server.decoder w.to_server x) none there.1;

@@ -6,14 +6,10 @@ use Rattle.std.proofs.lemmas.List.{take_more, take_all, take-append-drop, length
 use Rattle.tn_discipline.specs.declared.reads.Entry.{Entry}
 use Rattle.tn_discipline.specs.Canon.{Canon}
 use Rattle.tn_world.specs.Past.{HasPast}
-use Rattle.tn_world.specs.Headline.{IsPrefixOf, local_entries, IsBetweenLines, Nowhere, RunsQuietly, PassesQuietly, IsQuietEvent, AreQuiet, IsQuiet, IsMark, FollowsMark, NoneFailed, NothingInFlight, ChangeModeWhere, IsSettled, entries_made, Headline}
+use Rattle.tn_world.specs.Headline.{IsPrefixOf, local_entries, PassesQuietly, IsQuiet, AreQuietEvents, IsMark, FollowsMark, NoneFailed, NothingInFlight, IsSettled, entries_made, Headline}
 use Rattle.tn_world.specs.Opened.{with_new_lists}
 use Rattle.tn_world.specs.Worlds.{World, RunsEvent, Refuses, Runs, StopsWithin, canon_of}
-use Rattle.tn_nvt.specs.declared.items.Item.{Item}
-use Rattle.tn_option.specs.Options.{Options}
-use Rattle.tn_client.specs.Terms.{options_after, mode_at}
 use Rattle.tn_world.specs.declared.events.Event.{Event}
-use Rattle.tn_world.specs.declared.events.Event.TheVariants.{Key, ToServer, ToClient, Write, Pull, Take, Wish, Resize, SetChar, Propose, Echo, ServerStops, ClientStops}
 use Rattle.tn_world.specs.declared.faults.Cause.{Cause}
 use Rattle.tn_world.proofs.Following.{holds_passes}
 use Rattle.tn_world.proofs.Marking.{mark_holds}
@@ -21,15 +17,15 @@ use Rattle.tn_world.proofs.Tied.{tied-prefix, tied-complete}
 use Rattle.tn_world.specs.relation.Relation.{picture, rules_of}
 
 -- the headline
-pub passes_prefix : (s : Canon) (start new : World) (events : List Event) → IsMark s start → PassesQuietly (IsBetweenLines s) start events new → NoneFailed new → IsPrefixOf (entries_made new) (local_entries s new.typed)
+pub passes_prefix : (s : Canon) (start new : World) (events : List Event) → IsMark s start → PassesQuietly start events new → NoneFailed new → IsPrefixOf (entries_made new) (local_entries s new.typed)
 passes_prefix s start new events m p none =
     let h = holds_passes s start new events none p (mark_holds s start m) in
-    tied-prefix (rules_of s h.linemode) (picture new h.trapped h.plain) h.tied
+    tied-prefix (rules_of s h.linemode) (picture new) h.tied
 
-pub passes_complete : (s : Canon) (start new : World) (events : List Event) → IsMark s start → PassesQuietly (IsBetweenLines s) start events new → NoneFailed new → NothingInFlight new → entries_made new ≡ local_entries s new.typed
+pub passes_complete : (s : Canon) (start new : World) (events : List Event) → IsMark s start → PassesQuietly start events new → NoneFailed new → NothingInFlight new → entries_made new ≡ local_entries s new.typed
 passes_complete s start new events m p none nothing =
     let h = holds_passes s start new events none p (mark_holds s start m) in
-    tied-complete (rules_of s h.linemode) (picture new h.trapped h.plain) h.tied nothing.0
+    tied-complete (rules_of s h.linemode) (picture new) h.tied nothing.0
 
 pub headline : (s : Canon) (w : World) → FollowsMark s w → Headline s w
 headline s w f = record {
@@ -37,62 +33,39 @@ headline s w f = record {
   complete = λ none nothing. passes_complete s f.start w f.events f.mark f.passes none nothing;
 }
 
-passes_on : (may : List ℕ → Type 0) (old mid new : World) (xs ys : List Event) → PassesQuietly may old xs mid → PassesQuietly may mid ys new → PassesQuietly may old (xs ++ ys) new
-passes_on may old mid new [] ys p q = subst (λ w. PassesQuietly may w ys new) p q
-passes_on may old mid new (e ∷ xs) ys p q = (p.0, p.1, passes_on may p.0 mid new xs ys p.2 q)
+passes_on : (old mid new : World) (xs ys : List Event) → PassesQuietly old xs mid → PassesQuietly mid ys new → PassesQuietly old (xs ++ ys) new
+passes_on old mid new [] ys p q = subst (λ w. PassesQuietly w ys new) p q
+passes_on old mid new (e ∷ xs) ys p q = (p.0, p.1, passes_on p.0 mid new xs ys p.2 q)
 
-pub follows_on : (s : Canon) (old new : World) (events : List Event) → FollowsMark s old → PassesQuietly (IsBetweenLines s) old events new → FollowsMark s new
-follows_on s old new events f p = record { start = f.start; mark = f.mark; events = f.events ++ events; passes = passes_on (IsBetweenLines s) f.start old new f.events events f.passes p }
+pub follows_on : (s : Canon) (old new : World) (events : List Event) → FollowsMark s old → PassesQuietly old events new → FollowsMark s new
+follows_on s old new events f p = record { start = f.start; mark = f.mark; events = f.events ++ events; passes = passes_on f.start old new f.events events f.passes p }
 
 -- a run of quiet events
-runs_pass : (may : List ℕ → Type 0) (old new : World) (events : List Event) → AreQuiet may old events → Runs old events new → PassesQuietly may old events new
-runs_pass may old new [] quiet r = r
-runs_pass may old new (e ∷ events) quiet r =
+runs_pass : (old new : World) (events : List Event) → IsQuiet old events → Runs old events new → PassesQuietly old events new
+runs_pass old new [] quiet r = r
+runs_pass old new (e ∷ events) quiet r =
     let here = quiet r.0 r.1 in
-    (r.0, inl (here.0, r.1), runs_pass may r.0 new events here.1 r.2)
+    (r.0, inl (here.0, r.1), runs_pass r.0 new events here.1 r.2)
 
 -- a run up to the event that was refused
-ends_pass : (may : List ℕ → Type 0) (old mid new : World) (done left : List Event) (e : Event) (cause : Cause) → AreQuiet may old (done ++ e ∷ left) → Runs old done mid → Refuses mid e cause new → PassesQuietly may old (done ++ e ∷ []) new
-ends_pass may old mid new [] left e cause quiet r refused = subst (λ w. PassesQuietly may w (e ∷ []) new) r (new, inr (cause, refused), refl)
-ends_pass may old mid new (d ∷ done) left e cause quiet r refused =
+ends_pass : (old mid new : World) (done left : List Event) (e : Event) (cause : Cause) → IsQuiet old (done ++ e ∷ left) → Runs old done mid → Refuses mid e cause new → PassesQuietly old (done ++ e ∷ []) new
+ends_pass old mid new [] left e cause quiet r refused = subst (λ w. PassesQuietly w (e ∷ []) new) r (new, inr (cause, refused), refl)
+ends_pass old mid new (d ∷ done) left e cause quiet r refused =
     let here = quiet r.0 r.1 in
-    (r.0, inl (here.0, r.1), ends_pass may r.0 mid new done left e cause here.1 r.2 refused)
+    (r.0, inl (here.0, r.1), ends_pass r.0 mid new done left e cause here.1 r.2 refused)
 
-pub follows_runs : (s : Canon) (old new : World) (events : List Event) → FollowsMark s old → IsQuiet s old events → Runs old events new → FollowsMark s new
-follows_runs s old new events f quiet r = follows_on s old new events f (runs_pass (IsBetweenLines s) old new events quiet r)
+pub follows_runs : (s : Canon) (old new : World) (events : List Event) → FollowsMark s old → IsQuiet old events → Runs old events new → FollowsMark s new
+follows_runs s old new events f quiet r = follows_on s old new events f (runs_pass old new events quiet r)
 
-pub follows_ends : (s : Canon) (old new : World) (events : List Event) (at : ℕ) (cause : Cause) → FollowsMark s old → IsQuiet s old events → StopsWithin old events at cause new → FollowsMark s new
+pub follows_ends : (s : Canon) (old new : World) (events : List Event) (at : ℕ) (cause : Cause) → FollowsMark s old → IsQuiet old events → StopsWithin old events at cause new → FollowsMark s new
 follows_ends s old new events at cause f quiet e =
     follows_on s old new (e.done ++ e.event ∷ []) f
-    (ends_pass (IsBetweenLines s) old e.mid new e.done e.left e.event cause (subst (λ l. IsQuiet s old l) e.whole quiet) e.runs e.refuses)
+    (ends_pass old e.mid new e.done e.left e.event cause (subst (λ l. IsQuiet old l) e.whole quiet) e.runs e.refuses)
 
--- a mode that changes nowhere is one that changes between lines alone
-come_nowhere : (may : Type 0) (o : Options) (mode : ℕ) (items : List Item) → ChangeModeWhere ⊥ o mode items → ChangeModeWhere may o mode items
-come_nowhere may o mode [] h = tt
-come_nowhere may o mode (item ∷ items) h = (λ differs. absurd (h.0 differs), come_nowhere may (options_after o item) (mode_at o mode item) items h.1)
-
-quiet_nowhere : (s : Canon) (w : World) (e : Event) → IsQuietEvent Nowhere w e → IsQuietEvent (IsBetweenLines s) w e
-quiet_nowhere s w (Key key) q = tt
-quiet_nowhere s w (ToServer n) q = tt
-quiet_nowhere s w (ToClient n) q = λ goes on items next adds. come_nowhere (IsBetweenLines s w.typed) w.client.options w.client.mode items (q goes on items next adds)
-quiet_nowhere s w (Write bytes) q = tt
-quiet_nowhere s w (Pull n) q = tt
-quiet_nowhere s w Take q = tt
-quiet_nowhere s w (Wish editing) q = tt
-quiet_nowhere s w (Resize width height) q = tt
-quiet_nowhere s w (SetChar func value) q = absurd (q)
-quiet_nowhere s w (Propose func value) q = absurd (q)
-quiet_nowhere s w (Echo on) q = tt
-quiet_nowhere s w ServerStops q = tt
-quiet_nowhere s w ClientStops q = tt
-
-occurs_nowhere : (s : Canon) (old new : World) (e : Event) → RunsQuietly Nowhere old e new → RunsQuietly (IsBetweenLines s) old e new
-occurs_nowhere s old new e (inl d) = inl (quiet_nowhere s old e d.0, d.1)
-occurs_nowhere s old new e (inr r) = inr r
-
-pub passes_nowhere : (s : Canon) (old new : World) (events : List Event) → PassesQuietly Nowhere old events new → PassesQuietly (IsBetweenLines s) old events new
-passes_nowhere s old new [] p = p
-passes_nowhere s old new (e ∷ events) p = (p.0, occurs_nowhere s old p.0 e p.1, passes_nowhere s p.0 new events p.2)
+-- quiet events are quiet wherever they are done
+pub quiet_always : (w : World) (events : List Event) → AreQuietEvents events → IsQuiet w events
+quiet_always w [] q = tt
+quiet_always w (e ∷ events) q = λ mid does. (q.0, quiet_always mid events q.1)
 
 -- the world whose lists begin anew
 pub anew_settled : (w : World) → IsSettled w → IsSettled (with_new_lists w)
@@ -100,7 +73,7 @@ anew_settled w m =
     record {
       idle = record { to_server = m.idle.to_server; to_client = m.idle.to_client; server_stopped = m.idle.server_stopped; server_failed = m.idle.server_failed; client_stopped = m.idle.client_stopped; client_failed = m.idle.client_failed };
       agreed = record { linemode = m.agreed.linemode; mask = m.agreed.mask; chars = m.agreed.chars; server_steady = m.agreed.server_steady; client_steady = m.agreed.client_steady };
-      empty = record { half = m.empty.half; held = m.empty.held; ahead = m.empty.ahead; waiting = m.empty.waiting };
+      empty = record { half = m.empty.half; held = m.empty.held; ahead = m.empty.ahead; counts = m.empty.counts; waiting = m.empty.waiting };
     }
 
 pub anew_sound : (w : World) → HasPast w → HasPast (with_new_lists w)
@@ -157,8 +130,8 @@ runs_stop old mid new events n e cause within is r refuses =
     }
 
 -- the promises of a run
-pub run_follows : (old new : World) (events : List Event) → Runs old events new → (s : Canon) → FollowsMark s old → IsQuiet s old events → FollowsMark s new
+pub run_follows : (old new : World) (events : List Event) → Runs old events new → (s : Canon) → FollowsMark s old → IsQuiet old events → FollowsMark s new
 run_follows old new events r s f quiet = follows_runs s old new events f quiet r
 
-pub end_follows : (old new : World) (events : List Event) (at : ℕ) (cause : Cause) → StopsWithin old events at cause new → (s : Canon) → FollowsMark s old → IsQuiet s old events → FollowsMark s new
+pub end_follows : (old new : World) (events : List Event) (at : ℕ) (cause : Cause) → StopsWithin old events at cause new → (s : Canon) → FollowsMark s old → IsQuiet old events → FollowsMark s new
 end_follows old new events at cause e s f quiet = follows_ends s old new events at cause f quiet e

@@ -5,6 +5,7 @@ use Rattle.std.proofs.lemmas.List.{append_cancel_left}
 use Rattle.tn_codes.specs.declared.codes.Command.TheVariants.{Ga}
 use Rattle.tn_codes.specs.declared.codes.Func.{Func}
 use Rattle.tn_codes.specs.declared.codes.Verb.{Verb}
+use Rattle.tn_codes.specs.declared.masks.Mask.{Mask}
 use Rattle.tn_codes.specs.declared.payloads.Payload.{Payload}
 use Rattle.tn_codes.specs.declared.payloads.Payload.TheVariants as payload
 use Rattle.tn_codes.specs.declared.triples.Triple.{Triple}
@@ -20,12 +21,12 @@ use Rattle.tn_option.specs.Options.{Options, reply_to, answer_to}
 use Rattle.tn_option.specs.declared.q_method.AskFault.{AskFault}
 use Rattle.tn_option.specs.declared.q_method.Side.TheVariants.{Us}
 use Rattle.tn_pty.specs.Terminal.{queue_symbols, output_symbols, fitting_count}
-use Rattle.tn_server.specs.Events.{Event, History, next, got, took, wrote, pulled, wished, char_set, echo_set, gets}
+use Rattle.tn_server.specs.Events.{Event, History, next, got, took, wrote, pulled, wished, char_set, echo_set, mask_set, gets}
 use Rattle.tn_server.specs.Terms.{Terms, terms, options, flags, chars, settings, mode, linemode, echoes, payload_at, options_after, wish_at, is_echo_set, wish_after, mask_told, asks_echo, asked_mask_of, wants_echo, chars_after}
 use Rattle.tn_server.specs.Lines.{line}
 use Rattle.tn_server.specs.Screen.{queue, shows, sends_ga, none_waits, due}
-use Rattle.tn_server.specs.Replies.{asked_word_items, reply_items, opening, table_items, new_table_items, echo_items, items_by, items_at, list_replies, triple_items, replies, items_said}
-use Rattle.tn_wire.specs.Words.{word_items, list_items, mode_items}
+use Rattle.tn_server.specs.Replies.{asked_word_items, reply_items, opening, table_items, new_table_items, echo_items, items_by, items_at, list_replies, triple_items, forward_payload, replies, items_said}
+use Rattle.tn_wire.specs.Words.{word_items, payload_items, list_items, mode_items}
 use Rattle.tn_server.specs.Calls.{End, LeadsTo, Advances, Feeds, StopsWithin, first_replies}
 use Rattle.tn_server.specs.declared.faults.ServerFault.{ServerFault}
 use Rattle.tn_server.specs.declared.wishes.Editing.{Editing}
@@ -84,6 +85,7 @@ back_none o (pulled n) = refl
 back_none o (wished editing) = refl
 back_none o (char_set func value) = refl
 back_none o (echo_set on) = refl
+back_none o (mask_set mask) = refl
 
 says_none : (f : Flags) (c : Characters) (t : Terms) (e : Event) → text_of (items_at f c t e) ≡ []
 says_none f c t e =
@@ -105,6 +107,10 @@ ga_none : (b : Bool) → text_of (if b then Cmd Ga ∷ [] else []) ≡ []
 ga_none true = refl
 ga_none false = refl
 
+mask_none : (mask : Option Mask) → text_of (payload_items (forward_payload mask)) ≡ []
+mask_none (Some mask) = refl
+mask_none None = refl
+
 pub replies_none : (h : History) (e : Event) → IsUnpulled e → text_of (replies h e) ≡ []
 replies_none h (got item) is =
     both_none (items_at (flags h) (chars h) (terms h) (got item)) (list_replies (chars h) (payload_at (options h) item))
@@ -115,6 +121,7 @@ replies_none h (pulled n) is = absurd is
 replies_none h (wished editing) is = says_none (flags h) (chars h) (terms h) (wished editing)
 replies_none h (char_set func value) is = triple_none (linemode (options h) && not (is_same_value (slot (chars h) func) value)) func value
 replies_none h (echo_set on) is = says_none (flags (next h (echo_set on))) (chars h) (terms h) (echo_set on)
+replies_none h (mask_set mask) is = mask_none mask
 
 pub opening_none : text_of opening ≡ []
 opening_none = refl
@@ -170,6 +177,7 @@ queue_grows h (pulled n) is = absurd is
 queue_grows h (wished ed) is = ([], sym (append-nil (queue h)))
 queue_grows h (char_set func value) is = ([], sym (append-nil (queue h)))
 queue_grows h (echo_set on) is = ([], sym (append-nil (queue h)))
+queue_grows h (mask_set mask) is = ([], sym (append-nil (queue h)))
 
 gets_grow : (h : History) (items : List Item) → (more : List Symbol) × (queue (gets h items) ≡ queue h ++ more)
 gets_grow h [] = ([], sym (append-nil (queue h)))

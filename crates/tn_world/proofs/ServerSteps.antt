@@ -6,9 +6,11 @@ use Rattle.std.proofs.lemmas.Bool.Decides.{nat_tests}
 use Rattle.std.proofs.lemmas.List.{append_cancel_left, drop-append-le, drop-drop}
 use Rattle.std.proofs.lemmas.List.Elements.{All-nil, All-cons, All-head, All-tail, All-append}
 use Rattle.std.proofs.lemmas.Nat.{and_assoc}
+use Rattle.tn_codes.specs.Masks.{filled_octets, trimmed_octets}
 use Rattle.tn_codes.specs.PayloadOf.{payload_of}
 use Rattle.tn_codes.specs.declared.codes.Command.TheVariants.{Ga}
 use Rattle.tn_codes.specs.declared.codes.Verb.{Verb}
+use Rattle.tn_codes.specs.declared.masks.Mask.{Mask}
 use Rattle.tn_codes.specs.declared.payloads.Payload.{Payload}
 use Rattle.tn_codes.specs.declared.payloads.Payload.TheVariants as payload
 use Rattle.tn_codes.proofs.lemmas.Telling.{says}
@@ -36,18 +38,18 @@ use Rattle.tn_option.specs.declared.q_method.Cause.TheVariants.{HeardOn, HeardOf
 use Rattle.tn_option.specs.declared.q_method.Side.{Side}
 use Rattle.tn_option.specs.declared.q_method.Side.TheVariants.{Us, Them}
 use Rattle.tn_option.proofs.lemmas.OptionLaws.{LeavesOthers-moved}
-use Rattle.tn_server.specs.Events.{Event, History, next, got, took, wrote, pulled, wished, char_set, echo_set, gets, limit}
+use Rattle.tn_server.specs.Events.{Event, History, next, got, took, wrote, pulled, wished, char_set, echo_set, mask_set, gets, limit}
 use Rattle.tn_server.specs.Terms.{Terms, terms, options, flags, chars, settings, mode, linemode, payload_at, options_after, wish_in, wish_after, mask_for, mask_or, asked_mask_of, asked_mask_while, mode_sent, mask_told, asks_echo, wants_echo, terms_by, mask_after, chars_after, allows_local}
 use Rattle.tn_wire.specs.Words.{differ, word_items, payload_items, mode_items}
 use Rattle.tn_server.specs.Lines.{role_at, roles, entries, half, taken_count, waiting}
 use Rattle.tn_server.specs.Screen.{queue, sends_ga, none_waits, due}
-use Rattle.tn_server.specs.Replies.{asked_word_items, reply_items, new_table_items, echo_items, items_by, list_replies, data_of, replies, items_said}
+use Rattle.tn_server.specs.Replies.{asked_word_items, reply_items, new_table_items, echo_items, items_by, list_replies, forward_payload, data_of, replies, items_said}
 use Rattle.tn_server.specs.Calls.{End, LeadsTo, Advances, ReadsNothing, Feeds}
 use Rattle.tn_server.specs.declared.wishes.Editing.{Editing}
 use Rattle.tn_server.specs.declared.wishes.Editing.TheVariants.{Remote, Local}
 use Rattle.tn_server.proofs.lemmas.Ends.{line_is, waits_are}
 use Rattle.tn_server.proofs.lemmas.Terms.{differ_self, told_again, table_again, echo_keeps_linemode}
-use Rattle.tn_world.specs.relation.Calm.{bits, SaysCalmly, IsCalmToServer, IsCalmToClient, seen_payload, server_item}
+use Rattle.tn_world.specs.relation.Calm.{bits, SaysCalmly, IsCalmToServer, AsksCalmly, IsCalmToClient, seen_payload, server_item}
 use Rattle.tn_world.specs.relation.Ends.{server_items, AreReplies, TakesFirst}
 use Rattle.tn_world.specs.relation.Machine as machine
 use Rattle.tn_world.specs.relation.Machine.{Rules, Server, item_role, edit_after, read, read_all, local_mode, IsAskable}
@@ -484,6 +486,15 @@ pub ga_made : (P : Item → Type 0) → P (Cmd Ga) → (b : Bool) → All P (if 
 ga_made P p true = one P (Cmd Ga) p
 ga_made P p false = nothing P
 
+-- a forward mask
+pub mask_made : (P : Item → Type 0) → ((octets : List ℕ) → P (Sub 34 (253 ∷ 2 ∷ octets))) → P (Sub 34 (254 ∷ 2 ∷ [])) → (mask : Option Mask) → All P (payload_items (forward_payload mask))
+mask_made P on off (Some mask) = one P (Sub 34 (253 ∷ 2 ∷ trimmed_octets (take 32 mask.0))) (on (trimmed_octets (take 32 mask.0)))
+mask_made P on off None = one P (Sub 34 (254 ∷ 2 ∷ [])) off
+
+mask_calm : (s : Settings) (octets : List ℕ) (b : Bool) → AsksCalmly s (if b then Some (payload.ForwardOn (record { 0 = filled_octets octets })) else None)
+mask_calm s octets true = tt
+mask_calm s octets false = tt
+
 pub calm_call : (rules : Rules) (h : History) (e : Event) → IsCall e → IsKept rules h → All (IsCalmToClient rules.canon.settings) (replies h e)
 calm_call rules h (got item) is k = absurd is
 calm_call rules h (char_set func value) is k = absurd is
@@ -496,6 +507,8 @@ calm_call rules h (wished ed) is k =
 calm_call rules h (echo_set on) is k =
     settled_made (IsCalmToClient rules.canon.settings) (flags (next h (echo_set on))) (chars h) (terms h) (options h) None true
     (untold_made (IsCalmToClient rules.canon.settings) (terms h) (chars h)) (unwished_made (IsCalmToClient rules.canon.settings) (terms h)) (λ verb. refl)
+calm_call rules h (mask_set mask) is k =
+    mask_made (IsCalmToClient rules.canon.settings) (λ octets. mask_calm rules.canon.settings octets (nat_le (length octets) 32)) tt mask
 
 -- a wish and the flag ECHO change nothing at LINEMODE
 terms_keep : (f : Flags) (t : Terms) (ed : Option Editing) (set : Bool) → linemode (terms_by f t t.options ed set).options ≡ linemode t.options
@@ -527,6 +540,7 @@ kept_call rules h (echo_set on) is k = record {
   line = k.line;
   fits = k.fits;
 }
+kept_call rules h (mask_set mask) is k = record { on = k.on; characters = k.characters; others = k.others; line = k.line; fits = k.fits }
 
 core_call : (h : History) (e : Event) (failed : Bool) → KeepsEntries e → core_of (next h e) failed ≡ core_of h failed
 core_call h (got item) failed is = absurd is
@@ -536,6 +550,7 @@ core_call h (wrote bytes) failed is = refl
 core_call h (pulled n) failed is = refl
 core_call h (wished ed) failed is = refl
 core_call h (echo_set on) failed is = refl
+core_call h (mask_set mask) failed is = refl
 
 -- THE LEMMAS ON A CALL
 pub says_replies : (rules : Rules) (h : History) (old new : End) (e : Event) (before after : List ℕ) → IsCall e → LeadsTo h old → ServerStays rules old → (g : Advances old e before after new) → AreReplies rules g.said

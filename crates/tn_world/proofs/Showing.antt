@@ -11,7 +11,7 @@ use Rattle.tn_nvt.specs.Spelling.{spells, Fits}
 use Rattle.tn_nvt.specs.Feeding.{DecoderState, LeadsTo}
 use Rattle.tn_nvt.specs.declared.items.Item.{Item}
 use Rattle.tn_server.specs.Events as server_calls
-use Rattle.tn_server.specs.Faults.{IsOfItem}
+use Rattle.tn_server.specs.Faults.{IsOfItem, IsOfPiece}
 use Rattle.tn_server.specs.Replies.{opening, data_of}
 use Rattle.tn_server.specs.Screen.{queue}
 use Rattle.tn_server.specs.Calls as server
@@ -25,9 +25,9 @@ use Rattle.tn_world.specs.Past.{HasPast}
 use Rattle.tn_world.specs.Headline.{IsPrefixOf}
 use Rattle.tn_world.specs.Flight.{InFlight}
 use Rattle.tn_world.specs.Output.{screen, text_of, IsOutput, Queues, IsNoneAt, OutputGrows, OutputGrowsTo, OutputGrowsAll, OutputGrowsBefore}
-use Rattle.tn_world.specs.Worlds.{World, UnlessStopped, TypesKey, CallsClient, DeliversToServer, DeliversToClient, CallsServer, Pulls, TakesEntry, RunsEvent, Runs, StopsWithin, ServerRefusesDelivery, IsDeliveryFault}
+use Rattle.tn_world.specs.Worlds.{World, UnlessStopped, TypesKey, CallsClient, DeliversToServer, DeliversToClient, CallsServer, Pulls, TakesEntry, RunsEvent, Runs, StopsWithin, ServerRefusesDelivery}
 use Rattle.tn_world.specs.declared.events.Event.{Event}
-use Rattle.tn_world.specs.declared.events.Event.TheVariants.{Key, ToServer, ToClient, Write, Pull, Take, Wish, Resize, SetChar, Propose, Echo, ServerStops, ClientStops}
+use Rattle.tn_world.specs.declared.events.Event.TheVariants.{Key, ToServer, ToClient, Write, Pull, Take, Wish, Resize, SetChar, Propose, Echo, Mask, ServerStops, ClientStops}
 use Rattle.tn_world.specs.declared.faults.Cause.{Cause}
 use Rattle.tn_world.proofs.Cut.{start, said_behind, cut_at}
 use Rattle.tn_world.proofs.Soundness.{sound_does, opposite, Refusal, unchanged, by_server, by_client, refusal_of, goes_fit, feeds_fit, halts_fit}
@@ -217,6 +217,8 @@ output_grows old new (Propose func value) text s runs d o =
     unless old.client_stopped old new (Propose func value) text (CallsClient old (client_calls.proposed func value) new) (λ t. tells_grows old new (client_calls.proposed func value) (Propose func value) text t o) o d
 output_grows old new (Echo on) text s runs d o =
     unless old.server_stopped old new (Echo on) text (CallsServer old (server_calls.echo_set on) new) (λ a. let t = asks_took old new (server_calls.echo_set on) text tt s a o in record { symbols = t.symbols; took = t.took; none = tt; output = t.output }) o d
+output_grows old new (Mask mask) text s runs d o =
+    unless old.server_stopped old new (Mask mask) text (CallsServer old (server_calls.mask_set mask) new) (λ a. let t = asks_took old new (server_calls.mask_set mask) text tt s a o in record { symbols = t.symbols; took = t.took; none = tt; output = t.output }) o d
 output_grows old new ServerStops text s runs d o =
     still_grows old new ServerStops text (ap (λ (w : World). w.client.decoder) d) (ap (λ (w : World). w.shown) d) (ap (λ (w : World). w.to_client) d) (ap (λ (w : World). w.server.terminal.queue) d) o
 output_grows old new ClientStops text s runs d o =
@@ -245,6 +247,7 @@ goes_on old new (Resize width height) d = on_unless old.client_stopped old new (
 goes_on old new (SetChar func value) d = on_unless old.server_stopped old new (CallsServer old (server_calls.char_set func value) new) (asks_on old new (server_calls.char_set func value)) d
 goes_on old new (Propose func value) d = on_unless old.client_stopped old new (CallsClient old (client_calls.proposed func value) new) (λ t. t.keeps.failed) d
 goes_on old new (Echo on) d = on_unless old.server_stopped old new (CallsServer old (server_calls.echo_set on) new) (asks_on old new (server_calls.echo_set on)) d
+goes_on old new (Mask mask) d = on_unless old.server_stopped old new (CallsServer old (server_calls.mask_set mask) new) (asks_on old new (server_calls.mask_set mask)) d
 goes_on old new ServerStops d = ap (λ (w : World). w.client.failed) d
 goes_on old new ClientStops d = ap (λ (w : World). w.client.failed) d
 
@@ -266,7 +269,8 @@ halts_took old new n fault text s r o server_faults.Failed e =
       took = ap (λ (w : World). w.server.terminal.queue) same ∙ sym (append-nil old.server.terminal.queue);
       output = still_output old new text (ap (λ (w : World). w.client.decoder) same) (ap (λ (w : World). w.shown) same) (ap (λ (w : World). w.to_client) same) (ap (λ (w : World). w.server.terminal.queue) same) o;
     }
-halts_took old new n fault text s r o (server_faults.Char f) e = absurd (subst IsDeliveryFault e r.is_fault)
+halts_took old new n fault text s r o (server_faults.Char f) e = absurd (subst IsOfPiece e r.is_fault)
+halts_took old new n fault text s r o server_faults.NotOn e = absurd (subst IsOfPiece e r.is_fault)
 halts_took old new n fault text s r o (server_faults.Pty f) e = halted old new n fault text s r o (r.halts (subst IsOfItem (sym e) tt))
 halts_took old new n fault text s r o server_faults.Memory e = halted old new n fault text s r o (r.halts (subst IsOfItem (sym e) tt))
 

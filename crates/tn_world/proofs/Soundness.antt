@@ -13,7 +13,7 @@ use Rattle.tn_wire.specs.OptionWords.{words_in}
 use Rattle.tn_wire.proofs.lemmas.OptionWords.{words_in-append}
 use Rattle.tn_server.specs.Course as server_courses
 use Rattle.tn_server.specs.Events as server_calls
-use Rattle.tn_server.specs.Faults.{IsOfItem}
+use Rattle.tn_server.specs.Faults.{IsOfItem, IsOfPiece}
 use Rattle.tn_server.specs.Replies as server_says
 use Rattle.tn_server.specs.Calls as server
 use Rattle.tn_server.specs.declared.faults.ServerFault.{ServerFault}
@@ -38,7 +38,7 @@ use Rattle.tn_world.specs.Past.{HasPast, engines}
 use Rattle.tn_world.specs.Flight.{InFlight}
 use Rattle.tn_world.specs.Worlds.{World, UnlessStopped, TypesKey, CallsClient, DeliversToServer, DeliversToClient, CallsServer, Pulls, TakesEntry, RunsEvent, ServerRefusesDelivery, ClientRefusesDelivery, Refuses, client_fault}
 use Rattle.tn_world.specs.declared.events.Event.{Event}
-use Rattle.tn_world.specs.declared.events.Event.TheVariants.{Key, ToServer, ToClient, Write, Pull, Take, Wish, Resize, SetChar, Propose, Echo, ServerStops, ClientStops}
+use Rattle.tn_world.specs.declared.events.Event.TheVariants.{Key, ToServer, ToClient, Write, Pull, Take, Wish, Resize, SetChar, Propose, Echo, Mask, ServerStops, ClientStops}
 use Rattle.tn_world.specs.declared.faults.Cause.{Cause}
 use Rattle.tn_world.specs.declared.faults.Cause.TheVariants as cause
 use Rattle.tn_world.proofs.Cut.{said_behind, cut_at}
@@ -300,16 +300,18 @@ sound_does old new (SetChar func value) d s =
 sound_does old new (Propose func value) d s =
     unless old.client_stopped old new (CallsClient old (client_calls.proposed func value) new) (sound_tells old new (client_calls.proposed func value) tt) d s
 sound_does old new (Echo on) d s = unless old.server_stopped old new (CallsServer old (server_calls.echo_set on) new) (sound_asks old new (server_calls.echo_set on) tt) d s
+sound_does old new (Mask mask) d s = unless old.server_stopped old new (CallsServer old (server_calls.mask_set mask) new) (sound_asks old new (server_calls.mask_set mask) tt) d s
 sound_does old new ServerStops d s = subst (λ w. HasPast w) (sym d) (sound_as old _ refl refl refl refl s)
 sound_does old new ClientStops d s = subst (λ w. HasPast w) (sym d) (sound_as old _ refl refl refl refl s)
 
 -- REFUSALS
 -- the server stood where the items that were done lead, or failed before
-pub stood : (old : server.End) (new : server.End) (piece before after : List ℕ) (fault : ServerFault) (h : server_calls.History) → server.LeadsTo h old → (fault ≡ server_faults.Failed → new ≡ old) → (IsOfItem fault → server.StopsWithin old piece fault before after new) → ((f : _) → fault ≡ server_faults.Char f → ⊥) → (items : List Item) × server.LeadsTo (server_calls.gets h items) new
-stood old new piece before after (server_faults.Pty f) h s again halts no_char = let x = halts tt in (x.done, x.stands h s)
-stood old new piece before after server_faults.Memory h s again halts no_char = let x = halts tt in (x.done, x.stands h s)
-stood old new piece before after server_faults.Failed h s again halts no_char = ([], subst (server.LeadsTo h) (sym (again refl)) s)
-stood old new piece before after (server_faults.Char f) h s again halts no_char = absurd (no_char f refl)
+pub stood : (old : server.End) (new : server.End) (piece before after : List ℕ) (fault : ServerFault) (h : server_calls.History) → server.LeadsTo h old → (fault ≡ server_faults.Failed → new ≡ old) → (IsOfItem fault → server.StopsWithin old piece fault before after new) → IsOfPiece fault → (items : List Item) × server.LeadsTo (server_calls.gets h items) new
+stood old new piece before after (server_faults.Pty f) h s again halts of = let x = halts tt in (x.done, x.stands h s)
+stood old new piece before after server_faults.Memory h s again halts of = let x = halts tt in (x.done, x.stands h s)
+stood old new piece before after server_faults.Failed h s again halts of = ([], subst (server.LeadsTo h) (sym (again refl)) s)
+stood old new piece before after (server_faults.Char f) h s again halts of = absurd of
+stood old new piece before after server_faults.NotOn h s again halts of = absurd of
 
 -- what it said before it failed
 pub record SaidOn (before after : List ℕ) : Type 0 where
@@ -317,17 +319,18 @@ pub record SaidOn (before after : List ℕ) : Type 0 where
   pub appended : after ≡ before ++ spells said
   pub fit : All Fits said
 
-pub said_on : (old new : server.End) (piece before after : List ℕ) (fault : ServerFault) (h : server_calls.History) → server.LeadsTo h old → (fault ≡ server_faults.Failed → after ≡ before) → (IsOfItem fault → server.StopsWithin old piece fault before after new) → ((f : _) → fault ≡ server_faults.Char f → ⊥) → SaidOn before after
-said_on old new piece before after (server_faults.Pty f) h s again halts no_char = let x = halts tt in record { said = x.said ++ x.part; appended = x.appended; fit = halts_fit h old new piece before after (server_faults.Pty f) s x }
-said_on old new piece before after server_faults.Memory h s again halts no_char = let x = halts tt in record { said = x.said ++ x.part; appended = x.appended; fit = halts_fit h old new piece before after server_faults.Memory s x }
-said_on old new piece before after server_faults.Failed h s again halts no_char = record { said = []; appended = again refl ∙ sym (append-nil before); fit = All-nil Fits }
-said_on old new piece before after (server_faults.Char f) h s again halts no_char = absurd (no_char f refl)
+pub said_on : (old new : server.End) (piece before after : List ℕ) (fault : ServerFault) (h : server_calls.History) → server.LeadsTo h old → (fault ≡ server_faults.Failed → after ≡ before) → (IsOfItem fault → server.StopsWithin old piece fault before after new) → IsOfPiece fault → SaidOn before after
+said_on old new piece before after (server_faults.Pty f) h s again halts of = let x = halts tt in record { said = x.said ++ x.part; appended = x.appended; fit = halts_fit h old new piece before after (server_faults.Pty f) s x }
+said_on old new piece before after server_faults.Memory h s again halts of = let x = halts tt in record { said = x.said ++ x.part; appended = x.appended; fit = halts_fit h old new piece before after server_faults.Memory s x }
+said_on old new piece before after server_faults.Failed h s again halts of = record { said = []; appended = again refl ∙ sym (append-nil before); fit = All-nil Fits }
+said_on old new piece before after (server_faults.Char f) h s again halts of = absurd of
+said_on old new piece before after server_faults.NotOn h s again halts of = absurd of
 
 -- the server failed, at a piece or before
-pub halts_sound : (old : World) (end : server.End) (piece left later : List ℕ) (fault : ServerFault) → (fault ≡ server_faults.Failed → end ≡ old.server) → (fault ≡ server_faults.Failed → later ≡ old.to_client) → (IsOfItem fault → server.StopsWithin old.server piece fault old.to_client later end) → ((f : _) → fault ≡ server_faults.Char f → ⊥) → end.failed ≡ true → HasPast old → HasPast (record old { server = end; to_server = left; to_client = later })
-halts_sound old end piece left later fault again none halts no_char failed s =
-    let at = stood old.server end piece old.to_client later fault s.history s.server again halts no_char in
-    let more = said_on old.server end piece old.to_client later fault s.history s.server none halts no_char in
+pub halts_sound : (old : World) (end : server.End) (piece left later : List ℕ) (fault : ServerFault) → (fault ≡ server_faults.Failed → end ≡ old.server) → (fault ≡ server_faults.Failed → later ≡ old.to_client) → (IsOfItem fault → server.StopsWithin old.server piece fault old.to_client later end) → IsOfPiece fault → end.failed ≡ true → HasPast old → HasPast (record old { server = end; to_server = left; to_client = later })
+halts_sound old end piece left later fault again none halts of failed s =
+    let at = stood old.server end piece old.to_client later fault s.history s.server again halts of in
+    let more = said_on old.server end piece old.to_client later fault s.history s.server none halts of in
     let before = s.server in
     let after = at.1 in
     made (record old { server = end; to_server = left; to_client = later }) (server_calls.gets s.history at.0) at.1
@@ -377,6 +380,7 @@ refusal_of old new (Resize width height) (cause.Server fault) r = unchanged r.1
 refusal_of old new (SetChar func value) (cause.Server fault) r = unchanged r.1
 refusal_of old new (Propose func value) (cause.Server fault) r = unchanged r.1
 refusal_of old new (Echo on) (cause.Server fault) r = unchanged r.1
+refusal_of old new (Mask mask) (cause.Server fault) r = unchanged r.1
 refusal_of old new ServerStops (cause.Server fault) r = unchanged r.1
 refusal_of old new ClientStops (cause.Server fault) r = unchanged r.1
 refusal_of old new (Key key) (cause.Client fault) r = unchanged r.1
@@ -389,5 +393,6 @@ refusal_of old new (Resize width height) (cause.Client fault) r = unchanged r.1
 refusal_of old new (SetChar func value) (cause.Client fault) r = unchanged r.1
 refusal_of old new (Propose func value) (cause.Client fault) r = unchanged r.1
 refusal_of old new (Echo on) (cause.Client fault) r = unchanged r.1
+refusal_of old new (Mask mask) (cause.Client fault) r = unchanged r.1
 refusal_of old new ServerStops (cause.Client fault) r = unchanged r.1
 refusal_of old new ClientStops (cause.Client fault) r = unchanged r.1

@@ -22,7 +22,7 @@ use Rattle.tn_world.proofs.Reading.{read_all-append}
 use Rattle.tn_world.proofs.Changing as was
 use Rattle.tn_world.proofs.Changing.{key-agrees, message-agrees}
 use Rattle.tn_world.proofs.Prefixes.{take-agrees, agreed, prefix_after, prefix_same, prefix_trans, read-more}
-use Rattle.tn_world.specs.relation.Ends.{ServerEnd, ClientEnd, server_items, client_messages, AreReplies, ServerFeeds, with_waiting, TakesFirst, SaysItems, ClientKeys, client_after_messages, ClientFeeds, ClientSays, IsCalm, AreBetweenLines, IsQuietEvent, World, Event, key, to_server, to_client, take_entry, server_call, client_call, Happens, made}
+use Rattle.tn_world.specs.relation.Ends.{ServerEnd, ClientEnd, server_items, client_messages, AreReplies, ServerFeeds, with_waiting, TakesFirst, SaysItems, ClientKeys, client_after_messages, ClientFeeds, ClientSays, World, Event, key, to_server, to_client, take_entry, server_call, client_call, Happens, made}
 use Rattle.tn_world.specs.relation.Relation.{Agrees, IsTied, server_at}
 
 -- both parts
@@ -57,20 +57,15 @@ askable_as s linemode (Cmd c) h = tt
 askable_as s linemode (Neg verb option) h = tt
 askable_as s linemode (Sub option params) h = askable_payload s linemode (payload_of option params) h
 
-calm_as : (rules : Rules) (typed : List ℕ) (c : Client) (m : Message) → IsCalm rules typed c m → was.IsCalm rules typed c m
-calm_as rules typed c (mode m) h = h
-calm_as rules typed c (forward_at f) h = tt
-calm_as rules typed c chatter h = tt
-
 -- messages that come one after another
-all-agree : (rules : Rules) (typed : List ℕ) (taken : List Entry) (v : Server) (c : Client) (items : List Item) → (rules.resumes ≡ false → AreBetweenLines rules typed c (client_messages rules items)) → Agrees rules typed taken v c → All (IsCalmToClient rules.canon.settings) items → Agrees rules typed taken (read_all rules.canon v (client_after_messages rules c (client_messages rules items)).items) (client_after_messages rules c (client_messages rules items)).client
-all-agree rules typed taken v c [] quiet a calm = a
-all-agree rules typed taken v c (item ∷ items) quiet a calm =
+all-agree : (rules : Rules) (typed : List ℕ) (taken : List Entry) (v : Server) (c : Client) (items : List Item) → Agrees rules typed taken v c → All (IsCalmToClient rules.canon.settings) items → Agrees rules typed taken (read_all rules.canon v (client_after_messages rules c (client_messages rules items)).items) (client_after_messages rules c (client_messages rules items)).client
+all-agree rules typed taken v c [] a calm = a
+all-agree rules typed taken v c (item ∷ items) a calm =
     let m = client_message rules.linemode item in
     subst (λ x. Agrees rules typed taken x (client_after_messages rules (client_after_message rules c m).client (client_messages rules items)).client)
     (sym (read_all-append rules.canon v (client_after_message rules c m).items (client_after_messages rules (client_after_message rules c m).client (client_messages rules items)).items))
-    (all-agree rules typed taken (read_all rules.canon v (client_after_message rules c m).items) (client_after_message rules c m).client items (λ r. (quiet r).1)
-    (message-agrees rules typed taken v c m a (askable_as rules.canon.settings rules.linemode item (All-head (IsCalmToClient rules.canon.settings) item items calm)) (λ r. calm_as rules typed c m (quiet r).0))
+    (all-agree rules typed taken (read_all rules.canon v (client_after_message rules c m).items) (client_after_message rules c m).client items
+    (message-agrees rules typed taken v c m a (askable_as rules.canon.settings rules.linemode item (All-head (IsCalmToClient rules.canon.settings) item items calm)))
     (All-tail (IsCalmToClient rules.canon.settings) item items calm))
 
 -- the flight to the server, once the client has written
@@ -92,13 +87,13 @@ key-tied rules w k client said h t =
     (subst (λ c. Agrees rules (w.typed ++ k ∷ []) w.taken (read_all rules.canon (read_all rules.canon w.server.core (server_items rules t.items)) (client_after_key rules w.client.core.mask.edit w.client.core k).items) c) (sym h.core)
     (key-agrees rules w.typed w.taken (read_all rules.canon w.server.core (server_items rules t.items)) w.client.core k w.client.core.mask.edit refl t.agrees))
 
-client-tied : (rules : Rules) (w : World) (n : ℕ) (client : ClientEnd) (said : List Item) → (rules.resumes ≡ false → IsQuietEvent rules w (to_client n)) → ClientFeeds rules w.client (take n w.to_client) said client → IsTied rules w → IsTied rules (record w { client = client; to_client = drop n w.to_client; to_server = w.to_server ++ spells said })
-client-tied rules w n client said quiet h t =
+client-tied : (rules : Rules) (w : World) (n : ℕ) (client : ClientEnd) (said : List Item) → ClientFeeds rules w.client (take n w.to_client) said client → IsTied rules w → IsTied rules (record w { client = client; to_client = drop n w.to_client; to_server = w.to_server ++ spells said })
+client-tied rules w n client said h t =
     let d = cut_at w.client.decoder client.decoder n w.to_client t.messages h.got t.back h.reads in
     let parts = all_parts (IsCalmToClient rules.canon.settings) h.got d.left (subst (λ l. All (IsCalmToClient rules.canon.settings) l) d.all t.asked) in
     writes-tied rules w t (client_after_messages rules w.client.core (client_messages rules h.got)).items said w.typed client d.left (drop n w.to_client) h.writes d.flight parts.1
     (subst (λ c. Agrees rules w.typed w.taken (read_all rules.canon (read_all rules.canon w.server.core (server_items rules t.items)) (client_after_messages rules w.client.core (client_messages rules h.got)).items) c) (sym h.core)
-    (all-agree rules w.typed w.taken (read_all rules.canon w.server.core (server_items rules t.items)) w.client.core h.got (λ r. quiet r h.got client.decoder h.reads) t.agrees parts.0))
+    (all-agree rules w.typed w.taken (read_all rules.canon w.server.core (server_items rules t.items)) w.client.core h.got t.agrees parts.0))
 
 client-says : (rules : Rules) (w : World) (client : ClientEnd) (said : List Item) → ClientSays rules w.client said client → IsTied rules w → IsTied rules (record w { client = client; to_server = w.to_server ++ spells said })
 client-says rules w client said h t =
@@ -155,15 +150,15 @@ took-tied rules w (x ∷ none) server h t =
     }))
 
 -- every event keeps the relation
-pub happens-tied : (rules : Rules) (w new : World) (e : Event) → (rules.resumes ≡ false → IsQuietEvent rules w e) → Happens rules w e new → IsTied rules w → IsTied rules new
-happens-tied rules w new (key k) quiet h t = subst (λ x. IsTied rules x) (sym h.3) (key-tied rules w k h.0 h.1 h.2 t)
-happens-tied rules w new (to_server n) quiet h t = subst (λ x. IsTied rules x) (sym h.3) (server-tied rules w n h.0 h.1 h.2 t)
-happens-tied rules w new (to_client n) quiet h t = subst (λ x. IsTied rules x) (sym h.3) (client-tied rules w n h.0 h.1 quiet h.2 t)
-happens-tied rules w new take_entry quiet h t =
+pub happens-tied : (rules : Rules) (w new : World) (e : Event) → Happens rules w e new → IsTied rules w → IsTied rules new
+happens-tied rules w new (key k) h t = subst (λ x. IsTied rules x) (sym h.3) (key-tied rules w k h.0 h.1 h.2 t)
+happens-tied rules w new (to_server n) h t = subst (λ x. IsTied rules x) (sym h.3) (server-tied rules w n h.0 h.1 h.2 t)
+happens-tied rules w new (to_client n) h t = subst (λ x. IsTied rules x) (sym h.3) (client-tied rules w n h.0 h.1 h.2 t)
+happens-tied rules w new take_entry h t =
     subst (λ x. IsTied rules x) (sym h.5) (says-tied rules (record w { taken = w.taken ++ h.2; server = h.0 }) h.1 h.4 (took-tied rules w h.2 h.0 h.3 t))
-happens-tied rules w new server_call quiet h t =
+happens-tied rules w new server_call h t =
     subst (λ x. IsTied rules x) (sym h.3) (subst (λ v. IsTied rules (record w { server = v; to_client = w.to_client ++ spells h.1 })) (sym h.2.same) (says-tied rules w h.1 h.2.replies t))
-happens-tied rules w new client_call quiet h t = subst (λ x. IsTied rules x) (sym h.3) (client-says rules w h.0 h.1 h.2 t)
+happens-tied rules w new client_call h t = subst (λ x. IsTied rules x) (sym h.3) (client-says rules w h.0 h.1 h.2 t)
 
 no_count : (b : Bool) (n : ℕ) → (if b then n else n) ≡ n
 no_count true n = refl
@@ -182,7 +177,7 @@ rest-agrees rules m f askable =
       ahead = λ e. refl;
       none = λ e. refl;
       plain = tt;
-      count = λ r e allowed. no_count rules.canon.settings.flags.isig 0;
+      count = λ e allowed. no_count rules.canon.settings.flags.isig 0;
     }
 
 pub tied-prefix : (rules : Rules) (w : World) → IsTied rules w → IsPrefixOf (made w) (local_entries rules.canon w.typed)

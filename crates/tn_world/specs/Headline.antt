@@ -1,21 +1,18 @@
 -- The headline: from a settled moment at rest, after every quiet list of events, the entries that jobs took, followed by
 -- those that wait, are a prefix of the entries that the typed keys give at a local terminal, and are all of them where
 -- nothing is in flight. Read `Headline` at the end first, and then the words that it is made of.
-use Rattle.std.specs.Prelude.{◌≡◌, ◌≢◌, ◌⊎◌, ℕ, Bool, true, false, List, [], ◌∷◌, ◌++◌, take}
-use Rattle.tn_discipline.specs.Canon.{Canon, typed_entries, typed_half}
+use Rattle.std.specs.Prelude.{◌≡◌, ◌⊎◌, ℕ, Bool, true, false, List, [], ◌∷◌, ◌++◌}
+use Rattle.tn_discipline.specs.Canon.{Canon, typed_entries}
 use Rattle.tn_discipline.specs.declared.reads.Entry.{Entry}
-use Rattle.tn_nvt.specs.Feeding.{DecoderState, Advances}
-use Rattle.tn_nvt.specs.declared.items.Item.{Item}
 use Rattle.tn_option.specs.Options.{Options, state_of}
 use Rattle.tn_option.specs.declared.q_method.Side.{Side}
 use Rattle.tn_option.specs.declared.q_method.Side.TheVariants.{Us, Them}
 use Rattle.tn_option.specs.declared.q_method.QState.{QState}
 use Rattle.tn_option.specs.declared.q_method.QState.TheVariants.{No, Yes, WantNoEmpty, WantNoOpposite, WantYesEmpty, WantYesOpposite}
-use Rattle.tn_client.specs.Terms.{options_after, mode_at}
 use Rattle.tn_world.specs.Past.{HasPast}
 use Rattle.tn_world.specs.Worlds.{World, RunsEvent, Refuses, canon_of}
 use Rattle.tn_world.specs.declared.events.Event.{Event}
-use Rattle.tn_world.specs.declared.events.Event.TheVariants.{ToClient, Wish, SetChar, Propose}
+use Rattle.tn_world.specs.declared.events.Event.TheVariants.{SetChar, Propose}
 use Rattle.tn_world.specs.declared.faults.Cause.{Cause}
 
 -- A SETTLED MOMENT AT REST: what `mark` finds.
@@ -59,11 +56,16 @@ pub record IsAgreed (w : World) : Type 0 where
   pub server_steady : IsSteady w.server.terms.options
   pub client_steady : IsSteady w.client.options
 
+-- the client counts no half line that the server edits
+abbrev pub IsUncounted : World → Type 0
+IsUncounted w = (w.client.trapped ≡ 0) × (w.client.plain ≡ 0)
+
 -- No line is half typed, and no entry waits.
 pub record IsEmpty (w : World) : Type 0 where
   pub half : w.server.terminal.line.held ≡ []
   pub held : w.client.line.held ≡ []
   pub ahead : w.client.line.ahead ≡ 0
+  pub counts : IsUncounted w
   pub waiting : w.server.terminal.entries ≡ []
 
 pub record IsSettled (w : World) : Type 0 where
@@ -79,60 +81,33 @@ pub record IsMark (canon : Canon) (w : World) : Type 0 where
   pub typed : w.typed ≡ []
   pub taken : w.taken ≡ []
 
--- QUIET LISTS OF EVENTS: no special character changes, and the mode changes between lines alone.
+-- QUIET LISTS OF EVENTS: no special character changes. LINEMODE and every flag but ECHO stay as they are after a mark,
+-- whatever happens; a mode may change in the middle of a line.
 
--- Each of these items that gives a client of these options another mask comes where that may be.
-abbrev pub ChangeModeWhere : Type 0 → Options → ℕ → List Item → Type 0
-ChangeModeWhere may o mode [] = Unit {0}
-ChangeModeWhere may o mode (item ∷ items) =
-    (mode_at o mode item ≢ mode → may)
-    × ChangeModeWhere may (options_after o item) (mode_at o mode item) items
-
--- the typed keys leave no half line
-abbrev pub IsBetweenLines : Canon → List ℕ → Type 0
-IsBetweenLines canon typed = typed_half canon typed ≡ []
-
-abbrev pub ChangeModeBetweenLines : Canon → List ℕ → Options → ℕ → List Item → Type 0
-ChangeModeBetweenLines canon typed o mode items = ChangeModeWhere (IsBetweenLines canon typed) o mode items
-
--- the first bytes in flight change the client's mask only where that may be
-abbrev pub DeliversModesWhere : (List ℕ → Type 0) → World → ℕ → Type 0
-DeliversModesWhere may w n =
-    (items : List Item) (next : DecoderState) → Advances w.client.decoder (take n w.to_client) items next
-    → ChangeModeWhere (may w.typed) w.client.options w.client.mode items
-
--- no special character is set or proposed, and a client that goes on gets another mask only where that may be
-abbrev pub IsQuietEvent : (List ℕ → Type 0) → World → Event → Type 0
-IsQuietEvent may w (ToClient n) =
-    w.client_stopped ≡ false → w.client.failed ≡ false → DeliversModesWhere may w n
-IsQuietEvent may w (SetChar func value) = ⊥
-IsQuietEvent may w (Propose func value) = ⊥
-IsQuietEvent may w e = Unit {0}
+-- no special character is set or proposed
+abbrev pub IsQuietEvent : Event → Type 0
+IsQuietEvent (SetChar func value) = ⊥
+IsQuietEvent (Propose func value) = ⊥
+IsQuietEvent e = Unit {0}
 
 -- the event is done, and quiet, or it is refused
-abbrev pub RunsQuietly : (List ℕ → Type 0) → World → Event → World → Type 0
-RunsQuietly may old e new =
-    (IsQuietEvent may old e × RunsEvent old e new) ⊎ ((cause : Cause) × Refuses old e cause new)
+abbrev pub RunsQuietly : World → Event → World → Type 0
+RunsQuietly old e new = (IsQuietEvent e × RunsEvent old e new) ⊎ ((cause : Cause) × Refuses old e cause new)
 
 -- these events, each quiet where it is done, lead from one world to the other
-abbrev pub PassesQuietly : (List ℕ → Type 0) → World → List Event → World → Type 0
-PassesQuietly may old [] new = new ≡ old
-PassesQuietly may old (e ∷ events) new =
-    (mid : World) × RunsQuietly may old e mid × PassesQuietly may mid events new
+abbrev pub PassesQuietly : World → List Event → World → Type 0
+PassesQuietly old [] new = new ≡ old
+PassesQuietly old (e ∷ events) new = (mid : World) × RunsQuietly old e mid × PassesQuietly mid events new
 
 -- the list is quiet, as far as its events are done
-abbrev pub AreQuiet : (List ℕ → Type 0) → World → List Event → Type 0
-AreQuiet may w [] = Unit {0}
-AreQuiet may w (e ∷ events) =
-    (mid : World) → RunsEvent w e mid → IsQuietEvent may w e × AreQuiet may mid events
+abbrev pub IsQuiet : World → List Event → Type 0
+IsQuiet w [] = Unit {0}
+IsQuiet w (e ∷ events) = (mid : World) → RunsEvent w e mid → IsQuietEvent e × IsQuiet mid events
 
--- the mode changes between lines alone
-abbrev pub IsQuiet : Canon → World → List Event → Type 0
-IsQuiet canon w events = AreQuiet (IsBetweenLines canon) w events
-
--- nowhere
-abbrev pub Nowhere : List ℕ → Type 0
-Nowhere typed = ⊥
+-- each of these events is quiet, done or not
+abbrev pub AreQuietEvents : List Event → Type 0
+AreQuietEvents [] = Unit {0}
+AreQuietEvents (e ∷ events) = IsQuietEvent e × AreQuietEvents events
 
 -- This world came from a settled moment at rest, at which the server had these settings and this limit, by a quiet list
 -- of events.
@@ -140,18 +115,7 @@ pub record FollowsMark (canon : Canon) (w : World) : Type 0 where
   pub start : World
   pub mark : IsMark canon start
   pub events : List Event
-  pub passes : PassesQuietly (IsBetweenLines canon) start events w
-
--- The owner neither wishes for another mode nor changes a special character.
-abbrev pub KeepsTheMode : Event → Type 0
-KeepsTheMode (Wish editing) = ⊥
-KeepsTheMode (SetChar func value) = ⊥
-KeepsTheMode (Propose func value) = ⊥
-KeepsTheMode e = Unit {0}
-
-abbrev pub EachKeepsTheMode : List Event → Type 0
-EachKeepsTheMode [] = Unit {0}
-EachKeepsTheMode (e ∷ events) = KeepsTheMode e × EachKeepsTheMode events
+  pub passes : PassesQuietly start events w
 
 -- THE SENTENCE
 

@@ -4,7 +4,7 @@ use Rattle.tn_discipline.specs.Canon.{Canon}
 use Rattle.tn_discipline.specs.declared.reads.Entry.{Entry}
 use Rattle.tn_server.specs.Events as server_calls
 use Rattle.tn_server.specs.Faults as faults
-use Rattle.tn_server.specs.Faults.{IsOfItem, SaysSomething}
+use Rattle.tn_server.specs.Faults.{IsOfItem, IsOfPiece, SaysSomething}
 use Rattle.tn_server.specs.Lines.{waiting}
 use Rattle.tn_server.specs.Screen.{queue}
 use Rattle.tn_server.specs.Calls as server
@@ -15,7 +15,7 @@ use Rattle.tn_client.specs.Calls as client
 use Rattle.tn_client.specs.declared.faults.ClientFault.{ClientFault}
 use Rattle.tn_client.specs.declared.faults.ClientFault.TheVariants as client_faults
 use Rattle.tn_world.specs.declared.events.Event.{Event}
-use Rattle.tn_world.specs.declared.events.Event.TheVariants.{Key, ToServer, ToClient, Write, Pull, Take, Wish, Resize, SetChar, Propose, Echo, ServerStops, ClientStops}
+use Rattle.tn_world.specs.declared.events.Event.TheVariants.{Key, ToServer, ToClient, Write, Pull, Take, Wish, Resize, SetChar, Propose, Echo, Mask, ServerStops, ClientStops}
 use Rattle.tn_world.specs.declared.faults.Cause.{Cause}
 use Rattle.tn_world.specs.declared.faults.Cause.TheVariants as cause
 
@@ -43,6 +43,7 @@ abbrev pub server_fault : server.End → server_calls.Event → Option ServerFau
 server_fault end (server_calls.wished editing) = server.call_fault end
 server_fault end (server_calls.echo_set on) = server.call_fault end
 server_fault end (server_calls.char_set func value) = server.char_fault_at end func value
+server_fault end (server_calls.mask_set mask) = server.mask_fault end
 server_fault end _ = None
 
 abbrev pub client_fault : client.End → client_calls.Event → Option ClientFault
@@ -144,19 +145,16 @@ RunsEvent old (Propose func value) new =
     UnlessStopped old.client_stopped old new (CallsClient old (client_calls.proposed func value) new)
 RunsEvent old (Echo on) new =
     UnlessStopped old.server_stopped old new (CallsServer old (server_calls.echo_set on) new)
+RunsEvent old (Mask mask) new =
+    UnlessStopped old.server_stopped old new (CallsServer old (server_calls.mask_set mask) new)
 RunsEvent old ServerStops new = new ≡ record old { server_stopped = true }
 RunsEvent old ClientStops new = new ≡ record old { client_stopped = true }
-
--- no delivery is refused for a character
-abbrev pub IsDeliveryFault : ServerFault → Type 0
-IsDeliveryFault (server_faults.Char fault) = ⊥
-IsDeliveryFault fault = Unit {0}
 
 -- A delivery that the server refused: its bytes have left the flight. An end that failed before did nothing more.
 pub record ServerRefusesDelivery (old : World) (n : ℕ) (fault : ServerFault) (new : World) : Type 0 where
   pub goes_on : old.server_stopped ≡ false
   pub first : (old.server.failed ≡ true) → fault ≡ server_faults.Failed
-  pub is_fault : IsDeliveryFault fault
+  pub is_fault : IsOfPiece fault
   pub again : (fault ≡ server_faults.Failed)
       → (old.server.failed ≡ true) × (new ≡ record old { to_server = drop n old.to_server })
   pub halts : IsOfItem fault
@@ -205,6 +203,8 @@ ServerRefusesEvent w (SetChar func value) fault =
     (w.server_stopped ≡ false) × ServerRefusesCall w.server (server_calls.char_set func value) fault
 ServerRefusesEvent w (Echo on) fault =
     (w.server_stopped ≡ false) × ServerRefusesCall w.server (server_calls.echo_set on) fault
+ServerRefusesEvent w (Mask mask) fault =
+    (w.server_stopped ≡ false) × ServerRefusesCall w.server (server_calls.mask_set mask) fault
 ServerRefusesEvent w e fault = ⊥
 
 abbrev pub ClientRefusesEvent : World → Event → ClientFault → Type 0

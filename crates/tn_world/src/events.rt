@@ -1,6 +1,6 @@
 //! What may happen in a world.
 
-use tn_codes::Func;
+use tn_codes::{Func, Mask};
 use tn_discipline::Text;
 use tn_server::Editing;
 
@@ -21,6 +21,8 @@ pub enum Event {
     Take,
     /// The server wishes for editing at one side.
     Wish(Editing),
+    /// The server sends a forward mask, or that there is none any more.
+    Mask(Option<Mask>),
     /// The client's window has this width and height, in characters.
     Resize(u16, u16),
     /// The server sets a special character, or disables it.

@@ -5,40 +5,29 @@
 ghost use Rattle.std.specs.Prelude.{◌≡◌, ℕ, false, List};
 ghost use Rattle.tn_discipline.specs.Canon.{Canon};
 ghost use Rattle.tn_world.specs.Past.{HasPast};
-ghost use Rattle.tn_world.specs.Headline.{IsPrefixOf, local_entries, IsMark, IsQuiet, EachKeepsTheMode, PassesQuietly, Nowhere, IsBetweenLines, NoneFailed, NothingInFlight, entries_made};
+ghost use Rattle.tn_world.specs.Headline.{IsPrefixOf, local_entries, IsMark, IsQuiet, AreQuietEvents, PassesQuietly, NoneFailed, NothingInFlight, entries_made};
 ghost use Rattle.tn_world.specs.Output.{IsOutput, OutputGrows};
 ghost use Rattle.tn_world.specs.Worlds.{World, RunsEvent};
 ghost use Rattle.tn_world.specs.declared.events.Event.{Event};
 
-/// Under a mode that stays, what was made is a prefix of what the keys give.
+/// Whatever the mode does meanwhile, what was made is a prefix of what the keys give.
 pub fn headline_prefix()
     ensures { (s : Canon) (start end : World) (events : List Event) → IsMark s start →
-        PassesQuietly Nowhere start events end → NoneFailed end →
+        PassesQuietly start events end → NoneFailed end →
         IsPrefixOf (entries_made end) (local_entries s end.typed) }
 {}
 
-/// Under a mode that stays, it is all of it where nothing is in flight.
+/// It is all of it where nothing is in flight.
 pub fn headline_complete()
     ensures { (s : Canon) (start end : World) (events : List Event) → IsMark s start →
-        PassesQuietly Nowhere start events end → NoneFailed end → NothingInFlight end →
+        PassesQuietly start events end → NoneFailed end → NothingInFlight end →
         entries_made end ≡ local_entries s end.typed }
 {}
 
-/// The same where the mode changes between lines.
-pub fn headline_mode_changes()
-    ensures prefix { (s : Canon) (start end : World) (events : List Event) → IsMark s start →
-        PassesQuietly (IsBetweenLines s) start events end → NoneFailed end →
-        IsPrefixOf (entries_made end) (local_entries s end.typed) }
-    ensures complete { (s : Canon) (start end : World) (events : List Event) → IsMark s start →
-        PassesQuietly (IsBetweenLines s) start events end → NoneFailed end → NothingInFlight end →
-        entries_made end ≡ local_entries s end.typed }
-{}
-
-/// After a mark every list of keys, deliveries, writes, pulls, takes, sizes, settings of ECHO and stops is
-/// quiet: the owner alone breaks the headline's premise, by wishing or setting a character in mid-line.
+/// Every list of keys, deliveries, writes, pulls, takes, wishes, masks, sizes, settings of ECHO and stops is
+/// quiet: the owner alone breaks the headline's premise, by setting or proposing a special character.
 pub fn quiet_lists()
-    ensures { (canon : Canon) (start : World) (events : List Event) → IsMark canon start →
-        EachKeepsTheMode events → IsQuiet canon start events }
+    ensures { (w : World) (events : List Event) → AreQuietEvents events → IsQuiet w events }
 {}
 
 /// While the client has not failed, an event adds to Output the symbols that the terminal's queue took in

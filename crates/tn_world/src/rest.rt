@@ -2,7 +2,7 @@
 
 ghost use Rattle.std.specs.Prelude.{◌≡◌, ◌↔◌, true};
 ghost use Rattle.std.specs.List.{list_all};
-ghost use Rattle.tn_world.specs.Headline.{IsSettled, IsSteady, is_in_order, AgreeOnLinemode, AgreeOnMask, IsIdle, IsAgreed, IsEmpty};
+ghost use Rattle.tn_world.specs.Headline.{IsSettled, IsSteady, is_in_order, AgreeOnLinemode, AgreeOnMask, IsIdle, IsAgreed, IsUncounted, IsEmpty};
 
 use crate::world::World;
 use tn_option::{ECHO, LINEMODE, NAWS, QState, SUPPRESS_GO_AHEAD, Side};
@@ -95,7 +95,18 @@ impl World {
         if self.client.ahead() != 0 {
             return false;
         }
+        if !self.is_uncounted() {
+            return false;
+        }
         self.server.waiting(0).is_none()
+    }
+
+    // The client counts no half line that the server edits.
+    fn is_uncounted(&self) -> bool
+        ensures { result ≡ true ↔ IsUncounted self.now }
+    {
+        let (trapped, plain) = self.client.counts();
+        trapped == 0 && plain == 0
     }
 }
 

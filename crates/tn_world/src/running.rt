@@ -12,7 +12,7 @@ use crate::faults::{Cause, WorldFault};
 use crate::world::World;
 use std::alloc::{AllocError, Global};
 use std::mem;
-use tn_codes::Func;
+use tn_codes::{Func, Mask};
 use tn_discipline::Text;
 use tn_server::Editing;
 
@@ -21,9 +21,9 @@ impl World {
     pub fn run(&mut self, events: &[Event]) -> Result<(), WorldFault>
         ensures runs { OnOk result (Runs self.old events.now self.new) }
         ensures ends { IfErr result (λ fault. StopsWithin self.old events.now fault.at fault.cause self.new) }
-        ensures follows { (canon : Canon) → FollowsMark canon self.old → IsQuiet canon self.old events.now →
+        ensures follows { (canon : Canon) → FollowsMark canon self.old → IsQuiet self.old events.now →
             FollowsMark canon self.new }
-        ensures headline { (canon : Canon) → FollowsMark canon self.old → IsQuiet canon self.old events.now →
+        ensures headline { (canon : Canon) → FollowsMark canon self.old → IsQuiet self.old events.now →
             Headline canon self.new }
         ensures output { OnOk result ((text : List ℕ) → IsOutput self.old text →
             self.old.client.failed ≡ false → OutputGrowsAll self.old events.now self.new text) }
@@ -61,6 +61,7 @@ impl World {
             Event::SetChar(func, value) => self.set_char(*func, *value),
             Event::Propose(func, value) => self.propose(*func, *value),
             Event::Echo(on) => self.echo(*on),
+            Event::Mask(mask) => self.mask(*mask),
             Event::ServerStops => {
                 self.server_stopped = true;
                 Ok(())
@@ -204,6 +205,19 @@ impl World {
             return Ok(());
         }
         match self.server.set_echo(on, &mut self.to_client) {
+            Ok(()) => Ok(()),
+            Err(fault) => Err(Cause::Server(fault)),
+        }
+    }
+
+    fn mask(&mut self, mask: Option<Mask>) -> Result<(), Cause>
+        ensures ok { OnOk result (RunsEvent self.old (event.Mask mask) self.new) }
+        ensures err { IfErr result (λ cause. Refuses self.old (event.Mask mask) cause self.new) }
+    {
+        if self.server_stopped {
+            return Ok(());
+        }
+        match self.server.set_mask(mask, &mut self.to_client) {
             Ok(()) => Ok(()),
             Err(fault) => Err(Cause::Server(fault)),
         }

@@ -4,10 +4,11 @@ use Rattle.std.specs.Prelude.{All}
 use Rattle.std.proofs.lemmas.List.Elements.{All-cons}
 use Rattle.tn_codes.specs.Payloads.{parameters_of}
 use Rattle.tn_codes.specs.declared.codes.Command.{Command}
+use Rattle.tn_codes.specs.declared.masks.Mask.{Mask}
 use Rattle.tn_codes.specs.declared.payloads.Payload.{Payload}
 use Rattle.tn_codes.specs.declared.payloads.Payload.TheVariants as payload
 use Rattle.tn_discipline.specs.Characters.{Characters}
-use Rattle.tn_discipline.specs.HalfLine.{HalfLine, has_held, has_ahead}
+use Rattle.tn_discipline.specs.HalfLine.{HalfLine, line_length, has_held, has_ahead, line_after}
 use Rattle.tn_discipline.specs.declared.keys.Role.{Role}
 use Rattle.tn_discipline.specs.declared.keys.Role.TheVariants as role
 use Rattle.tn_linemode.specs.Modes.{edits, mode_answer}
@@ -18,9 +19,9 @@ use Rattle.tn_nvt.specs.declared.items.Item.{Item}
 use Rattle.tn_nvt.specs.declared.items.Item.TheVariants.{Byte, Newline, Cmd, Neg, Sub}
 use Rattle.tn_option.specs.Options.{Options, reply_to}
 use Rattle.tn_client.specs.Events.{History, Event, typed, got, resized, proposed, begun, next}
-use Rattle.tn_client.specs.Terms.{options, mode, chars, size, linemode, tells_size, options_after, payload_at, mode_at}
-use Rattle.tn_client.specs.Lines.{role_at, line}
-use Rattle.tn_client.specs.Replies.{byte_items, command_of, command_items, raw_key_items, edited_key_items, key_items, size_items, new_size_items, payload_answers, answer_items, end_of_edit_items, is_same_size, replies, items_said}
+use Rattle.tn_client.specs.Terms.{options, mode, forward, chars, size, linemode, tells_size, options_after, payload_at, mode_at}
+use Rattle.tn_client.specs.Lines.{role_at, sends_ahead, line}
+use Rattle.tn_client.specs.Replies.{byte_items, command_of, command_items, raw_key_items, edited_key_items, sent_ahead_items, key_items, size_items, new_size_items, payload_answers, answer_items, end_of_edit_items, is_same_size, replies, items_said}
 use Rattle.tn_wire.specs.Words.{word_items}
 use Rattle.tn_linemode.proofs.lemmas.Answering.{length-answers_along}
 use Rattle.tn_wire.proofs.lemmas.Fitting.{Fit, none, one, both, unless, word-fits, mode-fits, list-fits}
@@ -56,9 +57,15 @@ edited-fits role.Kill l = unless (has_ahead l) (command_items (command_of role.K
 edited-fits role.Ignored l = none
 edited-fits (role.Ordinary b) l = none
 
-key-fits : (edit : Bool) (r : Role) (l : HalfLine) (key : ℕ) → Fit (key_items edit r l key)
-key-fits true r l key = edited-fits r l
-key-fits false r l key = raw-fits r key
+ahead-fits : (sends : Bool) (l : HalfLine) → Fit (sent_ahead_items sends l)
+ahead-fits true l = bytes-fit l.held
+ahead-fits false l = none
+
+key-fits : (edit : Bool) (forward : Option Mask) (r : Role) (l : HalfLine) (key : ℕ) → Fit (key_items edit forward r l key)
+key-fits true forward r l key =
+    let sends = sends_ahead forward l.limit (line_length l) r in
+    both (edited_key_items r l) (sent_ahead_items sends (line_after l r)) (edited-fits r l) (ahead-fits sends (line_after l r))
+key-fits false forward r l key = raw-fits r key
 
 size-fits : (z : ℕ × ℕ) → Fit (size_items z)
 size-fits (width, height) = one (Sub 31 (parameters_of (payload.Naws width height))) (omega arith)
@@ -68,7 +75,7 @@ unfolding client_answers
 payload-fits m c None h = none
 payload-fits m c (Some (payload.Naws width height)) h = none
 payload-fits m c (Some (payload.Mode mask)) h = mode-fits (mode_answer m mask)
-payload-fits m c (Some (payload.ForwardOn mask)) h = one (Sub 34 (parameters_of payload.ForwardNo)) (omega arith)
+payload-fits m c (Some (payload.ForwardOn mask)) h = one (Sub 34 (parameters_of payload.ForwardYes)) (omega arith)
 payload-fits m c (Some payload.ForwardOff) h = one (Sub 34 (parameters_of payload.ForwardNo)) (omega arith)
 payload-fits m c (Some payload.ForwardYes) h = none
 payload-fits m c (Some payload.ForwardNo) h = none
@@ -90,7 +97,7 @@ ending-fits false after bs = none
 
 -- What is said at an event fits.
 pub replies-fit : (h : History) (e : Event) → All Fits (replies h e)
-replies-fit h (typed key) = key-fits (edits (mode h)) (role_at h key) (line h) key
+replies-fit h (typed key) = key-fits (edits (mode h)) (forward h) (role_at h key) (line h) key
 replies-fit h (got item) =
     both (end_of_edit_items (edits (mode h)) (edits (mode_at (options h) (mode h) item)) (line h).held) (answer_items (options h) (mode h) (chars h) (size h) item)
     (ending-fits (edits (mode h)) (edits (mode_at (options h) (mode h) item)) (line h).held) (answer-fits (options h) (mode h) (chars h) (size h) item)

@@ -1,19 +1,22 @@
 -- What holds of every history.
-use Rattle.std.proofs.Common.{◌≡◌, ◌<◌, ℕ, min, ◌==◌, Bool, true, false, ◌&&◌, Option, Some, None, List, [], ◌∷◌, ◌++◌, length, drop, refl, sym, ap, ◌∙◌, if◌then◌else◌, append-nil, append_assoc, arith}
+use Rattle.std.proofs.Common.{◌≡◌, ◌<◌, ◌≤◌, ℕ, min, ◌==◌, Bool, true, false, not, ◌&&◌, Option, Some, None, List, [], ◌∷◌, ◌++◌, length, take, drop, refl, sym, ap, ◌∙◌, if◌then◌else◌, append-nil, append_assoc, arith}
+use Rattle.std.proofs.lemmas.List.{take-append-drop}
 use Rattle.std.proofs.lemmas.Nat.{and_mask}
+use Rattle.tn_codes.specs.declared.masks.Mask.{Mask}
 use Rattle.tn_codes.specs.declared.payloads.Payload.{Payload}
 use Rattle.tn_codes.specs.declared.payloads.Payload.TheVariants as payload
 use Rattle.tn_discipline.specs.Entries.{half_of}
 use Rattle.tn_discipline.specs.HalfLine.{empty_line}
+use Rattle.tn_discipline.specs.Keys.{role_of_key, roles_from}
 use Rattle.tn_discipline.specs.declared.keys.Role.{Role}
-use Rattle.tn_linemode.specs.Modes.{edits, mode_of, is_acknowledged}
+use Rattle.tn_linemode.specs.Modes.{edits, traps, mode_of, is_acknowledged}
 use Rattle.tn_nvt.specs.declared.items.Item.{Item}
 use Rattle.tn_nvt.specs.declared.items.Item.TheVariants.{Byte, Newline, Cmd, Neg, Sub}
 use Rattle.tn_option.specs.Options.{Options, options_after_word}
 use Rattle.tn_client.specs.Events.{History, begun, next, typed, got, resized, proposed, items, keys, gets}
-use Rattle.tn_client.specs.Terms.{options, mode, linemode, payload_at, changes, mode_by, mode_at}
+use Rattle.tn_client.specs.Terms.{options, mode, forward, chars, linemode, payload_at, changes, mode_by, mode_at, forward_by}
 use Rattle.tn_wire.specs.Words.{payload_under, differ}
-use Rattle.tn_client.specs.Lines.{line_limit, edited_roles, ahead, held_bytes, half_line, line}
+use Rattle.tn_client.specs.Lines.{settings_by, role_at, role_under, isig_told, roles_under, line_limit, edited_roles, half_line, is_sent_ahead, lengths_with, lengths_kept, lengths_since_sent, least, ahead, held_bytes, count_under, line}
 use Rattle.tn_client.specs.Replies.{replies, items_said}
 use Rattle.tn_client.specs.Screen.{text_shown, shows}
 
@@ -41,38 +44,188 @@ shown-gets h (x ∷ xs) =
     let r = shown-gets (next h (got x)) xs in
     (shows h (got x) ++ r.0, r.1 ∙ append_assoc (text_shown h) (shows h (got x)) r.0)
 
-kept_or_none : (b : Bool) (n : ℕ) → n ≡ 0 → (if b then n else 0) ≡ 0
-kept_or_none true n e = e
-kept_or_none false n e = refl
+-- WITHOUT EDIT nothing of a line is here
+pub unedited : (h : History) → edits (mode h) ≡ false → edited_roles h ≡ []
+unedited h e = ap (λ (b : Bool). if b then roles_under (traps (mode h)) h else []) e
 
-least : (m n : ℕ) → m ≡ 0 → min m n ≡ 0
-least m n e = omega arith
-
-pub ahead-none : (h : History) → ahead h ≡ 0
-ahead-none (begun width height limit) = refl
-ahead-none (next h (typed key)) = least (ahead h) (length (half_line (next h (typed key)))) (ahead-none h)
-ahead-none (next h (got item)) = kept_or_none (edits (mode h) && edits (mode (next h (got item)))) (ahead h) (ahead-none h)
-ahead-none (next h (resized width height)) = ahead-none h
-ahead-none (next h (proposed func value)) = ahead-none h
-
-pub held-all : (h : History) → held_bytes h ≡ half_line h
-held-all h = ap (λ (n : ℕ). drop n (half_line h)) (ahead-none h)
-
-first_or_none : (a b : Bool) (rs : List Role) → (a ≡ false → rs ≡ []) → b ≡ false → (if a && b then rs else []) ≡ []
-first_or_none true true rs f e = cc
-first_or_none true false rs f e = refl
-first_or_none false b rs f e = refl
-
-some_or_none : (a : Bool) (rs : List Role) → a ≡ false → (if a then rs else []) ≡ []
+some_or_none : {A : Type 0} (a : Bool) (rs : List A) → a ≡ false → (if a then rs else []) ≡ []
 some_or_none true rs e = cc
 some_or_none false rs e = refl
 
-pub unedited : (h : History) → edits (mode h) ≡ false → edited_roles h ≡ []
-unedited (begun width height limit) e = refl
-unedited (next h (typed key)) e = some_or_none (edits (mode h)) _ e
-unedited (next h (got item)) e = first_or_none (edits (mode h)) (edits (mode (next h (got item)))) (edited_roles h) (unedited h) e
-unedited (next h (resized width height)) e = unedited h e
-unedited (next h (proposed func value)) e = unedited h e
+kept_or_none : (edit after : Bool) (n : ℕ) (ns : List ℕ) → after ≡ false → lengths_kept edit after n ns ≡ []
+kept_or_none edit true n ns e = cc
+kept_or_none true false n ns e = refl
+kept_or_none false false n ns e = refl
+
+unsent : (h : History) → edits (mode h) ≡ false → lengths_since_sent h ≡ []
+unsent (begun width height limit) e = refl
+unsent (next h (typed key)) e = some_or_none (edits (mode h)) _ e
+unsent (next h (got item)) e = kept_or_none (edits (mode h)) (edits (mode (next h (got item)))) _ (lengths_since_sent h) e
+unsent (next h (resized width height)) e = unsent h e
+unsent (next h (proposed func value)) e = unsent h e
+
+pub unedited-ahead : (h : History) → edits (mode h) ≡ false → ahead h ≡ 0
+unedited-ahead h e = ap least (unsent h e)
+
+-- THE ROLES OF A HALF LINE, whichever end edits it
+-- with EDIT it is told by which ISIG the keys were typed before
+told_by_test : (a b : Bool) (edit after : Bool) (mask : ℕ) → edit ≡ false → after ≡ true → (if not edit && after then traps mask else a) ≡ (if not edit && after then traps mask else b)
+told_by_test a b true after mask e f = cc
+told_by_test a b false true mask e f = refl
+told_by_test a b false false mask e f = cc
+
+told_true : (isig edit : Bool) (mask : ℕ) → edit ≡ true → isig_told isig edit mask ≡ isig
+told_true isig true mask e = refl
+told_true isig false mask e = cc
+
+told_off : (isig edit : Bool) (mask : ℕ) → edits mask ≡ false → isig_told isig edit mask ≡ isig
+told_off isig true mask e = refl
+told_off isig false mask e = ap (λ (b : Bool). if b then traps mask else isig) e
+
+told_on : (isig : Bool) (mask : ℕ) → edits mask ≡ true → isig_told isig false mask ≡ traps mask
+told_on isig mask e = ap (λ (b : Bool). if b then traps mask else isig) e
+
+role_same : (isig : Bool) (h : History) (key : ℕ) → edits (mode h) ≡ true → role_under isig h key ≡ role_at h key
+role_same isig h key e = ap (λ (b : Bool). if b then role_at h key else role_of_key (settings_by isig (chars h)) key) e
+
+pub same_roles : (a b : Bool) (h : History) → edits (mode h) ≡ true → roles_under a h ≡ roles_under b h
+same_roles a b (begun width height limit) e = refl
+same_roles a b (next h (typed key)) e =
+    ap (λ (rs : List Role). rs ++ roles_from (role_under a h key)) (same_roles a b h e)
+    ∙ ap (λ (r : Role). roles_under b h ++ roles_from r) (role_same a h key e ∙ sym (role_same b h key e))
+same_roles a b (next h (got item)) e = by_test (edits (mode h)) refl (λ f. same_roles a b h f)
+  where
+    by_test : (edit : Bool) → edits (mode h) ≡ edit → (edits (mode h) ≡ true → roles_under a h ≡ roles_under b h) → roles_under a (next h (got item)) ≡ roles_under b (next h (got item))
+    by_test true f before =
+        ap (λ (x : Bool). roles_under x h) (told_true a (edits (mode h)) (mode (next h (got item))) f)
+        ∙ before f
+        ∙ sym (ap (λ (x : Bool). roles_under x h) (told_true b (edits (mode h)) (mode (next h (got item))) f))
+    by_test false f before = ap (λ (x : Bool). roles_under x h) (told_by_test a b (edits (mode h)) (edits (mode (next h (got item)))) (mode (next h (got item))) f e)
+same_roles a b (next h (resized width height)) e = same_roles a b h e
+same_roles a b (next h (proposed func value)) e = same_roles a b h e
+
+pub edited-is : (h : History) → edits (mode h) ≡ true → edited_roles h ≡ roles_under (traps (mode h)) h
+edited-is h e = ap (λ (b : Bool). if b then roles_under (traps (mode h)) h else []) e
+
+-- a key with EDIT
+pub edited-typed : (h : History) (key : ℕ) → edits (mode h) ≡ true → edited_roles (next h (typed key)) ≡ edited_roles h ++ roles_from (role_at h key)
+edited-typed h key e =
+    edited-is (next h (typed key)) e
+    ∙ ap (λ (r : Role). roles_under (traps (mode h)) h ++ roles_from r) (role_same (traps (mode h)) h key e)
+    ∙ ap (λ (rs : List Role). rs ++ roles_from (role_at h key)) (sym (edited-is h e))
+
+-- and without
+pub under-typed : (isig : Bool) (h : History) (key : ℕ) → edits (mode h) ≡ false → roles_under isig (next h (typed key)) ≡ roles_under isig h ++ roles_from (role_of_key (settings_by isig (chars h)) key)
+under-typed isig h key e =
+    ap (λ (b : Bool). roles_under isig h ++ roles_from (if b then role_at h key else role_of_key (settings_by isig (chars h)) key)) e
+
+-- an item by which EDIT stays, ends, begins, or stays away
+pub edited-stays : (h : History) (item : Item) → edits (mode h) ≡ true → edits (mode (next h (got item))) ≡ true → edited_roles (next h (got item)) ≡ edited_roles h
+edited-stays h item e f =
+    let isig = traps (mode (next h (got item))) in
+    edited-is (next h (got item)) f
+    ∙ ap (λ (x : Bool). roles_under x h) (told_true isig (edits (mode h)) (mode (next h (got item))) e)
+    ∙ same_roles isig (traps (mode h)) h e ∙ sym (edited-is h e)
+
+pub under-ends : (isig : Bool) (h : History) (item : Item) → edits (mode h) ≡ true → roles_under isig (next h (got item)) ≡ edited_roles h
+under-ends isig h item e =
+    ap (λ (x : Bool). roles_under x h) (told_true isig (edits (mode h)) (mode (next h (got item))) e)
+    ∙ same_roles isig (traps (mode h)) h e ∙ sym (edited-is h e)
+
+pub edited-begins : (h : History) (item : Item) → edits (mode h) ≡ false → edits (mode (next h (got item))) ≡ true → edited_roles (next h (got item)) ≡ roles_under (traps (mode (next h (got item)))) h
+edited-begins h item e f =
+    let mask = mode (next h (got item)) in
+    edited-is (next h (got item)) f
+    ∙ ap (λ (b : Bool). roles_under (isig_told (traps mask) b mask) h) e
+    ∙ ap (λ (x : Bool). roles_under x h) (told_on (traps mask) mask f)
+
+pub under-stays : (isig : Bool) (h : History) (item : Item) → edits (mode (next h (got item))) ≡ false → roles_under isig (next h (got item)) ≡ roles_under isig h
+under-stays isig h item f = ap (λ (x : Bool). roles_under x h) (told_off isig (edits (mode h)) (mode (next h (got item))) f)
+
+-- COUNTS
+pub count-none : (isig : Bool) (h : History) → edits (mode h) ≡ true → count_under isig h ≡ 0
+count-none isig h e = ap (λ (b : Bool). if b then 0 else length (half_of (line_limit h) (roles_under isig h))) e
+
+pub count-is : (isig : Bool) (h : History) → edits (mode h) ≡ false → count_under isig h ≡ length (half_of (line_limit h) (roles_under isig h))
+count-is isig h e = ap (λ (b : Bool). if b then 0 else length (half_of (line_limit h) (roles_under isig h))) e
+
+-- HOW MUCH IS AHEAD
+-- with EDIT the line has had a length since
+pub some_lengths : (h : History) → edits (mode h) ≡ true → (n : ℕ) × (ns : List ℕ) × (lengths_since_sent h ≡ n ∷ ns)
+some_lengths (begun width height limit) e = absurd (cc)
+some_lengths (next h (typed key)) e =
+    let n = length (half_line (next h (typed key))) in
+    let is : lengths_since_sent (next h (typed key)) ≡ lengths_with (is_sent_ahead h key) n (lengths_since_sent h) =
+    ap (λ (b : Bool). if b then lengths_with (is_sent_ahead h key) n (lengths_since_sent h) else []) e in
+    by_test (is_sent_ahead h key) n (lengths_since_sent h) is
+  where
+    by_test : (b : Bool) (n : ℕ) (ns : List ℕ) → lengths_since_sent (next h (typed key)) ≡ lengths_with b n ns → (m : ℕ) × (ms : List ℕ) × (lengths_since_sent (next h (typed key)) ≡ m ∷ ms)
+    by_test true n ns is = (n, [], is)
+    by_test false n ns is = (n, ns, is)
+some_lengths (next h (got item)) e = by_test (edits (mode h)) refl (length (half_line (next h (got item)))) (λ f. some_lengths h f)
+  where
+    by_test : (edit : Bool) → edits (mode h) ≡ edit → (n : ℕ) → (edits (mode h) ≡ true → (m : ℕ) × (ms : List ℕ) × (lengths_since_sent h ≡ m ∷ ms)) → (m : ℕ) × (ms : List ℕ) × (lengths_kept (edits (mode h)) (edits (mode (next h (got item)))) n (lengths_since_sent h) ≡ m ∷ ms)
+    by_test true f n some =
+        let before = some f in
+        (before.0, before.1, ap (λ (b : Bool). lengths_kept b (edits (mode (next h (got item)))) n (lengths_since_sent h)) f ∙ ap (λ (b : Bool). lengths_kept true b n (lengths_since_sent h)) e ∙ before.2)
+    by_test false f n some =
+        (n, [], ap (λ (b : Bool). lengths_kept b (edits (mode (next h (got item)))) n (lengths_since_sent h)) f ∙ ap (λ (b : Bool). lengths_kept false b n (lengths_since_sent h)) e)
+some_lengths (next h (resized width height)) e = some_lengths h e
+some_lengths (next h (proposed func value)) e = some_lengths h e
+
+-- the least length since all was sent, after one more
+least-with : (b : Bool) (n m : ℕ) (ms : List ℕ) → least (lengths_with b n (m ∷ ms)) ≡ (if b then n else min n (least (m ∷ ms)))
+least-with true n m ms = refl
+least-with false n m ms = refl
+
+-- after a key with EDIT
+pub ahead-typed : (h : History) (key : ℕ) → edits (mode h) ≡ true → ahead (next h (typed key)) ≡ (if is_sent_ahead h key then length (half_line (next h (typed key))) else min (length (half_line (next h (typed key)))) (ahead h))
+ahead-typed h key e =
+    let n = length (half_line (next h (typed key))) in
+    let before = some_lengths h e in
+    ap (λ (b : Bool). least (if b then lengths_with (is_sent_ahead h key) n (lengths_since_sent h) else [])) e
+    ∙ ap (λ (ns : List ℕ). least (lengths_with (is_sent_ahead h key) n ns)) before.2
+    ∙ least-with (is_sent_ahead h key) n before.0 before.1
+    ∙ ap (λ (ns : List ℕ). if is_sent_ahead h key then n else min n (least ns)) (sym before.2)
+
+-- and after an item
+pub ahead-stays : (h : History) (item : Item) → edits (mode h) ≡ true → edits (mode (next h (got item))) ≡ true → ahead (next h (got item)) ≡ ahead h
+ahead-stays h item e f =
+    let n = length (half_line (next h (got item))) in
+    ap (λ (b : Bool). least (lengths_kept b (edits (mode (next h (got item)))) n (lengths_since_sent h))) e
+    ∙ ap (λ (b : Bool). least (lengths_kept true b n (lengths_since_sent h))) f
+
+pub ahead-begins : (h : History) (item : Item) → edits (mode h) ≡ false → edits (mode (next h (got item))) ≡ true → ahead (next h (got item)) ≡ length (half_line (next h (got item)))
+ahead-begins h item e f =
+    let n = length (half_line (next h (got item))) in
+    ap (λ (b : Bool). least (lengths_kept b (edits (mode (next h (got item)))) n (lengths_since_sent h))) e
+    ∙ ap (λ (b : Bool). least (lengths_kept false b n (lengths_since_sent h))) f
+
+within_by_test : (b : Bool) (n : ℕ) (ns : List ℕ) → least (lengths_with b n ns) ≤ n
+within_by_test true n ns = omega arith
+within_by_test false n [] = omega arith
+within_by_test false n (m ∷ ns) = omega arith
+
+typed-within : (edit b : Bool) (n : ℕ) (ns : List ℕ) → least (if edit then lengths_with b n ns else []) ≤ n
+typed-within true b n ns = within_by_test b n ns
+typed-within false b n ns = omega arith
+
+pub ahead-within : (h : History) → ahead h ≤ length (half_line h)
+ahead-within (begun width height limit) = omega arith
+ahead-within (next h (typed key)) = typed-within (edits (mode h)) (is_sent_ahead h key) (length (half_line (next h (typed key)))) (lengths_since_sent h)
+ahead-within (next h (got item)) = by_test (edits (mode h)) (edits (mode (next h (got item)))) refl refl (ahead-within h)
+  where
+    by_test : (edit after : Bool) → edits (mode h) ≡ edit → edits (mode (next h (got item))) ≡ after → ahead h ≤ length (half_line h) → ahead (next h (got item)) ≤ length (half_line (next h (got item)))
+    by_test true true e f before =
+        let same : length (half_line (next h (got item))) ≡ length (half_line h) = ap (λ (rs : List Role). length (half_of (line_limit h) rs)) (edited-stays h item e f) in
+        omega (arith, before, same, ahead-stays h item e f)
+    by_test false true e f before = omega (arith, ahead-begins h item e f)
+    by_test edit false e f before = omega (arith, unedited-ahead (next h (got item)) f)
+ahead-within (next h (resized width height)) = ahead-within h
+ahead-within (next h (proposed func value)) = ahead-within h
+
+pub parts-whole : (h : History) → half_line h ≡ take (ahead h) (half_line h) ++ held_bytes h
+parts-whole h = sym (take-append-drop (ahead h) (half_line h))
 
 pub unedited_half : (h : History) → edits (mode h) ≡ false → half_line h ≡ []
 unedited_half h e = ap (half_of (line_limit h)) (unedited h e)
@@ -104,12 +257,31 @@ mode-off (next h (got (Sub option params))) e =
 mode-off (next h (resized width height)) e = mode-off h e
 mode-off (next h (proposed func value)) e = mode-off h e
 
+changed_or_dropped : (was on : Bool) (f : Option Mask) → (was ≡ false → f ≡ None) → on ≡ false → (if differ was on then None else f) ≡ None
+changed_or_dropped true true f g e = cc
+changed_or_dropped true false f g e = refl
+changed_or_dropped false true f g e = cc
+changed_or_dropped false false f g e = g refl
+
+pub forward-off : (h : History) → linemode (options h) ≡ false → forward h ≡ None
+forward-off (begun width height limit) e = refl
+forward-off (next h (typed key)) e = forward-off h e
+forward-off (next h (got (Byte byte))) e = forward-off h e
+forward-off (next h (got Newline)) e = forward-off h e
+forward-off (next h (got (Cmd command))) e = forward-off h e
+forward-off (next h (got (Neg verb option))) e =
+    changed_or_dropped (linemode (options h)) (linemode (options_after_word (options h) verb option)) (forward h) (forward-off h) e
+forward-off (next h (got (Sub option params))) e =
+    ap (λ (p : Option Payload). forward_by (forward h) p) (payload_off (options h) option params e) ∙ forward-off h e
+forward-off (next h (resized width height)) e = forward-off h e
+forward-off (next h (proposed func value)) e = forward-off h e
+
 pub unedited-held : (h : History) → edits (mode h) ≡ false → held_bytes h ≡ []
-unedited-held h e = held-all h ∙ unedited_half h e
+unedited-held h e = ap (λ (bytes : List ℕ). drop (ahead h) bytes) (unedited_half h e) ∙ ap (λ (n : ℕ). drop {A = ℕ} n []) (unedited-ahead h e)
 
 pub unedited-line : (h : History) → edits (mode h) ≡ false → line h ≡ empty_line (line_limit h)
 unedited-line h e =
-    ap (λ (bytes : List ℕ). record { held = bytes; ahead = ahead h; limit = line_limit h }) (unedited-held h e) ∙ ap (λ (n : ℕ). record { held = []; ahead = n; limit = line_limit h }) (ahead-none h)
+    ap (λ (bytes : List ℕ). record { held = bytes; ahead = ahead h; limit = line_limit h }) (unedited-held h e) ∙ ap (λ (n : ℕ). record { held = []; ahead = n; limit = line_limit h }) (unedited-ahead h e)
 
 -- MASKS
 -- a mask in force has no bits but EDIT and TRAPSIG

@@ -4,10 +4,11 @@ use Rattle.std.specs.Prelude.{option_to_list}
 use Rattle.std.proofs.lemmas.List.{append_cancel_left}
 use Rattle.tn_codes.specs.declared.codes.Command.{Command}
 use Rattle.tn_codes.specs.declared.codes.Verb.{Verb}
+use Rattle.tn_codes.specs.declared.masks.Mask.{Mask}
 use Rattle.tn_codes.specs.declared.payloads.Payload.{Payload}
 use Rattle.tn_codes.specs.declared.payloads.Payload.TheVariants as payload
 use Rattle.tn_discipline.specs.Characters.{Characters}
-use Rattle.tn_discipline.specs.HalfLine.{HalfLine, has_held, has_ahead}
+use Rattle.tn_discipline.specs.HalfLine.{HalfLine, line_length, has_held, has_ahead, line_after}
 use Rattle.tn_discipline.specs.declared.keys.Role.{Role}
 use Rattle.tn_discipline.specs.declared.keys.Role.TheVariants as role
 use Rattle.tn_linemode.specs.Exchange.{client_answers}
@@ -24,9 +25,9 @@ use Rattle.tn_wire.specs.Words.{word_items}
 use Rattle.tn_client.specs.Calls.{End, LeadsTo, Advances, Sends, Feeds}
 use Rattle.tn_client.specs.Course.{IsCall}
 use Rattle.tn_client.specs.Events.{Event, History, next, typed, got, resized, proposed, gets}
-use Rattle.tn_client.specs.Lines.{role_at, line}
-use Rattle.tn_client.specs.Replies.{byte_items, command_for, command_of, func_of, command_items, raw_key_items, edited_key_items, key_items, size_items, new_size_items, payload_answers, answer_items, end_of_edit_items, item_replies, is_same_size, resize_items, replies, items_said}
-use Rattle.tn_client.specs.Terms.{options, mode, chars, size, tells_size, payload_at, options_after, mode_at}
+use Rattle.tn_client.specs.Lines.{role_at, sends_ahead, line}
+use Rattle.tn_client.specs.Replies.{byte_items, command_for, command_of, func_of, command_items, raw_key_items, edited_key_items, sent_ahead_items, key_items, size_items, new_size_items, payload_answers, answer_items, end_of_edit_items, item_replies, is_same_size, resize_items, replies, items_said}
+use Rattle.tn_client.specs.Terms.{options, mode, forward, chars, size, tells_size, payload_at, options_after, mode_at}
 
 -- the options of a server and of its client, and the words that are on their way to each
 abbrev pub pair : Options → Options → List (Verb × ℕ) → List (Verb × ℕ) → EnginePair
@@ -76,9 +77,15 @@ raw_none role.Kill key = refl
 raw_none role.Ignored key = refl
 raw_none (role.Ordinary b) key = refl
 
-key_none : (edit : Bool) (r : Role) (l : HalfLine) (key : ℕ) → words_in (key_items edit r l key) ≡ []
-key_none true r l key = edited_none r l
-key_none false r l key = raw_none r key
+ahead_none : (sends : Bool) (l : HalfLine) → words_in (sent_ahead_items sends l) ≡ []
+ahead_none true l = bytes_none l.held
+ahead_none false l = refl
+
+key_none : (edit : Bool) (forward : Option Mask) (r : Role) (l : HalfLine) (key : ℕ) → words_in (key_items edit forward r l key) ≡ []
+key_none true forward r l key =
+    let sends = sends_ahead forward l.limit (line_length l) r in
+    none_first (edited_key_items r l) (sent_ahead_items sends (line_after l r)) (edited_none r l) ∙ ahead_none sends (line_after l r)
+key_none false forward r l key = raw_none r key
 
 payload_none : (m : ℕ) (c : Characters) (p : Option Payload) → words_in (payload_answers m c p) ≡ []
 payload_none m c None = refl
@@ -144,7 +151,7 @@ gets_moves h (item ∷ items) here ws vs =
 
 -- CALLS of the owner say no word, and leave the options
 call_none : (h : History) (e : Event) → IsCall e → words_in (replies h e) ≡ []
-call_none h (typed key) is = key_none (edits (mode h)) (role_at h key) (line h) key
+call_none h (typed key) is = key_none (edits (mode h)) (forward h) (role_at h key) (line h) key
 call_none h (got item) is = absurd is
 call_none h (resized width height) is = if_none (tells_size (options h) && not (is_same_size (size h) (width, height))) (size_items (width, height)) refl
 call_none h (proposed func value) is = words_in-list (triple_of func value ∷ [])

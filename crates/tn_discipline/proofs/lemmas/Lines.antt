@@ -1,29 +1,33 @@
 -- What each role does to a line, whatever keys led to it.
-use Rattle.std.proofs.Common.{◌≡◌, ◌<◌, ◌≤◌, ℕ, ◌+◌, ◌-◌, Bool, true, false, List, [], ◌∷◌, ◌++◌, length, take, refl, sym, ap, subst, ◌∙◌, if◌then◌else◌, arith, append-nil, append_assoc, length-append, length-take}
+use Rattle.std.proofs.Common.{◌≡◌, ◌<◌, ◌≤◌, ℕ, ◌+◌, ◌-◌, min, Bool, true, false, List, [], ◌∷◌, ◌++◌, length, take, refl, sym, ap, subst, ◌∙◌, if◌then◌else◌, arith, append-nil, append_assoc, length-append, length-take}
 use Rattle.std.proofs.Math.Seq.{take-append-add}
 use borrow.Author.Tests.{ltb-true, ltb-false}
+use Rattle.std.proofs.lemmas.Bool.{lt-ltb}
 use Rattle.tn_discipline.specs.declared.keys.Role.{Role}
 use Rattle.tn_discipline.specs.declared.keys.Role.TheVariants as role
 use Rattle.tn_discipline.specs.declared.reads.Entry.{Entry}
 use Rattle.tn_discipline.specs.declared.reads.Entry.TheVariants as entry
 use Rattle.tn_discipline.specs.declared.half_line.Effect.{Effect}
 use Rattle.tn_discipline.specs.declared.half_line.Effect.TheVariants as effect
-use Rattle.tn_discipline.specs.Admitted.{is_dropped, admitted_roles, count_of}
+use Rattle.tn_discipline.specs.Admitted.{is_dropped, admitted_roles, count_after, count_of}
 use Rattle.tn_discipline.specs.Entries.{line_of, entries_of, half_of}
 use Rattle.tn_discipline.specs.Steps.{front, half_after, gain_after}
 use Rattle.tn_discipline.specs.Keys.{roles_from}
-use Rattle.tn_discipline.specs.HalfLine.{HalfLine, empty_line, line_length, is_full, has_held, has_ahead, effect_of, line_after, effect_entries}
-use Rattle.tn_discipline.specs.Advancing.{LeadsTo, Advances, DropsExactly}
-use Rattle.tn_discipline.proofs.lemmas.Histories.{half-one_more, entries-one_more, length-half_of, admitted_after-append}
+use Rattle.tn_discipline.specs.HalfLine.{HalfLine, empty_line, line_length, line_released, line_resumed, line_erased, is_full, has_held, has_ahead, effect_of, line_after, effect_entries}
+use Rattle.tn_discipline.specs.Advancing.{LeadsTo, Advances, DropsExactly, KeepsHalf, LeadsWhereLong}
+use Rattle.tn_discipline.proofs.lemmas.Histories.{half-one_more, entries-one_more, length-half_of, admitted_after-append, count_after-append}
 
 empty_of : (xs : List ℕ) → length xs ≡ 0 → xs ≡ []
 empty_of [] h = refl
 empty_of (x ∷ xs) h = absurd (omega arith)
 
--- the count after keys that leave a line
-count_at : (history : List Role) (line : HalfLine) → LeadsTo history line → count_of line.limit history ≡ line_length line
-count_at history line leads =
-    sym (length-half_of line.limit history) ∙ ap length leads.bytes ∙ length-append leads.sent line.held ∙ ap (λ n. n + length line.held) leads.count
+-- the length of the half line after keys that leave a line
+pub length_at : (history : List Role) (line : HalfLine) → LeadsTo history line → length (half_of line.limit history) ≡ line_length line
+length_at history line leads = ap length leads.bytes ∙ length-append leads.sent line.held ∙ ap (λ n. n + length line.held) leads.count
+
+-- and the count
+pub count_at : (history : List Role) (line : HalfLine) → LeadsTo history line → count_of line.limit history ≡ line_length line
+count_at history line leads = sym (length-half_of line.limit history) ∙ length_at history line leads
 
 half_at : (history : List Role) (line : HalfLine) → LeadsTo history line → line.ahead ≡ 0 → half_of line.limit history ≡ line.held
 half_at history line leads none = leads.bytes ∙ ap (λ sent. sent ++ line.held) (empty_of leads.sent (leads.count ∙ none))
@@ -184,3 +188,50 @@ drops_exactly line role.Nl = drops_never line role.Nl (effect_of line role.Nl) r
 drops_exactly line (role.Eol byte) = drops_never line (role.Eol byte) (effect_of line (role.Eol byte)) refl (λ same. cc)
 drops_exactly line (role.Eol2 byte) = drops_never line (role.Eol2 byte) (effect_of line (role.Eol2 byte)) refl (λ same. cc)
 drops_exactly line role.Eof = drops_never line role.Eof (effect_of line role.Eof) refl (λ same. cc)
+
+-- what is handed on stays in the half line
+pub released_keeps : (line : HalfLine) → KeepsHalf line (line_released line)
+released_keeps line history leads =
+    record {
+      sent = leads.sent ++ line.held;
+      count = length-append leads.sent line.held ∙ ap (λ n. n + length line.held) leads.count;
+      bytes = leads.bytes ∙ sym (append-nil (leads.sent ++ line.held));
+    }
+
+-- and a half line of which all was handed on is one of any keys with as many bytes
+pub resumed_leads : (limit ahead : ℕ) → LeadsWhereLong limit ahead (line_resumed limit ahead)
+resumed_leads limit ahead history long = record { sent = half_of limit history; count = long; bytes = sym (append-nil (half_of limit history)) }
+
+-- the plain count after one more key
+pub count_more : (limit : ℕ) (history : List Role) (r : Role) → length (half_of limit (history ++ roles_from r)) ≡ count_after limit (length (half_of limit history)) (roles_from r)
+count_more limit history r =
+    length-half_of limit (history ++ roles_from r) ∙ count_after-append limit 0 history (roles_from r)
+    ∙ ap (λ n. count_after limit n (roles_from r)) (sym (length-half_of limit history))
+
+-- what a key leaves ahead is what was, but no more than it leaves of the line
+kept_least : (line : HalfLine) (byte : ℕ) (full : Bool) → (if full then line else record line { held = line.held ++ byte ∷ [] }).ahead ≡ min (line_length (if full then line else record line { held = line.held ++ byte ∷ [] })) line.ahead
+kept_least line byte true = omega arith
+kept_least line byte false = omega arith
+
+erased_least : (line : HalfLine) (some : Bool) → (if some then record line { held = front line.held } else record line { held = []; ahead = line.ahead - 1 }).ahead ≡ min (line_length (if some then record line { held = front line.held } else record line { held = []; ahead = line.ahead - 1 })) line.ahead
+erased_least line true = omega arith
+erased_least line false = omega arith
+
+pub after_least : (line : HalfLine) (r : Role) → (line_after line r).ahead ≡ min (line_length (line_after line r)) line.ahead
+after_least line (role.Ordinary byte) = kept_least line byte (is_full line)
+after_least line role.Erase = erased_least line (has_held line)
+after_least line (role.Signal sig) = omega arith
+after_least line role.Ignored = omega arith
+after_least line role.Nl = omega arith
+after_least line (role.Eol byte) = omega arith
+after_least line (role.Eol2 byte) = omega arith
+after_least line role.Eof = omega arith
+after_least line role.Kill = omega arith
+
+-- an erasure takes back the byte that was kept last
+pub kept_erased : (line : HalfLine) (byte : ℕ) → line_erased (record line { held = line.held ++ byte ∷ [] }) ≡ line
+kept_erased line byte =
+    let some : has_held (record line { held = line.held ++ byte ∷ [] }) ≡ true = lt-ltb 0 (length (line.held ++ byte ∷ [])) (omega (arith, length-append line.held (byte ∷ []))) in
+    let last : front (line.held ++ byte ∷ []) ≡ line.held = front_of line.held (byte ∷ []) (omega arith) ∙ append-nil line.held in
+    ap (λ (t : Bool). if t then record line { held = front (line.held ++ byte ∷ []) } else record line { held = []; ahead = line.ahead - 1 }) some
+    ∙ ap (λ (held : List ℕ). record line { held = held }) last

@@ -15,7 +15,7 @@ use Rattle.tn_nvt.proofs.lemmas.Reading.{reads_none, has_reading}
 use Rattle.tn_wire.proofs.lemmas.Reading.{same_more, part_in_two}
 use Rattle.tn_server.specs.Course.{Course, started, fed, called, stream, IsCall, ReadsAs, CourseLeadsTo, in_parts}
 use Rattle.tn_wire.specs.Fronts.{IsRead}
-use Rattle.tn_server.specs.Events.{Event, History, begun, next, got, took, wrote, pulled, wished, char_set, echo_set, items, gets}
+use Rattle.tn_server.specs.Events.{Event, History, begun, next, got, took, wrote, pulled, wished, char_set, echo_set, mask_set, items, gets}
 use Rattle.tn_server.specs.Replies.{data_of, items_said}
 use Rattle.tn_server.specs.Screen.{queue}
 use Rattle.tn_server.specs.Terms.{settings}
@@ -66,6 +66,7 @@ called_on c old new e before after a call g keeps = record {
     calls_read (wished editing) is = refl
     calls_read (char_set func value) is = refl
     calls_read (echo_set on) is = refl
+    calls_read (mask_set mask) is = refl
 
 -- the items of a history are those of the stream
 pub reads_all : (c : Course) (h : History) → ReadsAs c h → IsRead (stream c) (items h)
@@ -84,6 +85,7 @@ reads_all (called c e) h (old, leads, call, is) =
     calls_read old (wished editing) is = refl
     calls_read old (char_set func value) is = refl
     calls_read old (echo_set on) is = refl
+    calls_read old (mask_set mask) is = refl
 
 pub joined : (c : Course) (p q : List ℕ) (h : History) → ReadsAs (fed (fed c p) q) h → ReadsAs (fed c (p ++ q)) h
 joined c p q h (mid, last, (old, more, leads, read, is_mid), reads, is) = (

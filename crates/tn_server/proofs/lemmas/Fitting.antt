@@ -1,11 +1,13 @@
 -- Each item that a server end sends fits a stream.
-use Rattle.std.proofs.Common.{ℕ, Bool, true, false, not, ◌&&◌, Option, Some, None, Result, Ok, Err, List, [], ◌∷◌, ◌++◌, map, take, if◌then◌else◌, arith, lit≤}
+use Rattle.std.proofs.Common.{ℕ, Bool, true, false, not, ◌&&◌, Option, Some, None, Result, Ok, Err, List, [], ◌∷◌, ◌++◌, map, take, if◌then◌else◌, arith, lit≤, length-take}
 use Rattle.std.specs.Prelude.{All}
 use Rattle.std.proofs.lemmas.List.Elements.{All-nil, All-cons, All-append}
 use Rattle.tn_codes.specs.declared.codes.Command.TheVariants.{Ga}
 use Rattle.tn_codes.specs.declared.codes.Func.{Func}
 use Rattle.tn_codes.specs.declared.codes.Verb.{Verb}
 use Rattle.tn_codes.specs.declared.codes.Verb.TheVariants as verb
+use Rattle.tn_codes.specs.declared.masks.Mask.{Mask}
+use Rattle.tn_codes.specs.Payloads.{parameters_of}
 use Rattle.tn_codes.specs.declared.payloads.Payload.{Payload}
 use Rattle.tn_codes.specs.declared.payloads.Payload.TheVariants.{Naws, Mode, ForwardOn, ForwardOff, ForwardYes, ForwardNo, Slc}
 use Rattle.tn_discipline.specs.Characters.{Characters, slot}
@@ -20,12 +22,13 @@ use Rattle.tn_nvt.specs.declared.items.Item.TheVariants.{Byte, Newline, Cmd, Neg
 use Rattle.tn_option.specs.Options.{Options, reply_to, answer_to, state_of, is_yes}
 use Rattle.tn_option.specs.declared.q_method.AskFault.{AskFault}
 use Rattle.tn_option.specs.declared.q_method.Side.TheVariants.{Us, Them}
-use Rattle.tn_server.specs.Events.{History, Event, begun, next, got, took, wrote, pulled, wished, char_set, echo_set}
+use Rattle.tn_server.specs.Events.{History, Event, begun, next, got, took, wrote, pulled, wished, char_set, echo_set, mask_set}
 use Rattle.tn_server.specs.Terms.{Terms, terms, options, flags, chars, linemode, payload_at, options_after, wish_at, is_echo_set, wish_after, mask_told, asks_echo, asked_mask_of, wants_echo, chars_after}
 use Rattle.tn_server.specs.Screen.{queue, sends_ga, none_waits, due}
-use Rattle.tn_server.specs.Replies.{asked_word_items, reply_items, table_items, new_table_items, echo_items, items_by, items_at, list_replies, triple_items, data_of, opening, replies, items_said}
-use Rattle.tn_wire.specs.Words.{list_items, mode_items}
+use Rattle.tn_server.specs.Replies.{asked_word_items, reply_items, table_items, new_table_items, echo_items, items_by, items_at, list_replies, triple_items, forward_payload, data_of, opening, replies, items_said}
+use Rattle.tn_wire.specs.Words.{payload_items, list_items, mode_items}
 use Rattle.tn_server.specs.declared.wishes.Editing.{Editing}
+use Rattle.tn_codes.proofs.lemmas.Masks.{length-trimmed}
 use Rattle.tn_linemode.proofs.lemmas.Answering.{length-answers_along}
 use Rattle.tn_wire.proofs.lemmas.Fitting.{word-fits, mode-fits, list-fits}
 use Rattle.tn_wire.proofs.lemmas.Listing.{IsShortOrNone, short_under}
@@ -63,6 +66,7 @@ back_fits o (pulled n) = All-nil Fits
 back_fits o (wished editing) = All-nil Fits
 back_fits o (char_set func value) = All-nil Fits
 back_fits o (echo_set on) = All-nil Fits
+back_fits o (mask_set mask) = All-nil Fits
 
 says_fits : (f : Flags) (c : Characters) (t : Terms) (e : Event) → All Fits (items_at f c t e)
 says_fits f c t e =
@@ -102,6 +106,12 @@ ga_fits : (b : Bool) → All Fits (if b then Cmd Ga ∷ [] else [])
 ga_fits true = All-cons Fits (Cmd Ga) [] tt (All-nil Fits)
 ga_fits false = All-nil Fits
 
+mask_fits : (mask : Option Mask) → All Fits (payload_items (forward_payload mask))
+mask_fits (Some mask) =
+    let octets = take 32 mask.0 in
+    All-cons Fits (Sub 34 (parameters_of (ForwardOn (record { 0 = octets })))) [] (omega (arith, length-trimmed octets, length-take 32 mask.0)) (All-nil Fits)
+mask_fits None = All-cons Fits (Sub 34 (parameters_of ForwardOff)) [] (omega arith) (All-nil Fits)
+
 pub replies-fit : (h : History) (e : Event) → All Fits (replies h e)
 replies-fit h (got item) =
     All-append Fits (items_at (flags h) (chars h) (terms h) (got item)) (list_replies (chars h) (payload_at (options h) item))
@@ -113,6 +123,7 @@ replies-fit h (wished editing) = says_fits (flags h) (chars h) (terms h) (wished
 replies-fit h (char_set func value) =
     triple_fits (linemode (options h) && not (is_same_value (slot (chars h) func) value)) func value
 replies-fit h (echo_set on) = says_fits (flags (next h (echo_set on))) (chars h) (terms h) (echo_set on)
+replies-fit h (mask_set mask) = mask_fits mask
 
 neg_fits : (v : Verb) (option : ℕ) (rest : List Item) → All Fits rest → All Fits (Neg v option ∷ rest)
 neg_fits v option rest fit = All-cons Fits (Neg v option) rest tt fit

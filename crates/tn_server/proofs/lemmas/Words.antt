@@ -5,6 +5,7 @@ use Rattle.std.proofs.lemmas.List.{append_cancel_left}
 use Rattle.tn_codes.specs.declared.codes.Command.TheVariants.{Ga}
 use Rattle.tn_codes.specs.declared.codes.Func.{Func}
 use Rattle.tn_codes.specs.declared.codes.Verb.{Verb}
+use Rattle.tn_codes.specs.declared.masks.Mask.{Mask}
 use Rattle.tn_codes.specs.declared.payloads.Payload.{Payload}
 use Rattle.tn_codes.specs.declared.payloads.Payload.TheVariants as payload
 use Rattle.tn_discipline.specs.Characters.{Characters, slot}
@@ -24,11 +25,11 @@ use Rattle.tn_option.specs.declared.q_method.Side.TheVariants.{Us, Them}
 use Rattle.tn_option.proofs.lemmas.Agreement.{Moves, same-Moves, then-Moves}
 use Rattle.tn_wire.specs.OptionWords.{words_in}
 use Rattle.tn_wire.proofs.lemmas.OptionWords.{words_in-append, words_in-word, words_in-list, words_in-mode}
-use Rattle.tn_wire.specs.Words.{list_items, mode_items}
+use Rattle.tn_wire.specs.Words.{payload_items, list_items, mode_items}
 use Rattle.tn_server.specs.Calls.{End, LeadsTo, Advances, Feeds}
 use Rattle.tn_server.specs.Course.{IsCall}
-use Rattle.tn_server.specs.Events.{Event, History, next, got, took, wrote, pulled, wished, char_set, echo_set, gets}
-use Rattle.tn_server.specs.Replies.{asked_word_items, reply_items, table_items, new_table_items, echo_items, items_by, items_at, list_replies, triple_items, data_of, opening, replies, items_said}
+use Rattle.tn_server.specs.Events.{Event, History, next, got, took, wrote, pulled, wished, char_set, echo_set, mask_set, gets}
+use Rattle.tn_server.specs.Replies.{asked_word_items, reply_items, table_items, new_table_items, echo_items, items_by, items_at, list_replies, triple_items, forward_payload, data_of, opening, replies, items_said}
 use Rattle.tn_server.specs.Screen.{queue, sends_ga, none_waits, due}
 use Rattle.tn_server.specs.Terms.{Terms, terms, agreement, opening_options, options, flags, chars, linemode, payload_at, options_after, wish_at, is_echo_set, wish_after, mask_told, asks_echo, asked_mask_of, wants_echo, options_with_echo, chars_after}
 use Rattle.tn_server.specs.declared.wishes.Editing.{Editing}
@@ -154,6 +155,10 @@ gets_moves h (item ∷ items) there ws vs =
 quiet_call : (o there : Options) (said : List Item) (ws vs : List (Verb × ℕ)) → words_in said ≡ [] → Moves (pair o there ws vs) (pair o there ws (vs ++ words_in said))
 quiet_call o there said ws vs none = ([], ap (λ (x : List (Verb × ℕ)). pair o there ws x) (sym (append-nil vs) ∙ ap (λ (x : List (Verb × ℕ)). vs ++ x) (sym none)))
 
+mask_none : (mask : Option Mask) → words_in (payload_items (forward_payload mask)) ≡ []
+mask_none (Some mask) = refl
+mask_none None = refl
+
 pub call_moves : (h : History) (e : Event) (there : Options) (ws vs : List (Verb × ℕ)) → IsCall e → Moves (pair (options h) there ws vs) (pair (options (next h e)) there ws (vs ++ words_in (replies h e)))
 call_moves h (got item) there ws vs is = absurd is
 call_moves h took there ws vs is = quiet_call (options h) there (replies h took) ws vs (ga_none (sends_ga (none_waits h) (options h) (due h)))
@@ -163,6 +168,7 @@ call_moves h (wished editing) there ws vs is = by_moves (flags h) (chars h) (ter
 call_moves h (char_set func value) there ws vs is =
     quiet_call (options h) there (replies h (char_set func value)) ws vs (triple_none (linemode (options h) && not (is_same_value (slot (chars h) func) value)) func value)
 call_moves h (echo_set on) there ws vs is = by_moves (flags (next h (echo_set on))) (chars h) (terms h) (options h) there None true ws vs
+call_moves h (mask_set mask) there ws vs is = quiet_call (options h) there (replies h (mask_set mask)) ws vs (mask_none mask)
 
 -- THE OPENING WORDS are five wishes
 pub opening_moves : (there : Agree) → Moves (pair_of agreement there) (pair opening_options (new_options there) [] (words_in opening))

@@ -1,5 +1,5 @@
 -- What is in flight after a mark: nothing that turns LINEMODE on or off, or changes a special character.
-use Rattle.std.specs.Prelude.{◌≡◌, ℕ, ◌==◌, Bool, true, false, Option, Some}
+use Rattle.std.specs.Prelude.{◌≡◌, ℕ, ◌==◌, Bool, true, false, Option, Some, None}
 use Rattle.tn_codes.specs.PayloadOf.{payload_of}
 use Rattle.tn_codes.specs.declared.payloads.Payload.{Payload}
 use Rattle.tn_codes.specs.declared.payloads.Payload.TheVariants as payload
@@ -7,8 +7,9 @@ use Rattle.tn_discipline.specs.declared.termios.Settings.{Settings}
 use Rattle.tn_linemode.specs.Modes.{edits, is_acknowledged, traps}
 use Rattle.tn_nvt.specs.declared.items.Item.{Item}
 use Rattle.tn_nvt.specs.declared.items.Item.TheVariants.{Byte, Newline, Cmd, Neg, Sub}
+use Rattle.tn_client.specs.Lines.{is_forward}
 use Rattle.tn_world.specs.relation.Machine as machine
-use Rattle.tn_world.specs.relation.Machine.{Mode, Message, mode, chatter, byte, newline, command, mode_ack, other, IsAskable}
+use Rattle.tn_world.specs.relation.Machine.{Mode, Message, mode, forward_at, chatter, byte, newline, command, mode_ack, other, IsAskable}
 
 -- RFC 1184, section 2.2: the two bits of a mask that both ends keep
 abbrev pub bits : ℕ → Mode
@@ -51,6 +52,8 @@ server_item linemode (Sub option params) = seen_payload linemode (payload_of opt
 -- and to the client
 abbrev pub heard_payload : Bool → Option Payload → Message
 heard_payload true (Some (payload.Mode mask)) = mode (bits mask)
+heard_payload true (Some (payload.ForwardOn mask)) = forward_at (is_forward (Some mask))
+heard_payload true (Some payload.ForwardOff) = forward_at (is_forward None)
 heard_payload _ _ = chatter
 
 abbrev pub client_message : Bool → Item → Message

@@ -1,12 +1,11 @@
 -- Both ends as the relation between them sees them, and the two flights between them as bytes.
-use Rattle.std.specs.Prelude.{◌≡◌, ℕ, false, List, [], ◌∷◌, ◌++◌, map, take, drop, All}
+use Rattle.std.specs.Prelude.{◌≡◌, ℕ, List, [], ◌∷◌, ◌++◌, map, take, drop, All}
 use Rattle.tn_nvt.specs.declared.items.Item.{Item}
 use Rattle.tn_nvt.specs.Spelling.{spells, Fits}
 use Rattle.tn_nvt.specs.Feeding.{DecoderState, Advances}
 use Rattle.tn_discipline.specs.declared.reads.Entry.{Entry}
-use Rattle.tn_discipline.specs.Canon.{typed_half}
 use Rattle.tn_world.specs.relation.Machine as machine
-use Rattle.tn_world.specs.relation.Machine.{Rules, Message, mode, forward_at, chatter, Server, read_all, Client, Sent, client_after_key, is_same, client_after_message}
+use Rattle.tn_world.specs.relation.Machine.{Rules, Message, Server, read_all, Client, Sent, client_after_key, client_after_message}
 use Rattle.tn_world.specs.relation.Calm.{IsCalmToServer, IsCalmToClient, server_item, client_message}
 
 pub record ServerEnd : Type 0 where
@@ -137,27 +136,6 @@ Happens rules w server_call new =
 Happens rules w client_call new =
     (client : ClientEnd) × (said : List Item) × ClientSays rules w.client said client
     × (new ≡ record w { client = client; to_server = w.to_server ++ spells said })
-
-abbrev pub IsCalm : Rules → List ℕ → Client → Message → Type 0
-IsCalm rules typed c (mode m) = is_same c.mask m ≡ false → typed_half rules.canon typed ≡ []
-IsCalm rules typed c (forward_at f) = Unit {0}
-IsCalm rules typed c chatter = Unit {0}
-
--- each of these messages that changes the mode comes between two lines
-abbrev pub AreBetweenLines : Rules → List ℕ → Client → List Message → Type 0
-AreBetweenLines rules typed c [] = Unit {0}
-AreBetweenLines rules typed c (m ∷ messages) =
-    IsCalm rules typed c m × AreBetweenLines rules typed (client_after_message rules c m).client messages
-
-abbrev pub IsQuietEvent : Rules → World → Event → Type 0
-IsQuietEvent rules w (to_client n) =
-    (got : List Item) (next : DecoderState) → Advances w.client.decoder (take n w.to_client) got next
-    → AreBetweenLines rules w.typed w.client.core (client_messages rules got)
-IsQuietEvent rules w (key k) = Unit {0}
-IsQuietEvent rules w (to_server n) = Unit {0}
-IsQuietEvent rules w take_entry = Unit {0}
-IsQuietEvent rules w server_call = Unit {0}
-IsQuietEvent rules w client_call = Unit {0}
 
 abbrev pub made : World → List Entry
 made w = w.taken ++ w.server.core.waiting

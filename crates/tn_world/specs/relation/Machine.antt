@@ -23,11 +23,10 @@ pub record Mode : Type 0 where
   pub edit : Bool
   pub trapsig : Bool
 
--- what the keys mean, whether LINEMODE is on, and whether the client counts the half line while the server edits
+-- what the keys mean, and whether LINEMODE is on
 pub record Rules : Type 0 where
   pub canon : Canon
   pub linemode : Bool
-  pub resumes : Bool
 
 -- what is in flight to the server
 pub data Item : Type 0 where
@@ -186,7 +185,7 @@ client_with_mode rules c m true false =
       items = bytes c.held ++ mode_ack m ∷ [];
     }
 client_with_mode rules c m false true =
-    let ahead = (if rules.resumes then (if m.trapsig then c.trapped else c.plain) else 0) in
+    let ahead = (if m.trapsig then c.trapped else c.plain) in
     record {
       client = record c { mask = m; held = []; ahead = ahead; trapped = 0; plain = 0 };
       items = mode_ack m ∷ [];

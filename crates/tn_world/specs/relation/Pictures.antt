@@ -1,9 +1,10 @@
 -- The ends as the relation between them sees them, and what stays as it was at a mark.
-use Rattle.std.specs.Prelude.{◌≡◌, ℕ, false}
+use Rattle.std.specs.Prelude.{◌≡◌}
 use Rattle.tn_linemode.specs.Modes.{edits}
 use Rattle.tn_server.specs.Calls as server
 use Rattle.tn_server.specs.Terms as server_terms
 use Rattle.tn_client.specs.Calls as client
+use Rattle.tn_client.specs.Lines.{is_forward}
 use Rattle.tn_client.specs.Terms as client_terms
 use Rattle.tn_world.specs.relation.Machine.{Rules, Server, Client}
 use Rattle.tn_world.specs.relation.Calm.{bits}
@@ -21,21 +22,20 @@ server_core end =
 abbrev pub server_picture : server.End → ServerEnd
 server_picture end = record { decoder = end.decoder; core = server_core end }
 
--- The client keeps no forward mask and no counts; the relation keeps two counts for it.
-abbrev pub client_core : client.End → ℕ → ℕ → Client
-client_core end trapped plain =
+abbrev pub client_core : client.End → Client
+client_core end =
     record {
       mask = bits end.mode;
       held = end.line.held;
       ahead = end.line.ahead;
-      forward = λ b. false;
-      trapped = trapped;
-      plain = plain;
+      forward = is_forward end.forward;
+      trapped = end.trapped;
+      plain = end.plain;
       failed = end.failed;
     }
 
-abbrev pub client_picture : client.End → ℕ → ℕ → ClientEnd
-client_picture end trapped plain = record { decoder = end.decoder; core = client_core end trapped plain }
+abbrev pub client_picture : client.End → ClientEnd
+client_picture end = record { decoder = end.decoder; core = client_core end }
 
 -- LINEMODE, the special characters and every flag but ECHO are as they were
 pub record ServerStays (rules : Rules) (end : server.End) : Type 0 where

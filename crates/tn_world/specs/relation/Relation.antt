@@ -28,7 +28,7 @@ AreOrdinary chars (b ∷ bs) = (literal_role chars b ≡ role.Ordinary b) × Are
 -- Between the typed keys and the taken entries, the server `v` once it has read what is in flight to it, and the client:
 -- the keys' entries are those taken and those that wait at `v`, and their half line is that of `v` followed by what the
 -- client holds. Where the client edits, it knows how long the half line of `v` is; where it does not, it holds nothing,
--- and if it counts the half line, the count that ISIG names is that length.
+-- and the count that ISIG names is that length, if Local is a mode that the server may ask for.
 pub record Agrees (rules : Rules) (typed : List ℕ) (taken : List Entry) (v : Server)
     (c : Client) : Type 0 where
   pub half : List ℕ
@@ -40,7 +40,7 @@ pub record Agrees (rules : Rules) (typed : List ℕ) (taken : List Entry) (v : S
   pub ahead : c.mask.edit ≡ true → length half ≡ c.ahead
   pub none : c.mask.edit ≡ false → c.held ≡ []
   pub plain : AreOrdinary rules.canon.settings.chars c.held
-  pub count : rules.resumes ≡ true → c.mask.edit ≡ false → allows_local rules.canon.settings.flags ≡ true
+  pub count : c.mask.edit ≡ false → allows_local rules.canon.settings.flags ≡ true
       → (if rules.canon.settings.flags.isig then c.trapped else c.plain) ≡ length half
 
 -- The same of both ends and the bytes between them, which are whole items and calm.
@@ -54,17 +54,16 @@ pub record IsTied (rules : Rules) (w : ends.World) : Type 0 where
   pub agrees : Agrees rules w.typed w.taken (read_all rules.canon w.server.core (server_items rules items))
       w.client.core
 
--- Until the client counts the half line, a mode may change between lines alone.
 abbrev pub rules_of : Canon → Bool → Rules
-rules_of canon linemode = record { canon = canon; linemode = linemode; resumes = false }
+rules_of canon linemode = record { canon = canon; linemode = linemode }
 
-abbrev pub picture : World → ℕ → ℕ → ends.World
-picture w trapped plain =
+abbrev pub picture : World → ends.World
+picture w =
     record {
       typed = w.typed;
       taken = w.taken;
       server = server_picture w.server;
-      client = client_picture w.client trapped plain;
+      client = client_picture w.client;
       to_server = w.to_server;
       to_client = w.to_client;
     }
@@ -72,9 +71,7 @@ picture w trapped plain =
 -- The same of a world, with the server's settings and line limit at its mark.
 pub record IsRelated (canon : Canon) (w : World) : Type 0 where
   pub linemode : Bool
-  pub trapped : ℕ
-  pub plain : ℕ
-  pub tied : IsTied (rules_of canon linemode) (picture w trapped plain)
+  pub tied : IsTied (rules_of canon linemode) (picture w)
   pub server : ServerStays (rules_of canon linemode) w.server
   pub client : ClientStays (rules_of canon linemode) w.client
   pub past : HasPast w

@@ -1,5 +1,5 @@
-use Rattle.tn_world.proofs.Staying.{mark_quiet}
+use Rattle.tn_world.proofs.Promise.{quiet_always}
 use Rattle.tn_world.proofs.laws.quiet_lists.Goals as goal
 
 pub returns : goal.returns
-returns c = mark_quiet
+returns c = quiet_always

@@ -37,11 +37,11 @@ returns-in-Err-clause-failed_appends c =
     let r = is_refusal c.feed_to-fed.result _ c.in-Err.is _ _ _ c.feed_to-fed.new.sink refl f.refused f.memory f.failed_hands in
     λ e. absurd (r.runs e)
 
-pub returns-in-Err-clause-no_char : goal.returns-in-Err-clause-no_char
-returns-in-Err-clause-no_char c =
+pub returns-in-Err-clause-of_piece : goal.returns-in-Err-clause-of_piece
+returns-in-Err-clause-of_piece c =
     let f = c.feed_to-fed.ensures in
     let r = is_refusal c.feed_to-fed.result _ c.in-Err.is _ _ _ c.feed_to-fed.new.sink refl f.refused f.memory f.failed_hands in
-    r.no_char
+    r.of_piece
 
 pub returns-in-Err-clause-shut : goal.returns-in-Err-clause-shut
 returns-in-Err-clause-shut c =

@@ -1,7 +1,7 @@
 use Rattle.std.proofs.Common.{ap, sym, subst, ◌∙◌}
 use Rattle.std.specs.Prelude.{slice_get}
 use Rattle.tn_server.proofs.lemmas.Ends.{waits_are}
-use Rattle.tn_world.specs.Headline.{IsEmpty}
+use Rattle.tn_world.specs.Headline.{IsUncounted, IsEmpty}
 use Rattle.tn_world.specs.relation.Machine.{Server}
 use Rattle.tn_world.specs.Worlds.{World}
 use Rattle.tn_world.proofs.Resting.{empty_where, none_waits}
@@ -17,6 +17,7 @@ returns c =
         half = ap (λ (v : Server). v.half) (core_at h c.self.inside.server stands) ∙ sym (c.half.ensures h stands) ∙ empty_where c.is_empty.result c.half.result.now c.is_empty.ensures c.if-not-is_empty.false;
         held = sym c.half-else-not-is_empty.ensures.value ∙ empty_where c.is_empty-else-not-is_empty.result c.half-else-not-is_empty.result.now c.is_empty-else-not-is_empty.ensures c.if-not-is_empty-2.false;
         ahead = sym c.ahead.ensures.value ∙ c.if-ahead-ne0.false;
+        counts = subst (λ (w : World). IsUncounted w) (sym c.self.view_is) (c.is_uncounted.ensures.0 c.if-not-is_uncounted.false);
         waiting = none.0 t;
       }),
       λ e. none.1 (ap (λ (w : World). w.server.terminal.entries) c.self.view_is ∙ e.waiting),

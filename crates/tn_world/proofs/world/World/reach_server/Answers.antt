@@ -8,4 +8,4 @@ invariant_of-self-in-Ok-feed c = reaches_sound _ _ c.args.count _ _ _ c.in-Ok-fe
 
 pub invariant_of-self-2 : goal.invariant_of-self-2
 invariant_of-self-2 c =
-    halts_sound _ _ _ _ _ c.in-Err-feed.fault (λ is. c.in-Err-feed.ensures.failed_stays (ap Err is)) (λ is. c.in-Err-feed.ensures.failed_appends (ap Err is)) c.in-Err-feed.ensures.halts (λ f is. c.feed.ensures.no_char f (c.in-Err-feed.is ∙ ap Err is)) c.in-Err-feed.ensures.err c.self.invariant
+    halts_sound _ _ _ _ _ c.in-Err-feed.fault (λ is. c.in-Err-feed.ensures.failed_stays (ap Err is)) (λ is. c.in-Err-feed.ensures.failed_appends (ap Err is)) c.in-Err-feed.ensures.halts c.in-Err-feed.ensures.of_piece c.in-Err-feed.ensures.err c.self.invariant

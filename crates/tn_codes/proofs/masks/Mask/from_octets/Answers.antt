@@ -1,6 +1,6 @@
 use Rattle.std.proofs.Common.{◌≡◌, ◌++◌, ◌-◌, length, drop, replicate, ℕ, ap}
 use Rattle.std.proofs.lemmas.List.{drop-replicate}
-use Rattle.tn_codes.proofs.reading.mask_of.Goals as goal
+use Rattle.tn_codes.proofs.masks.Mask.from_octets.Goals as goal
 
 pub returns : goal.returns
 returns c =
