@@ -174,7 +174,7 @@ map-push [] m xs e = ap (λ (ys : List Message). ys ++ m.0 ∷ []) e
 map-push (n ∷ ms) m xs e = ap (λ (ys : List Message). n.0 ∷ ys) (map-push ms m (map (λ u. u.0) ms) refl) ∙ ap (λ (ys : List Message). ys ++ m.0 ∷ []) e
 
 -- what is left over after one more
-left_over : (a b : Bool) (s₀ s₁ s₂ b₁ b₂ r₁ r₂ : List ℕ) → s₁ ≡ s₀ ++ (b₁ ++ r₁) → s₂ ≡ s₁ ++ (b₂ ++ r₂) → (a ≡ true → r₁ ≡ []) → (b ≡ true → r₂ ≡ []) → (a ≡ false → (b₂ ≡ []) × (b ≡ true)) → (rest : List ℕ) × (s₂ ≡ s₀ ++ ((b₁ ++ b₂) ++ rest)) × ((a && b) ≡ true → rest ≡ [])
+pub left_over : (a b : Bool) (s₀ s₁ s₂ b₁ b₂ r₁ r₂ : List ℕ) → s₁ ≡ s₀ ++ (b₁ ++ r₁) → s₂ ≡ s₁ ++ (b₂ ++ r₂) → (a ≡ true → r₁ ≡ []) → (b ≡ true → r₂ ≡ []) → (a ≡ false → (b₂ ≡ []) × (b ≡ true)) → (rest : List ℕ) × (s₂ ≡ s₀ ++ ((b₁ ++ b₂) ++ rest)) × ((a && b) ≡ true → rest ≡ [])
 left_over true b s₀ s₁ s₂ b₁ b₂ r₁ r₂ e₁ e₂ w₁ w₂ q = (
   r₂,
   e₂ ∙ ap (λ (s : List ℕ). s ++ (b₂ ++ r₂)) (e₁ ∙ ap (λ (r : List ℕ). s₀ ++ (b₁ ++ r)) (w₁ refl) ∙ ap (λ (r : List ℕ). s₀ ++ r) (append-nil b₁)) ∙ append_assoc s₀ b₁ (b₂ ++ r₂) ∙ ap (λ (r : List ℕ). s₀ ++ r) (sym (append_assoc b₁ b₂ r₂)),

@@ -47,7 +47,7 @@ tail_left (z ∷ w ∷ ws) x b ends = tail_left (w ∷ ws) x b ends
 from_here : (x : Mail) (xs : List Mail) → same x.from x.from ≡ true → from x.from (x ∷ xs) ≡ x ∷ from x.from xs
 from_here x xs is = rw is refl
 
-same_self : (s : Sender) → same s s ≡ true
+pub same_self : (s : Sender) → same s s ≡ true
 same_self Net = refl
 same_self Desk = refl
 same_self Back = refl

@@ -2,9 +2,15 @@ pub mod Seats
 pub mod Mailbox
 pub mod Queue
 pub mod Reading
+pub mod Readers
 pub mod Talk
 pub mod Turning
 pub mod Going
 pub mod Lefts
+pub mod Sent
 pub mod Numbering
 pub mod Whole
+pub mod Ending
+pub mod CoreGoing
+pub mod Brought
+pub mod ClientWhole

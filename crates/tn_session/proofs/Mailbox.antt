@@ -159,6 +159,16 @@ cut_back pass v items views kept at = forks share Woven pass v (record v { back 
     cuts (Some Back) = inr (refl, refl)
     cuts (Some Keys) = inl (refl, refl)
 
+pub cut_keys : (pass : ℕ) (v : View) → Forks (Kept share Woven) pass v (record v { keys = None }) (record nobody { keys = v.keys })
+cut_keys pass v items views kept at = forks share Woven pass v (record v { keys = None }) (record nobody { keys = v.keys }) cuts items views kept at
+  where
+    cuts : Cuts share Woven v (record v { keys = None }) (record nobody { keys = v.keys })
+    cuts None = inl (refl, refl)
+    cuts (Some Net) = inl (refl, refl)
+    cuts (Some Desk) = inl (refl, refl)
+    cuts (Some Back) = inl (refl, refl)
+    cuts (Some Keys) = inr (refl, refl)
+
 either_one : (a b : Option (List Mail)) (l : List Mail) → either a b ≡ Some l → (a ≡ Some l) ⊎ (b ≡ Some l)
 either_one (Some k) b l e = inl e
 either_one None b l e = inr e

@@ -1,16 +1,8 @@
--- The list of the thread that reads, message by message.
-use Rattle.std.proofs.Common.{◌≡◌, ℕ, List, [], ◌∷◌, ◌++◌, Option, Some, None, IfSome, sym, ap, ◌∙◌, append_assoc, append-nil, map}
+-- What a thread that reads took from its reader.
+use Rattle.std.proofs.Common.{ℕ, List, [], ◌∷◌, ◌++◌, Option, Some, None, IfSome, sym, ap, ◌∙◌, append_assoc, append-nil}
 use Rattle.std.specs.List.{concat}
-use Rattle.std.proofs.lemmas.List.{map-append}
 use Rattle.std.proofs.lemmas.List.Folds.{concat-append}
 use Rattle.std.specs.Io.KnownBytes.{Consumes, Keeps}
-use Rattle.tn_session.specs.declared.mail.Mail.{Mail}
-use Rattle.tn_term.specs.declared.messages.Message.{Message}
-use Rattle.tn_term.specs.declared.messages.Message.TheVariants.{Piece}
-use Rattle.tn_session.specs.declared.mail.Sender.TheVariants.{Net}
-use Rattle.tn_session.specs.declared.channels.View.{View}
-use Rattle.tn_session.specs.Mailbox.{mail, sender}
-use Rattle.tn_session.specs.Reading.{net_sends, pieces_of}
 
 pub consumes_more : (a b c : Option (List ℕ)) (xs ys : List ℕ) → Consumes a b xs → Consumes b c ys → Consumes a c (xs ++ ys)
 consumes_more None b c xs ys one two = tt
@@ -28,21 +20,6 @@ consumes_piece a b c pieces p one two = rw (concat-append pieces (p ∷ [])) (co
 
 pub consumes_end : (a b c : Option (List ℕ)) (xs : List ℕ) → Consumes a b xs → Consumes b c [] → Consumes a c xs
 consumes_end a b c xs one two = let h = consumes_more a b c xs [] one two in rw (append-nil xs) at h
-
-abbrev pub Says : Message → View → View → Type 0
-Says m v w = (l : List Mail) → v ≡ sender Net l → w ≡ sender Net (l ++ mail Net m ∷ [])
-
-pub said : (ms : List Message) (m : Message) (v w : View) → v ≡ net_sends ms → Says m v w → w ≡ net_sends (ms ++ m ∷ [])
-said ms m v w old says = says (map (mail Net) ms) old ∙ ap (sender Net) (sym (map-append (mail Net) ms (m ∷ [])))
-
-pub said_two : (ms : List Message) (m n : Message) (v w u : View) → v ≡ net_sends ms → Says m v w → Says n w u → u ≡ net_sends (ms ++ m ∷ n ∷ [])
-said_two ms m n v w u old one two = said (ms ++ m ∷ []) n w u (said ms m v w old one) two ∙ ap net_sends (append_assoc ms (m ∷ []) (n ∷ []))
-
-pub said_piece : (pieces : List (List ℕ)) (p : List ℕ) (v w : View) → v ≡ net_sends (pieces_of pieces) → Says (Piece p) v w → w ≡ net_sends (pieces_of (pieces ++ p ∷ []))
-said_piece pieces p v w old says = said (pieces_of pieces) (Piece p) v w old says ∙ ap net_sends (sym (map-append (λ (q : List ℕ). Piece q) pieces (p ∷ [])))
-
-pub role : (ms : List Message) (v : View) → v ≡ net_sends ms → (l : List Mail) × (v ≡ sender Net l)
-role ms v e = (map (mail Net) ms, e)
 
 pub if_some : {A : Type 0} (P Q : A → Type 0) (o : Option A) → IfSome o P → ((x : A) → P x → Q x) → IfSome o Q
 if_some P Q (Some x) h f = f x h

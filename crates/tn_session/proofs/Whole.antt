@@ -1,6 +1,5 @@
 -- A whole session: its passes joined, and what its threads did.
 use Rattle.std.proofs.Common.{◌≡◌, ℕ, ◌+◌, ◌≤◌, Bool, true, false, ◌&&◌, List, [], ◌∷◌, ◌++◌, Option, Some, None, IfSome, refl, sym, ap, ◌∙◌, ⊎_elim, map, subst, append-nil, append_assoc, arith}
-use Rattle.std.proofs.lemmas.List.{map-append}
 use Rattle.std.specs.Io.KnownBytes.{Appends}
 use Rattle.tn_discipline.specs.Canon.{Canon}
 use Rattle.tn_discipline.specs.declared.reads.Entry.{Entry}
@@ -12,14 +11,16 @@ use Rattle.tn_server.specs.Replies.{items_said}
 use Rattle.tn_server.specs.declared.wishes.Editing.{Editing}
 use Rattle.tn_session.proofs.Going.{appends_more}
 use Rattle.tn_session.proofs.Lefts.{EndsLeft, lefts-append, lefts_each, nothing_left}
+use Rattle.tn_session.proofs.Readers.{reader_net}
+use Rattle.tn_session.proofs.Sent.{NoLeft, Sent, no_left-append, sent_by, reader_sent}
 use Rattle.tn_session.specs.Joining.{handler, AreSettled}
 use Rattle.tn_session.specs.Mailbox.{Interleaves, from, four, sender, share, union, nobody, everyone, with_handled, mail, Total}
 use Rattle.tn_session.specs.Queue.{putter, taker, joined_hands, both_hands, no_hand, LeftOver}
-use Rattle.tn_session.specs.Reading.{NetSends, IsEnding, pieces_of}
+use Rattle.tn_session.specs.Reading.{NetSends}
 use Rattle.tn_session.specs.Session.{IsOpening, Schedule, report_of}
 use Rattle.tn_session.specs.Stepping.{AreSteps, step_said}
 use Rattle.tn_session.specs.Talk.{IsTalk, Closes, turns_said}
-use Rattle.tn_session.specs.Turns.{HandlesAll, Writes, left_one, lefts_of}
+use Rattle.tn_session.specs.Turns.{HandlesAll, Writes, lefts_of}
 use Rattle.tn_session.specs.declared.channels.View.{View}
 use Rattle.tn_session.specs.declared.entries.Hand.{Hand}
 use Rattle.tn_session.specs.declared.mail.Mail.{Mail}
@@ -30,7 +31,7 @@ use Rattle.tn_term.specs.Marks.{run_after_opening, all_whole}
 use Rattle.tn_term.specs.Reaching.{LeadsTo}
 use Rattle.tn_term.specs.Run.{start, opening}
 use Rattle.tn_term.specs.declared.messages.Message.{Message}
-use Rattle.tn_term.specs.declared.messages.Message.TheVariants.{Piece, HangUp, ReadFailed, Take, Said, Refused, Left}
+use Rattle.tn_term.specs.declared.messages.Message.TheVariants.{Take, Refused, Left}
 use Rattle.tn_term.specs.declared.terminal.Term.{Term}
 
 -- the passes are joined and cut again
@@ -74,50 +75,6 @@ settles pass net desk back hand took p₁ p₂ p₃ p₄ n' p₅ d' p₆ b' t' j
     mine_of Back v h a b c e = ap (λ (w : View). w.back) e
     mine_of Keys v h a b c e = ap (λ (w : View). w.keys) e
 
--- Each thread sends one Left, its last message.
-
-abbrev NoLeft : List Message → Type 0
-NoLeft [] = Unit {0}
-NoLeft (m ∷ ms) = (left_one m ≡ 0) × NoLeft ms
-
-record OneLeft (mails : List Mail) : Type 0 where
-  ends : EndsLeft mails
-  one : lefts_of mails ≡ 1
-
-ends_last : (xs : List Mail) (x : Mail) → left_one x.message ≡ 1 → EndsLeft (xs ++ x ∷ [])
-ends_last [] x e = e
-ends_last (y ∷ []) x e = e
-ends_last (y ∷ z ∷ zs) x e = ends_last (z ∷ zs) x e
-
-none_left : (s : Sender) (ms : List Message) → NoLeft ms → lefts_of (map (mail s) ms) ≡ 0
-none_left s [] n = refl
-none_left s (m ∷ ms) n = let ih = none_left s ms n.1 in let e = n.0 in omega (arith, ih, e)
-
-no_left-append : (xs ys : List Message) → NoLeft xs → NoLeft ys → NoLeft (xs ++ ys)
-no_left-append [] ys n m = m
-no_left-append (x ∷ xs) ys n m = (n.0, no_left-append xs ys n.1 m)
-
-one_left : (s : Sender) (ms all : List Message) (mails : List Mail) → NoLeft ms → all ≡ ms ++ Left ∷ [] → mails ≡ map (mail s) all → OneLeft mails
-one_left s ms all mails n e is =
-    let split : mails ≡ map (mail s) ms ++ mail s Left ∷ [] = is ∙ ap (map (mail s)) e ∙ map-append (mail s) ms (Left ∷ []) in
-    record {
-      ends = subst EndsLeft (sym split) (ends_last (map (mail s) ms) (mail s Left) refl);
-      one = ap lefts_of split ∙ (let a = lefts-append (map (mail s) ms) (mail s Left ∷ []) in let z = none_left s ms n in omega (arith, a, z));
-    }
-
-pieces_stay : (pieces : List (List ℕ)) → NoLeft (pieces_of pieces)
-pieces_stay [] = tt
-pieces_stay (p ∷ ps) = (refl, pieces_stay ps)
-
-ending_stays : (m : Message) (left : Option (List ℕ)) → IsEnding m left → left_one m ≡ 0
-ending_stays HangUp left e = refl
-ending_stays ReadFailed left e = refl
-ending_stays Refused left e = refl
-ending_stays (Piece p) left e = refl
-ending_stays Take left e = refl
-ending_stays (Said id t a) left e = refl
-ending_stays Left left e = absurd e
-
 turns_stay : (id : JobId) (turns : List (Entry × Reaction)) → NoLeft (turns_said id turns)
 turns_stay id [] = tt
 turns_stay id (t ∷ ts) = (refl, (refl, turns_stay id ts))
@@ -125,22 +82,6 @@ turns_stay id (t ∷ ts) = (refl, (refl, turns_stay id ts))
 steps_stay : (ss : List (JobId × Reaction)) → NoLeft (map step_said ss)
 steps_stay [] = tt
 steps_stay (s ∷ ss) = (refl, steps_stay ss)
-
--- what a sender's view says
-pub record Sent (s : Sender) (v : View) : Type 0 where
-  pub mails : List Mail
-  pub is : v ≡ sender s mails
-  pub ends : EndsLeft mails
-  pub one : lefts_of mails ≡ 1
-
-sent_by : (s : Sender) (ms all : List Message) (v : View) → NoLeft ms → all ≡ ms ++ Left ∷ [] → v ≡ sender s (map (mail s) all) → Sent s v
-sent_by s ms all v n e is =
-    let o = one_left s ms all (map (mail s) all) n e refl in
-    record { mails = map (mail s) all; is = is; ends = o.ends; one = o.one }
-
-pub net_sent : (given : Option (List ℕ)) (v : View) → NetSends given v → Sent Net v
-net_sent given v (pieces, left, last, consumed, ending, is) =
-    sent_by Net (pieces_of pieces ++ last ∷ []) (pieces_of pieces ++ last ∷ Left ∷ []) v (no_left-append (pieces_of pieces) (last ∷ []) (pieces_stay pieces) (ending_stays last left ending, tt)) (sym (append_assoc (pieces_of pieces) (last ∷ []) (Left ∷ []))) is
 
 pub record DeskSent (v : View) (w : Hand) : Type 0 where
   pub sent : Sent Desk v
@@ -218,7 +159,7 @@ pub scheduled : {J : Type 0} (fresh : J → Type 0) (reacts : J → Entry → Re
 scheduled {J} fresh reacts steps first others words given x y z term mid last pass₀ pass₁ net desk back hand₀ hand₁ took n' d' b' t' p' k' report ep eh o acted sn talked stepped settled er canon editing jobs at ew =
     let begin = run_after_opening o.written (start canon editing jobs) in
     let g = acted.goes.leads begin (o.leads (start canon editing jobs) at) in
-    let ns = net_sent given net sn in
+    let ns = reader_sent Net false given net (reader_net given net sn) in
     let ds = desk_sent first fresh reacts desk took talked in
     let bs = back_sent fresh steps others back stepped in
     let puts : g.0.puts ≡ acted.puts = g.3 ∙ ap (λ (ps : List (Option Entry)). ps ++ acted.puts) (no_puts o.written canon editing jobs) in

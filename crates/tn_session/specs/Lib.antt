@@ -9,3 +9,6 @@ pub mod Turns
 pub mod Jobs
 pub mod Joining
 pub mod Session
+pub mod Reader
+pub mod CoreTurns
+pub mod Client

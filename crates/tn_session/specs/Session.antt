@@ -1,6 +1,6 @@
 -- The running session, of what its ports give back, for every schedule.
 use Rattle.std.specs.Prelude.{◌≡◌, ℕ, Bool, true, false, ◌&&◌, Option, Some, List, [], ◌++◌, map}
-use Rattle.std.specs.Io.KnownBytes.{Appends}
+use Rattle.std.specs.Io.KnownBytes.{Appends, Consumes, IsAtEnd}
 use Rattle.crossbeam_channel.specs.Claims.{view}
 use Rattle.tn_discipline.specs.Canon.{Canon}
 use Rattle.tn_discipline.specs.declared.reads.Entry.{Entry}
@@ -8,6 +8,9 @@ use Rattle.tn_jobs.specs.Jobs.{Jobs}
 use Rattle.tn_jobs.specs.declared.held_jobs.JobId.{JobId}
 use Rattle.tn_jobs.specs.declared.reactions.Reaction.{Reaction}
 use Rattle.tn_nvt.specs.Spelling.{spells}
+use Rattle.tn_nvt.specs.declared.items.Item.{Item}
+use Rattle.tn_server.specs.Events.{items}
+use Rattle.tn_server.specs.Lines.{entries}
 use Rattle.tn_server.specs.Replies.{items_said}
 use Rattle.tn_server.specs.declared.wishes.Editing.{Editing}
 use Rattle.tn_session.specs.Jobs.{Numbered}
@@ -24,17 +27,34 @@ use Rattle.tn_session.specs.declared.mail.Mail.{Mail}
 use Rattle.tn_session.specs.declared.mail.Sender.TheVariants.{Net, Desk, Back}
 use Rattle.tn_session.specs.declared.parties.Ports.{Ports}
 use Rattle.tn_session.specs.declared.parties.Report.{Report}
-use Rattle.tn_term.specs.Giving.{GivesFront}
+use Rattle.tn_term.specs.Giving.{GivesFront, entries_put}
+use Rattle.tn_term.specs.Hearing.{entries_by}
 use Rattle.tn_term.specs.Marks.{Runs, run_after_opening, all_whole}
 use Rattle.tn_term.specs.Reaching.{LeadsTo}
 use Rattle.tn_term.specs.Run.{Run, start, opening}
+use Rattle.tn_term.specs.declared.faults.Ended.{Ended}
+use Rattle.tn_term.specs.declared.faults.Ended.TheVariants.{HangUp}
+use Rattle.tn_term.specs.declared.faults.SessionFault.{SessionFault}
+use Rattle.tn_term.specs.declared.faults.SessionFault.TheVariants as fault
 use Rattle.tn_term.specs.declared.messages.Mark.{Mark}
 use Rattle.tn_term.specs.declared.messages.Message.{Message}
 use Rattle.tn_term.specs.declared.progress.Progress.{Progress}
 use Rattle.tn_term.specs.declared.terminal.Term.{Term}
+use Rattle.tn_wire.specs.Fronts.{IsRead}
 
 abbrev pub report_of : Progress → Report
 report_of p = record { ended = p.ended; pieces = p.pieces; entries = p.entries; stops = p.stops }
+
+-- why a session did not run to its report: memory is wanting, there is no first job or a thread could not be started, or a
+-- channel has no other end
+abbrev pub IsRefusal : SessionFault → Type 0
+IsRefusal fault.Memory = Unit {0}
+IsRefusal fault.Start = Unit {0}
+IsRefusal fault.Channel = Unit {0}
+IsRefusal fault.Read = ⊥
+IsRefusal fault.Write = ⊥
+IsRefusal (fault.Server f) = ⊥
+IsRefusal (fault.Client f) = ⊥
 
 -- the opening words were written, or the first of them
 pub record IsOpening (old : Term) (words : List ℕ) (before after : Option (List ℕ))
@@ -95,6 +115,22 @@ IsRun fresh reacts steps first others term words given old new report ports =
     → Schedule fresh reacts steps first others canon editing jobs given old new report (view ports.net)
     (view ports.desk) (view ports.back) (view ports.term) (view ports.put) (view ports.took)
 
+-- The stream of the run is the first of the bytes that the reader gave, and all of them where a hang-up ended the session;
+-- its items are read by the definitions of the stream.
+pub record HearsReader (given : Option (List ℕ)) (ended : Ended) (c : Run) : Type 0 where
+  pub left : Option (List ℕ)
+  pub consumed : Consumes given left c.stream
+  pub all : ended ≡ HangUp → IsAtEnd left
+  pub read : IsRead c.stream (items c.history)
+
+-- where the reader's bytes are known: what was taken begins the entries that they give, whatever the schedule, and is all of
+-- them where a hang-up ended the session
+abbrev pub TakesEntries : Canon → Editing → Option (List ℕ) → Ended → List (Option Entry) → Type 0
+TakesEntries canon editing given ended taken =
+    (bytes : List ℕ) (xs : List Item) → given ≡ Some bytes → IsRead bytes xs
+    → IsPrefixOf (entries_put taken) (entries_by canon editing xs)
+    × (ended ≡ HangUp → entries_put taken ≡ entries_by canon editing xs)
+
 -- The whole of it, for the jobs that were made.
 pub record RunningSession {J : Type 0} (fresh : J → Type 0) (reacts : J → Entry → Reaction → J → Type 0)
     (steps : J → Reaction → J → Type 0)
@@ -106,5 +142,10 @@ pub record RunningSession {J : Type 0} (fresh : J → Type 0) (reacts : J → En
   pub numbered : Numbered jobs first others
   pub schedule : Schedule fresh reacts steps first others canon editing jobs given old new report net desk
       back term put took
-  -- five: what the foreground job took is a front of the entries that the bytes give
+  -- two: what the run heard of the reader
+  pub heard : HearsReader given report.ended schedule.run
+  -- five: what the foreground job took is a front of the run's entries, and all of them where a hang-up ended the session;
+  -- and so of those that the reader's bytes give
   pub in_order : GivesFront schedule.taken schedule.run.history
+  pub all_taken : report.ended ≡ HangUp → entries_put schedule.taken ≡ entries schedule.run.history
+  pub by_bytes : TakesEntries canon editing given report.ended schedule.taken

@@ -77,6 +77,14 @@ impl Split<View> for CutBack {
     ghost right = { λ v. record nobody { back = v.back } };
 }
 
+pub struct CutKeys;
+
+impl Split<View> for CutKeys {
+    ghost left = { λ v. record v { keys = None } };
+
+    ghost right = { λ v. record nobody { keys = v.keys } };
+}
+
 pub struct Union;
 
 impl Join<View> for Union {

@@ -1,7 +1,7 @@
 //! That the work goes on in several threads: each waits for what another does.
 
-use crate::tests::{ended, reaction};
-use crate::{Ended, Gate, Maker, Place, serve_session};
+use crate::tests::{Open, ended, reaction};
+use crate::{Ended, Gate, Maker, Place, client_session, serve_session};
 use std::alloc::{AllocError, Global};
 use std::io::Read;
 use std::sync::Arc;
@@ -24,16 +24,20 @@ struct Flags {
 }
 
 impl Flags {
-    // Waits for a flag, and tells where that takes too long.
     fn wait(&self, flag: &AtomicBool) {
-        for _turn in 0..MOST_TURNS {
-            if flag.load(Ordering::SeqCst) {
-                return;
-            }
-            thread::yield_now();
-        }
-        self.stuck.store(true, Ordering::SeqCst);
+        wait(flag, &self.stuck);
     }
+}
+
+// Waits for a flag, and tells where that takes too long.
+fn wait(flag: &AtomicBool, stuck: &AtomicBool) {
+    for _turn in 0..MOST_TURNS {
+        if flag.load(Ordering::SeqCst) {
+            return;
+        }
+        thread::yield_now();
+    }
+    stuck.store(true, Ordering::SeqCst);
 }
 
 /// Gives a line, and its end once a background job has written.
@@ -152,5 +156,96 @@ fn runs_on_several_threads(rt: HostRuntime) -> Result<(), Fail> {
     )?;
     assert_eq!(rt; report, ended(Ended::HangUp, 1, 1, 0));
     assert!(rt; !flags.stuck.load(Ordering::SeqCst));
+    Ok(())
+}
+
+/// What the two readers of a client tell each other.
+#[derive(Drop)]
+struct Meeting {
+    keys: AtomicBool,
+    net: AtomicBool,
+    typed: AtomicBool,
+    stuck: AtomicBool,
+}
+
+/// Types some keys, one in each read, once the network is being read too.
+#[derive(Drop)]
+struct Typist {
+    meeting: Arc<Meeting, Global>,
+    left: u8,
+}
+
+impl Read for Typist {
+    fn read(&mut self, buf: &mut [u8]) -> io::Result<usize> {
+        let meeting = &*self.meeting;
+        meeting.keys.store(true, Ordering::SeqCst);
+        wait(&meeting.net, &meeting.stuck);
+        let Some(first) = buf.first_mut() else {
+            return Ok(0);
+        };
+        if self.left == 0 {
+            meeting.typed.store(true, Ordering::SeqCst);
+            return Ok(0);
+        }
+        self.left -= 1;
+        *first = b'a';
+        Ok(1)
+    }
+}
+
+/// A network that ends once keys are being read too, and all were typed.
+#[derive(Drop)]
+struct Quiet {
+    meeting: Arc<Meeting, Global>,
+}
+
+impl Read for Quiet {
+    fn read(&mut self, _buf: &mut [u8]) -> io::Result<usize> {
+        let meeting = &*self.meeting;
+        meeting.net.store(true, Ordering::SeqCst);
+        wait(&meeting.keys, &meeting.stuck);
+        wait(&meeting.typed, &meeting.stuck);
+        Ok(0)
+    }
+}
+
+#[test]
+fn reads_keys_and_the_network_at_once(rt: HostRuntime) -> Result<(), Fail> {
+    let alloc = rt.alloc();
+    let meeting = Arc::new(
+        alloc,
+        Meeting {
+            keys: AtomicBool::new(false),
+            net: AtomicBool::new(false),
+            typed: AtomicBool::new(false),
+            stuck: AtomicBool::new(false),
+        },
+    )?;
+    let net = Quiet {
+        meeting: Arc::try_clone(&meeting)?,
+    };
+    let keys = Typist {
+        meeting: Arc::try_clone(&meeting)?,
+        left: 3,
+    };
+    let mut out = Vec::new(alloc);
+    let mut screen = Vec::new(alloc);
+    let gate = Arc::new(alloc, Open)?;
+    let limit = Limit::standard();
+    let (report, _ports) = client_session(
+        rt,
+        alloc,
+        net,
+        keys,
+        &mut out,
+        &mut screen,
+        80,
+        24,
+        limit,
+        gate,
+    )?;
+    assert_eq!(rt; report, ended(Ended::HangUp, 3, 0, 0));
+    assert_eq!(rt; out.as_slice(), b"aaa".as_slice());
+    assert!(rt; !meeting.stuck.load(Ordering::SeqCst));
     Ok(())
 }

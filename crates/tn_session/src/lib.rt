@@ -1,16 +1,19 @@
-//! Running sessions: a server end, its jobs and its connection, each in a thread of its own, and the
-//! channels between them.
+//! Running sessions, and the channels between their threads: a server end, its jobs and its connection,
+//! each in a thread of its own; and a client end, its keys and its connection.
 #![tactic(auto)]
 
 pub use channels::{AllRoles, Knows, MailPass, MailReceiver, MailSender, View};
+pub use client::client_session;
 pub use entries::{EntryPass, EntryReceiver, EntrySender, Hand, InTurn};
 pub use mail::{Mail, Sender};
-pub use parties::{Finish, Gate, Maker, Place, Ports, Report};
+pub use parties::{ClientPorts, Finish, Gate, Maker, Place, Ports, Report};
 pub use session::serve_session;
 pub use tn_term::{Ended, Message, SessionFault};
 
 mod back;
 mod channels;
+mod client;
+mod client_loop;
 mod desk;
 mod entries;
 #[cfg(test)]

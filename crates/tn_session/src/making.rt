@@ -1,7 +1,8 @@
 //! The jobs of a session are made, and a table holds them.
 
-ghost use Rattle.std.specs.Prelude.{◌≡◌, IfOk};
+ghost use Rattle.std.specs.Prelude.{◌≡◌, IfOk, IfErr};
 ghost use Rattle.tn_session.specs.Jobs.{IsMade};
+ghost use Rattle.tn_session.specs.Session.{IsRefusal};
 
 use crate::back::Runner;
 use crate::parties::Maker;
@@ -26,7 +27,8 @@ pub(crate) struct Made<J> {
 // The first job stands in the foreground.
 fn make_first<J: Job>(alloc: Global, job: J) -> Result<Made<J>, SessionFault>
     requires { J.fresh job }
-    ensures { IfOk result (λ made. IsMade J.fresh made) }
+    ensures made { IfOk result (λ made. IsMade J.fresh made) }
+    ensures fault { IfErr result IsRefusal }
 {
     let mut table = Table::new(alloc);
     let Ok(first) = table.add() else {
@@ -48,7 +50,8 @@ fn make_first<J: Job>(alloc: Global, job: J) -> Result<Made<J>, SessionFault>
 fn make_more<J: Job>(mut made: Made<J>, job: J) -> Result<Made<J>, SessionFault>
     requires made { IsMade J.fresh made }
     requires fresh { J.fresh job }
-    ensures { IfOk result (λ more. IsMade J.fresh more) }
+    ensures more { IfOk result (λ more. IsMade J.fresh more) }
+    ensures fault { IfErr result IsRefusal }
 {
     let Ok(id) = made.table.add() else {
         return Err(SessionFault::Memory);
@@ -64,7 +67,8 @@ pub(crate) fn make_jobs<M: Maker>(
     alloc: Global,
     maker: &mut M,
 ) -> Result<Made<M::Job>, SessionFault>
-    ensures { IfOk result (λ made. IsMade M.Job.fresh made) }
+    ensures made { IfOk result (λ made. IsMade M.Job.fresh made) }
+    ensures fault { IfErr result IsRefusal }
 {
     let job = match maker.next(alloc) {
         Ok(Some(job)) => job,

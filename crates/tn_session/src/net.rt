@@ -1,11 +1,12 @@
-//! The thread that reads from the network.
+//! The threads that read: one from the network, and in a client's session one the keys.
 
-ghost use Rattle.std.specs.Prelude.{◌≡◌, List, Option, [], ◌++◌, ◌∷◌, IfSome, Some, None, map};
+ghost use Rattle.std.specs.Prelude.{◌≡◌, [], true, is_some, IfSome};
 ghost use Rattle.crossbeam_channel.specs.Claims.{view, IsSeatAt};
 ghost use Rattle.crossbeam_channel.specs.Ends.{sends_on};
 ghost use Rattle.tn_session.specs.Mailbox.{sender};
+ghost use Rattle.tn_session.specs.Reader.{ReaderSends, KeysSends};
 ghost use Rattle.tn_session.specs.Reading.{Gives, NetSends};
-ghost use Rattle.tn_session.specs.declared.mail.Sender.TheVariants.{Net};
+ghost use Rattle.tn_session.specs.declared.mail.Sender.TheVariants.{Net, Keys};
 
 use crate::channels::{MailPass, MailSender};
 use crate::mail::Sender;
@@ -14,6 +15,7 @@ use crate::sending::say;
 use std::alloc::Global;
 use std::io::{ErrorKind, Read};
 use std::sync::Wait;
+use std::sync::atomic::{AtomicBool, Ordering};
 use tn_discipline::Text;
 use tn_term::Message;
 
@@ -46,33 +48,84 @@ fn read_piece<Rd: Read>(reader: &mut Rd, alloc: Global) -> Got
     }
 }
 
-/// Sends the pieces that the reader gives, and then how it ended: after 4,294,967,295 reads as if one had
-/// failed. `None` where the other end is gone.
-pub(crate) fn run_net<R: Wait, Rd: Read + Drop, G: Gate>(
+// Whether the thread is to read on no more.
+fn is_stopped(stop: Option<&AtomicBool>) -> bool
+    ensures { result ≡ true → is_some stop.entry ≡ true }
+{
+    match stop {
+        Some(flag) => flag.load(Ordering::SeqCst),
+        None => false,
+    }
+}
+
+// Sends the pieces that the reader gives, and then how it ended: after 4,294,967,295 reads as if one had
+// failed. Where there is a flag and it is set after a piece, it leaves. `None` where the other end is gone.
+fn run_reader<R: Wait, Rd: Read + Drop, G: Gate>(
     rt: &R,
     alloc: Global,
     to: &MailSender,
     mut pass: MailPass,
     mut reader: Rd,
+    who: Sender,
+    stop: Option<&AtomicBool>,
+    gate: &G,
+    place: Place,
+) -> Option<MailPass>
+    requires mailbox { IsSeatAt (sends_on to.now) pass × (view pass ≡ sender who []) }
+    ensures seat { IfSome result (λ p. IsSeatAt (sends_on to.now) p) }
+    ensures sent { IfSome result (λ p. ReaderSends who (is_some stop.entry) (Rd.remaining reader) (view p)) }
+{
+    for _ in 0..u32::MAX {
+        match read_piece(&mut reader, alloc) {
+            Got::Bytes(text) => {
+                pass = say(rt, to, pass, who, Message::Piece(text))?;
+                gate.at(place);
+                if is_stopped(stop) {
+                    return say(rt, to, pass, who, Message::Left);
+                }
+            },
+            Got::Again => continue,
+            Got::Last(last) => {
+                pass = say(rt, to, pass, who, last)?;
+                return say(rt, to, pass, who, Message::Left);
+            },
+        }
+    }
+    pass = say(rt, to, pass, who, Message::ReadFailed)?;
+    say(rt, to, pass, who, Message::Left)
+}
+
+/// Sends what comes from the network. `None` where the other end is gone.
+pub(crate) fn run_net<R: Wait, Rd: Read + Drop, G: Gate>(
+    rt: &R,
+    alloc: Global,
+    to: &MailSender,
+    pass: MailPass,
+    reader: Rd,
     gate: &G,
 ) -> Option<MailPass>
     requires mailbox { IsSeatAt (sends_on to.now) pass × (view pass ≡ sender Net []) }
     ensures seat { IfSome result (λ p. IsSeatAt (sends_on to.now) p) }
     ensures sent { IfSome result (λ p. NetSends (Rd.remaining reader) (view p)) }
 {
-    for _ in 0..u32::MAX {
-        match read_piece(&mut reader, alloc) {
-            Got::Bytes(text) => {
-                pass = say(rt, to, pass, Sender::Net, Message::Piece(text))?;
-                gate.at(Place::NetPiece);
-            },
-            Got::Again => continue,
-            Got::Last(last) => {
-                pass = say(rt, to, pass, Sender::Net, last)?;
-                return say(rt, to, pass, Sender::Net, Message::Left);
-            },
-        }
-    }
-    pass = say(rt, to, pass, Sender::Net, Message::ReadFailed)?;
-    say(rt, to, pass, Sender::Net, Message::Left)
+    let (who, place) = (Sender::Net, Place::NetPiece);
+    run_reader(rt, alloc, to, pass, reader, who, None, gate, place)
+}
+
+/// Sends the keys, until there are no more or the flag is set. `None` where the other end is gone.
+pub(crate) fn run_keys<R: Wait, Rd: Read + Drop, G: Gate>(
+    rt: &R,
+    alloc: Global,
+    to: &MailSender,
+    pass: MailPass,
+    reader: Rd,
+    stop: &AtomicBool,
+    gate: &G,
+) -> Option<MailPass>
+    requires mailbox { IsSeatAt (sends_on to.now) pass × (view pass ≡ sender Keys []) }
+    ensures seat { IfSome result (λ p. IsSeatAt (sends_on to.now) p) }
+    ensures sent { IfSome result (λ p. KeysSends (Rd.remaining reader) (view p)) }
+{
+    let (who, place) = (Sender::Keys, Place::KeysPiece);
+    run_reader(rt, alloc, to, pass, reader, who, Some(stop), gate, place)
 }

@@ -48,7 +48,8 @@ pub trait Finish: Write {
         ensures { Keeps (Self.contents self.old) (Self.contents self.new) };
 }
 
-/// What a session tells at its end. A count that has reached the greatest `u64` stays there.
+/// What a session tells at its end; a client's has no entries and no stops. A count that has reached the
+/// greatest `u64` stays there.
 #[derive(Clone, Copy, Debug, PartialEq, Eq)]
 pub struct Report {
     pub ended: Ended,
@@ -69,4 +70,12 @@ pub struct Ports {
     pub term: MailPass,
     pub put: EntryPass,
     pub took: EntryPass,
+}
+
+/// The passes of a client session's mailbox, in which contracts see what was sent and handled.
+#[derive(Drop)]
+pub struct ClientPorts {
+    pub keys: MailPass,
+    pub net: MailPass,
+    pub core: MailPass,
 }

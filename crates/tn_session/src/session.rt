@@ -1,6 +1,6 @@
 //! A running session, from its first job to its report.
 
-ghost use Rattle.std.specs.Prelude.{◌≡◌, ◌++◌, [], true, false, IfOk, IfSome};
+ghost use Rattle.std.specs.Prelude.{◌≡◌, ◌++◌, [], true, false, IfOk, IfErr, IfSome};
 ghost use Rattle.std.specs.Io.KnownBytes.{Keeps};
 ghost use Rattle.crossbeam_channel.specs.Claims.{view, IsSeatAt};
 ghost use Rattle.crossbeam_channel.specs.Ends.{sends_on, receives_on};
@@ -9,7 +9,7 @@ ghost use Rattle.tn_jobs.specs.Jobs.{Jobs};
 ghost use Rattle.tn_server.specs.declared.wishes.Editing.{Editing as EditingT};
 ghost use Rattle.tn_session.specs.Jobs.{IsMade};
 ghost use Rattle.tn_session.specs.Joining.{IsReady};
-ghost use Rattle.tn_session.specs.Session.{IsOpening, IsRun, RunningSession, report_of};
+ghost use Rattle.tn_session.specs.Session.{IsOpening, IsRun, IsRefusal, RunningSession, report_of};
 ghost use Rattle.tn_session.specs.Turning.{IsLine, ids_of};
 ghost use Rattle.tn_term.specs.Reaching.{LeadsTo};
 ghost use Rattle.tn_term.specs.Run.{start};
@@ -36,10 +36,11 @@ use std::thread::Threads;
 use tn_discipline::{Entry, Limit, Settings};
 use tn_jobs::{Job, JobId};
 use tn_server::Editing;
+use tn_term::laws::{all_goes_before_a_hang_up, pieces_are_heard};
 use tn_term::{Progress, SessionFault, Term};
 
 /// How many mails the mailbox holds.
-const MAILS: usize = 64;
+pub(crate) const MAILS: usize = 64;
 
 /// How many entries the channel of entries holds.
 const ENTRIES: usize = 2;
@@ -196,7 +197,8 @@ where
     G: Gate + Drop + Send + Sync + 'static,
     requires ready { IsReady channels }
     requires fresh { J.fresh begun.job × IsLine J.fresh begun.line.items }
-    ensures { IfOk result (λ r.
+    ensures fault { IfErr result IsRefusal }
+    ensures ran { IfOk result (λ r.
         IsRun J.fresh J.reacts J.steps begun.first (ids_of begun.line.items) begun.term begun.out.items
         (Rd.remaining reader) (W.contents writer.old) (W.contents writer.new) r.0 r.1) }
 {
@@ -304,7 +306,8 @@ where
     M: Maker + Drop,
     M::Job: Send + 'static,
     G: Gate + Drop + Send + Sync + 'static,
-    ensures { IfOk result (λ r.
+    ensures fault { IfErr result IsRefusal }
+    ensures ran { IfOk result (λ r.
         RunningSession M.Job.fresh M.Job.reacts M.Job.steps (record { settings = settings; limit = limit })
         editing (Rd.remaining reader) (W.contents writer.old) (W.contents writer.new) r.0 (view r.1.net)
         (view r.1.desk) (view r.1.back) (view r.1.term) (view r.1.put) (view r.1.took)) }
@@ -336,6 +339,8 @@ where
         term,
         out,
     };
+    pieces_are_heard();
+    all_goes_before_a_hang_up();
     match run(rt, alloc, reader, writer, begun, channels, shared) {
         Ok(ran) => Ok(ran),
         Err(fault) => Err(fault),

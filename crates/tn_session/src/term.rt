@@ -45,7 +45,7 @@ fn put_if<R: Wait>(
     }
 }
 
-fn leaves(message: &Message) -> u64
+pub(crate) fn leaves(message: &Message) -> u64
     ensures { result ≡ left_one message.now }
 {
     match message {

@@ -1,4 +1,4 @@
-use crate::{Ended, Finish, Gate, Maker, Place, Report, serve_session};
+use crate::{Ended, Finish, Gate, Maker, Place, Report, client_session, serve_session};
 use std::alloc::{AllocError, Global};
 use std::io::Cursor;
 use std::sync::{Arc, Wait};
@@ -72,7 +72,7 @@ impl Maker for Jobs {
 }
 
 #[derive(Drop)]
-struct Open;
+pub(crate) struct Open;
 
 impl Gate for Open {
     fn at(&self, _place: Place) {}
@@ -122,6 +122,14 @@ fn writes_a_line_back(rt: HostRuntime) -> Result<(), Fail> {
 }
 
 #[test]
+fn names_an_interrupt(rt: HostRuntime) -> Result<(), Fail> {
+    let (out, report) = served(rt, rt.alloc(), [3], Editing::Remote, false, 1)?;
+    assert_eq!(rt; out.get(OPENING..), Some(b"int\r\n\xff\xf9".as_slice()));
+    assert_eq!(rt; report, ended(Ended::HangUp, 1, 1, 0));
+    Ok(())
+}
+
+#[test]
 fn counts_a_stop(rt: HostRuntime) -> Result<(), Fail> {
     let (out, report) = served(rt, rt.alloc(), [26], Editing::Remote, false, 1)?;
     assert_eq!(rt; out.get(OPENING..), Some(b"tstp\r\n\xff\xf9".as_slice()));
@@ -157,5 +165,32 @@ fn reads_what_the_client_edited(rt: HostRuntime) -> Result<(), Fail> {
     let (out, report) = served(rt, rt.alloc(), input, Editing::Local, false, 1)?;
     assert_eq!(rt; out.get(OPENING..), Some(EDITED.as_slice()));
     assert_eq!(rt; report, ended(Ended::HangUp, 1, 1, 0));
+    Ok(())
+}
+
+#[test]
+fn sends_and_echoes_keys(rt: HostRuntime) -> Result<(), Fail> {
+    let alloc = rt.alloc();
+    let mut out = Vec::new(alloc);
+    let mut screen = Vec::new(alloc);
+    let limit = Limit::standard();
+    let gate = Arc::new(alloc, Open)?;
+    let net = Cursor::new([]);
+    let keys = Cursor::new(*b"a\r");
+    let (report, _ports) = client_session(
+        rt,
+        alloc,
+        net,
+        keys,
+        &mut out,
+        &mut screen,
+        80,
+        24,
+        limit,
+        gate,
+    )?;
+    assert_eq!(rt; out.as_slice(), b"a\r\0".as_slice());
+    assert_eq!(rt; screen.as_slice(), b"a\r\n".as_slice());
+    assert_eq!(rt; report, ended(Ended::HangUp, 1, 0, 0));
     Ok(())
 }

@@ -5,17 +5,18 @@ ghost use Rattle.crossbeam_channel.specs.Claims.{view, IsSeatAt};
 ghost use Rattle.crossbeam_channel.specs.Ends.{sends_on, receives_on};
 ghost use Rattle.tn_session.specs.Mailbox.{sender};
 ghost use Rattle.tn_session.specs.Queue.{taker};
+ghost use Rattle.tn_session.specs.Reader.{KeysSends};
 ghost use Rattle.tn_session.specs.Reading.{NetSends};
 ghost use Rattle.tn_session.specs.Stepping.{AreSteps};
 ghost use Rattle.tn_session.specs.Talk.{IsTalk};
 ghost use Rattle.tn_session.specs.Turning.{IsLine, ids_of};
-ghost use Rattle.tn_session.specs.declared.mail.Sender.TheVariants.{Net, Desk, Back};
+ghost use Rattle.tn_session.specs.declared.mail.Sender.TheVariants.{Net, Desk, Back, Keys};
 
 use crate::back::{Runner, run_back};
 use crate::channels::{MailPass, MailSender};
 use crate::desk::run_desk;
 use crate::entries::{EntryPass, EntryReceiver};
-use crate::net::run_net;
+use crate::net::{run_keys, run_net};
 use crate::parties::Gate;
 use std::alloc::Global;
 use std::collections::VecDeque;
@@ -44,6 +45,24 @@ impl<Rd: Read> Promise<Option<MailPass>> for NetSays<Rd> {
     ghost kept_by = { λ p r.
         IfSome r (λ pass. IsSeatAt (sends_on p.to.value) pass ×
         NetSends (Rd.remaining p.reader.value) (view pass)) };
+}
+
+/// What the thread that reads the keys promises.
+#[derive(Drop)]
+pub(crate) struct KeysSays<Rd> {
+    to: Snapshot<MailSender>,
+    reader: Snapshot<Rd>,
+}
+
+impl<Rd: Read> Promise<Option<MailPass>> for KeysSays<Rd> {
+    ghost use Rattle.std.specs.Prelude.{IfSome};
+    ghost use Rattle.crossbeam_channel.specs.Claims.{view, IsSeatAt};
+    ghost use Rattle.crossbeam_channel.specs.Ends.{sends_on};
+    ghost use Rattle.tn_session.specs.Reader.{KeysSends};
+
+    ghost kept_by = { λ p r.
+        IfSome r (λ pass. IsSeatAt (sends_on p.to.value) pass ×
+        KeysSends (Rd.remaining p.reader.value) (view pass)) };
 }
 
 /// What the thread of the foreground job promises.
@@ -111,6 +130,38 @@ pub(crate) fn start_net<
         requires { IsSeatAt (sends_on to) pass × (view pass ≡ sender Net []) }
         ensures { IfSome result (λ p. IsSeatAt (sends_on to) p × NetSends (Rd.remaining reader) (view p)) }
     { run_net(&rt, alloc, &to, pass, reader, &*gate) };
+    match thread::spawn_with(&rt, promise, work) {
+        Ok(handle) => Some(handle),
+        Err(_) => None,
+    }
+}
+
+/// Starts the thread that reads the keys. `None` where it can't be started.
+pub(crate) fn start_keys<
+    R: Threads + Wait + Copy + Send + 'static,
+    Rd: Read + Drop + Send + 'static,
+    G: Gate + Drop + Send + Sync + 'static,
+>(
+    rt: R,
+    alloc: Global,
+    to: MailSender,
+    pass: MailPass,
+    reader: Rd,
+    stop: Arc<AtomicBool, Global>,
+    gate: Arc<G, Global>,
+) -> Option<PromisedHandle<Option<MailPass>, KeysSays<Rd>>>
+    requires mailbox { IsSeatAt (sends_on to) pass × (view pass ≡ sender Keys []) }
+    ensures { IfSome result (λ h. (sends_on h.promise.to.value ≡ sends_on to) ×
+        (h.promise.reader.value ≡ reader)) }
+{
+    let promise = KeysSays {
+        to: Snapshot::of(&to),
+        reader: Snapshot::of(&reader),
+    };
+    let work = move || -> Option<MailPass>
+        requires { IsSeatAt (sends_on to) pass × (view pass ≡ sender Keys []) }
+        ensures { IfSome result (λ p. IsSeatAt (sends_on to) p × KeysSends (Rd.remaining reader) (view p)) }
+    { run_keys(&rt, alloc, &to, pass, reader, &*stop, &*gate) };
     match thread::spawn_with(&rt, promise, work) {
         Ok(handle) => Some(handle),
         Err(_) => None,

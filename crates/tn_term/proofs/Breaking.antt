@@ -2,11 +2,10 @@
 use Rattle.std.proofs.Common.{◌≡◌, ℕ, Bool, true, false, List, [], ◌∷◌, ◌++◌, Option, Result, Ok, Err, OnOk, OnErr, IfOk, IfErr, refl, sym, ap, ◌∙◌, subst, append-nil, append_assoc, length, arith, ◌<◌, All}
 use Rattle.std.specs.List.{concat}
 use Rattle.std.proofs.lemmas.List.Elements.{All-append, All-nil, All-cons}
-use Rattle.tn_discipline.specs.declared.characters.CharFault.{CharFault}
 use Rattle.tn_nvt.proofs.lemmas.Reading.{has_reading, reads_on}
 use Rattle.tn_nvt.specs.Stream.{Reading}
 use Rattle.tn_server.proofs.lemmas.Histories.{gets-append, sent-gets}
-use Rattle.tn_server.specs.Faults.{IsOfItem}
+use Rattle.tn_server.specs.Faults.{IsOfItem, IsOfPiece}
 use Rattle.tn_server.specs.Calls.{End, StopsWithin, first_replies}
 use Rattle.tn_server.specs.declared.faults.ServerFault.{ServerFault}
 use Rattle.tn_server.specs.declared.faults.ServerFault.TheVariants as server
@@ -208,11 +207,12 @@ failed_break old new end piece x y on is failed same = record {
     true_false : true ≡ false → ⊥
     true_false e = cc
 
-pub feed_breaks : (old new : Term) (end : End) (piece x y : List ℕ) (f : ServerFault) → old.progress.over ≡ false → new ≡ record old { end = end; progress = after_piece old.progress } → All (λ b. b < 256) piece → (IsOfItem f → StopsWithin old.end piece f x y end) → (f ≡ server.Failed → (old.end.failed ≡ true) × (y ≡ x)) → ((g : CharFault) → f ≡ server.Char g → ⊥) → FeedBreaksOff old piece x y new
+pub feed_breaks : (old new : Term) (end : End) (piece x y : List ℕ) (f : ServerFault) → old.progress.over ≡ false → new ≡ record old { end = end; progress = after_piece old.progress } → All (λ b. b < 256) piece → (IsOfItem f → StopsWithin old.end piece f x y end) → (f ≡ server.Failed → (old.end.failed ≡ true) × (y ≡ x)) → IsOfPiece f → FeedBreaksOff old piece x y new
 feed_breaks old new end piece x y (server.Pty g) on is small halts failed none = halts_break old new end piece x y (server.Pty g) on is small (halts tt)
 feed_breaks old new end piece x y server.Memory on is small halts failed none = halts_break old new end piece x y server.Memory on is small (halts tt)
 feed_breaks old new end piece x y server.Failed on is small halts failed none = let g = failed refl in failed_break old new end piece x y on is g.0 g.1
-feed_breaks old new end piece x y (server.Char g) on is small halts failed none = absurd (none g refl)
+feed_breaks old new end piece x y (server.Char g) on is small halts failed none = absurd none
+feed_breaks old new end piece x y server.NotOn on is small halts failed none = absurd none
 
 pub of_ok : {A E : Type 0} (D : Type 0) (r : Result A E) (x : A) → r ≡ Ok x → OnOk r D → D
 of_ok {A} {E} D r x e h = let P : Result A E → Type 0 = λ u. OnOk u D in subst P e h

@@ -7,7 +7,7 @@ use Rattle.tn_nvt.specs.Spelling.{spells}
 use Rattle.tn_nvt.specs.declared.items.Item.{Item}
 use Rattle.tn_pty.specs.Terminal.{queue_with}
 use Rattle.tn_server.specs.Course.{in_parts}
-use Rattle.tn_server.specs.Events.{History, begun, next, got, took, wrote, pulled, wished, char_set, echo_set}
+use Rattle.tn_server.specs.Events.{History, begun, next, got, took, wrote, pulled, wished, char_set, echo_set, mask_set}
 use Rattle.tn_server.specs.Replies.{items_said, replies}
 use Rattle.tn_server.specs.Screen.{queue}
 use Rattle.tn_server.specs.Calls.{End, LeadsTo, Advances, ReadsNothing}
@@ -31,6 +31,7 @@ queue_bound (next h (pulled n)) = let old = queue_bound h in grind (arith, lengt
 queue_bound (next h (wished editing)) = queue_bound h
 queue_bound (next h (char_set func value)) = queue_bound h
 queue_bound (next h (echo_set on)) = queue_bound h
+queue_bound (next h (mask_set mask)) = queue_bound h
 
 pub follows_pulled : (old new : End) (n : ℕ) (before after : List ℕ) → Advances old (pulled n) before after new → ReadsNothing old new → ((h : History) → LeadsTo h old → n ≡ min 4096 (length (queue h))) → FollowsPath flushed_history old before after new
 follows_pulled old new n before after goes keeps count = record {

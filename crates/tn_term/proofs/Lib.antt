@@ -1,6 +1,9 @@
+pub mod Alike
 pub mod Following
 pub mod Doing
 pub mod Breaking
+pub mod Hanging
+pub mod Agreeing
 pub mod Handling
 pub mod Turning
 pub mod lemmas

@@ -3,3 +3,5 @@ pub mod Run
 pub mod Marks
 pub mod Reaching
 pub mod Giving
+pub mod Hearing
+pub mod Agreeing

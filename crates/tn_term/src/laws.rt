@@ -1,14 +1,20 @@
 //! Laws of the definitions alone.
 
-ghost use Rattle.std.specs.Prelude.{Bool, List};
+ghost use Rattle.std.specs.Prelude.{◌≡◌, ℕ, Bool, false, Some, List, map};
 ghost use Rattle.tn_discipline.specs.Canon.{Canon};
-ghost use Rattle.tn_jobs.specs.Jobs.{Jobs};
+ghost use Rattle.tn_jobs.specs.Jobs.{Jobs, state_at};
+ghost use Rattle.tn_jobs.specs.declared.verdicts.JobState.TheVariants.{Foreground};
 ghost use Rattle.tn_server.specs.declared.wishes.Editing.{Editing};
+ghost use Rattle.tn_term.specs.Agreeing.{Agree};
 ghost use Rattle.tn_term.specs.Giving.{GivesFront};
+ghost use Rattle.tn_term.specs.Hearing.{Hears, HangsUp, MayAllCome};
 ghost use Rattle.tn_term.specs.Marks.{Runs, run_after_opening};
 ghost use Rattle.tn_term.specs.Run.{Run, start};
+ghost use Rattle.tn_term.specs.declared.faults.Ended.TheVariants.{HangUp};
 ghost use Rattle.tn_term.specs.declared.messages.Mark.{Mark};
 ghost use Rattle.tn_term.specs.declared.messages.Message.{Message};
+
+use tn_jobs::laws::one_job_changes;
 
 /// What goes to the foreground job is a front of the history's entries, in order, each once, whatever
 /// failed.
@@ -17,4 +23,33 @@ pub fn entries_go_in_order()
         (marked : List (Message × Mark)) (new : Run) →
         Runs (run_after_opening opens (start canon editing jobs)) marked new →
         GivesFront new.puts new.history }
+{}
+
+/// The stream of a run is the first bytes of its pieces, and its entries are those of the stream's items
+/// alone.
+pub fn pieces_are_heard()
+    ensures { (opens : Bool) (canon : Canon) (editing : Editing) (jobs : Jobs)
+        (marked : List (Message × Mark)) (new : Run) →
+        Runs (run_after_opening opens (start canon editing jobs)) marked new →
+        Hears canon editing (map (λ m. m.0) marked) new }
+{}
+
+/// Where a run ends by a hang-up, all pieces were heard, and all entries were put before an end was.
+pub fn all_goes_before_a_hang_up()
+    ensures { (opens : Bool) (canon : Canon) (editing : Editing) (jobs : Jobs) (id : ℕ)
+        (marked : List (Message × Mark)) (new : Run) →
+        Runs (run_after_opening opens (start canon editing jobs)) marked new →
+        new.progress.ended ≡ HangUp → state_at jobs id ≡ Some Foreground →
+        MayAllCome false (map (λ m. m.0) marked) → HangsUp id (map (λ m. m.0) marked) new }
+{
+    one_job_changes();
+}
+
+/// However its texts are cut into parts, a run of the same messages with the same marks sends the same
+/// and puts the same.
+pub fn runs_agree()
+    ensures { (opens : Bool) (canon : Canon) (editing : Editing) (jobs : Jobs)
+        (marked : List (Message × Mark)) (one two : Run) →
+        Runs (run_after_opening opens (start canon editing jobs)) marked one →
+        Runs (run_after_opening opens (start canon editing jobs)) marked two → Agree one two }
 {}

@@ -46,6 +46,7 @@ fn pull_all(end: &mut ServerEnd, out: &mut Vec<u8>) -> Result<(), ServerFault>
     ensures ok { OnOk result (FollowsPath run.flushed_history end.old out.old.items out.new.items end.new) }
     ensures err { OnErr result (end.new ≡ end.old) }
     ensures err_appends { OnErr result (out.new.items ≡ out.old.items) }
+    ensures fault { IfErr result (λ fault. fault ≡ ServerFault.Memory) }
 {
     match end.pull(MOST_SYMBOLS, out) {
         Ok(_) => Ok(()),
@@ -54,7 +55,8 @@ fn pull_all(end: &mut ServerEnd, out: &mut Vec<u8>) -> Result<(), ServerFault>
 }
 
 impl Term {
-    /// Starts the end, appends the opening words, and wishes for editing at one side.
+    /// Starts the end, appends the opening words, and wishes for editing at one side. Only memory may be
+    /// wanting for it.
     pub fn start(
         alloc: Global,
         settings: Settings,
@@ -69,6 +71,7 @@ impl Term {
         ensures out { OnOk result (out.new.items ≡
             spells (items_said (run.opening (record { settings = settings; limit = limit }) editing))) }
         ensures progress { IfOk result (λ term. term.progress.over ≡ false) }
+        ensures fault { IfErr result (λ fault. fault ≡ ServerFault.Memory) }
     {
         let flags = settings.flags;
         let tostop = flags.tostop;

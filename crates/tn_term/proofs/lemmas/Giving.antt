@@ -57,7 +57,7 @@ gives_got ps h x g =
       taken = (let n = ap (λ (es : List Entry). length es) grown in let old = g.taken in omega (arith, n, old, length-append (entries h) more));
     }
 
-gives_gets : (ps : List (Option Entry)) (h : History) (xs : List Item) → Gives ps h → Gives ps (gets h xs)
+pub gives_gets : (ps : List (Option Entry)) (h : History) (xs : List Item) → Gives ps h → Gives ps (gets h xs)
 gives_gets ps h [] g = g
 gives_gets ps h (x ∷ xs) g = gives_gets ps (next h (got x)) xs (gives_got ps h x g)
 
@@ -138,7 +138,7 @@ gives_ask_if true c g = asked (waiting c.history) refl
         gives_as (answer (record c { history = next c.history took }) ws) (ask c) (ap (answer (record c { history = next c.history took })) e) (subst P (sym (kept ws)) (gives_ask c ws e g))
 gives_ask_if false c g = g
 
-gives_acts : (c new : Run) (m : Message) → Acts c m new → Gives c.puts c.history → Gives new.puts new.history
+pub gives_acts : (c new : Run) (m : Message) → Acts c m new → Gives c.puts c.history → Gives new.puts new.history
 gives_acts c new (Piece piece) a g =
     let fed = feed piece a.0 c in
     gives_as (flush (ask_if c.progress.asks fed)) new a.2 (gives_flush (ask_if c.progress.asks fed) (gives_ask_if c.progress.asks fed (gives_gets c.puts c.history a.0 g)))
@@ -259,7 +259,7 @@ unput_front m c whole (more, e) g = (
       ∙ g.all,
 )
 
-acts_of : (o : Bool) (c new : Run) (m : Message) → o ≡ false → ActsUnless o c m new → Acts c m new
+pub acts_of : (o : Bool) (c new : Run) (m : Message) → o ≡ false → ActsUnless o c m new → Acts c m new
 acts_of true c new m e a = absurd (true_false e)
 acts_of false c new m e a = a
 

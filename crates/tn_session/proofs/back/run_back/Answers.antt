@@ -24,35 +24,35 @@ returns-in-Idle-clause-stepped g c =
 pub say-requires-in-Refused-2-clause-role : goal.say-requires-in-Refused-2-clause-role
 say-requires-in-Refused-2-clause-role g c =
     let i = c.loop.invariant.1 in
-    role (map step_said i.0 ++ Refused ∷ []) _ (said (map step_said i.0) Refused (view c.loop.pass) _ i.1 c.in_ok-pass-in-Refused.ensures.said)
+    role (map step_said i.0 ++ Refused ∷ []) (view c.in_ok-pass-in-Refused.pass) (said (map step_said i.0) Refused (view c.loop.pass) (view c.in_ok-pass-in-Refused.pass) i.1 c.in_ok-pass-in-Refused.ensures.said)
 
 pub returns-in-Refused-clause-stepped : goal.returns-in-Refused-clause-stepped
 returns-in-Refused-clause-stepped g c =
     let i = c.loop.invariant.1 in
     let first = said (map step_said i.0) Refused (view c.loop.pass) (view c.in_ok-pass-in-Refused.pass) i.1 c.in_ok-pass-in-Refused.ensures.said in
-    if_some _ _ c.say-in-Refused-2.result c.say-in-Refused-2.ensures.said (λ p f. closes_refused g.J.Job.fresh g.J.Job.steps (ids_of c.args.line.items) i.0 c.loop.line.items (view p) i.2 (said (map step_said i.0 ++ Refused ∷ []) Left _ (view p) first f))
+    if_some _ _ c.say-in-Refused-2.result c.say-in-Refused-2.ensures.said (λ p f. closes_refused g.J.Job.fresh g.J.Job.steps (ids_of c.args.line.items) i.0 c.loop.line.items (view p) i.2 (said (map step_said i.0 ++ Refused ∷ []) Left (view c.in_ok-pass-in-Refused.pass) (view p) first f))
 
 pub say-requires-then-refused-clause-role : goal.say-requires-then-refused-clause-role
 say-requires-then-refused-clause-role g c =
     let i = c.loop.invariant.1 in
     let s : JobId × Reaction = (c.in-Did.id, c.in-Did.reaction) in
-    role (map step_said i.0 ++ step_said s ∷ []) _ (said (map step_said i.0) (step_said s) (view c.loop.pass) _ i.1 c.in_ok-pass-in-Did.ensures.said)
+    role (map step_said i.0 ++ step_said s ∷ []) (view c.in_ok-pass-in-Did.pass) (said (map step_said i.0) (step_said s) (view c.loop.pass) (view c.in_ok-pass-in-Did.pass) i.1 c.in_ok-pass-in-Did.ensures.said)
 
 pub say-requires-then-refused-2-clause-role : goal.say-requires-then-refused-2-clause-role
 say-requires-then-refused-2-clause-role g c =
     let i = c.loop.invariant.1 in
     let s : JobId × Reaction = (c.in-Did.id, c.in-Did.reaction) in
     let first = said (map step_said i.0) (step_said s) (view c.loop.pass) (view c.in_ok-pass-in-Did.pass) i.1 c.in_ok-pass-in-Did.ensures.said in
-    role ((map step_said i.0 ++ step_said s ∷ []) ++ Refused ∷ []) _ (said (map step_said i.0 ++ step_said s ∷ []) Refused _ _ first c.in_ok-pass-in-Did-2.ensures.said)
+    role ((map step_said i.0 ++ step_said s ∷ []) ++ Refused ∷ []) (view c.in_ok-pass-in-Did-2.pass) (said (map step_said i.0 ++ step_said s ∷ []) Refused (view c.in_ok-pass-in-Did.pass) (view c.in_ok-pass-in-Did-2.pass) first c.in_ok-pass-in-Did-2.ensures.said)
 
 pub returns-then-refused-clause-stepped : goal.returns-then-refused-clause-stepped
 returns-then-refused-clause-stepped g c =
     let i = c.loop.invariant.1 in
     let s : JobId × Reaction = (c.in-Did.id, c.in-Did.reaction) in
-    let first = said_step i.0 s _ (said (map step_said i.0) (step_said s) (view c.loop.pass) (view c.in_ok-pass-in-Did.pass) i.1 c.in_ok-pass-in-Did.ensures.said) in
-    let second = said (map step_said (i.0 ++ s ∷ [])) Refused _ (view c.in_ok-pass-in-Did-2.pass) first c.in_ok-pass-in-Did-2.ensures.said in
+    let first = said_step i.0 s (view c.in_ok-pass-in-Did.pass) (said (map step_said i.0) (step_said s) (view c.loop.pass) (view c.in_ok-pass-in-Did.pass) i.1 c.in_ok-pass-in-Did.ensures.said) in
+    let second = said (map step_said (i.0 ++ s ∷ [])) Refused (view c.in_ok-pass-in-Did.pass) (view c.in_ok-pass-in-Did-2.pass) first c.in_ok-pass-in-Did-2.ensures.said in
     let run = advanced g.J.Job.fresh g.J.Job.steps (ids_of c.args.line.items) i.0 c.loop.line.items c.advance.new.line.items c.in-Did.id c.in-Did.reaction i.2 c.in-Did.ensures in
-    if_some _ _ c.say-then-refused-2.result c.say-then-refused-2.ensures.said (λ p f. closes_refused g.J.Job.fresh g.J.Job.steps (ids_of c.args.line.items) (i.0 ++ s ∷ []) c.advance.new.line.items (view p) run (said (map step_said (i.0 ++ s ∷ []) ++ Refused ∷ []) Left _ (view p) second f))
+    if_some _ _ c.say-then-refused-2.result c.say-then-refused-2.ensures.said (λ p f. closes_refused g.J.Job.fresh g.J.Job.steps (ids_of c.args.line.items) (i.0 ++ s ∷ []) c.advance.new.line.items (view p) run (said (map step_said (i.0 ++ s ∷ []) ++ Refused ∷ []) Left (view c.in_ok-pass-in-Did-2.pass) (view p) second f))
 
 pub loop-preserved : goal.loop-preserved
 loop-preserved g c =
@@ -61,7 +61,7 @@ loop-preserved g c =
       c.in_ok-pass-in-Did.ensures.seat,
       (
         i.0 ++ s ∷ [],
-        said_step i.0 s _ (said (map step_said i.0) (step_said s) (view c.loop.pass) (view c.in_ok-pass-in-Did.pass) i.1 c.in_ok-pass-in-Did.ensures.said),
+        said_step i.0 s (view c.in_ok-pass-in-Did.pass) (said (map step_said i.0) (step_said s) (view c.loop.pass) (view c.in_ok-pass-in-Did.pass) i.1 c.in_ok-pass-in-Did.ensures.said),
         advanced g.J.Job.fresh g.J.Job.steps (ids_of c.args.line.items) i.0 c.loop.line.items c.advance.new.line.items c.in-Did.id c.in-Did.reaction i.2 c.in-Did.ensures,
       ),
     )

@@ -4,8 +4,8 @@ use Rattle.tn_jobs.specs.declared.verdicts.JobState.TheVariants.{Foreground, Bac
 use Rattle.tn_session.proofs.Numbering.{first_alone, made_first}
 use Rattle.tn_session.proofs.making.make_first.Goals as goal
 
-pub returns : goal.returns
-returns g c =
+pub returns-clause-made : goal.returns-clause-made
+returns-clause-made g c =
     let a = c.in-Ok.ensures.adds in
     let first = c.in-Ok.first.0 in
     let is = c.in-Ok-foreground.ensures.ok in

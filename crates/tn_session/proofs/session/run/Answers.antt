@@ -9,8 +9,8 @@ use Rattle.tn_session.specs.Turning.{ids_of}
 use Rattle.tn_session.proofs.Whole.{scheduled}
 use Rattle.tn_session.proofs.session.run.Goals as goal
 
-pub returns : goal.returns
-returns g c =
+pub returns-clause-ran : goal.returns-clause-ran
+returns-clause-ran g c =
     let ports = c.settle-ports.result in
     let start = c.args.channels in
     let begun = c.args.begun in

@@ -1,16 +1,31 @@
+use Rattle.std.proofs.Common.{◌≡◌, sym, ap, ◌∙◌}
+use Rattle.tn_discipline.specs.Canon.{Canon}
 use Rattle.tn_term.proofs.lemmas.Giving.{puts_are_front, taken_are_front}
+use Rattle.tn_term.specs.declared.faults.Ended.TheVariants.{HangUp}
+use Rattle.tn_session.specs.declared.parties.Report.{Report}
 use Rattle.tn_session.specs.Turning.{ids_of}
+use Rattle.tn_session.proofs.Ending.{may_come, heard_of_reader, took_all, takes_entries}
 use Rattle.tn_session.proofs.session.serve_session.Goals as goal
 
-pub returns-in-Ok-run : goal.returns-in-Ok-run
-returns-in-Ok-run g c =
+pub returns-in-Ok-run-clause-ran : goal.returns-in-Ok-run-clause-ran
+returns-in-Ok-run-clause-ran g c =
+    let canon : Canon = record { settings = c.args.settings; limit = c.args.limit } in
     let made = c.in_ok-made.made in
-    let s = c.in-Ok-run.ensures (record { settings = c.args.settings; limit = c.args.limit }) c.args.editing made.table c.in-Ok.ensures.at c.in-Ok.ensures.out in
+    let s = c.in-Ok-run.ensures.ran canon c.args.editing made.table c.in-Ok.ensures.at c.in-Ok.ensures.out in
+    let report = c.in-Ok-run.ran.0 in
+    let front = taken_are_front s.taken s.took_first.0 s.run.puts s.run.history s.took_first.1 (puts_are_front s.wrote_opening canon c.args.editing made.table s.marked s.run s.runs) in
+    let hears = c.pieces_are_heard.ensures s.wrote_opening canon c.args.editing made.table s.marked s.run s.runs in
+    let hung = λ (e : report.ended ≡ HangUp). c.all_goes_before_a_hang_up.ensures s.wrote_opening canon c.args.editing made.table made.first.0 s.marked s.run s.runs (sym (ap (λ (r : Report). r.ended) s.report_is) ∙ e) c.in_ok-made.ensures.made.numbered.foreground (may_come s) in
+    let heard = heard_of_reader s hears hung in
+    let all = λ (e : report.ended ≡ HangUp). took_all s (hung e) in
     record {
       jobs = made.table;
       first = made.first;
       others = ids_of made.line.items;
-      numbered = c.in_ok-made.ensures.numbered;
+      numbered = c.in_ok-made.ensures.made.numbered;
       schedule = s;
-      in_order = taken_are_front s.taken s.took_first.0 s.run.puts s.run.history s.took_first.1 (puts_are_front s.wrote_opening (record { settings = c.args.settings; limit = c.args.limit }) c.args.editing made.table s.marked s.run s.runs);
+      heard = heard;
+      in_order = front;
+      all_taken = all;
+      by_bytes = takes_entries s hears heard front all;
     }

@@ -11,4 +11,4 @@ returns-in-Ok-clause-ok c =
 
 pub returns-in-Err-clause-err : goal.returns-in-Err-clause-err
 returns-in-Err-clause-err c =
-    feed_breaks c.args.self.now _ c.feed.new.self c.args.piece.now _ _ c.in-Err.fault c.requires (ap (λ (p : Progress). record c.args.self.now { end = c.feed.new.self; progress = p }) c.fed-self-in-Err.ensures) (All-from_get_or (λ b. b < 256) c.args.piece.now 0 (λ i within. (c.type_inv.piece i).fits)) c.in-Err.ensures.halts (λ e. (c.in-Err.ensures.failed.0 (ap Err e), c.in-Err.ensures.failed_appends (ap Err e))) (λ g e. c.in-Err.ensures.no_char g (ap Err e))
+    feed_breaks c.args.self.now _ c.feed.new.self c.args.piece.now _ _ c.in-Err.fault c.requires (ap (λ (p : Progress). record c.args.self.now { end = c.feed.new.self; progress = p }) c.fed-self-in-Err.ensures) (All-from_get_or (λ b. b < 256) c.args.piece.now 0 (λ i within. (c.type_inv.piece i).fits)) c.in-Err.ensures.halts (λ e. (c.in-Err.ensures.failed.0 (ap Err e), c.in-Err.ensures.failed_appends (ap Err e))) c.in-Err.ensures.of_piece

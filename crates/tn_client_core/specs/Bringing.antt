@@ -1,0 +1,31 @@
+-- What the messages brought, and what came of it at the client end.
+use Rattle.std.specs.Prelude.{◌≡◌, ℕ, false, List, [], ◌∷◌, ◌++◌}
+use Rattle.tn_client.specs.Events.{items, keys}
+use Rattle.tn_client_core.specs.Run.{Run}
+use Rattle.tn_client_core.specs.declared.messages.Origin.{Origin}
+use Rattle.tn_client_core.specs.declared.messages.Origin.TheVariants.{Keys, Net}
+use Rattle.tn_client_core.specs.declared.messages.Told.{Told}
+use Rattle.tn_term.specs.declared.messages.Message.{Message}
+use Rattle.tn_term.specs.declared.messages.Message.TheVariants.{Piece}
+use Rattle.tn_wire.specs.Fronts.{IsRead}
+
+-- the bytes that a message from one side brings from the other or the same
+abbrev pub brought_from : Origin → Origin → Message → List ℕ
+brought_from Keys Keys (Piece piece) = piece
+brought_from Net Net (Piece piece) = piece
+brought_from _ _ _ = []
+
+-- the bytes that all messages bring from one side
+abbrev pub brought : Origin → List Told → List ℕ
+brought side [] = []
+brought side (told ∷ later) = brought_from side told.from told.message ++ brought side later
+
+-- The keys that were typed are a front of those that the messages brought, and the history's items those of a front of the bytes
+-- from the network; both are all of them as long as the messages have their effect.
+pub record TakesInOrder (all_told : List Told) (new : Run) : Type 0 where
+  pub untyped : List ℕ
+  pub typed : brought Keys all_told ≡ keys new.history ++ untyped
+  pub unread : List ℕ
+  pub fed : brought Net all_told ≡ new.stream ++ unread
+  pub read : IsRead new.stream (items new.history)
+  pub all : new.progress.over ≡ false → (untyped ≡ []) × (unread ≡ [])

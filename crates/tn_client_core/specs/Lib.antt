@@ -1,0 +1,5 @@
+pub mod Counting
+pub mod Run
+pub mod Marks
+pub mod Reaching
+pub mod Bringing

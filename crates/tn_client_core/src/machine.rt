@@ -1,0 +1,220 @@
+//! The core of a client session, which alone uses the client end.
+
+ghost use Rattle.std.specs.Prelude.{◌≡◌, true, false, OnOk, OnErr, IfOk, IfErr, []};
+ghost use Rattle.tn_client_core.specs.Counting as counting;
+ghost use Rattle.tn_client_core.specs.Marks.{is_written, is_whole};
+ghost use Rattle.tn_client_core.specs.Reaching.{LeadsTo, TypesAll, TypesFront, DoesWhole, StopsWithin, IsTurn, sent_bytes};
+ghost use Rattle.tn_client_core.specs.Run as run;
+ghost use Rattle.tn_client_core.specs.Run.{Run};
+
+use crate::messages::{Mark, Origin, Told};
+use crate::progress::Progress;
+use std::alloc::Global;
+use tn_client::{ClientEnd, ClientFault};
+use tn_discipline::Limit;
+use tn_term::{Message, SessionFault};
+
+/// The core of a client session.
+#[derive(Drop)]
+pub struct Core {
+    pub(crate) end: ClientEnd,
+    pub(crate) progress: Progress,
+}
+
+// Types these keys, one after another.
+fn type_all(
+    end: &mut ClientEnd,
+    keys: &[u8],
+    out: &mut Vec<u8>,
+    screen: &mut Vec<u8>,
+) -> Result<(), ClientFault>
+    ensures ok { OnOk result
+        (TypesAll end.old keys.now out.old.items out.new.items screen.old.items screen.new.items end.new) }
+    ensures err { OnErr result
+        (TypesFront end.old keys.now out.old.items out.new.items screen.old.items screen.new.items end.new) }
+{
+    for key in keys {
+        match end.key(*key, out, screen) {
+            Ok(()) => {},
+            Err(fault) => return Err(fault),
+        }
+    }
+    Ok(())
+}
+
+// Drops what was appended for the network once nothing more goes there.
+fn drop_if(closed: bool, out: &mut Vec<u8>)
+    ensures { out.new.items ≡ sent_bytes closed out.old.items }
+{
+    if closed {
+        out.clear();
+    }
+}
+
+impl Core {
+    /// Starts the end of a client whose window has this size and whose lines have at most `limit` bytes.
+    pub fn start(alloc: Global, width: u16, height: u16, limit: Limit) -> Result<Core, ClientFault>
+        ensures leads { IfOk result (λ core. LeadsTo (run.start width height limit) core) }
+        ensures fault { IfErr result (λ fault. fault ≡ ClientFault.Memory) }
+    {
+        match ClientEnd::start(alloc, width, height, limit) {
+            Ok(end) => Ok(Core {
+                end,
+                progress: Progress::new(),
+            }),
+            Err(fault) => Err(fault),
+        }
+    }
+
+    fn keys(
+        &mut self,
+        keys: &[u8],
+        out: &mut Vec<u8>,
+        screen: &mut Vec<u8>,
+    ) -> Result<(), ClientFault>
+        requires { self.old.progress.over ≡ false }
+        ensures ok { OnOk result (DoesWhole self.old
+            (record { from = Origin.Keys; message = Message.Piece keys.now })
+            out.old.items out.new.items screen.old.items screen.new.items self.new) }
+        ensures err { OnErr result (StopsWithin self.old
+            (record { from = Origin.Keys; message = Message.Piece keys.now })
+            out.old.items out.new.items screen.old.items screen.new.items self.new) }
+    {
+        self.progress = self.progress.fed();
+        match type_all(&mut self.end, keys, out, screen) {
+            Ok(()) => Ok(()),
+            Err(fault) => Err(fault),
+        }
+    }
+
+    // What comes from the network.
+    fn feed(
+        &mut self,
+        piece: &[u8],
+        out: &mut Vec<u8>,
+        screen: &mut Vec<u8>,
+    ) -> Result<(), ClientFault>
+        requires { self.old.progress.over ≡ false }
+        ensures ok { OnOk result (DoesWhole self.old
+            (record { from = Origin.Net; message = Message.Piece piece.now })
+            out.old.items out.new.items screen.old.items screen.new.items self.new) }
+        ensures err { OnErr result (StopsWithin self.old
+            (record { from = Origin.Net; message = Message.Piece piece.now })
+            out.old.items out.new.items screen.old.items screen.new.items self.new) }
+    {
+        self.progress = self.progress.fed();
+        match self.end.feed(piece, out, screen) {
+            Ok(()) => Ok(()),
+            Err(fault) => Err(fault),
+        }
+    }
+
+    fn piece(
+        &mut self,
+        from: Origin,
+        piece: &[u8],
+        out: &mut Vec<u8>,
+        screen: &mut Vec<u8>,
+    ) -> Result<(), ClientFault>
+        requires { self.old.progress.over ≡ false }
+        ensures ok { OnOk result (DoesWhole self.old
+            (record { from = from; message = Message.Piece piece.now })
+            out.old.items out.new.items screen.old.items screen.new.items self.new) }
+        ensures err { OnErr result (StopsWithin self.old
+            (record { from = from; message = Message.Piece piece.now })
+            out.old.items out.new.items screen.old.items screen.new.items self.new) }
+    {
+        match from {
+            Origin::Keys => self.keys(piece, out, screen),
+            Origin::Net => self.feed(piece, out, screen),
+        }
+    }
+
+    // What a message that brings no bytes changes.
+    fn step(&mut self, from: Origin, message: &Message)
+        ensures { self.new ≡ record self.old {
+          progress =
+              counting.after_message from message.now self.old.progress;
+        } }
+    {
+        let progress = self.progress;
+        self.progress = match (from, message) {
+            (Origin::Net, Message::HangUp) => progress.hung_up(),
+            (Origin::Net, Message::ReadFailed) => progress.faulted(SessionFault::Read).hung_up(),
+            (Origin::Keys, Message::ReadFailed) => progress.faulted(SessionFault::Read),
+            (Origin::Keys, Message::Left) => progress.closed(),
+            (_, Message::Refused) => progress.failed(SessionFault::Memory),
+            _ => progress,
+        };
+    }
+
+    // A message that has its effect.
+    fn act(
+        &mut self,
+        told: Told,
+        out: &mut Vec<u8>,
+        screen: &mut Vec<u8>,
+    ) -> Result<(), ClientFault>
+        requires { self.old.progress.over ≡ false }
+        ensures ok { OnOk result (DoesWhole self.old told
+            out.old.items out.new.items screen.old.items screen.new.items self.new) }
+        ensures err { OnErr result (StopsWithin self.old told
+            out.old.items out.new.items screen.old.items screen.new.items self.new) }
+    {
+        let Told { from, message } = told;
+        match message {
+            Message::Piece(piece) => self.piece(from, piece.as_slice(), out, screen),
+            other => {
+                self.step(from, &other);
+                Ok(())
+            },
+        }
+    }
+
+    // Something failed: nothing has any effect from here on.
+    fn fails(&mut self, fault: SessionFault)
+        ensures { self.new ≡ record self.old { progress = counting.after_failure fault self.old.progress } }
+    {
+        self.progress = self.progress.failed(fault);
+    }
+
+    /// Tells that a write failed: nothing has any effect from here on.
+    pub fn write_failed(&mut self)
+        ensures leads { (c : Run) → LeadsTo c self.old → LeadsTo (run.fail SessionFault.Write c) self.new }
+        ensures over { self.new.progress.over ≡ true }
+    {
+        self.fails(SessionFault::Write);
+    }
+
+    /// How far the session is.
+    pub fn progress(&self) -> Progress
+        ensures { result ≡ self.now.progress }
+    {
+        self.progress
+    }
+
+    /// Handles one message: appends what is to be sent to the network to `out`, and what is to be shown to
+    /// `screen`.
+    pub fn handle(&mut self, told: Told, out: &mut Vec<u8>, screen: &mut Vec<u8>) -> Mark
+        requires out { out.old.items ≡ [] }
+        requires screen { screen.old.items ≡ [] }
+        ensures turns { IsTurn result self.old told out.new.items screen.new.items self.new }
+        ensures written { is_written result ≡ true → is_whole result ≡ true }
+    {
+        if self.progress.over {
+            return Mark::Whole;
+        }
+        let closed = self.progress.closed;
+        match self.act(told, out, screen) {
+            Ok(()) => {
+                drop_if(closed, out);
+                Mark::Whole
+            },
+            Err(fault) => {
+                self.fails(SessionFault::Client(fault));
+                drop_if(closed, out);
+                Mark::Refused(fault)
+            },
+        }
+    }
+}

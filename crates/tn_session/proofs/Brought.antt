@@ -1,0 +1,129 @@
+-- What the messages to the core bring, of what the readers gave.
+use Rattle.std.proofs.Common.{◌≡◌, ℕ, Bool, true, false, List, [], ◌∷◌, ◌++◌, Option, Some, refl, sym, ap, ◌∙◌, ⊎_elim, map, subst, append-nil, append_assoc}
+use Rattle.std.specs.Io.KnownBytes.{Consumes}
+use Rattle.std.specs.List.{concat}
+use Rattle.tn_client_core.specs.Bringing.{brought_from, brought}
+use Rattle.tn_client_core.specs.declared.messages.Origin.TheVariants as origin
+use Rattle.tn_session.proofs.Mailbox.{sender_share}
+use Rattle.tn_session.specs.CoreTurns.{all_told}
+use Rattle.tn_session.specs.Mailbox.{same, from, mail, sender}
+use Rattle.tn_session.specs.Reader.{ReaderSends, Closes}
+use Rattle.tn_session.specs.Reading.{IsEnding, pieces_of}
+use Rattle.tn_session.specs.declared.channels.View.{View}
+use Rattle.tn_session.specs.declared.mail.Mail.{Mail}
+use Rattle.tn_session.specs.declared.mail.Sender.{Sender}
+use Rattle.tn_session.specs.declared.mail.Sender.TheVariants.{Net, Desk, Back, Keys}
+use Rattle.tn_term.specs.declared.messages.Message.{Message}
+use Rattle.tn_term.specs.declared.messages.Message.TheVariants.{Piece, HangUp, ReadFailed, Take, Said, Refused, Left}
+
+abbrev piece_bytes : Message → List ℕ
+piece_bytes (Piece piece) = piece
+piece_bytes _ = []
+
+abbrev bytes_of : List Mail → List ℕ
+bytes_of [] = []
+bytes_of (x ∷ xs) = piece_bytes x.message ++ bytes_of xs
+
+keys_bytes : (m : Message) → brought_from origin.Keys origin.Keys m ≡ piece_bytes m
+keys_bytes (Piece piece) = refl
+keys_bytes HangUp = refl
+keys_bytes ReadFailed = refl
+keys_bytes Take = refl
+keys_bytes (Said job text after) = refl
+keys_bytes Refused = refl
+keys_bytes Left = refl
+
+net_bytes : (m : Message) → brought_from origin.Net origin.Net m ≡ piece_bytes m
+net_bytes (Piece piece) = refl
+net_bytes HangUp = refl
+net_bytes ReadFailed = refl
+net_bytes Take = refl
+net_bytes (Said job text after) = refl
+net_bytes Refused = refl
+net_bytes Left = refl
+
+-- the keys are what Keys sent
+keys_more : (s : Sender) (m : Message) (xs : List Mail) → brought origin.Keys (all_told xs) ≡ bytes_of (from Keys xs) → brought origin.Keys (all_told (mail s m ∷ xs)) ≡ bytes_of (from Keys (mail s m ∷ xs))
+keys_more Keys m xs ih = λ i. keys_bytes m i ++ ih i
+keys_more Net m xs ih = ih
+keys_more Desk m xs ih = ih
+keys_more Back m xs ih = ih
+
+keys_all : (xs : List Mail) → brought origin.Keys (all_told xs) ≡ bytes_of (from Keys xs)
+keys_all [] = refl
+keys_all (x ∷ xs) = keys_more x.from x.message xs (keys_all xs)
+
+-- and where nobody else sends, the rest is what Net sent
+some_mail : (x : Mail) (xs : List Mail) → x ∷ xs ≡ [] → ⊥
+some_mail x xs e = cc
+
+net_more : (s : Sender) (m : Message) (xs : List Mail) → from Desk (mail s m ∷ xs) ≡ [] → from Back (mail s m ∷ xs) ≡ [] → brought origin.Net (all_told xs) ≡ bytes_of (from Net xs) → brought origin.Net (all_told (mail s m ∷ xs)) ≡ bytes_of (from Net (mail s m ∷ xs))
+net_more Net m xs desk back ih = λ i. net_bytes m i ++ ih i
+net_more Keys m xs desk back ih = ih
+net_more Desk m xs desk back ih = absurd (some_mail (mail Desk m) (from Desk xs) desk)
+net_more Back m xs desk back ih = absurd (some_mail (mail Back m) (from Back xs) back)
+
+none_later : (who : Sender) (x : Mail) (xs : List Mail) → from who (x ∷ xs) ≡ [] → from who xs ≡ []
+none_later who x xs e = at_test (same x.from who) refl
+  where
+    here : same x.from who ≡ true → from who (x ∷ xs) ≡ x ∷ from who xs
+    here is = rw is refl
+
+    passed : same x.from who ≡ false → from who (x ∷ xs) ≡ from who xs
+    passed is = rw is refl
+
+    at_test : (t : Bool) → same x.from who ≡ t → from who xs ≡ []
+    at_test true is = absurd (some_mail x (from who xs) (sym (here is) ∙ e))
+    at_test false is = sym (passed is) ∙ e
+
+net_all : (xs : List Mail) → from Desk xs ≡ [] → from Back xs ≡ [] → brought origin.Net (all_told xs) ≡ bytes_of (from Net xs)
+net_all [] desk back = refl
+net_all (x ∷ xs) desk back = net_more x.from x.message xs desk back (net_all xs (none_later Desk x xs desk) (none_later Back x xs back))
+
+-- a reader's thread sends its pieces, and nothing else that brings bytes
+pieces_bytes : (s : Sender) (pieces : List (List ℕ)) (close : List Message) → bytes_of (map (mail s) (pieces_of pieces ++ close)) ≡ concat pieces ++ bytes_of (map (mail s) close)
+pieces_bytes s [] close = refl
+pieces_bytes s (p ∷ ps) close = ap (λ (bs : List ℕ). p ++ bs) (pieces_bytes s ps close) ∙ sym (append_assoc p (concat ps) (bytes_of (map (mail s) close)))
+
+ending_bytes : (m : Message) (left : Option (List ℕ)) → IsEnding m left → piece_bytes m ≡ []
+ending_bytes (Piece piece) left e = absurd e
+ending_bytes HangUp left e = refl
+ending_bytes ReadFailed left e = refl
+ending_bytes Take left e = refl
+ending_bytes (Said job text after) left e = refl
+ending_bytes Refused left e = refl
+ending_bytes Left left e = refl
+
+close_bytes : (s : Sender) (may_stop : Bool) (pieces : List (List ℕ)) (left : Option (List ℕ)) (close : List Message) → Closes may_stop pieces left close → bytes_of (map (mail s) close) ≡ []
+close_bytes s may_stop pieces left close closes =
+    let B : List Message → List ℕ = λ ms. bytes_of (map (mail s) ms) in
+    ⊎_elim
+    (λ x. ap B x.2 ∙ ap (λ (bs : List ℕ). bs ++ []) (ending_bytes x.0 left x.1))
+    (λ x. ap B x.2)
+    closes
+
+one_list : (s : Sender) (a b : List Mail) (v : View) → v ≡ sender s a → v ≡ sender s b → a ≡ b
+one_list s a b v e f = is_some a b (sym (sender_share s a v e) ∙ sender_share s b v f)
+  where
+    is_some : {A : Type 0} (x y : A) → Some x ≡ Some y → x ≡ y
+    is_some x y eq = cc
+
+reader_bytes : (who : Sender) (may_stop : Bool) (given : Option (List ℕ)) (v : View) (mails : List Mail) → ReaderSends who may_stop given v → v ≡ sender who mails → (left : Option (List ℕ)) × Consumes given left (bytes_of mails)
+reader_bytes who may_stop given v mails (pieces, left, close, consumed, closes, is) e =
+    let all : bytes_of mails ≡ concat pieces =
+    ap bytes_of (one_list who mails (map (mail who) (pieces_of pieces ++ close)) v e is) ∙ pieces_bytes who pieces close
+    ∙ ap (λ (bs : List ℕ). concat pieces ++ bs) (close_bytes who may_stop pieces left close closes) ∙ append-nil (concat pieces) in
+    let P : List ℕ → Type 0 = λ bs. Consumes given left bs in
+    (left, subst P (sym all) consumed)
+
+pub keys_brought : (given : Option (List ℕ)) (v : View) (handled mails : List Mail) → ReaderSends Keys true given v → v ≡ sender Keys mails → from Keys handled ≡ mails → (left : Option (List ℕ)) × Consumes given left (brought origin.Keys (all_told handled))
+keys_brought given v handled mails sent e is =
+    let r = reader_bytes Keys true given v mails sent e in
+    let P : List ℕ → Type 0 = λ bs. Consumes given r.0 bs in
+    (r.0, subst P (sym (keys_all handled ∙ ap bytes_of is)) r.1)
+
+pub net_brought : (given : Option (List ℕ)) (v : View) (handled mails : List Mail) → ReaderSends Net false given v → v ≡ sender Net mails → from Net handled ≡ mails → from Desk handled ≡ [] → from Back handled ≡ [] → (left : Option (List ℕ)) × Consumes given left (brought origin.Net (all_told handled))
+net_brought given v handled mails sent e is desk back =
+    let r = reader_bytes Net false given v mails sent e in
+    let P : List ℕ → Type 0 = λ bs. Consumes given r.0 bs in
+    (r.0, subst P (sym (net_all handled desk back ∙ ap bytes_of is)) r.1)

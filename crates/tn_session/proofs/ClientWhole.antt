@@ -1,0 +1,112 @@
+-- A whole client session: its passes joined, and what its threads did.
+use Rattle.std.proofs.Common.{◌≡◌, ℕ, ◌+◌, ◌≤◌, true, false, List, [], ◌++◌, Option, Some, None, sym, ap, ◌∙◌, subst, append-nil, arith}
+use Rattle.tn_client_core.proofs.lemmas.Bringing.{in_order}
+use Rattle.tn_client_core.specs.Bringing.{TakesInOrder}
+use Rattle.tn_client_core.specs.Reaching.{LeadsTo}
+use Rattle.tn_client_core.specs.Run.{start}
+use Rattle.tn_client_core.specs.declared.machine.Core.{Core}
+use Rattle.tn_client_core.specs.declared.messages.Told.{Told}
+use Rattle.tn_session.proofs.Brought.{keys_brought, net_brought}
+use Rattle.tn_session.proofs.Lefts.{EndsLeft, lefts-append, lefts_each, nothing_left}
+use Rattle.tn_session.proofs.Readers.{reader_net}
+use Rattle.tn_session.proofs.Sent.{reader_sent}
+use Rattle.tn_session.specs.Client.{core_view, AreTwoSettled, RunningClient, client_report}
+use Rattle.tn_session.specs.CoreTurns.{CoreHandles}
+use Rattle.tn_session.specs.Mailbox.{Interleaves, from, four, sender, share, union, nobody, everyone, with_handled, Total}
+use Rattle.tn_session.specs.Reader.{KeysSends}
+use Rattle.tn_session.specs.Reading.{NetSends}
+use Rattle.tn_session.specs.Turns.{lefts_of}
+use Rattle.tn_session.specs.declared.channels.View.{View}
+use Rattle.tn_session.specs.declared.mail.Mail.{Mail}
+use Rattle.tn_session.specs.declared.mail.Sender.{Sender}
+use Rattle.tn_session.specs.declared.mail.Sender.TheVariants.{Net, Desk, Back, Keys}
+use Rattle.tn_session.specs.declared.parties.Report.{Report}
+
+-- the passes before anything was sent
+pub ready_two : (v₀ v₁ v₂ n k : View) → v₀ ≡ everyone → v₁ ≡ record v₀ { net = None } → n ≡ record nobody { net = v₀.net } → v₂ ≡ record v₁ { keys = None } → k ≡ record nobody { keys = v₁.keys } → (v₂ ≡ core_view []) × (n ≡ sender Net []) × (k ≡ sender Keys [])
+ready_two v₀ v₁ v₂ n k e₀ e₁ en e₂ ek =
+    let a₁ = e₁ ∙ ap (λ (v : View). record v { net = None }) e₀ in (
+      e₂ ∙ ap (λ (v : View). record v { keys = None }) a₁,
+      en ∙ ap (λ (v : View). record nobody { net = v.net }) e₀,
+      ek ∙ ap (λ (v : View). record nobody { keys = v.keys }) a₁,
+    )
+
+-- the passes are joined and cut again
+pub settles_two : (pass net keys p₁ p₂ p₃ n' p₄ k' p₅ : View)
+    → p₁ ≡ union pass net → p₂ ≡ union p₁ keys → p₃ ≡ p₂ → (items : List Mail) × Total p₂ items
+    → n' ≡ record nobody { net = p₃.net } → p₄ ≡ record p₃ { net = None }
+    → k' ≡ record nobody { keys = p₄.keys } → p₅ ≡ record p₄ { keys = None }
+    → AreTwoSettled pass net keys n' k' p₅
+settles_two pass net keys p₁ p₂ p₃ n' p₄ k' p₅ e₁ e₂ e₃ held en e₄ ek e₅ h a d epass enet ekeys =
+    let whole : p₂ ≡ record { handled = Some h; net = Some a; desk = Some []; back = Some []; keys = Some d } = e₂ ∙ (λ i. union ((e₁ ∙ (λ j. union (epass j) (enet j))) i) (ekeys i)) in
+    let same = e₃ ∙ whole in
+    let fourth : p₄ ≡ record { handled = Some h; net = None; desk = Some []; back = Some []; keys = Some d } = e₄ ∙ ap (λ (v : View). record v { net = None }) same in (
+      en ∙ ap (λ (v : View). record nobody { net = v.net }) same,
+      ek ∙ ap (λ (v : View). record nobody { keys = v.keys }) fourth,
+      e₅ ∙ ap (λ (v : View). record v { keys = None }) fourth,
+      (held.0, λ s. held.1 s h (four a [] [] d s) (ap (λ (v : View). v.handled) whole) (mine_of s p₂ whole)),
+    )
+  where
+    mine_of : (s : Sender) (v : View) → v ≡ record { handled = Some h; net = Some a; desk = Some []; back = Some []; keys = Some d } → share v (Some s) ≡ Some (four a [] [] d s)
+    mine_of Net v e = ap (λ (w : View). w.net) e
+    mine_of Desk v e = ap (λ (w : View). w.desk) e
+    mine_of Back v e = ap (λ (w : View). w.back) e
+    mine_of Keys v e = ap (λ (w : View). w.keys) e
+
+-- all that was sent was handled
+none_over : (h items a d : List Mail) → Interleaves (h ++ items) (four a [] [] d) → EndsLeft a → EndsLeft d → lefts_of a ≡ 1 → lefts_of d ≡ 1 → 2 ≤ lefts_of h → items ≡ []
+none_over h items a d woven ea ed na nd enough =
+    let all : lefts_of a + lefts_of [] + lefts_of [] + lefts_of d ≡ lefts_of (h ++ items) =
+    (λ i. lefts_of (sym (woven Net) i) + lefts_of (sym (woven Desk) i) + lefts_of (sym (woven Back) i) + lefts_of (sym (woven Keys) i)) ∙ lefts_each (h ++ items) in
+    nothing_left h items (four a [] [] d) woven ends (omega (arith, lefts-append h items, all, na, nd, enough))
+  where
+    ends : (s : Sender) → EndsLeft (four a [] [] d s)
+    ends Net = ea
+    ends Desk = tt
+    ends Back = tt
+    ends Keys = ed
+
+-- all of a client's session that ran
+pub client_ran : (core last : Core) (keys_given net_given x y u v : Option (List ℕ)) (pass₀ pass₁ net keys n' k' c' : View) (report : Report)
+    → pass₀ ≡ core_view [] → CoreHandles core pass₀ pass₁ x y u v last → NetSends net_given net → KeysSends keys_given keys
+    → AreTwoSettled pass₁ net keys n' k' c' → report ≡ client_report last.progress
+    → (width height limit : ℕ) → LeadsTo (start width height limit) core
+    → RunningClient width height limit keys_given net_given x y u v report k' n' c'
+client_ran core last keys_given net_given x y u v pass₀ pass₁ net keys n' k' c' report ep acted sn sk settled er width height limit at =
+    let begin = start width height limit in
+    let g = acted.goes.leads begin at in
+    let ns = reader_sent Net false net_given net (reader_net net_given net sn) in
+    let ks = reader_sent Keys true keys_given keys sk in
+    let view : pass₁ ≡ core_view acted.handled = acted.view ∙ ap (λ (w : View). with_handled w acted.handled) ep in
+    let s = settled acted.handled ns.mails ks.mails view ns.is ks.is in
+    let none = none_over acted.handled s.3.0 ns.mails ks.mails s.3.1 ns.ends ks.ends ns.one ks.one acted.lefts in
+    let woven : Interleaves acted.handled (four ns.mails [] [] ks.mails) = λ r. ap (from r) (sym (append-nil acted.handled) ∙ ap (λ (l : List Mail). acted.handled ++ l) (sym none)) ∙ s.3.1 r in
+    record {
+      from_keys = ks.mails;
+      from_net = ns.mails;
+      handled = acted.handled;
+      keys_is = s.1;
+      net_is = s.0;
+      core_is = ap (λ (w : View). w.handled) s.2;
+      woven = woven;
+      typed = subst (λ (w : View). KeysSends keys_given w) (ks.is ∙ sym s.1) sk;
+      read = subst (λ (w : View). NetSends net_given w) (ns.is ∙ sym s.0) sn;
+      marked = acted.goes.marked;
+      messages = acted.goes.whole;
+      run = g.0;
+      runs = g.1;
+      keys_brought = keys_brought keys_given keys acted.handled ks.mails sk ks.is (woven Keys);
+      net_brought = net_brought net_given net acted.handled ns.mails (reader_net net_given net sn) ns.is (woven Net) (woven Desk) (woven Back);
+      in_order = subst (λ (ms : List Told). TakesInOrder ms g.0) acted.goes.whole (in_order width height limit acted.goes.marked g.0 g.1);
+      written = acted.goes.bytes;
+      unwritten = g.3.0;
+      appended = acted.goes.wrote;
+      sends = g.3.1;
+      all_sent = g.3.2;
+      shown = acted.goes.text;
+      unshown = g.4.0;
+      displayed = acted.goes.showed;
+      shows = g.4.1;
+      all_shown = g.4.2;
+      report_is = er ∙ ap client_report g.2.progress;
+    }

@@ -1,0 +1,259 @@
+-- What the core's thread wrote and showed, one message after another.
+use Rattle.std.proofs.Common.{◌≡◌, ℕ, Bool, true, false, not, ◌||◌, ◌&&◌, ◌⊎◌, ⊎_elim, inl, inr, List, [], ◌∷◌, ◌++◌, Option, refl, sym, ap, ◌∙◌, subst, append_assoc, append-nil}
+use Rattle.std.proofs.lemmas.Fn.{FoldsTo-push}
+use Rattle.std.proofs.lemmas.List.{map-append}
+use Rattle.std.specs.Io.KnownBytes.{Appends, Keeps}
+use Rattle.tn_client.specs.Replies.{items_said}
+use Rattle.tn_client.specs.Screen.{text_shown}
+use Rattle.tn_client_core.specs.Marks.{Turns, is_written, is_whole, all_by, all_written, all_whole}
+use Rattle.tn_client_core.specs.Reaching.{LeadsTo, IsTurn, SendsFront, ShowsFront}
+use Rattle.tn_client_core.specs.Run.{Run, fail}
+use Rattle.tn_client_core.specs.declared.machine.Core.{Core}
+use Rattle.tn_client_core.specs.declared.messages.Mark.{Mark}
+use Rattle.tn_client_core.specs.declared.messages.Mark.TheVariants as mark
+use Rattle.tn_client_core.specs.declared.messages.Told.{Told}
+use Rattle.tn_client_core.specs.declared.progress.Progress.{Progress}
+use Rattle.tn_nvt.specs.Spelling.{spells}
+use Rattle.tn_session.proofs.Going.{appends_more, appends_kept, appends_none, left_over}
+use Rattle.tn_session.specs.CoreTurns.{TurnsTold, ToldAll, told_of, all_told}
+use Rattle.tn_session.specs.Turns.{Writes}
+use Rattle.tn_session.specs.declared.mail.Mail.{Mail}
+use Rattle.tn_term.specs.declared.faults.SessionFault.TheVariants as fault
+
+true_false : true ≡ false → ⊥
+true_false e = cc
+
+false_true : false ≡ true → ⊥
+false_true e = cc
+
+-- a front was written, and all where no write failed
+record Written (b : Bool) (x y : Option (List ℕ)) (bytes : List ℕ) : Type 0 where
+  front : List ℕ
+  back : List ℕ
+  whole : bytes ≡ front ++ back
+  wrote : Appends x y front
+  all : b ≡ true → back ≡ []
+
+written : (b : Bool) (x y : Option (List ℕ)) (bytes : List ℕ) → Writes b x y bytes → Written b x y bytes
+written true x y bytes h = record { front = bytes; back = []; whole = sym (append-nil bytes); wrote = h; all = λ e. refl }
+written false x y bytes h = record { front = h.0; back = h.1; whole = h.2; wrote = h.3; all = λ e. absurd (false_true e) }
+
+none_front : (bytes front back : List ℕ) → bytes ≡ front ++ back → bytes ≡ [] → front ≡ []
+none_front bytes [] back e none = refl
+none_front bytes (b ∷ bs) back e none = absurd (some b (bs ++ back) (sym e ∙ none))
+  where
+    some : (x : ℕ) (xs : List ℕ) → x ∷ xs ≡ [] → ⊥
+    some x xs f = cc
+
+-- where less was written than is to be, as if the rest had been left over
+rest_less : (all less : Bool) (s₀ s₁ bytes front back rest : List ℕ) → bytes ≡ front ++ back → (less ≡ true → all ≡ true) → (less ≡ true → back ≡ []) → s₁ ≡ s₀ ++ (bytes ++ rest) → (all ≡ true → rest ≡ []) → (more : List ℕ) × (s₁ ≡ s₀ ++ (front ++ more)) × (less ≡ true → more ≡ [])
+rest_less all less s₀ s₁ bytes front back rest e weaker none is whole = (
+  back ++ rest,
+  is ∙ ap (λ (bs : List ℕ). s₀ ++ (bs ++ rest)) e ∙ ap (λ (bs : List ℕ). s₀ ++ bs) (append_assoc front back rest),
+  λ w. ap (λ (bs : List ℕ). bs ++ rest) (none w) ∙ whole (weaker w),
+)
+
+sends_less : (c next : Run) (all less : Bool) (bytes front back : List ℕ) → bytes ≡ front ++ back → (less ≡ true → all ≡ true) → (less ≡ true → back ≡ []) → SendsFront c next bytes all → SendsFront c next front less
+sends_less c next all less bytes front back e weaker none s = rest_less all less (spells (items_said c.sent)) (spells (items_said next.sent)) bytes front back s.0 e weaker none s.1 s.2
+
+shows_less : (c next : Run) (all less : Bool) (text front back : List ℕ) → text ≡ front ++ back → (less ≡ true → all ≡ true) → (less ≡ true → back ≡ []) → ShowsFront c next text all → ShowsFront c next front less
+shows_less c next all less text front back e weaker none s = rest_less all less (text_shown c.history) (text_shown next.history) text front back s.0 e weaker none s.1 s.2
+
+-- all was written and shown, or the message was refused
+turn_on : (w s : Bool) (m : Mark) (old new : Core) (told : Told) (bytes text : List ℕ) (x y u v : Option (List ℕ)) → ((w && s) || not (is_whole m)) ≡ true → (is_written m ≡ true → is_whole m ≡ true) → Written w x y bytes → Written s u v text → IsTurn m old told bytes text new → TurnsTold old told x y u v new
+turn_on w s m old new told bytes text x y u v e clear a b t = record {
+  mark = m;
+  bytes = a.front;
+  text = b.front;
+  wrote = a.wrote;
+  showed = b.wrote;
+  turn = record {
+    leads = λ c at.
+        let l = t.leads c at in (
+          l.0,
+          l.1,
+          l.2,
+          sends_less c l.0 (is_written m) (is_written m) bytes a.front a.back a.whole (λ f. f) (λ f. a.all (both (clear f)).0) l.3,
+          shows_less c l.0 (is_whole m) (is_whole m) text b.front b.back b.whole (λ f. f) (λ f. b.all (both f).1) l.4,
+        );
+    over = t.over;
+    stays = t.stays;
+    idle = λ off. let i = t.idle off in (none_front bytes a.front a.back a.whole i.0, none_front text b.front b.back b.whole i.1, i.2);
+  };
+}
+  where
+    by_test : (w s k : Bool) → ((w && s) || not k) ≡ true → k ≡ true → (w ≡ true) × (s ≡ true)
+    by_test true true k f g = (refl, refl)
+    by_test true false true f g = absurd (false_true f)
+    by_test true false false f g = absurd (false_true g)
+    by_test false s true f g = absurd (false_true f)
+    by_test false s false f g = absurd (false_true g)
+
+    both : is_whole m ≡ true → (w ≡ true) × (s ≡ true)
+    both f = by_test w s (is_whole m) e f
+
+whole_mark : (m : Mark) → is_whole m ≡ true → m ≡ mark.Whole
+whole_mark mark.Whole e = refl
+whole_mark mark.WriteFailed e = absurd (false_true e)
+whole_mark mark.ShowFailed e = absurd (false_true e)
+whole_mark (mark.Refused f) e = absurd (false_true e)
+
+-- which write failed
+abbrev failed_mark : Bool → Mark
+failed_mark true = mark.ShowFailed
+failed_mark false = mark.WriteFailed
+
+fails_at : (w : Bool) (c whole : Run) (told : Told) → Turns c (told, mark.WriteFailed) (fail fault.Write whole) → Turns c (told, failed_mark w) (fail fault.Write whole)
+fails_at true c whole told t = t
+fails_at false c whole told t = t
+
+is_written_by : (w : Bool) → is_written (failed_mark w) ≡ w
+is_written_by true = refl
+is_written_by false = refl
+
+never_whole : (w : Bool) → is_whole (failed_mark w) ≡ true → ⊥
+never_whole true e = false_true e
+never_whole false e = false_true e
+
+-- a write failed after a message that was done wholly
+turn_off : (w s : Bool) (old mid new : Core) (told : Told) (bytes text : List ℕ) (x y u v : Option (List ℕ)) → (old.progress.over ≡ true → ⊥) → Written w x y bytes → Written s u v text → IsTurn mark.Whole old told bytes text mid → ((c : Run) → LeadsTo c mid → LeadsTo (fail fault.Write c) new) → new.progress.over ≡ true → TurnsTold old told x y u v new
+turn_off w s old mid new told bytes text x y u v on a b t leads over = record {
+  mark = failed_mark w;
+  bytes = a.front;
+  text = b.front;
+  wrote = a.wrote;
+  showed = b.wrote;
+  turn = record {
+    leads = λ c at.
+        let l = t.leads c at in
+        let next = fail fault.Write l.0 in (
+          next,
+          fails_at w c l.0 told (is_on c.progress.over (λ off. on (ap (λ (p : Progress). p.over) at.progress ∙ off)), l.0, l.1, refl),
+          leads l.0 l.2,
+          sends_less c next true (is_written (failed_mark w)) bytes a.front a.back a.whole (λ f. refl) (λ f. a.all (sym (is_written_by w) ∙ f)) l.3,
+          shows_less c next true (is_whole (failed_mark w)) text b.front b.back b.whole (λ f. refl) (λ f. absurd (never_whole w f)) l.4,
+        );
+    over = λ f. over;
+    stays = λ off. absurd (on off);
+    idle = λ off. absurd (on off);
+  };
+}
+  where
+    is_on : (b : Bool) → (b ≡ true → ⊥) → b ≡ false
+    is_on true never = absurd (never refl)
+    is_on false never = refl
+
+pub turned_on : (w s : Bool) (m : Mark) (old new : Core) (told : Told) (bytes text : List ℕ) (x y u v : Option (List ℕ)) → ((w && s) || not (is_whole m)) ≡ true → (is_written m ≡ true → is_whole m ≡ true) → Writes w x y bytes → Writes s u v text → IsTurn m old told bytes text new → TurnsTold old told x y u v new
+turned_on w s m old new told bytes text x y u v e clear a b t = turn_on w s m old new told bytes text x y u v e clear (written w x y bytes a) (written s u v text b) t
+
+pub turned_off : (w s : Bool) (m : Mark) (old mid new : Core) (told : Told) (bytes text : List ℕ) (x y u v : Option (List ℕ)) → ((w && s) || not (is_whole m)) ≡ false → Writes w x y bytes → Writes s u v text → (bytes ≡ [] → w ≡ true) → (text ≡ [] → s ≡ true) → IsTurn m old told bytes text mid → ((c : Run) → LeadsTo c mid → LeadsTo (fail fault.Write c) new) → new.progress.over ≡ true → TurnsTold old told x y u v new
+turned_off w s m old mid new told bytes text x y u v e a b some_bytes some_text t leads over =
+    let broken = by_test w s (is_whole m) e in
+    let M : Mark → Type 0 = λ n. IsTurn n old told bytes text mid in
+    let on : old.progress.over ≡ true → ⊥ = λ off. let i = t.idle off in true_false (sym (both w s (some_bytes i.0) (some_text i.1)) ∙ broken.1) in
+    turn_off w s old mid new told bytes text x y u v on (written w x y bytes a) (written s u v text b) (subst M (whole_mark m broken.0) t) leads over
+  where
+    by_test : (w s k : Bool) → ((w && s) || not k) ≡ false → (k ≡ true) × ((w && s) ≡ false)
+    by_test true true k f = absurd (true_false f)
+    by_test true false true f = (refl, refl)
+    by_test true false false f = absurd (true_false f)
+    by_test false s true f = (refl, refl)
+    by_test false s false f = absurd (true_false f)
+
+    both : (w s : Bool) → w ≡ true → s ≡ true → (w && s) ≡ true
+    both true s e f = f
+    both false s e f = e
+
+-- LISTS
+and-nil : (b : Bool) → (b && true) ≡ b
+and-nil true = refl
+and-nil false = refl
+
+by-push : (is : Mark → Bool) (ms : List (Told × Mark)) (m : Told) (k : Mark) → all_by is (ms ++ (m, k) ∷ []) ≡ (all_by is ms && is k)
+by-push is [] m k = and-nil (is k)
+by-push is ((n, j) ∷ ms) m k = ap (λ (b : Bool). is j && b) (by-push is ms m k) ∙ assoc (is j) (all_by is ms) (is k)
+  where
+    assoc : (a b c : Bool) → (a && (b && c)) ≡ ((a && b) && c)
+    assoc true b c = refl
+    assoc false b c = refl
+
+unwritten : (ms : List (Told × Mark)) → all_written ms ≡ false → all_whole ms ≡ false
+unwritten [] e = e
+unwritten ((n, mark.Whole) ∷ ms) e = unwritten ms e
+unwritten ((n, mark.WriteFailed) ∷ ms) e = refl
+unwritten ((n, mark.ShowFailed) ∷ ms) e = refl
+unwritten ((n, mark.Refused f) ∷ ms) e = refl
+
+and_false : (a b : Bool) → (a && b) ≡ false → (a ≡ false) ⊎ (b ≡ false)
+and_false true b e = inr e
+and_false false b e = inl refl
+
+whole_written : (m : Mark) → is_whole m ≡ true → is_written m ≡ true
+whole_written mark.Whole e = refl
+whole_written mark.WriteFailed e = e
+whole_written mark.ShowFailed e = refl
+whole_written (mark.Refused f) e = e
+
+going_on : (a b d : Core) (ms : List Told) (m : Told) (x y z u v w : Option (List ℕ)) → ToldAll a ms x y u v b → TurnsTold b m y z v w d → ToldAll a (ms ++ m ∷ []) x z u w d
+going_on a b d ms m x y z u v w one t =
+    let marked : List (Told × Mark) = one.marked ++ (m, t.mark) ∷ [] in
+    let written-push : all_written marked ≡ (all_written one.marked && is_written t.mark) = by-push is_written one.marked m t.mark in
+    let whole-push : all_whole marked ≡ (all_whole one.marked && is_whole t.mark) = by-push is_whole one.marked m t.mark in
+    record {
+      marked = marked;
+      whole = map-append (λ (k : Told × Mark). k.0) one.marked ((m, t.mark) ∷ []) ∙ ap (λ (ks : List Told). ks ++ m ∷ []) one.whole;
+      bytes = one.bytes ++ t.bytes;
+      text = one.text ++ t.text;
+      wrote = appends_more x y z one.bytes t.bytes one.wrote t.wrote;
+      showed = appends_more u v w one.text t.text one.showed t.showed;
+      leads = λ c at.
+          let p = one.leads c at in
+          let q = t.turn.leads p.0 p.2 in
+          let sent = left_over (all_written one.marked) (is_written t.mark) (spells (items_said c.sent)) (spells (items_said p.0.sent)) (spells (items_said q.0.sent)) one.bytes t.bytes p.3.0 q.3.0 p.3.1 q.3.1 p.3.2 q.3.2 (λ e. let i = t.turn.idle (one.over (unwritten one.marked e)) in (i.0, whole_written t.mark i.2)) in
+          let shown = left_over (all_whole one.marked) (is_whole t.mark) (text_shown c.history) (text_shown p.0.history) (text_shown q.0.history) one.text t.text p.4.0 q.4.0 p.4.1 q.4.1 p.4.2 q.4.2 (λ e. let i = t.turn.idle (one.over e) in (i.1, i.2)) in (
+            q.0,
+            FoldsTo-push Turns c one.marked p.0 (m, t.mark) q.0 p.1 q.1,
+            q.2,
+            (sent.0, sent.1, λ e. sent.2 (sym written-push ∙ e)),
+            (shown.0, shown.1, λ e. shown.2 (sym whole-push ∙ e)),
+          );
+      over = λ e. ⊎_elim (λ f. t.turn.stays (one.over f)) (λ f. t.turn.over f) (and_false (all_whole one.marked) (is_whole t.mark) (sym whole-push ∙ e));
+      stays = λ off. t.turn.stays (one.stays off);
+    }
+
+pub told_none : (a : Core) (x u : Option (List ℕ)) → ToldAll a [] x x u u a
+told_none a x u = record {
+  marked = [];
+  whole = refl;
+  bytes = [];
+  text = [];
+  wrote = appends_none x;
+  showed = appends_none u;
+  leads = λ c at. (
+    c,
+    refl,
+    at,
+    ([], sym (append-nil (spells (items_said c.sent))), λ e. refl),
+    ([], sym (append-nil (text_shown c.history)), λ e. refl),
+  );
+  over = λ e. absurd (true_false e);
+  stays = λ off. off;
+}
+
+pub told_kept : (a b : Core) (ms : List Told) (x y z u v : Option (List ℕ)) → Keeps y z → ToldAll a ms x y u v b → ToldAll a ms x z u v b
+told_kept a b ms x y z u v k g = record {
+  marked = g.marked;
+  whole = g.whole;
+  bytes = g.bytes;
+  text = g.text;
+  wrote = appends_kept x y z g.bytes g.wrote k;
+  showed = g.showed;
+  leads = g.leads;
+  over = g.over;
+  stays = g.stays;
+}
+
+pub told_next : (a b d : Core) (xs : List Mail) (m : Mail) (x y z k u v w : Option (List ℕ)) → Keeps z k → ToldAll a (all_told xs) x y u v b → TurnsTold b (told_of m) y z v w d → ToldAll a (all_told (xs ++ m ∷ [])) x k u w d
+told_next a b d xs m x y z k u v w keeps one t =
+    let P : List Told → Type 0 = λ ms. ToldAll a ms x k u w d in
+    subst P (sym (map-append told_of xs (m ∷ []))) (told_kept a d _ x z k u w keeps (going_on a b d (all_told xs) (told_of m) x y z u v w one t))

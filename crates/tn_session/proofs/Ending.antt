@@ -1,0 +1,321 @@
+-- What the run heard of the reader, and what the foreground job took where a hang-up ended the session.
+use Rattle.std.proofs.Common.{◌≡◌, ℕ, Bool, true, false, List, [], ◌∷◌, ◌++◌, Option, Some, None, refl, sym, ap, ◌∙◌, ⊎_elim, map, subst, append-nil, append_assoc}
+use Rattle.std.proofs.lemmas.List.{append_cancel_left}
+use Rattle.std.specs.Io.KnownBytes.{Consumes, IsAtEnd, prepend_known}
+use Rattle.std.specs.List.{concat}
+use Rattle.tn_discipline.specs.Canon.{Canon}
+use Rattle.tn_discipline.specs.declared.reads.Entry.{Entry}
+use Rattle.tn_jobs.specs.Jobs.{Jobs}
+use Rattle.tn_jobs.specs.declared.held_jobs.JobId.{JobId}
+use Rattle.tn_jobs.specs.declared.reactions.Reaction.{Reaction}
+use Rattle.tn_server.specs.Events.{items}
+use Rattle.tn_server.specs.Lines.{entries}
+use Rattle.tn_server.specs.declared.wishes.Editing.{Editing}
+use Rattle.tn_session.proofs.Lefts.{same_self}
+use Rattle.tn_session.proofs.Mailbox.{sender_share}
+use Rattle.tn_session.specs.Mailbox.{same, from, sender, mail}
+use Rattle.tn_session.specs.Queue.{taker}
+use Rattle.tn_session.specs.Reading.{IsEnding, pieces_of}
+use Rattle.tn_session.specs.Session.{Schedule, HearsReader, TakesEntries}
+use Rattle.tn_session.specs.Stepping.{IsClose, step_said}
+use Rattle.tn_session.specs.Talk.{Closes, turns_said, entries_of, ends_done}
+use Rattle.tn_session.specs.Turns.{messages_of}
+use Rattle.tn_session.specs.declared.channels.View.{View}
+use Rattle.tn_session.specs.declared.entries.Hand.{Hand}
+use Rattle.tn_session.specs.declared.mail.Mail.{Mail}
+use Rattle.tn_session.specs.declared.mail.Sender.{Sender}
+use Rattle.tn_session.specs.declared.mail.Sender.TheVariants.{Net, Desk, Back, Keys}
+use Rattle.tn_session.specs.declared.parties.Report.{Report}
+use Rattle.tn_term.proofs.lemmas.Hearing.{entries_grow, entries_same}
+use Rattle.tn_term.specs.Giving.{GivesFront, entries_put}
+use Rattle.tn_term.specs.Hearing.{bytes_in, heard, at_end_after, MayCome, MayAllCome, KeepsOn, AllKeepOn, Hears, HangsUp}
+use Rattle.tn_term.specs.declared.faults.Ended.TheVariants as ended
+use Rattle.tn_term.specs.declared.messages.Message.{Message}
+use Rattle.tn_term.specs.declared.messages.Message.TheVariants.{Piece, HangUp, ReadFailed, Take, Said, Refused, Left}
+use Rattle.tn_wire.specs.Fronts.{IsRead}
+
+true_false : true ≡ false → ⊥
+true_false e = cc
+
+-- WHAT NET ALONE SENDS
+
+abbrev is_of_net : Message → Bool
+is_of_net (Piece piece) = true
+is_of_net HangUp = true
+is_of_net ReadFailed = true
+is_of_net Take = false
+is_of_net (Said id text after) = false
+is_of_net Refused = false
+is_of_net Left = false
+
+abbrev NoneOfNet : List Message → Type 0
+NoneOfNet [] = Unit {0}
+NoneOfNet (m ∷ ms) = (is_of_net m ≡ false) × NoneOfNet ms
+
+none-append : (xs ys : List Message) → NoneOfNet xs → NoneOfNet ys → NoneOfNet (xs ++ ys)
+none-append [] ys n m = m
+none-append (x ∷ xs) ys n m = (n.0, none-append xs ys n.1 m)
+
+-- any other message brings nothing and ends nothing
+record BringsNothing (at_end : Bool) (m : Message) : Type 0 where
+  may : MayCome at_end m
+  after : at_end_after at_end m ≡ at_end
+  bytes : bytes_in m ≡ []
+
+brings_nothing : (at_end : Bool) (m : Message) → is_of_net m ≡ false → BringsNothing at_end m
+brings_nothing at_end (Piece piece) e = absurd (true_false e)
+brings_nothing at_end HangUp e = absurd (true_false e)
+brings_nothing at_end ReadFailed e = absurd (true_false e)
+brings_nothing at_end Take e = record { may = tt; after = refl; bytes = refl }
+brings_nothing at_end (Said id text after) e = record { may = tt; after = refl; bytes = refl }
+brings_nothing at_end Refused e = record { may = tt; after = refl; bytes = refl }
+brings_nothing at_end Left e = record { may = tt; after = refl; bytes = refl }
+
+from_hit : (s : Sender) (x : Mail) (xs : List Mail) → same x.from s ≡ true → from s (x ∷ xs) ≡ x ∷ from s xs
+from_hit s x xs is = rw is refl
+
+from_miss : (s : Sender) (x : Mail) (xs : List Mail) → same x.from s ≡ false → from s (x ∷ xs) ≡ from s xs
+from_miss s x xs is = rw is refl
+
+-- what holds of the mails of all others
+abbrev Others : List Mail → Type 0
+Others mails = (s : Sender) → same s Net ≡ false → NoneOfNet (messages_of (from s mails))
+
+others_tail : (x : Mail) (xs : List Mail) → Others (x ∷ xs) → Others xs
+others_tail x xs others s else = by (same x.from s) refl
+  where
+    by : (b : Bool) → same x.from s ≡ b → NoneOfNet (messages_of (from s xs))
+    by true is = let P : List Mail → Type 0 = λ l. NoneOfNet (messages_of l) in (subst P (from_hit s x xs is) (others s else)).1
+    by false is = let P : List Mail → Type 0 = λ l. NoneOfNet (messages_of l) in subst P (from_miss s x xs is) (others s else)
+
+record OfNet (at_end : Bool) (mails : List Mail) : Type 0 where
+  may : MayAllCome at_end (messages_of mails)
+  bytes : heard (messages_of mails) ≡ heard (messages_of (from Net mails))
+
+of_net_next : (at_end : Bool) (x : Mail) (xs : List Mail) → Others (x ∷ xs) → ((b : Bool) → MayAllCome b (messages_of (from Net xs)) → OfNet b xs) → MayAllCome at_end (messages_of (from Net (x ∷ xs))) → OfNet at_end (x ∷ xs)
+of_net_next at_end x xs others more may = by (same x.from Net) refl
+  where
+    by : (b : Bool) → same x.from Net ≡ b → OfNet at_end (x ∷ xs)
+    by true is =
+        let m = subst (λ (l : List Mail). MayAllCome at_end (messages_of l)) (from_hit Net x xs is) may in
+        let on = more (at_end_after at_end x.message) m.1 in
+        record {
+          may = (m.0, on.may);
+          bytes = ap (λ (bs : List ℕ). bytes_in x.message ++ bs) on.bytes ∙ ap (λ (l : List Mail). heard (messages_of l)) (sym (from_hit Net x xs is));
+        }
+    by false is =
+        let here : NoneOfNet (messages_of (x ∷ from x.from xs)) = subst (λ (l : List Mail). NoneOfNet (messages_of l)) (from_hit x.from x xs (same_self x.from)) (others x.from is) in
+        let q = brings_nothing at_end x.message here.0 in
+        let on = more at_end (subst (λ (l : List Mail). MayAllCome at_end (messages_of l)) (from_miss Net x xs is) may) in
+        record {
+          may = (q.may, subst (λ (b : Bool). MayAllCome b (messages_of xs)) (sym q.after) on.may);
+          bytes = ap (λ (bs : List ℕ). bs ++ heard (messages_of xs)) q.bytes ∙ on.bytes ∙ ap (λ (l : List Mail). heard (messages_of l)) (sym (from_miss Net x xs is));
+        }
+
+of_net : (at_end : Bool) (mails : List Mail) → Others mails → MayAllCome at_end (messages_of (from Net mails)) → OfNet at_end mails
+of_net at_end [] others may = record { may = tt; bytes = refl }
+of_net at_end (x ∷ xs) others may = of_net_next at_end x xs others (λ b m. of_net b xs (others_tail x xs others) m) may
+
+-- its list
+net_may : (pieces : List (List ℕ)) (last : Message) (left : Option (List ℕ)) → IsEnding last left → MayAllCome false (pieces_of pieces ++ last ∷ Left ∷ [])
+net_may (p ∷ pieces) last left e = (refl, net_may pieces last left e)
+net_may [] HangUp left e = (tt, (tt, tt))
+net_may [] ReadFailed left e = (tt, (tt, tt))
+net_may [] Refused left e = (tt, (tt, tt))
+net_may [] (Piece p) left e = absurd e
+net_may [] Take left e = absurd e
+net_may [] (Said id t a) left e = absurd e
+net_may [] Left left e = absurd e
+
+net_bytes : (pieces : List (List ℕ)) (last : Message) (left : Option (List ℕ)) → IsEnding last left → heard (pieces_of pieces ++ last ∷ Left ∷ []) ≡ concat pieces
+net_bytes (p ∷ pieces) last left e = ap (λ (bs : List ℕ). p ++ bs) (net_bytes pieces last left e)
+net_bytes [] HangUp left e = refl
+net_bytes [] ReadFailed left e = refl
+net_bytes [] Refused left e = refl
+net_bytes [] (Piece p) left e = absurd e
+net_bytes [] Take left e = absurd e
+net_bytes [] (Said id t a) left e = absurd e
+net_bytes [] Left left e = absurd e
+
+none_of_turns : (id : JobId) (turns : List (Entry × Reaction)) → NoneOfNet (turns_said id turns)
+none_of_turns id [] = tt
+none_of_turns id (t ∷ ts) = (refl, (refl, none_of_turns id ts))
+
+none_of_steps : (said : List (JobId × Reaction)) → NoneOfNet (map step_said said)
+none_of_steps [] = tt
+none_of_steps (s ∷ ss) = (refl, none_of_steps ss)
+
+-- THE LISTS OF THE SENDERS
+
+some_is : {A : Type 0} (a b : A) → Some a ≡ Some b → a ≡ b
+some_is a b e = cc
+
+messages-map : (s : Sender) (ms : List Message) → messages_of (map (mail s) ms) ≡ ms
+messages-map s [] = refl
+messages-map s (m ∷ ms) = ap (λ (l : List Message). m ∷ l) (messages-map s ms)
+
+-- the messages of a sender, of what was handled
+messages_from : (s : Sender) (v : View) (mails handled : List Mail) (ms : List Message) → v ≡ sender s mails → v ≡ sender s (map (mail s) ms) → from s handled ≡ mails → messages_of (from s handled) ≡ ms
+messages_from s v mails handled ms e f is =
+    let same : mails ≡ map (mail s) ms = some_is mails (map (mail s) ms) (sym (sender_share s mails v e) ∙ sender_share s (map (mail s) ms) v f) in
+    ap messages_of (is ∙ same) ∙ messages-map s ms
+
+-- each message of a sender keeps on where all do
+keep_from : (id : ℕ) (s : Sender) (mails : List Mail) → AllKeepOn id (messages_of mails) → AllKeepOn id (messages_of (from s mails))
+keep_from id s [] k = tt
+keep_from id s (x ∷ xs) k = by (keep_from id s xs k.1) (same x.from s) refl
+  where
+    by : AllKeepOn id (messages_of (from s xs)) → (b : Bool) → same x.from s ≡ b → AllKeepOn id (messages_of (from s (x ∷ xs)))
+    by more true is = subst (λ (l : List Mail). AllKeepOn id (messages_of l)) (sym (from_hit s x xs is)) (k.0, more)
+    by more false is = subst (λ (l : List Mail). AllKeepOn id (messages_of l)) (sym (from_miss s x xs is)) more
+
+keep_last : (id : ℕ) (front : List Message) (m : Message) (more : List Message) → AllKeepOn id (front ++ m ∷ more) → KeepsOn id m
+keep_last id [] m more k = k.0
+keep_last id (x ∷ xs) m more k = keep_last id xs m more k.1
+
+-- a foreground job that was done does not keep on
+not_done : (id : JobId) (turns : List (Entry × Reaction)) (more : List Message) → ends_done turns → AllKeepOn id.0 (turns_said id turns ++ more) → ⊥
+not_done id [] more e k = e
+not_done id (t ∷ []) more e k = k.1.0 e refl
+not_done id (t ∷ u ∷ us) more e k = not_done id (u ∷ us) more e k.1.1
+
+-- and the desk left because the end came
+at_end_of : (id : JobId) (turns : List (Entry × Reaction)) (v : View) (w : Hand) → Closes id turns v w → ((ms : List Message) → v ≡ sender Desk (map (mail Desk) ms) → AllKeepOn id.0 ms) → w ≡ taker (entries_of turns ++ None ∷ [])
+at_end_of id turns v w c keeps =
+    ⊎_elim
+    (λ x. x.1)
+    (λ y. ⊎_elim
+    (λ x. absurd (not_done id turns (Left ∷ []) x.2 (keeps _ x.0)))
+    (λ x. absurd (keep_last id.0 (turns_said id turns ++ Take ∷ []) Refused (Left ∷ []) (subst (AllKeepOn id.0) (sym (append_assoc (turns_said id turns) (Take ∷ []) (Refused ∷ Left ∷ []))) (keeps _ x.1))))
+    y)
+    c
+
+entries_given : (turns : List (Entry × Reaction)) → entries_of turns ≡ map (λ e. Some e) (map (λ t. t.0) turns)
+entries_given [] = refl
+entries_given (t ∷ ts) = ap (λ (es : List (Option Entry)). Some t.0 ∷ es) (entries_given ts)
+
+put_given : (es : List Entry) → entries_put (map (λ e. Some e) es ++ None ∷ []) ≡ es
+put_given [] = refl
+put_given (e ∷ es) = ap (λ (l : List Entry). e ∷ l) (put_given es)
+
+-- THE BYTES
+
+consumes_front : (given left : Option (List ℕ)) (bytes front rest : List ℕ) → bytes ≡ front ++ rest → Consumes given left bytes → Consumes given (prepend_known rest left) front
+consumes_front None left bytes front rest e c = tt
+consumes_front (Some xs) None bytes front rest e c = absurd c
+consumes_front (Some xs) (Some ys) bytes front rest e c = c ∙ ap (λ (bs : List ℕ). bs ++ ys) e ∙ append_assoc front rest ys
+
+at_end_still : (left : Option (List ℕ)) (rest : List ℕ) → rest ≡ [] → IsAtEnd left → IsAtEnd (prepend_known rest left)
+at_end_still None rest e at = tt
+at_end_still (Some ys) rest e at = ap (λ (bs : List ℕ). bs ++ ys) e ∙ at
+
+none_unheard : (stream unheard all : List ℕ) → all ≡ stream ++ unheard → stream ≡ all → unheard ≡ []
+none_unheard stream unheard all e f = append_cancel_left stream unheard [] (sym e ∙ sym f ∙ sym (append-nil stream))
+
+net_at_end : (id : ℕ) (last : Message) (left : Option (List ℕ)) → IsEnding last left → KeepsOn id last → IsAtEnd left
+net_at_end id HangUp left e k = e
+net_at_end id ReadFailed left e k = absurd k
+net_at_end id Refused left e k = absurd k
+net_at_end id (Piece p) left e k = absurd e
+net_at_end id Take left e k = absurd e
+net_at_end id (Said job t a) left e k = absurd e
+net_at_end id Left left e k = absurd e
+
+-- what the left bytes leave of the known ones
+known_left : (bytes stream : List ℕ) (left : Option (List ℕ)) → Consumes (Some bytes) left stream → (rest : List ℕ) × (bytes ≡ stream ++ rest) × (IsAtEnd left → rest ≡ [])
+known_left bytes stream None c = absurd c
+known_left bytes stream (Some rest) c = (rest, c, λ at. at)
+
+-- A SESSION
+
+module _ {J : Type 0} {fresh : J → Type 0} {reacts : J → Entry → Reaction → J → Type 0} {steps : J → Reaction → J → Type 0} {first : JobId} {others : List ℕ} {canon : Canon} {editing : Editing} {jobs : Jobs} {given old new : Option (List ℕ)} {report : Report} {net desk back term : View} {put took : Hand}
+    (s : Schedule {J = J} fresh reacts steps first others canon editing jobs given old new report net desk back term put took) where
+  abbrev pub messages : List Message
+  messages = map (λ m. m.0) s.marked
+
+  none_of_desk : NoneOfNet (messages_of (from Desk s.handled))
+  none_of_desk = closed s.talked.0 s.talked.5
+    where
+      none_by : (ms : List Message) → NoneOfNet ms → desk ≡ sender Desk (map (mail Desk) ms) → NoneOfNet (messages_of (from Desk s.handled))
+      none_by ms n is = subst NoneOfNet (sym (messages_from Desk desk s.from_desk s.handled ms s.desk_is is (s.woven Desk))) n
+
+      closed : (turns : List (Entry × Reaction)) → Closes first turns desk took → NoneOfNet (messages_of (from Desk s.handled))
+      closed turns c =
+          ⊎_elim
+          (λ x. none_by _ (none-append (turns_said first turns) (Take ∷ Left ∷ []) (none_of_turns first turns) (refl, (refl, tt))) x.0)
+          (λ y. ⊎_elim
+          (λ x. none_by _ (none-append (turns_said first turns) (Left ∷ []) (none_of_turns first turns) (refl, tt)) x.0)
+          (λ x. none_by _ (none-append (turns_said first turns) (Take ∷ Refused ∷ Left ∷ []) (none_of_turns first turns) (refl, (refl, (refl, tt)))) x.1)
+          y)
+          c
+
+  none_of_back : NoneOfNet (messages_of (from Back s.handled))
+  none_of_back =
+      let said = map step_said s.stepped.0 in
+      let close = s.stepped.1 in
+      subst NoneOfNet (sym (messages_from Back back s.from_back s.handled (said ++ close) s.back_is s.stepped.3 (s.woven Back)))
+      (none-append said close (none_of_steps s.stepped.0) (none_of_close close s.stepped.2))
+    where
+      none_of_close : (close : List Message) → IsClose close → NoneOfNet close
+      none_of_close close c = ⊎_elim (λ e. subst NoneOfNet (sym e) (refl, tt)) (λ e. subst NoneOfNet (sym e) (refl, (refl, tt))) c
+
+  none_of_others : Others s.handled
+  none_of_others Net e = absurd (true_false e)
+  none_of_others Desk e = none_of_desk
+  none_of_others Back e = none_of_back
+  none_of_others Keys e = subst (λ (l : List Mail). NoneOfNet (messages_of l)) (sym (s.woven Keys)) tt
+
+  net_said : messages_of (from Net s.handled) ≡ pieces_of s.read.0 ++ s.read.2 ∷ Left ∷ []
+  net_said = messages_from Net net s.from_net s.handled (pieces_of s.read.0 ++ s.read.2 ∷ Left ∷ []) s.net_is s.read.5 (s.woven Net)
+
+  nets : OfNet false s.handled
+  nets = of_net false s.handled none_of_others (subst (MayAllCome false) (sym net_said) (net_may s.read.0 s.read.2 s.read.1 s.read.4))
+
+  -- no piece follows the end of the input
+  pub may_come : MayAllCome false messages
+  may_come = subst (MayAllCome false) (sym s.messages) nets.may
+
+  -- the pieces that were handled are those that were read
+  all_pieces : heard messages ≡ concat s.read.0
+  all_pieces = ap heard s.messages ∙ nets.bytes ∙ ap heard net_said ∙ net_bytes s.read.0 s.read.2 s.read.1 s.read.4
+
+  pub heard_of_reader : Hears canon editing messages s.run → (report.ended ≡ ended.HangUp → HangsUp first.0 messages s.run) → HearsReader given report.ended s.run
+  heard_of_reader h hung = record {
+    left = prepend_known h.unheard s.read.1;
+    consumed = consumes_front given s.read.1 (concat s.read.0) s.run.stream h.unheard (sym all_pieces ∙ h.stream_first) s.read.3;
+    all = λ e.
+        let u = hung e in
+        let keeps = keep_from first.0 Net s.handled (subst (AllKeepOn first.0) s.messages u.kept_on) in
+        let last = keep_last first.0 (pieces_of s.read.0) s.read.2 (Left ∷ []) (subst (AllKeepOn first.0) net_said keeps) in
+        at_end_still s.read.1 h.unheard (none_unheard s.run.stream h.unheard (heard messages) h.stream_first u.all_heard) (net_at_end first.0 s.read.2 s.read.1 s.read.4 last);
+    read = h.read;
+  }
+
+  -- the foreground job took an end, after all entries
+  pub took_all : HangsUp first.0 messages s.run → entries_put s.taken ≡ entries s.run.history
+  took_all u =
+      let keeps = keep_from first.0 Desk s.handled (subst (AllKeepOn first.0) s.messages u.kept_on) in
+      let turns = s.talked.0 in
+      let is : took ≡ taker (entries_of turns ++ None ∷ []) = at_end_of first turns desk took s.talked.5 (λ ms e. subst (AllKeepOn first.0) (messages_from Desk desk s.from_desk s.handled ms s.desk_is e (s.woven Desk)) keeps) in
+      let given_entries = map (λ t. t.0) turns in
+      let took_is : s.taken ≡ map (λ e. Some e) given_entries ++ None ∷ [] =
+      some_is s.taken _ (ap (λ (h : Hand). h.taken) (sym s.took_is ∙ is)) ∙ ap (λ (es : List (Option Entry)). es ++ None ∷ []) (entries_given turns) in
+      let puts : s.run.puts ≡ map (λ e. Some e) given_entries ++ None ∷ s.took_first.0 =
+      sym s.took_first.1 ∙ ap (λ (es : List (Option Entry)). es ++ s.took_first.0) took_is ∙ append_assoc (map (λ e. Some e) given_entries) (None ∷ []) s.took_first.0 in
+      ap entries_put took_is ∙ put_given given_entries ∙ u.all_put given_entries s.took_first.0 puts
+
+  pub takes_entries : Hears canon editing messages s.run → HearsReader given report.ended s.run → GivesFront s.taken s.run.history → (report.ended ≡ ended.HangUp → entries_put s.taken ≡ entries s.run.history) → TakesEntries canon editing given report.ended s.taken
+  takes_entries h r front all bytes xs known read =
+      let had = items s.run.history in
+      let k = known_left bytes s.run.stream r.left (subst (λ (g : Option (List ℕ)). Consumes g r.left s.run.stream) known r.consumed) in
+      let whole : IsRead (s.run.stream ++ k.0) xs = subst (λ (bs : List ℕ). IsRead bs xs) k.1 read in
+      let grown = entries_grow canon editing s.run.stream k.0 had xs r.read whole in (
+        (
+          front.0 ++ grown.0,
+          sym (append_assoc (entries_put s.taken) front.0 grown.0) ∙ ap (λ (es : List Entry). es ++ grown.0) (front.1 ∙ h.entries_are) ∙ sym grown.1,
+        ),
+        λ e.
+            let none = k.2 (r.all e) in
+            let same : IsRead s.run.stream xs = subst (λ (bs : List ℕ). IsRead bs xs) (ap (λ (bs : List ℕ). s.run.stream ++ bs) none ∙ append-nil s.run.stream) whole in
+            all e ∙ h.entries_are ∙ sym (entries_same canon editing s.run.stream had xs r.read same),
+      )

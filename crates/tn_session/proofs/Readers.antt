@@ -1,0 +1,58 @@
+-- The list of a thread that reads, message by message.
+use Rattle.std.proofs.Common.{◌≡◌, ◌≢◌, ℕ, Bool, true, false, List, [], ◌∷◌, ◌++◌, Option, refl, sym, ap, ◌∙◌, ⊎_elim, inl, inr, append_assoc, map}
+use Rattle.std.proofs.lemmas.List.{map-append}
+use Rattle.std.specs.Io.KnownBytes.{Consumes}
+use Rattle.std.specs.List.{concat}
+use Rattle.tn_session.specs.Mailbox.{mail, sender}
+use Rattle.tn_session.specs.Reader.{ReaderSends, sends}
+use Rattle.tn_session.specs.Reading.{NetSends, IsEnding, pieces_of, net_sends}
+use Rattle.tn_session.specs.declared.channels.View.{View}
+use Rattle.tn_session.specs.declared.mail.Mail.{Mail}
+use Rattle.tn_session.specs.declared.mail.Sender.{Sender}
+use Rattle.tn_session.specs.declared.mail.Sender.TheVariants.{Net}
+use Rattle.tn_term.specs.declared.messages.Message.{Message}
+use Rattle.tn_term.specs.declared.messages.Message.TheVariants.{Piece, Left}
+
+abbrev pub Says : Sender → Message → View → View → Type 0
+Says who m v w = (l : List Mail) → v ≡ sender who l → w ≡ sender who (l ++ mail who m ∷ [])
+
+pub said : (who : Sender) (ms : List Message) (m : Message) (v w : View) → v ≡ sends who ms → Says who m v w → w ≡ sends who (ms ++ m ∷ [])
+said who ms m v w old says = says (map (mail who) ms) old ∙ ap (sender who) (sym (map-append (mail who) ms (m ∷ [])))
+
+pub said_two : (who : Sender) (ms : List Message) (m n : Message) (v w u : View) → v ≡ sends who ms → Says who m v w → Says who n w u → u ≡ sends who (ms ++ m ∷ n ∷ [])
+said_two who ms m n v w u old one two = said who (ms ++ m ∷ []) n w u (said who ms m v w old one) two ∙ ap (sends who) (append_assoc ms (m ∷ []) (n ∷ []))
+
+pub said_piece : (who : Sender) (pieces : List (List ℕ)) (p : List ℕ) (v w : View) → v ≡ sends who (pieces_of pieces) → Says who (Piece p) v w → w ≡ sends who (pieces_of (pieces ++ p ∷ []))
+said_piece who pieces p v w old says = said who (pieces_of pieces) (Piece p) v w old says ∙ ap (sends who) (sym (map-append (λ (q : List ℕ). Piece q) pieces (p ∷ [])))
+
+pub role : (who : Sender) (ms : List Message) (v : View) → v ≡ sends who ms → (l : List Mail) × (v ≡ sender who l)
+role who ms v e = (map (mail who) ms, e)
+
+some_pieces : (pieces : List (List ℕ)) (p : List ℕ) → pieces ++ p ∷ [] ≢ []
+some_pieces [] p e = cc
+some_pieces (q ∷ qs) p e = cc
+
+-- the reading ended
+pub reader_ends : (who : Sender) (may_stop : Bool) (given left : Option (List ℕ)) (pieces : List (List ℕ)) (last : Message) (v w u : View) → Consumes given left (concat pieces) → IsEnding last left → v ≡ sends who (pieces_of pieces) → Says who last v w → Says who Left w u → ReaderSends who may_stop given u
+reader_ends who may_stop given left pieces last v w u consumed ending old one two =
+    (pieces, left, last ∷ Left ∷ [], consumed, inl (last, ending, refl), said_two who (pieces_of pieces) last Left v w u old one two)
+
+-- it was stopped after a piece
+pub reader_stops : (who : Sender) (may_stop : Bool) (given left : Option (List ℕ)) (pieces : List (List ℕ)) (p : List ℕ) (v w u : View) → Consumes given left (concat (pieces ++ p ∷ [])) → may_stop ≡ true → v ≡ sends who (pieces_of pieces) → Says who (Piece p) v w → Says who Left w u → ReaderSends who may_stop given u
+reader_stops who may_stop given left pieces p v w u consumed may old one two =
+    let all = pieces ++ p ∷ [] in
+    (all, left, Left ∷ [], consumed, inr (may, some_pieces pieces p, refl), said who (pieces_of all) Left w u (said_piece who pieces p v w old one) two)
+
+-- the thread that reads from the network is never stopped
+pub net_reader : (given : Option (List ℕ)) (v : View) → ReaderSends Net false given v → NetSends given v
+net_reader given v (pieces, left, close, consumed, closes, is) =
+    ⊎_elim
+    (λ x. (pieces, left, x.0, consumed, x.1, is ∙ ap (λ (ms : List Message). net_sends (pieces_of pieces ++ ms)) x.2))
+    (λ x. absurd (false_true x.0))
+    closes
+  where
+    false_true : false ≡ true → ⊥
+    false_true e = cc
+
+pub reader_net : (given : Option (List ℕ)) (v : View) → NetSends given v → ReaderSends Net false given v
+reader_net given v (pieces, left, last, consumed, ending, is) = (pieces, left, last ∷ Left ∷ [], consumed, inl (last, ending, refl), is)

@@ -1,0 +1,77 @@
+-- Each thread sends one Left, its last message.
+use Rattle.std.proofs.Common.{◌≡◌, ℕ, Bool, List, [], ◌∷◌, ◌++◌, Option, refl, sym, ap, ◌∙◌, ⊎_elim, map, subst, append_assoc, arith}
+use Rattle.std.proofs.lemmas.List.{map-append}
+use Rattle.tn_session.proofs.Lefts.{EndsLeft, lefts-append}
+use Rattle.tn_session.specs.Mailbox.{sender, mail}
+use Rattle.tn_session.specs.Reader.{ReaderSends}
+use Rattle.tn_session.specs.Reading.{IsEnding, pieces_of}
+use Rattle.tn_session.specs.Turns.{left_one, lefts_of}
+use Rattle.tn_session.specs.declared.channels.View.{View}
+use Rattle.tn_session.specs.declared.mail.Mail.{Mail}
+use Rattle.tn_session.specs.declared.mail.Sender.{Sender}
+use Rattle.tn_term.specs.declared.messages.Message.{Message}
+use Rattle.tn_term.specs.declared.messages.Message.TheVariants.{Piece, HangUp, ReadFailed, Take, Said, Refused, Left}
+
+abbrev pub NoLeft : List Message → Type 0
+NoLeft [] = Unit {0}
+NoLeft (m ∷ ms) = (left_one m ≡ 0) × NoLeft ms
+
+record OneLeft (mails : List Mail) : Type 0 where
+  ends : EndsLeft mails
+  one : lefts_of mails ≡ 1
+
+ends_last : (xs : List Mail) (x : Mail) → left_one x.message ≡ 1 → EndsLeft (xs ++ x ∷ [])
+ends_last [] x e = e
+ends_last (y ∷ []) x e = e
+ends_last (y ∷ z ∷ zs) x e = ends_last (z ∷ zs) x e
+
+none_left : (s : Sender) (ms : List Message) → NoLeft ms → lefts_of (map (mail s) ms) ≡ 0
+none_left s [] n = refl
+none_left s (m ∷ ms) n = let ih = none_left s ms n.1 in let e = n.0 in omega (arith, ih, e)
+
+pub no_left-append : (xs ys : List Message) → NoLeft xs → NoLeft ys → NoLeft (xs ++ ys)
+no_left-append [] ys n m = m
+no_left-append (x ∷ xs) ys n m = (n.0, no_left-append xs ys n.1 m)
+
+one_left : (s : Sender) (ms all : List Message) (mails : List Mail) → NoLeft ms → all ≡ ms ++ Left ∷ [] → mails ≡ map (mail s) all → OneLeft mails
+one_left s ms all mails n e is =
+    let split : mails ≡ map (mail s) ms ++ mail s Left ∷ [] = is ∙ ap (map (mail s)) e ∙ map-append (mail s) ms (Left ∷ []) in
+    record {
+      ends = subst EndsLeft (sym split) (ends_last (map (mail s) ms) (mail s Left) refl);
+      one = ap lefts_of split ∙ (let a = lefts-append (map (mail s) ms) (mail s Left ∷ []) in let z = none_left s ms n in omega (arith, a, z));
+    }
+
+pieces_stay : (pieces : List (List ℕ)) → NoLeft (pieces_of pieces)
+pieces_stay [] = tt
+pieces_stay (p ∷ ps) = (refl, pieces_stay ps)
+
+ending_stays : (m : Message) (left : Option (List ℕ)) → IsEnding m left → left_one m ≡ 0
+ending_stays HangUp left e = refl
+ending_stays ReadFailed left e = refl
+ending_stays Refused left e = refl
+ending_stays (Piece p) left e = refl
+ending_stays Take left e = refl
+ending_stays (Said id t a) left e = refl
+ending_stays Left left e = absurd e
+
+-- what a sender's view says
+pub record Sent (s : Sender) (v : View) : Type 0 where
+  pub mails : List Mail
+  pub is : v ≡ sender s mails
+  pub ends : EndsLeft mails
+  pub one : lefts_of mails ≡ 1
+
+pub sent_by : (s : Sender) (ms all : List Message) (v : View) → NoLeft ms → all ≡ ms ++ Left ∷ [] → v ≡ sender s (map (mail s) all) → Sent s v
+sent_by s ms all v n e is =
+    let o = one_left s ms all (map (mail s) all) n e refl in
+    record { mails = map (mail s) all; is = is; ends = o.ends; one = o.one }
+
+-- a thread that reads
+pub reader_sent : (who : Sender) (may_stop : Bool) (given : Option (List ℕ)) (v : View) → ReaderSends who may_stop given v → Sent who v
+reader_sent who may_stop given v (pieces, left, close, consumed, closes, is) =
+    let read = pieces_of pieces in
+    let P : List Message → Type 0 = λ ms. v ≡ sender who (map (mail who) (read ++ ms)) in
+    ⊎_elim
+    (λ x. sent_by who (read ++ x.0 ∷ []) (read ++ x.0 ∷ Left ∷ []) v (no_left-append read (x.0 ∷ []) (pieces_stay pieces) (ending_stays x.0 left x.1, tt)) (sym (append_assoc read (x.0 ∷ []) (Left ∷ []))) (subst P x.2 is))
+    (λ x. sent_by who read (read ++ Left ∷ []) v (pieces_stay pieces) refl (subst P x.2 is))
+    closes

@@ -1,0 +1,56 @@
+use Rattle.std.proofs.Common.{ap, refl, [], ◌∷◌, ◌++◌, Option, List, subst, arith}
+use Rattle.crossbeam_channel.specs.Claims.{view}
+use Rattle.tn_client_core.specs.declared.messages.Told.{Told}
+use Rattle.tn_session.proofs.CoreGoing.{told_next, told_none}
+use Rattle.tn_session.proofs.Going.{lefts_of-push, left_small}
+use Rattle.tn_session.proofs.Mailbox.{handles, totals, handled_more}
+use Rattle.tn_session.specs.CoreTurns.{TurnsTold}
+use Rattle.tn_session.specs.declared.mail.Mail.{Mail}
+use Rattle.tn_session.proofs.client_loop.run_core.Goals as goal
+
+pub recv_as-requires-clause-rule : goal.recv_as-requires-clause-rule
+recv_as-requires-clause-rule g c = (handles c.loop.pass.id (view c.loop.pass) c.loop.invariant.1.0 (ap (λ v. v.handled) c.loop.invariant.1.1), totals c.loop.pass.id (view c.loop.pass))
+
+pub loop-init : goal.loop-init
+loop-init g c = (
+  c.requires.mailbox.0,
+  (
+    [],
+    ap (λ (o : Option (List Mail)). record (view c.args.pass) { handled = o }) c.requires.mailbox.1,
+    refl,
+    told_none c.args.core.now (g.W.Write.contents c.args.writer.now) (g.S.Write.contents c.args.screen.now),
+  ),
+  c.requires.out,
+  c.requires.text,
+  omega arith,
+)
+
+pub loop-preserved : goal.loop-preserved
+loop-preserved g c =
+    let i = c.loop.invariant.1 in
+    let x = c.in-Ok.mail in
+    let small = left_small x.message in
+    let more = c.if-lefts-ge-SENDERS.false in
+    let T : Told → Type 0 = λ m. TurnsTold c.loop.core m (g.W.Write.contents c.loop.writer) (g.W.Write.contents c.turn.new.writer) (g.S.Write.contents c.loop.screen) (g.S.Write.contents c.turn.new.screen) c.turn.new.core in (
+      c.in-Ok.ensures.channel.0,
+      (
+        i.0 ++ x ∷ [],
+        handled_more (view c.args.pass) (view c.loop.pass) (view c.recv_as.new.pass) i.0 x i.1 c.in-Ok.ensures.rule,
+        omega (arith, lefts_of-push i.0 x, c.leaves-left.ensures, i.2),
+        told_next c.args.core.now c.loop.core c.turn.new.core i.0 x _ _ _ _ _ _ _ c.close-closed.ensures i.3 (subst T c.told_of.ensures c.turn.ensures.turned),
+      ),
+      c.turn.ensures.out,
+      c.turn.ensures.text,
+      omega (arith, small, more, c.leaves-left.ensures),
+    )
+
+pub returns-then-lefts-ge-SENDERS-clause-acted : goal.returns-then-lefts-ge-SENDERS-clause-acted
+returns-then-lefts-ge-SENDERS-clause-acted g c =
+    let i = c.loop.invariant.1 in
+    let enough = c.if-lefts-ge-SENDERS.true in
+    record {
+      handled = i.0;
+      view = i.1;
+      lefts = omega (arith, enough, i.2);
+      goes = i.3;
+    }

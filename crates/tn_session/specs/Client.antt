@@ -1,0 +1,104 @@
+-- The running client session, of what its ports give back, for every schedule.
+use Rattle.std.specs.Prelude.{◌≡◌, ℕ, true, Option, Some, None, List, [], ◌++◌, map}
+use Rattle.std.specs.Io.KnownBytes.{Appends, Consumes}
+use Rattle.crossbeam_channel.specs.Claims.{view, IsSeatAt}
+use Rattle.crossbeam_channel.specs.Ends.{sends_on, receives_on}
+use Rattle.tn_client.specs.Replies.{items_said}
+use Rattle.tn_client.specs.Screen.{text_shown}
+use Rattle.tn_client_core.specs.Bringing.{brought, TakesInOrder}
+use Rattle.tn_client_core.specs.Marks.{Runs, all_written, all_whole}
+use Rattle.tn_client_core.specs.Reaching.{LeadsTo}
+use Rattle.tn_client_core.specs.Run.{Run, start}
+use Rattle.tn_client_core.specs.declared.machine.Core.{Core}
+use Rattle.tn_client_core.specs.declared.messages.Mark.{Mark}
+use Rattle.tn_client_core.specs.declared.messages.Origin.TheVariants as origin
+use Rattle.tn_client_core.specs.declared.messages.Told.{Told}
+use Rattle.tn_client_core.specs.declared.progress.Progress.{Progress}
+use Rattle.tn_nvt.specs.Spelling.{spells}
+use Rattle.tn_session.specs.CoreTurns.{all_told}
+use Rattle.tn_session.specs.Mailbox.{Interleaves, four, sender}
+use Rattle.tn_session.specs.Reader.{KeysSends}
+use Rattle.tn_session.specs.Reading.{NetSends}
+use Rattle.tn_session.specs.declared.channels.View.{View}
+use Rattle.tn_session.specs.declared.client.Mailbox.{Mailbox}
+use Rattle.tn_session.specs.declared.mail.Mail.{Mail}
+use Rattle.tn_session.specs.declared.mail.Sender.TheVariants.{Net, Keys}
+use Rattle.tn_session.specs.declared.parties.ClientPorts.{ClientPorts}
+use Rattle.tn_session.specs.declared.parties.Report.{Report}
+
+-- the view of the one that handles, in a session of two senders; nobody sends as Desk or Back
+abbrev pub core_view : List Mail → View
+core_view h = record { handled = Some h; net = None; desk = Some []; back = Some []; keys = None }
+
+-- nothing was sent or handled
+pub record IsReadyForTwo (m : Mailbox) : Type 0 where
+  pub one_mailbox : receives_on m.from ≡ sends_on m.to
+  pub net_to : sends_on m.net_to ≡ sends_on m.to
+  pub keys_to : sends_on m.keys_to ≡ sends_on m.to
+  pub pass : IsSeatAt (sends_on m.to) m.pass
+  pub net : IsSeatAt (sends_on m.to) m.net
+  pub keys : IsSeatAt (sends_on m.to) m.keys
+  pub pass_is : view m.pass ≡ core_view []
+  pub net_is : view m.net ≡ sender Net []
+  pub keys_is : view m.keys ≡ sender Keys []
+
+-- whatever the lists are: they are those of the new passes too, and what was handled begins an interleaving of what was sent
+abbrev pub AreTwoSettled : View → View → View → View → View → View → Type 0
+AreTwoSettled pass net keys net' keys' core' =
+    (h a d : List Mail) → pass ≡ core_view h → net ≡ sender Net a → keys ≡ sender Keys d
+    → (net' ≡ sender Net a) × (keys' ≡ sender Keys d) × (core' ≡ core_view h)
+    × ((items : List Mail) × Interleaves (h ++ items) (four a [] [] d))
+
+abbrev pub client_report : Progress → Report
+client_report p = record { ended = p.ended; pieces = p.pieces; entries = 0; stops = 0 }
+
+-- these bytes are the first of those that the reader gives
+abbrev pub IsFrontOf : Option (List ℕ) → List ℕ → Type 0
+IsFrontOf given bytes = (left : Option (List ℕ)) × Consumes given left bytes
+
+-- Of what Keys and Net sent, in the order that these passes know, and of what the core handled, wrote and showed.
+pub record RunningClient (width height limit : ℕ) (keys_given net_given : Option (List ℕ))
+    (before after seen now : Option (List ℕ)) (report : Report) (keys net core : View) : Type 0 where
+  -- what each sent, and what was handled
+  pub from_keys : List Mail
+  pub from_net : List Mail
+  pub handled : List Mail
+  pub keys_is : keys ≡ sender Keys from_keys
+  pub net_is : net ≡ sender Net from_net
+  pub core_is : core.handled ≡ Some handled
+  -- what was handled is an interleaving of all that was sent
+  pub woven : Interleaves handled (four from_net [] [] from_keys)
+  -- the pieces are fronts of what the readers gave
+  pub typed : KeysSends keys_given keys
+  pub read : NetSends net_given net
+  -- the run of the messages with their marks
+  pub marked : List (Told × Mark)
+  pub messages : map (λ m. m.0) marked ≡ all_told handled
+  pub run : Run
+  pub runs : Runs (start width height limit) marked run
+  -- what was typed, and the bytes from the network whose items came, are fronts of what the readers gave
+  pub keys_brought : IsFrontOf keys_given (brought origin.Keys (all_told handled))
+  pub net_brought : IsFrontOf net_given (brought origin.Net (all_told handled))
+  pub in_order : TakesInOrder (all_told handled) run
+  -- what was written of what it says up to the Left of Keys
+  pub written : List ℕ
+  pub unwritten : List ℕ
+  pub appended : Appends before after written
+  pub sends : spells (items_said run.sent) ≡ written ++ unwritten
+  pub all_sent : all_written marked ≡ true → unwritten ≡ []
+  -- and what was shown of what it shows
+  pub shown : List ℕ
+  pub unshown : List ℕ
+  pub displayed : Appends seen now shown
+  pub shows : text_shown run.history ≡ shown ++ unshown
+  pub all_shown : all_whole marked ≡ true → unshown ≡ []
+  -- the report
+  pub report_is : report ≡ client_report run.progress
+
+-- wherever the core is at first
+abbrev pub IsClientRun : Core → Option (List ℕ) → Option (List ℕ) → Option (List ℕ) → Option (List ℕ)
+    → Option (List ℕ) → Option (List ℕ) → Report → ClientPorts → Type 0
+IsClientRun core keys_given net_given before after seen now report ports =
+    (width height limit : ℕ) → LeadsTo (start width height limit) core
+    → RunningClient width height limit keys_given net_given before after seen now report (view ports.keys)
+    (view ports.net) (view ports.core)

@@ -1,0 +1,247 @@
+//! A running client session, from its first key to its report.
+
+ghost use Rattle.std.specs.Prelude.{◌≡◌, IfOk, IfSome};
+ghost use Rattle.crossbeam_channel.specs.Claims.{view, IsSeatAt};
+ghost use Rattle.crossbeam_channel.specs.Ends.{sends_on};
+ghost use Rattle.tn_session.specs.Client.{IsReadyForTwo, AreTwoSettled, IsClientRun, RunningClient, client_report};
+
+use crate::channels::{
+    AllRoles, CutKeys, CutNet, Knows, MailPass, MailReceiver, MailSender, Union, View,
+};
+use crate::client_loop::run_core;
+use crate::mail::Mail;
+use crate::parties::{ClientPorts, Finish, Gate, Report};
+use crate::session::MAILS;
+use crate::threads::{start_keys, start_net};
+use crossbeam_channel::bounded_with;
+use std::alloc::Global;
+use std::io::{Read, Write};
+use std::sync::atomic::AtomicBool;
+use std::sync::{Arc, Wait};
+use std::thread::Threads;
+use tn_client_core::{Core, Progress};
+use tn_discipline::Limit;
+use tn_term::SessionFault;
+
+// The mailbox of a client's session, its ends and passes.
+#[derive(Drop)]
+struct Mailbox {
+    to: MailSender,
+    from: MailReceiver,
+    pass: MailPass,
+    net_to: MailSender,
+    net: MailPass,
+    keys_to: MailSender,
+    keys: MailPass,
+}
+
+// Makes the mailbox and cuts its passes. `None` where memory is wanting.
+fn make_mailbox(alloc: Global) -> Option<Mailbox>
+    ensures { IfSome result (λ mailbox. IsReadyForTwo mailbox) }
+{
+    let Ok((to, from, mut pass)) = bounded_with::<Mail, View, AllRoles, Global>(alloc, MAILS) else {
+        return None;
+    };
+    let net = to.another::<CutNet>(&mut pass);
+    let keys = to.another::<CutKeys>(&mut pass);
+    let Ok(net_to) = to.try_clone() else {
+        return None;
+    };
+    let Ok(keys_to) = to.try_clone() else {
+        return None;
+    };
+    Some(Mailbox {
+        to,
+        from,
+        pass,
+        net_to,
+        net,
+        keys_to,
+        keys,
+    })
+}
+
+// What the threads share: the gate, and the flag that tells Keys to leave.
+#[derive(Drop)]
+struct Shared<G> {
+    net: Arc<G, Global>,
+    keys: Arc<G, Global>,
+    stop: Arc<AtomicBool, Global>,
+    keys_stop: Arc<AtomicBool, Global>,
+}
+
+fn share<G: Gate + Drop>(alloc: Global, gate: Arc<G, Global>) -> Option<Shared<G>> {
+    let Ok(net) = Arc::try_clone(&gate) else {
+        return None;
+    };
+    let Ok(stop) = Arc::new(alloc, AtomicBool::new(false)) else {
+        return None;
+    };
+    let Ok(keys_stop) = Arc::try_clone(&stop) else {
+        return None;
+    };
+    Some(Shared {
+        net,
+        keys: gate,
+        stop,
+        keys_stop,
+    })
+}
+
+// Joins the passes, so that their lists are compared, and cuts them anew.
+fn settle(to: &MailSender, mut pass: MailPass, net: MailPass, keys: MailPass) -> ClientPorts
+    requires { IsSeatAt (sends_on to.now) pass × IsSeatAt (sends_on to.now) net ×
+        IsSeatAt (sends_on to.now) keys }
+    ensures { AreTwoSettled (view pass) (view net) (view keys) (view result.net) (view result.keys)
+        (view result.core) }
+{
+    to.absorb::<Union>(&mut pass, net);
+    to.absorb::<Union>(&mut pass, keys);
+    to.learn_as::<Knows>(&mut pass);
+    let net = to.another::<CutNet>(&mut pass);
+    let keys = to.another::<CutKeys>(&mut pass);
+    ClientPorts {
+        keys,
+        net,
+        core: pass,
+    }
+}
+
+fn report(progress: Progress) -> Report
+    ensures { result ≡ client_report progress }
+{
+    Report {
+        ended: progress.ended,
+        pieces: progress.pieces,
+        entries: 0,
+        stops: 0,
+    }
+}
+
+// Runs the threads, and this one as the core's. On each path out of it every thread that was started has
+// been joined.
+fn run<R, N, K, W, S, G>(
+    rt: R,
+    alloc: Global,
+    net_reader: N,
+    keys_reader: K,
+    writer: &mut W,
+    screen: &mut S,
+    mut core: Core,
+    mailbox: Mailbox,
+    shared: Shared<G>,
+) -> Result<(Report, ClientPorts), SessionFault>
+where
+    R: Threads + Wait + Copy + Send + 'static,
+    N: Read + Drop + Send + 'static,
+    K: Read + Drop + Send + 'static,
+    W: Finish,
+    S: Write,
+    G: Gate + Drop + Send + Sync + 'static,
+    requires { IsReadyForTwo mailbox }
+    ensures { IfOk result (λ r.
+        IsClientRun core (K.remaining keys_reader) (N.remaining net_reader) (W.contents writer.old)
+        (W.contents writer.new) (S.contents screen.old) (S.contents screen.new) r.0 r.1) }
+{
+    let Mailbox {
+        to,
+        from,
+        pass,
+        net_to,
+        net,
+        keys_to,
+        keys,
+    } = mailbox;
+    let Shared {
+        net: net_gate,
+        keys: keys_gate,
+        stop,
+        keys_stop,
+    } = shared;
+    let mut out = Vec::new(alloc);
+    let mut text = Vec::new(alloc);
+    let Some(net_thread) = start_net(rt, alloc, net_to, net, net_reader, net_gate) else {
+        writer.finish();
+        return Err(SessionFault::Start);
+    };
+    let Some(keys_thread) = start_keys(rt, alloc, keys_to, keys, keys_reader, keys_stop, keys_gate)
+    else {
+        writer.finish();
+        drop(to);
+        drop(from);
+        net_thread.join(&rt);
+        return Err(SessionFault::Start);
+    };
+    let Some(pass) = run_core(
+        &rt, &from, pass, &mut core, &mut out, &mut text, writer, screen, &*stop,
+    ) else {
+        writer.finish();
+        drop(to);
+        drop(from);
+        net_thread.join(&rt);
+        keys_thread.join(&rt);
+        return Err(SessionFault::Channel);
+    };
+    let net = net_thread.join(&rt);
+    let keys = keys_thread.join(&rt);
+    let Some(net) = net else {
+        return Err(SessionFault::Channel);
+    };
+    let Some(keys) = keys else {
+        return Err(SessionFault::Channel);
+    };
+    let ports = settle(&to, pass, net, keys);
+    Ok((report(core.progress()), ports))
+}
+
+/// Runs a client's session over a connection: its reader and its writer, the user's keys and screen, and a
+/// window of this size whose lines have at most `limit` bytes. An `Err` is `Memory`, `Start` or `Channel`,
+/// and tells nothing of what was handled; all else ends in the report.
+pub fn client_session<R, N, K, W, S, G>(
+    rt: R,
+    alloc: Global,
+    net_reader: N,
+    keys_reader: K,
+    net_writer: &mut W,
+    screen: &mut S,
+    width: u16,
+    height: u16,
+    limit: Limit,
+    gate: Arc<G, Global>,
+) -> Result<(Report, ClientPorts), SessionFault>
+where
+    R: Threads + Wait + Copy + Send + 'static,
+    N: Read + Drop + Send + 'static,
+    K: Read + Drop + Send + 'static,
+    W: Finish,
+    S: Write,
+    G: Gate + Drop + Send + Sync + 'static,
+    ensures { IfOk result (λ r.
+        RunningClient width height limit (K.remaining keys_reader) (N.remaining net_reader)
+        (W.contents net_writer.old) (W.contents net_writer.new) (S.contents screen.old)
+        (S.contents screen.new) r.0 (view r.1.keys) (view r.1.net) (view r.1.core)) }
+{
+    let Ok(core) = Core::start(alloc, width, height, limit) else {
+        return Err(SessionFault::Memory);
+    };
+    let Some(mailbox) = make_mailbox(alloc) else {
+        return Err(SessionFault::Memory);
+    };
+    let Some(shared) = share(alloc, gate) else {
+        return Err(SessionFault::Memory);
+    };
+    match run(
+        rt,
+        alloc,
+        net_reader,
+        keys_reader,
+        net_writer,
+        screen,
+        core,
+        mailbox,
+        shared,
+    ) {
+        Ok(ran) => Ok(ran),
+        Err(fault) => Err(fault),
+    }
+}
