@@ -4,9 +4,13 @@
 ghost use Rattle.std.specs.Prelude.{◌≡◌, IfOk, IsOk, map, string_bytes};
 ghost use Rattle.tn_cli.specs.Runs.{DoesAsAsked};
 
+use log::Log;
 use std::alloc::Global;
 use std::io::{Read, Write};
+use std::net::{Net, TcpListener, TcpStream};
 use std::process::ExitCode;
+use std::sync::Wait;
+use std::thread::Threads;
 use tn_cli::{refuse_words, run_words};
 
 fn main(rt: HostRuntime) -> ExitCode {
@@ -16,9 +20,10 @@ fn main(rt: HostRuntime) -> ExitCode {
         Err(error) => Err(error),
     };
     let status = status_of(
+        rt,
         alloc,
         words,
-        &mut rt.stdin(),
+        rt.stdin(),
         &mut rt.stdout(),
         &mut rt.stderr(),
     );
@@ -26,20 +31,32 @@ fn main(rt: HostRuntime) -> ExitCode {
 }
 
 // The status after what the words ask for, where they could be had. It is 0 only where that was done.
-fn status_of<R: Read, W: Write, E: Write>(
+fn status_of<H, R, W, E>(
+    rt: H,
     alloc: Global,
     words: std::io::Result<Vec<String>>,
-    reader: &mut R,
+    reader: R,
     writer: &mut W,
     errors: &mut E,
 ) -> u8
+where
+    H: Log
+        + Net<Listener = TcpListener, Stream = TcpStream>
+        + Threads
+        + Wait
+        + Copy
+        + Send
+        + 'static,
+    R: Read + Drop + Send + 'static,
+    W: Write,
+    E: Write,
     ensures had { result ≡ 0 → IsOk words }
     ensures done { result ≡ 0 → IfOk words (λ words.
         DoesAsAsked (map string_bytes words.items)
-        (R.remaining reader.old) (W.contents writer.old) (W.contents writer.new)) }
+        (R.remaining reader) (W.contents writer.old) (W.contents writer.new)) }
 {
     match words {
-        Ok(words) => run_words(alloc, &words, reader, writer, errors),
+        Ok(words) => run_words(rt, alloc, &words, reader, writer, errors),
         Err(error) => refuse_words(error.kind(), errors),
     }
 }

@@ -1,14 +1,17 @@
 -- What a parse of the words says of them.
-use Rattle.std.proofs.Common.{◌≡◌, ◌≢◌, ◌⊎◌, inl, inr, ℕ, Bool, true, false, Option, Some, None, List, [], ◌∷◌, codes, option_map, refl, sym, ap, ◌∙◌, subst}
-use Rattle.clap.specs.Words.{App, subcommand_name_of, HasMatchesOf, takes, fault_of, is_simple, is_simple_and_free, IsAmong}
+use Rattle.std.proofs.Common.{◌≡◌, ◌≢◌, ◌⊎◌, inl, inr, ℕ, Bool, true, false, Option, Some, None, List, [], ◌∷◌, codes, length, option_map, refl, sym, ap, ◌∙◌, subst, arith, ◌<◌}
+use Rattle.std.specs.Prelude.{unwrap_or}
+use Rattle.clap.specs.Words.{App, Row, Text, subcommand_name_of, subcommand_of, subcommand_rows_of, HasMatchesOf, takes, fault_of, is_simple, is_simple_and_free, IsAmong}
 use Rattle.clap.specs.declared.error.kind.ErrorKind.{ErrorKind}
 use Rattle.clap.specs.declared.error.kind.ErrorKind.TheVariants as kind
 use Rattle.clap.specs.declared.parser.matches.ArgMatches.{ArgMatches}
 use Rattle.clap.specs.declared.parser.matches.ArgMatches.TheViews.{out-ArgMatches}
 use Rattle.clap.proofs.OnLiterals.{clap_on_literals}
-use Rattle.tn_cli.specs.Words.{tn, asked_by, asked_of, AskFor, AsksForHelp, AreWrong, Refuses, TellsKind}
+use Rattle.tn_cli.specs.Commands.{tn}
+use Rattle.tn_cli.specs.Words.{AskFor, Asks, AsksIn, AsksNothing, AsksConnect, AsksForHelp, AreWrong, Refuses, TellsKind}
+use Rattle.tn_loopback.specs.declared.settings.Connecting.{Connecting}
 use Rattle.tn_cli.specs.declared.words.Asked.{Asked}
-use Rattle.tn_cli.specs.declared.words.Asked.TheVariants.{Local, Replay, World}
+use Rattle.tn_cli.specs.declared.words.Asked.TheVariants.{Local, Replay, World, Serve, Connect}
 use Rattle.tn_cli.specs.declared.words.WordsFault.{WordsFault}
 use Rattle.tn_cli.specs.declared.words.WordsFault.TheVariants as fault
 
@@ -50,8 +53,38 @@ composed f g None = refl
 composed f g (Some x) = refl
 
 -- what the subcommand of a parse asks for, the words ask for
-pub parse_asks : (words : List (List ℕ)) (m : ArgMatches) (asked : Option Asked) → HasMatchesOf tn words m → asked_by (subcommand_name_of m) ≡ asked → asked_of words ≡ asked
-parse_asks words m asked h is = ap (λ o. asked_by (option_map (λ p. p.0) o)) (sym (h is_simple_tn).1) ∙ (ap asked_by (composed _ _ (out-ArgMatches m).subcommand) ∙ is)
+pub parse_asks : (words : List Text) (m : ArgMatches) (asked : Asked) → HasMatchesOf tn words m → AsksIn (subcommand_rows_of m) asked
+    → AsksIn (subcommand_of tn words) asked
+parse_asks words m asked h asks = subst (λ sub. AsksIn sub asked) (h is_simple_tn).1 asks
+
+pub parse_asks_nothing : (words : List Text) (m : ArgMatches) → HasMatchesOf tn words m → AsksNothing (subcommand_rows_of m)
+    → AsksNothing (subcommand_of tn words)
+parse_asks_nothing words m h nothing = subst (λ sub. AsksNothing sub) (h is_simple_tn).1 nothing
+
+-- the name of a parse's subcommand
+pub name_in : (m : ArgMatches) → subcommand_name_of m ≡ option_map (λ p. p.0) (subcommand_rows_of m)
+name_in m = sym (composed _ _ (out-ArgMatches m).subcommand)
+
+-- a subcommand `connect` whose options ask for no connection asks for nothing
+pub connects_not : (sub : Option (Text × List Row)) (name : Text) (rows : List Row) → option_map (λ p. p.0) sub ≡ Some name
+    → option_map (λ p. p.1) sub ≡ Some rows → name ≡ codes "connect"
+    → ((connecting : Connecting) → ¬ AsksConnect rows connecting) → AsksNothing sub
+connects_not None name rows named has is not asked asks = asks
+connects_not (Some p) name rows named has is not asked asks =
+    let same : p.0 ≡ codes "connect" = ap (λ o. unwrap_or o name) named ∙ is in
+    let at : p.1 ≡ rows = ap (λ o. unwrap_or o rows) has in go asked asks same at where
+      below : (n : ℕ) → n ≡ 7 → n < 7 → ⊥
+      below n is less = absurd (omega arith)
+
+      longer : (other : Text) → p.0 ≡ other → p.0 ≡ codes "connect" → length other ≡ 7
+      longer other is_other same = ap length (sym is_other ∙ same)
+
+      go : (asked : Asked) → Asks p asked → p.0 ≡ codes "connect" → p.1 ≡ rows → ⊥
+      go Local is_other same at = below 5 (longer (codes "local") is_other same) (omega arith)
+      go Replay is_other same at = below 6 (longer (codes "replay") is_other same) (omega arith)
+      go World is_other same at = below 5 (longer (codes "world") is_other same) (omega arith)
+      go (Serve serving) asks same at = below 5 (longer (codes "serve") asks.0 same) (omega arith)
+      go (Connect connecting) asks same at = not connecting (subst (λ rs. AsksConnect rs connecting) at asks.1)
 
 -- words that are written out
 pub asks_local : AskFor (codes "tn" ∷ codes "local" ∷ []) Local

@@ -1,11 +1,12 @@
 -- The lines of a world's script, and what each asks for.
-use Rattle.std.specs.Prelude.{ℕ, ◌==◌, ◌&&◌, ◌||◌, nat_le, Bool, true, false, if◌then◌else◌, Option, Some, None, option_and_then, List, [], ◌∷◌, codes, bytes_eq}
+use Rattle.std.specs.Prelude.{ℕ, ◌==◌, ◌&&◌, ◌||◌, nat_le, Bool, true, false, if◌then◌else◌, Option, Some, None, option_and_then, List, [], ◌∷◌, length, codes, bytes_eq}
 use Rattle.std.specs.List.{slice_split, list_all}
 use Rattle.std.specs.Option.{option_or}
 use Rattle.std.specs.Result.{result_ok}
 use Rattle.std.specs.Str.{all_ascii_digits}
 use Rattle.std.specs.Str.Parse.{digits_value}
 use Rattle.hex.specs.Hex.{decode_of}
+use Rattle.tn_codes.specs.Masks.{filled_octets}
 use Rattle.tn_codes.specs.declared.codes.Func.{Func}
 use Rattle.tn_codes.specs.declared.codes.Func.TheVariants as func
 use Rattle.tn_server.specs.declared.wishes.Editing.TheVariants.{Remote, Local}
@@ -80,11 +81,16 @@ echo_command name =
     else if bytes_eq name (codes "off") then Some (Happen (event.Echo false))
     else None
 
+abbrev pub mask_command : List ℕ → Option Command
+mask_command name =
+    if bytes_eq name (codes "off") then Some (Happen (event.Mask None)) else None
+
 -- a line of two words, the second of them a name
 abbrev pub with_name : List ℕ → List ℕ → Option Command
 with_name verb name =
     if bytes_eq verb (codes "wish") then wish_command name
     else if bytes_eq verb (codes "echo") then echo_command name
+    else if bytes_eq verb (codes "mask") then mask_command name
     else None
 
 -- a line of two words, the second of them a number
@@ -95,11 +101,19 @@ with_number verb number =
     else if bytes_eq verb (codes "pull") then Some (Happen (event.Pull number))
     else None
 
+-- a forward mask of at most 32 octets
+abbrev pub forward_command : List ℕ → Option Command
+forward_command octets =
+    if nat_le (length octets) 32
+    then Some (Happen (event.Mask (Some (record { 0 = filled_octets octets }))))
+    else None
+
 -- a line of two words, the second of them bytes
 abbrev pub with_bytes : List ℕ → List ℕ → Option Command
 with_bytes verb bytes =
     if bytes_eq verb (codes "key") then Some (Keys bytes)
     else if bytes_eq verb (codes "write") then Some (Happen (event.Write bytes))
+    else if bytes_eq verb (codes "mask") then forward_command bytes
     else None
 
 abbrev pub with_size : List ℕ → ℕ → ℕ → Option Command

@@ -2,7 +2,8 @@
 
 ghost use Rattle.std.specs.Prelude.{◌≡◌, true, false, [], ◌∷◌, codes};
 ghost use Rattle.clap.specs.Words.{takes};
-ghost use Rattle.tn_cli.specs.Words.{tn, AskFor, AsksForHelp};
+ghost use Rattle.tn_cli.specs.Commands.{tn};
+ghost use Rattle.tn_cli.specs.Words.{AskFor, AsksForHelp};
 ghost use Rattle.tn_cli.specs.declared.words.Asked.TheVariants.{Local, Replay, World};
 
 /// Each subcommand's name alone is taken, and asks for its run.

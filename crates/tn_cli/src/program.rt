@@ -10,27 +10,44 @@ use crate::replay::run_replay;
 use crate::streams::write_whole;
 use crate::words::{Asked, WordsFault, read_words};
 use crate::world::run_world;
+use log::Log;
 use std::alloc::{AllocError, Global};
 use std::fmt::Display;
 use std::io::{ErrorKind, Read, Write};
+use std::net::{Net, TcpListener, TcpStream};
+use std::sync::Wait;
+use std::thread::Threads;
+use tn_loopback::{connect, serve};
 
 /// The status of a process whose words were not accepted.
 const USAGE: u8 = 2;
 
 /// Runs what the words ask for, the program's name first, and gives the status to end with. A fault
 /// is told in one line on `errors`; a line that cannot be written there is dropped.
-pub fn run_words<R: Read, W: Write, E: Write>(
+pub fn run_words<H, R, W, E>(
+    rt: H,
     alloc: Global,
     words: &[String],
-    reader: &mut R,
+    reader: R,
     writer: &mut W,
     errors: &mut E,
 ) -> u8
+where
+    H: Log
+        + Net<Listener = TcpListener, Stream = TcpStream>
+        + Threads
+        + Wait
+        + Copy
+        + Send
+        + 'static,
+    R: Read + Drop + Send + 'static,
+    W: Write,
+    E: Write,
     ensures { result ≡ 0 → DoesAsAsked (map string_bytes words.now)
-        (R.remaining reader.old) (W.contents writer.old) (W.contents writer.new) }
+        (R.remaining reader) (W.contents writer.old) (W.contents writer.new) }
 {
     match texts_of(alloc, words) {
-        Ok(texts) => run_texts(alloc, &texts, reader, writer, errors),
+        Ok(texts) => run_texts(rt, alloc, &texts, reader, writer, errors),
         Err(_) => report(Err(CliFault::Memory), errors),
     }
 }
@@ -45,19 +62,31 @@ fn texts_of<'a>(alloc: Global, words: &'a [String]) -> Result<Vec<&'a str>, Allo
     Ok(texts)
 }
 
-fn run_texts<R: Read, W: Write, E: Write>(
+fn run_texts<H, R, W, E>(
+    rt: H,
     alloc: Global,
     words: &[&str],
-    reader: &mut R,
+    reader: R,
     writer: &mut W,
     errors: &mut E,
 ) -> u8
+where
+    H: Log
+        + Net<Listener = TcpListener, Stream = TcpStream>
+        + Threads
+        + Wait
+        + Copy
+        + Send
+        + 'static,
+    R: Read + Drop + Send + 'static,
+    W: Write,
+    E: Write,
     ensures { result ≡ 0 → DoesAsAsked (map (λ word. word.now) words.now)
-        (R.remaining reader.old) (W.contents writer.old) (W.contents writer.new) }
+        (R.remaining reader) (W.contents writer.old) (W.contents writer.new) }
 {
     match read_words(alloc, words) {
         Ok(asked) => {
-            let outcome = run_asked(alloc, asked, reader, writer);
+            let outcome = run_asked(rt, alloc, asked, reader, writer, errors);
             return report(outcome, errors);
         },
         Err(WordsFault::Help(text)) => {
@@ -100,18 +129,33 @@ fn tell<E: Write, F: Display>(errors: &mut E, fault: &F) {
     let _ = writeln!(errors, "tn: {fault}");
 }
 
-fn run_asked<R: Read, W: Write>(
+fn run_asked<H, R, W, E>(
+    rt: H,
     alloc: Global,
     asked: Asked,
-    reader: &mut R,
+    mut reader: R,
     writer: &mut W,
+    errors: &mut E,
 ) -> Result<(), CliFault>
+where
+    H: Log
+        + Net<Listener = TcpListener, Stream = TcpStream>
+        + Threads
+        + Wait
+        + Copy
+        + Send
+        + 'static,
+    R: Read + Drop + Send + 'static,
+    W: Write,
+    E: Write,
     ensures { OnOk result
-        (RunsAsked asked (R.remaining reader.old) (W.contents writer.old) (W.contents writer.new)) }
+        (RunsAsked asked (R.remaining reader) (W.contents writer.old) (W.contents writer.new)) }
 {
     match asked {
-        Asked::Local => run_local(alloc, reader, writer),
-        Asked::Replay => run_replay(alloc, reader, writer),
-        Asked::World => run_world(alloc, reader, writer),
+        Asked::Local => run_local(alloc, &mut reader, writer),
+        Asked::Replay => run_replay(alloc, &mut reader, writer),
+        Asked::World => run_world(alloc, &mut reader, writer),
+        Asked::Serve(serving) => Ok(serve(rt, alloc, serving, errors)?),
+        Asked::Connect(connecting) => Ok(connect(rt, alloc, connecting, reader, writer)?),
     }
 }

@@ -6,7 +6,7 @@ ghost use Rattle.tn_cli.specs.Scripts as script;
 
 use hex::FromHexError;
 use std::alloc::{AllocError, Global};
-use tn_codes::Func;
+use tn_codes::{Func, Mask};
 use tn_discipline::Text;
 use tn_server::Editing;
 use tn_world::Event;
@@ -16,6 +16,9 @@ const MOST_COUNTED: u32 = 1_000_000;
 
 /// The greatest width or height in a line.
 const MOST_SIZE: u32 = 65_535;
+
+/// The most octets of a forward mask.
+const MOST_OCTETS: usize = 32;
 
 /// What one line of a script asks for.
 #[derive(Debug, Drop)]
@@ -117,6 +120,9 @@ fn with_name(verb: &[u8], name: &[u8]) -> Option<Command>
     if verb == b"echo".as_slice() {
         return echoed(name);
     }
+    if verb == b"mask".as_slice() {
+        return unmasked(name);
+    }
     None
 }
 
@@ -135,6 +141,14 @@ fn echoed(name: &[u8]) -> Option<Command>
     value_of_word! { name;
         b"on" => Command::Happen(Event::Echo(true)),
         b"off" => Command::Happen(Event::Echo(false)),
+    }
+}
+
+fn unmasked(name: &[u8]) -> Option<Command>
+    ensures { result ≡ script.mask_command name.now }
+{
+    value_of_word! { name;
+        b"off" => Command::Happen(Event::Mask(None)),
     }
 }
 
@@ -158,10 +172,25 @@ fn with_number(verb: &[u8], number: usize) -> Option<Command>
 fn with_bytes(verb: &[u8], bytes: Text) -> Option<Command>
     ensures { result ≡ script.with_bytes verb.now bytes }
 {
-    value_of_word! { verb;
-        b"key" => Command::Keys(bytes),
-        b"write" => Command::Happen(Event::Write(bytes)),
+    if verb == b"key".as_slice() {
+        return Some(Command::Keys(bytes));
     }
+    if verb == b"write".as_slice() {
+        return Some(Command::Happen(Event::Write(bytes)));
+    }
+    if verb == b"mask".as_slice() {
+        return masked(bytes.as_slice());
+    }
+    None
+}
+
+fn masked(octets: &[u8]) -> Option<Command>
+    ensures { result ≡ script.forward_command octets.now }
+{
+    if octets.len() > MOST_OCTETS {
+        return None;
+    }
+    Some(Command::Happen(Event::Mask(Some(Mask::from_octets(octets)))))
 }
 
 fn with_words(

@@ -1,14 +1,20 @@
 //! The words of the command line.
 
-ghost use Rattle.std.specs.Prelude.{◌≡◌, false, IfOk, IfErr, map, codes};
-ghost use Rattle.tn_cli.specs.Words.{asked_by, tn, plain, AskFor, Refuses, TellsKind};
-ghost use Rattle.clap.specs.Words.{app_of, kind_of, shape_of, subcommand_name_of};
-ghost use Rattle.clap.specs.declared.builder.command.Command.TheViews.{out-Command};
+ghost use Rattle.std.specs.Prelude.{◌≡◌, None, IfOk, IfErr, IfSome, map};
+ghost use Rattle.clap.specs.Words.{kind_of, rows_of, found_of, subcommand_rows_of};
+ghost use Rattle.tn_cli.specs.Words.{AskFor, AsksIn, AsksNothing, AsksServe, AsksConnect, HasNumber, MissesNumber};
+ghost use Rattle.tn_cli.specs.Words.{Refuses, TellsKind};
 
+use crate::commands::{
+    CONNECT, COUNT, HEIGHT, LIMIT, LINE, LOCAL, LOCALLY, PORT, REPLAY, SERVE, TICKS, VERBOSE,
+    WIDTH, WORLD, Whole, tn_command,
+};
 use clap::error::ErrorKind;
-use clap::{ArgMatches, Command, Error};
+use clap::{ArgMatches, Error};
 use std::alloc::{AllocError, Global};
 use thiserror::Error as ErrorText;
+use tn_discipline::Limit;
+use tn_loopback::{Connecting, Serving};
 
 /// What the words ask for.
 #[derive(Clone, Copy, Debug, PartialEq, Eq)]
@@ -16,6 +22,8 @@ pub enum Asked {
     Local,
     Replay,
     World,
+    Serve(Serving),
+    Connect(Connecting),
 }
 
 /// Why the words ask for no run.
@@ -58,14 +66,62 @@ pub fn read_words(alloc: Global, words: &[&str]) -> Result<Asked, WordsFault>
 }
 
 fn asked_of(matches: &ArgMatches<'_>) -> Option<Asked>
-    ensures { result ≡ asked_by (subcommand_name_of matches.now) }
+    ensures asked { IfSome result (AsksIn (subcommand_rows_of matches.now)) }
+    ensures none { result ≡ None → AsksNothing (subcommand_rows_of matches.now) }
 {
-    match matches.subcommand_name()? {
-        "local" => Some(Asked::Local),
-        "replay" => Some(Asked::Replay),
-        "world" => Some(Asked::World),
+    let (name, words) = matches.subcommand()?;
+    match name {
+        LOCAL => Some(Asked::Local),
+        REPLAY => Some(Asked::Replay),
+        WORLD => Some(Asked::World),
+        SERVE => Some(Asked::Serve(serving(words)?)),
+        CONNECT => Some(Asked::Connect(connecting(words)?)),
         _ => None,
     }
+}
+
+fn serving(words: &ArgMatches<'_>) -> Option<Serving>
+    ensures asked { IfSome result (AsksServe (rows_of (found_of words.now))) }
+    ensures none { result ≡ None → (asked : Serving) → ¬ AsksServe (rows_of (found_of words.now)) asked }
+{
+    Some(Serving {
+        port: number(words, PORT)? as u16,
+        limit: number(words, LIMIT)? as u16,
+        count: number(words, COUNT)?,
+        ticks: number(words, TICKS)? as u16,
+        line: Limit::new(number(words, LINE)? as u16)?,
+        local: words.get_flag(LOCALLY),
+        verbose: words.get_flag(VERBOSE),
+    })
+}
+
+fn connecting(words: &ArgMatches<'_>) -> Option<Connecting>
+    ensures asked { IfSome result (AsksConnect (rows_of (found_of words.now))) }
+    ensures none { result ≡ None → (asked : Connecting) → ¬ AsksConnect (rows_of (found_of words.now)) asked }
+{
+    Some(Connecting {
+        port: number(words, PORT)? as u16,
+        width: number(words, WIDTH)? as u16,
+        height: number(words, HEIGHT)? as u16,
+        line: Limit::new(number(words, LINE)? as u16)?,
+    })
+}
+
+// The number that an option has, in its range.
+fn number(words: &ArgMatches<'_>, whole: Whole) -> Option<u32>
+    ensures some { IfSome result
+        (HasNumber (rows_of (found_of words.now)) whole.name.now whole.least whole.most) }
+    ensures none { result ≡ None
+        → MissesNumber (rows_of (found_of words.now)) whole.name.now whole.least whole.most }
+{
+    let number = words.get_one::<u32>(whole.name)?;
+    if number < whole.least {
+        return None;
+    }
+    if whole.most < number {
+        return None;
+    }
+    Some(number)
 }
 
 fn words_fault(alloc: Global, error: &Error) -> WordsFault
@@ -79,77 +135,4 @@ fn words_fault(alloc: Global, error: &Error) -> WordsFault
         ErrorKind::OutOfMemory => WordsFault::Memory,
         _ => WordsFault::Usage,
     }
-}
-
-fn tn_command<'a>(alloc: Global) -> Result<Command<'a>, AllocError>
-    ensures { IfOk result (λ command. app_of command ≡ tn) }
-{
-    Command::new(alloc, "tn")
-        .about("Telnet with LINEMODE: the entries that a terminal's foreground job reads")
-        .after_help("Example:\n  printf 'ab\\177c\\r' | tn local")
-        .subcommand_required(true)
-        .disable_help_subcommand(true)
-        .subcommand(local_command(alloc))?
-        .subcommand(replay_command(alloc))?
-        .subcommand(world_command(alloc))
-}
-
-fn local_command<'a>(alloc: Global) -> Command<'a>
-    ensures shape { shape_of result ≡ plain (codes "local") }
-    ensures local { (out-Command result).has_globals ≡ false }
-{
-    Command::new(alloc, "local")
-        .about("Reads typed keys, and prints the entries that they give")
-        .long_about(
-            "Reads keys from standard input, as they are typed at one terminal with standard settings, \
-             and prints the entries that its foreground job would read, one a line: `text` and the \
-             bytes of a line in hexadecimal, `eof`, `signal int`, `signal quit` or `signal tstp`. \
-             Keys after the last closing key give nothing.",
-        )
-        .after_help("Example:\n  printf 'ab\\177c\\r' | tn local\n  text 61630a")
-}
-
-fn replay_command<'a>(alloc: Global) -> Command<'a>
-    ensures shape { shape_of result ≡ plain (codes "replay") }
-    ensures local { (out-Command result).has_globals ≡ false }
-{
-    Command::new(alloc, "replay")
-        .about("Reads a Telnet client's byte stream, and prints the entries that its keys give")
-        .long_about(
-            "Reads the byte stream of a Telnet client from standard input. Each byte of data is a key, \
-             and a new line is the line feed key; commands, option words and subnegotiations are passed \
-             over. Prints the entries as `tn local` does.",
-        )
-        .after_help("Example:\n  printf '\\377\\377\\r\\0' | tn replay\n  text ff0a")
-}
-
-fn world_command<'a>(alloc: Global) -> Command<'a>
-    ensures shape { shape_of result ≡ plain (codes "world") }
-    ensures local { (out-Command result).has_globals ≡ false }
-{
-    Command::new(alloc, "world")
-        .about("Does a script of what happens at a Telnet server, at its client and between them")
-        .long_about(
-            "Reads a script from standard input, one command a line, and does it in a world of one server, \
-             one client and the bytes on their way between them. Empty lines are passed over. HEX is pairs \
-             of digits in lower case; N is a number up to 1,000,000, and up to 65,535 in `resize`, where \
-             zeros may lead; F is one of `ip`, `abort`, `eof`, `susp`, `ec`, `el`, `forw1` and `forw2`.\n\n\
-             key HEX: the user types these keys\n\
-             to-server N, to-client N: the first N bytes in flight arrive\n\
-             settle: all that is in flight arrives, until nothing is in flight, in at most 64 rounds\n\
-             write HEX: the job writes this\n\
-             pull N: the server sends the first N symbols of the terminal's screen\n\
-             wish local, wish remote: the server asks for editing at one side\n\
-             echo on, echo off: the server sets its terminal's flag ECHO\n\
-             resize N N: the client's window has this width and height\n\
-             set F HEX, propose F HEX: a special character, or `ff` for none\n\
-             take: the job asks for an entry, which is printed as by `tn local`, or `none`\n\
-             mark: prints whether all is at rest\n\
-             flight: prints the bytes in flight\n\
-             shown: prints the server's text on the client's screen\n\
-             server-stops, client-stops: this end is gone",
-        )
-        .after_help(
-            "Example:\n  printf 'settle\\nkey 610d\\nsettle\\ntake\\n' | tn world\n  text 610a",
-        )
 }

@@ -1,6 +1,6 @@
 use Rattle.std.proofs.Common.{Some, ap, sym, subst, ◌∙◌, map, inr}
 use Rattle.clap.specs.Words.{App, HasMatchesOf, app_of, fault_of, kind_of, is_simple_and_free}
-use Rattle.tn_cli.proofs.Asking.{is_free_tn, refused_by, parse_asks}
+use Rattle.tn_cli.proofs.Asking.{is_free_tn, refused_by, parse_asks, parse_asks_nothing}
 use Rattle.tn_cli.proofs.words.read_words.Goals as goal
 
 pub returns-in-Some-clause-asked : goal.returns-in-Some-clause-asked
@@ -8,7 +8,7 @@ returns-in-Some-clause-asked c =
     let is = c.in_ok-command.ensures in
     let words = map (λ word. word.now) c.args.words.now in (
       ap (λ (a : App). fault_of a words) (sym is) ∙ c.in-Ok.ensures.kinds (ap is_simple_and_free is ∙ is_free_tn),
-      parse_asks words c.in-Ok.matches (Some c.in-Some.asked) (subst (λ (a : App). HasMatchesOf a words c.in-Ok.matches) is c.in-Ok.ensures.matches) (sym c.asked_of.ensures ∙ c.in-Some.is),
+      parse_asks words c.in-Ok.matches c.in-Some.asked (subst (λ (a : App). HasMatchesOf a words c.in-Ok.matches) is c.in-Ok.ensures.matches) c.in-Some.ensures.asked,
     )
 
 pub returns-in-Err-clause-refuses : goal.returns-in-Err-clause-refuses
@@ -19,4 +19,4 @@ returns-in-Err-clause-refuses c =
 pub returns-clause-refuses : goal.returns-clause-refuses
 returns-clause-refuses c =
     let words = map (λ word. word.now) c.args.words.now in
-    inr (parse_asks words c.in-Ok.matches _ (subst (λ (a : App). HasMatchesOf a words c.in-Ok.matches) c.in_ok-command.ensures c.in-Ok.ensures.matches) (sym c.asked_of.ensures ∙ c.in-None.is))
+    inr (parse_asks_nothing words c.in-Ok.matches (subst (λ (a : App). HasMatchesOf a words c.in-Ok.matches) c.in_ok-command.ensures c.in-Ok.ensures.matches) (c.asked_of.ensures.none c.in-None.is))

@@ -1,0 +1,77 @@
+-- The command line that `tn` takes.
+use Rattle.std.specs.Prelude.{ℕ, true, Some, List, [], ◌∷◌, codes, pos}
+use Rattle.clap.specs.Words.{App, Shape, Rule, Text, new_app, new_rule, with_subcommand}
+use Rattle.clap.specs.declared.builder.action.ArgAction.TheVariants.{SetTrue}
+use Rattle.clap.specs.declared.builder.value_parser.ValueParser.TheVariants as parser
+
+-- the command alone: it wants a subcommand, and has no subcommand `help`
+abbrev pub alone : App
+alone = record {
+  top = record (new_app (codes "tn")).top { subcommand_required = true; disable_help_subcommand = true };
+  subs = [];
+}
+
+-- a subcommand without arguments
+abbrev pub plain : Text → Shape
+plain name = (new_app name).top
+
+-- a subcommand with these arguments
+abbrev pub with_rules : Text → List Rule → Shape
+with_rules name rules = record (plain name) { rules = rules }
+
+-- an option that takes a whole number, of these bounds
+abbrev pub whole_rule : Text → ℕ → ℕ → Rule
+whole_rule name least most = record (new_rule name) {
+  long = Some name;
+  parser = Some (parser.Signed (pos least) (pos most));
+  value_names = 1;
+}
+
+-- the option with what stands for it where it is not given
+abbrev pub with_default : Rule → Text → Rule
+with_default rule text = record rule { defaults = text ∷ [] }
+
+-- the option, which has to be given
+abbrev pub required : Rule → Rule
+required rule = record rule { required = true }
+
+-- an option that is given or not
+abbrev pub flag_rule : Text → Rule
+flag_rule name = record (new_rule name) { long = Some name; action = Some SetTrue }
+
+abbrev pub port_rule : Rule
+port_rule = required (whole_rule (codes "port") 1 65535)
+
+abbrev pub line_rule : Rule
+line_rule = with_default (whole_rule (codes "line") 255 4095) (codes "255")
+
+abbrev pub serve : Shape
+serve = with_rules (codes "serve") (
+    port_rule
+    ∷ with_default (whole_rule (codes "limit") 1 64) (codes "8")
+    ∷ with_default (whole_rule (codes "count") 1 1000000) (codes "1")
+    ∷ with_default (whole_rule (codes "ticks") 0 1000) (codes "0")
+    ∷ line_rule
+    ∷ flag_rule (codes "local")
+    ∷ flag_rule (codes "verbose")
+    ∷ []
+    )
+
+abbrev pub connect : Shape
+connect = with_rules (codes "connect") (
+    port_rule
+    ∷ with_default (whole_rule (codes "width") 0 65535) (codes "80")
+    ∷ with_default (whole_rule (codes "height") 0 65535) (codes "24")
+    ∷ line_rule
+    ∷ []
+    )
+
+-- what needs no network
+abbrev pub offline : App
+offline =
+    let with_local = with_subcommand alone (plain (codes "local")) in
+    let with_replay = with_subcommand with_local (plain (codes "replay")) in
+    with_subcommand with_replay (plain (codes "world"))
+
+abbrev pub tn : App
+tn = with_subcommand (with_subcommand offline serve) connect

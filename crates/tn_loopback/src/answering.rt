@@ -1,0 +1,102 @@
+//! The jobs of a served session.
+
+ghost use Rattle.std.specs.Prelude.{◌≡◌, IfOk};
+ghost use Rattle.tn_loopback.specs.Answering.{say, answer_line};
+
+use std::alloc::{AllocError, Global};
+use tn_discipline::{Entry, Sig, Text};
+use tn_jobs::{After, Job, Reaction};
+use tn_session::Maker;
+
+/// A job of a served session. In the foreground it writes each line back; the line `exit` and the end
+/// of file end it with `bye`, and a signal is named. In the background it ticks as often as is left.
+#[derive(Drop)]
+pub struct Answerer {
+    left: u16,
+}
+
+impl Job for Answerer {
+    ghost use Rattle.std.specs.Prelude.{◌≡◌, ◌<◌, ⊤};
+    ghost use Rattle.tn_loopback.specs.Answering.{answer, Ticks};
+
+    ghost fresh = { λ job. ⊤ };
+
+    ghost reacts = { λ old entry reaction new. (reaction ≡ answer entry) × (new ≡ old) };
+
+    ghost steps = { λ old reaction new. 0 < old.left → Ticks old.left reaction new.left };
+
+    fn entry(&mut self, alloc: Global, entry: Entry) -> Result<Reaction, AllocError> {
+        match entry {
+            Entry::Text(line) => answer_line(alloc, line),
+            Entry::Eof => say(alloc, "bye\n", After::Done),
+            Entry::Signal(Sig::Int) => say(alloc, "int\n", After::Stay),
+            Entry::Signal(Sig::Quit) => say(alloc, "quit\n", After::Stay),
+            Entry::Signal(Sig::Tstp) => say(alloc, "tstp\n", After::Stop),
+        }
+    }
+
+    fn step(&mut self, alloc: Global) -> Result<Reaction, AllocError> {
+        let after = if self.left <= 1 {
+            After::Done
+        } else {
+            After::Stay
+        };
+        let reaction = say(alloc, "tick\n", after)?;
+        self.left = self.left.saturating_sub(1);
+        Ok(reaction)
+    }
+}
+
+fn answer_line(alloc: Global, line: Text) -> Result<Reaction, AllocError>
+    ensures { IfOk result (λ reaction. reaction ≡ answer_line line) }
+{
+    if line.as_slice() == b"exit\n".as_slice() {
+        return say(alloc, "bye\n", After::Done);
+    }
+    Ok(Reaction {
+        text: line,
+        after: After::Stay,
+    })
+}
+
+fn say(alloc: Global, words: &str, after: After) -> Result<Reaction, AllocError>
+    ensures { IfOk result (λ reaction. reaction ≡ say words.now after) }
+{
+    let mut text = Vec::new(alloc);
+    text.extend_from_slice(words.as_bytes())?;
+    Ok(Reaction {
+        text: Text::from(text),
+        after,
+    })
+}
+
+/// Makes the jobs of a session: one in the foreground and, where it has something to do, one that
+/// ticks in the background.
+#[derive(Drop)]
+pub(crate) struct Jobs {
+    first: bool,
+    ticks: u16,
+}
+
+impl Jobs {
+    pub(crate) fn new(ticks: u16) -> Jobs {
+        Jobs { first: true, ticks }
+    }
+}
+
+impl Maker for Jobs {
+    type Job = Answerer;
+
+    fn next(&mut self, _alloc: Global) -> Result<Option<Answerer>, AllocError> {
+        if self.first {
+            self.first = false;
+            return Ok(Some(Answerer { left: 0 }));
+        }
+        if self.ticks == 0 {
+            return Ok(None);
+        }
+        let left = self.ticks;
+        self.ticks = 0;
+        Ok(Some(Answerer { left }))
+    }
+}

@@ -1,0 +1,34 @@
+-- Which numbers a roster has given to sessions, and how many sessions there may be.
+use Rattle.std.specs.Prelude.{◌≡◌, ◌≢◌, ◌≤◌, ◌+◌, ◌⊎◌, ⊤, ℕ, Bool, true, false, Option, None, List, count_by, is_some, slice_index_or}
+
+pub record Held : Type 0 where
+  -- how many numbers may be held
+  pub limit : ℕ
+  -- at each number, whether it is held
+  pub numbers : List (Option ⊤)
+
+abbrev pub is_held : Held → ℕ → Bool
+is_held roster number = is_some (slice_index_or roster.numbers number None)
+
+abbrev pub held_count : Held → ℕ
+held_count roster = count_by is_some roster.numbers
+
+-- at least one session, and at most sixty-four
+abbrev pub IsLimit : ℕ → Type 0
+IsLimit limit = (1 ≤ limit) × (limit ≤ 64)
+
+-- This number was free and is held; the others are as they were.
+pub record Enters (old new : Held) (number : ℕ) : Type 0 where
+  pub was_free : is_held old number ≡ false
+  pub held : is_held new number ≡ true
+  pub others : (other : ℕ) → other ≢ number → is_held new other ≡ is_held old other
+  pub one_more : held_count new ≡ held_count old + 1
+  pub same_limit : new.limit ≡ old.limit
+
+-- This number was held and is free; the others are as they were.
+pub record Leaves (old new : Held) (number : ℕ) : Type 0 where
+  pub was_held : is_held old number ≡ true
+  pub free : is_held new number ≡ false
+  pub others : (other : ℕ) → other ≢ number → is_held new other ≡ is_held old other
+  pub one_less : held_count new + 1 ≡ held_count old
+  pub same_limit : new.limit ≡ old.limit
