@@ -1,13 +1,13 @@
 //! Worlds of chance beside a local terminal.
 
-use crate::chance::Dice;
-use crate::plain::canonical::{entries, role_of};
-use crate::plain::characters::Table;
 use std::alloc::Global;
 use std::process::Abort;
 use tn_client::ClientFault;
 use tn_codes::Func;
 use tn_discipline::{CharFault, Entry, Limit, Settings};
+use tn_plain::canonical::{entries, role_of};
+use tn_plain::chance::Dice;
+use tn_plain::characters::Table;
 use tn_server::{Editing, ServerFault};
 use tn_world::{Cause, Event, ToWhom, World, WorldFault};
 

@@ -1,9 +1,9 @@
 //! Keys and streams, with the lines that they print.
 
-use crate::page::bytes_of;
 use std::alloc::Global;
 use std::process::Abort;
 use tn_cli::{CliFault, run_local, run_replay};
+use tn_plain::page::bytes_of;
 
 // Want of memory is an ordinary answer; any other is compared.
 fn prints(rt: &impl Abort, printed: &[u8], ended: Result<(), CliFault>, wanted: &str) {

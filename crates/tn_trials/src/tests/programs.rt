@@ -1,9 +1,12 @@
 //! Words, and readers and writers that fail.
 
 use std::alloc::{AllocError, Global};
-use std::io::{self, ErrorKind, Read, Write};
+use std::io::{self, Cursor, ErrorKind, Read, Write};
 use std::process::Abort;
-use tn_cli::{Asked, CliFault, WordsFault, read_words, run_local, run_replay, run_words};
+use tn_cli::{
+    Asked, CliFault, Connecting, Serving, WordsFault, read_words, run_local, run_replay, run_words,
+};
+use tn_discipline::Limit;
 
 fn asks(rt: &impl Abort, alloc: Global, words: &[&str], wanted: Option<Asked>) {
     match read_words(alloc, words) {
@@ -24,7 +27,96 @@ fn words_ask_for_runs(rt: HostRuntime) {
     asks(&rt, alloc, &["tn", "frobnicate"], None);
     asks(&rt, alloc, &["tn", "local", "x"], None);
     asks(&rt, alloc, &["tn", "world", "x"], None);
+}
+
+#[test]
+fn words_ask_for_a_server(rt: HostRuntime) {
+    let alloc = rt.alloc();
+    let serving = Serving {
+        port: 2323,
+        limit: 8,
+        count: 1,
+        ticks: 0,
+        line: Limit::standard(),
+        local: false,
+        verbose: false,
+    };
+    let asked = Some(Asked::Serve(serving));
+    asks(&rt, alloc, &["tn", "serve", "--port", "2323"], asked);
+    let asked = Some(Asked::Serve(Serving {
+        limit: 64,
+        count: 1_000_000,
+        ticks: 1_000,
+        line: Limit::new(4_095).unwrap_or(Limit::standard()),
+        local: true,
+        verbose: true,
+        ..serving
+    }));
+    let all = [
+        "tn",
+        "serve",
+        "--limit=64",
+        "--count",
+        "1000000",
+        "--ticks=1000",
+        "--line",
+        "4095",
+        "--local",
+        "--verbose",
+        "--port=2323",
+    ];
+    asks(&rt, alloc, &all, asked);
+    for (option, number) in [
+        ("--port", "0"),
+        ("--port", "65536"),
+        ("--limit", "0"),
+        ("--limit", "65"),
+        ("--count", "0"),
+        ("--count", "1000001"),
+        ("--ticks", "1001"),
+        ("--line", "254"),
+        ("--line", "4096"),
+        ("--ticks", "-1"),
+    ] {
+        asks(
+            &rt,
+            alloc,
+            &["tn", "serve", "--port", "7", option, number],
+            None,
+        );
+    }
     asks(&rt, alloc, &["tn", "serve"], None);
+    asks(&rt, alloc, &["tn", "serve", "--port", "0"], None);
+}
+
+#[test]
+fn words_ask_for_a_connection(rt: HostRuntime) {
+    let alloc = rt.alloc();
+    let connecting = Connecting {
+        port: 7,
+        width: 80,
+        height: 24,
+        line: Limit::standard(),
+    };
+    let asked = Some(Asked::Connect(connecting));
+    asks(&rt, alloc, &["tn", "connect", "--port", "7"], asked);
+    let asked = Some(Asked::Connect(Connecting {
+        width: 65_535,
+        height: 0,
+        ..connecting
+    }));
+    let wide = [
+        "tn", "connect", "--port", "7", "--width", "65535", "--height", "0",
+    ];
+    asks(&rt, alloc, &wide, asked);
+    asks(&rt, alloc, &["tn", "connect"], None);
+    asks(&rt, alloc, &["tn", "connect", "--port", "x"], None);
+    asks(
+        &rt,
+        alloc,
+        &["tn", "connect", "--port", "7", "--width", "65536"],
+        None,
+    );
 }
 
 #[test]
@@ -179,9 +271,10 @@ fn faults_are_told_in_a_line(rt: HostRuntime) {
             fails: true,
         };
         let ended = run_words(
+            rt,
             alloc,
             &words,
-            &mut b"a\n".as_slice(),
+            Cursor::new(*b"a\n"),
             &mut writer,
             &mut errors,
         );

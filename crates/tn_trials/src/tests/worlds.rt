@@ -12,7 +12,7 @@ fn world(alloc: Global, script: &[u8], output: &mut Vec<u8>) -> Result<(), CliFa
 
 // Where an allocation is refused, nothing is printed, or a front of what would have been, up to the
 // line whose event was refused. Then a second try is compared, for which there is memory.
-fn plays(
+pub(super) fn plays(
     rt: &impl Abort,
     alloc: Global,
     script: &[u8],
@@ -206,7 +206,7 @@ fn other_lines_are_no_commands(rt: HostRuntime) {
                  key|key |key 6|key 616|key 6A|key 6g|key  61|key 61 62|write|write 61 |\
                  to-server|to-server |to-server x|to-server -1|to-server +1|to-server 1000001|\
                  to-client 99999999999999999999|pull 1 2|pull 0x1|\
-                 wish|wish both|echo|echo 1|mask off|mask 00|\
+                 wish|wish both|echo|echo 1|mask|mask on|mask 0|\
                  resize 80|resize 80 65536|resize 65536 24|resize 80  24|resize 80 24 |resize 8 2 1|\
                  set ip|set synch 03|set ip 0304|set ip 3|propose ip 3 4|propose forw3 03";
     for line in lines.split('|') {
@@ -266,7 +266,7 @@ fn the_line_of_a_fault_is_told(rt: HostRuntime) {
         };
         let mut output = Vec::new(alloc);
         let mut errors = Vec::new(alloc);
-        let ended = run_words(alloc, &words, &mut { script }, &mut output, &mut errors);
+        let ended = run_words(rt, alloc, &words, script, &mut output, &mut errors);
         if errors.as_slice() != b"tn: memory\n".as_slice() {
             assert_eq!(rt; ended, status);
             assert!(rt; errors.is_empty() || errors.as_slice() == told);

@@ -1,0 +1,25 @@
+//! The trials.
+
+use std::alloc::Global;
+use std::process::Abort;
+use tn_plain::page::{Stage, unlike};
+
+mod beside_lines;
+mod beside_pairs;
+mod beside_payloads;
+mod beside_streams;
+mod characters;
+mod codes;
+mod jobs;
+mod linemode;
+mod lines;
+mod options;
+mod pairs;
+mod streams;
+
+// The script has this outcome.
+fn plays<S: Stage>(rt: &impl Abort, alloc: Global, script: &str, wanted: &str) {
+    if let Some(page) = unlike::<S>(alloc, script, wanted) {
+        assert_eq!(rt; page.text(), wanted);
+    }
+}

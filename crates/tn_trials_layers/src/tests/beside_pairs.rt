@@ -1,0 +1,90 @@
+//! A pair beside the plain terminal.
+
+use std::alloc::Global;
+use std::process::Abort;
+use tn_codes::Command;
+use tn_discipline::{Limit, Role, Settings};
+use tn_plain::chance::Dice;
+use tn_plain::terminal::Terminal;
+use tn_pty::{Pair, PtyFault};
+
+const KEYS: [u8; 8] = [b'a', b'b', 127, 21, 4, 3, 13, 10];
+
+const OUTPUT: [u8; 700] = [b'x'; 700];
+
+// A key, a byte or a command at both.
+fn type_at_both(pair: &mut Pair, plain: &mut Terminal, dice: &mut Dice) -> Result<(), PtyFault> {
+    let key = dice.pick(&KEYS);
+    match dice.roll(4) {
+        0 => {
+            plain.raw_key(key, true);
+            pair.raw_key(key, true)
+        },
+        1 => {
+            plain.raw_key(key, false);
+            pair.raw_key(key, false)
+        },
+        2 => {
+            plain.edited_byte(key);
+            pair.edited_byte(key)
+        },
+        _ => {
+            plain.add(Role::Eof);
+            pair.command(Command::Eof)
+        },
+    }
+}
+
+fn pull_at_both(
+    rt: &impl Abort,
+    alloc: Global,
+    pair: &mut Pair,
+    plain: &mut Terminal,
+    most: usize,
+) {
+    let mut symbols = Vec::new(alloc);
+    let _refused = pair.pull(most, &mut symbols);
+    assert_eq!(rt; symbols, plain.pull(most));
+}
+
+fn write_at_both(rt: &impl Abort, pair: &mut Pair, plain: &mut Terminal, count: usize) {
+    let output = OUTPUT.get(..count).unwrap_or(&[]);
+    assert_eq!(rt; pair.write(output), plain.write(output));
+}
+
+fn take_at_both(rt: &impl Abort, pair: &mut Pair, plain: &mut Terminal) {
+    let is_found = pair.take().is_some();
+    assert_eq!(rt; is_found, plain.take());
+}
+
+// Some call at both.
+fn step(rt: &impl Abort, alloc: Global, pair: &mut Pair, plain: &mut Terminal, dice: &mut Dice) {
+    match dice.roll(8) {
+        0 => take_at_both(rt, pair, plain),
+        1 => write_at_both(rt, pair, plain, dice.roll(700)),
+        2 => pull_at_both(rt, alloc, pair, plain, dice.roll(900)),
+        _ => {
+            let typed = type_at_both(pair, plain, dice);
+            assert!(rt; typed.is_ok());
+        },
+    }
+}
+
+fn are_alike(rt: &impl Abort, pair: &Pair, plain: &Terminal) {
+    assert_eq!(rt; pair.half(), plain.half().as_slice());
+    assert_eq!(rt; pair.waiting(0), plain.entries().get(plain.taken()));
+}
+
+#[test]
+fn a_pair_does_what_its_definition_says(rt: HostRuntime) {
+    let mut dice = Dice::new(1);
+    let settings = Settings::standard();
+    let Ok(mut pair) = Pair::new(rt.alloc(), settings, Limit::standard()) else {
+        return;
+    };
+    let mut plain = Terminal::new(rt.alloc(), &settings);
+    for _ in 0..800 {
+        step(&rt, rt.alloc(), &mut pair, &mut plain, &mut dice);
+        are_alike(&rt, &pair, &plain);
+    }
+}
