@@ -2,16 +2,14 @@
 #![tactic(auto)]
 
 ghost use Rattle.std.specs.Prelude.{◌≡◌, IfOk, IsOk, map, string_bytes};
-ghost use Rattle.tn_cli.specs.Runs.{DoesAsAsked};
+ghost use Rattle.tn_program.specs.Runs.{DoesAsAsked};
 
-use log::Log;
 use std::alloc::Global;
 use std::io::{Read, Write};
 use std::net::{Net, TcpListener, TcpStream};
 use std::process::ExitCode;
-use std::sync::Wait;
-use std::thread::Threads;
-use tn_cli::{refuse_words, run_words};
+use tn_loopback::Host;
+use tn_program::{refuse_words, run_words};
 
 fn main(rt: HostRuntime) -> ExitCode {
     let alloc = rt.alloc();
@@ -31,7 +29,12 @@ fn main(rt: HostRuntime) -> ExitCode {
 }
 
 // The status after what the words ask for, where they could be had. It is 0 only where that was done.
-fn status_of<H, R, W, E>(
+fn status_of<
+    H: Host + Net<Listener = TcpListener, Stream = TcpStream>,
+    R: Read + Drop + Send + 'static,
+    W: Write,
+    E: Write,
+>(
     rt: H,
     alloc: Global,
     words: std::io::Result<Vec<String>>,
@@ -39,17 +42,6 @@ fn status_of<H, R, W, E>(
     writer: &mut W,
     errors: &mut E,
 ) -> u8
-where
-    H: Log
-        + Net<Listener = TcpListener, Stream = TcpStream>
-        + Threads
-        + Wait
-        + Copy
-        + Send
-        + 'static,
-    R: Read + Drop + Send + 'static,
-    W: Write,
-    E: Write,
     ensures had { result ≡ 0 → IsOk words }
     ensures done { result ≡ 0 → IfOk words (λ words.
         DoesAsAsked (map string_bytes words.items)

@@ -1,10 +1,7 @@
-pub mod Asking
-pub mod Commanding
 pub mod Inputs
 pub mod Items
 pub mod Keys
 pub mod Numbers
 pub mod Outputs
 pub mod Played
-pub mod Wholes
 pub mod Writing

@@ -1,7 +1,7 @@
 -- The status of a process that ended with a fault.
 use Rattle.std.specs.Prelude.{ℕ, ⊤, Result, Ok, Err}
 use Rattle.tn_cli.specs.declared.fault.CliFault.{CliFault}
-use Rattle.tn_cli.specs.declared.fault.CliFault.TheVariants.{Read, TooLong, Script, World, Write, Memory, Network, Session}
+use Rattle.tn_cli.specs.declared.fault.CliFault.TheVariants.{Read, TooLong, Script, World, Write, Memory}
 
 abbrev pub status_of : CliFault → ℕ
 status_of TooLong = 2
@@ -10,8 +10,6 @@ status_of (World line) = 3
 status_of Read = 1
 status_of Write = 1
 status_of Memory = 1
-status_of Network = 1
-status_of Session = 3
 
 -- the status after a run
 abbrev pub status_after : Result ⊤ CliFault → ℕ

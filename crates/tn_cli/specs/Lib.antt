@@ -1,10 +1,7 @@
-pub mod Commands
 pub mod Faults
 pub mod Playing
 pub mod Printed
 pub mod Replay
-pub mod Runs
 pub mod Scripts
 pub mod Streams
 pub mod Typing
-pub mod Words

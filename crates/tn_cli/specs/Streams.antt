@@ -2,7 +2,7 @@
 use Rattle.std.specs.Prelude.{◌≡◌, ℕ, ◌+◌, ◌<◌, List, ◌++◌, ◌⊎◌, Option, length, take}
 use Rattle.std.specs.Io.KnownBytes.{Appends}
 use Rattle.tn_cli.specs.declared.fault.CliFault.{CliFault}
-use Rattle.tn_cli.specs.declared.fault.CliFault.TheVariants.{Read, TooLong, Script, World, Write, Memory, Network, Session}
+use Rattle.tn_cli.specs.declared.fault.CliFault.TheVariants.{Read, TooLong, Script, World, Write, Memory}
 
 -- what reading an input can fail by
 abbrev pub IsReadFault : CliFault → Type 0
@@ -12,8 +12,6 @@ IsReadFault Memory = Unit {0}
 IsReadFault (Script line) = ⊥
 IsReadFault (World line) = ⊥
 IsReadFault Write = ⊥
-IsReadFault Network = ⊥
-IsReadFault Session = ⊥
 
 -- Of an input of which so many bytes were read before, a piece more is kept after all of those; or fewer
 -- bytes are kept than were read.

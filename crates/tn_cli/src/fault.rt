@@ -4,7 +4,6 @@ ghost use Rattle.std.specs.Prelude.{◌≡◌};
 ghost use Rattle.tn_cli.specs.Faults.{status_of};
 
 use thiserror::Error;
-use tn_loopback::LoopbackFault;
 
 /// Why a subcommand ended early. Its text is what standard error shows after `tn: `.
 #[derive(Clone, Copy, Debug, PartialEq, Eq, Error)]
@@ -26,12 +25,6 @@ pub enum CliFault {
     Write,
     #[error("memory")]
     Memory,
-    /// The port could not be bound, a connection was not accepted, or none was made.
-    #[error("network")]
-    Network,
-    /// The session over a connection ended in a fault.
-    #[error("session")]
-    Session,
 }
 
 impl CliFault {
@@ -41,18 +34,8 @@ impl CliFault {
     {
         match self {
             CliFault::TooLong | CliFault::Script(_) => 2,
-            CliFault::World(_) | CliFault::Session => 3,
-            CliFault::Read | CliFault::Write | CliFault::Memory | CliFault::Network => 1,
-        }
-    }
-}
-
-impl From<LoopbackFault> for CliFault {
-    fn from(fault: LoopbackFault) -> CliFault {
-        match fault {
-            LoopbackFault::Network => CliFault::Network,
-            LoopbackFault::Session => CliFault::Session,
-            LoopbackFault::Memory => CliFault::Memory,
+            CliFault::World(_) => 3,
+            CliFault::Read | CliFault::Write | CliFault::Memory => 1,
         }
     }
 }

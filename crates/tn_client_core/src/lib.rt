@@ -16,5 +16,3 @@ pub mod laws;
 mod machine;
 mod messages;
 mod progress;
-#[cfg(test)]
-mod tests;

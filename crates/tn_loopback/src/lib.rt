@@ -11,13 +11,14 @@
 
 pub use answering::Answerer;
 pub use connecting::connect;
-pub use notes::note;
+pub use fault::LoopbackFault;
+pub use host::Host;
 pub use serving::{serve, serve_connection, serve_on};
-pub use settings::{Connecting, LoopbackFault, Serving};
 
 mod answering;
 mod connecting;
 mod connection;
-mod notes;
+mod fault;
+mod host;
+mod keys;
 mod serving;
-mod settings;

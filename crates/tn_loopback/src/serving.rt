@@ -2,9 +2,8 @@
 
 use crate::answering::Jobs;
 use crate::connection::Connection;
-use crate::notes::note;
-use crate::settings::{LoopbackFault, Serving};
-use log::Log;
+use crate::fault::LoopbackFault;
+use crate::host::Host;
 use std::alloc::Global;
 use std::io::{ErrorKind, Read, Write};
 use std::net::{Ipv4Addr, Net, Shutdown, TcpListener, TcpStream};
@@ -13,9 +12,10 @@ use std::thread::{JoinHandle, Threads};
 use std::time::Duration;
 use std::{io, mem, thread};
 use tn_discipline::Settings;
-use tn_roster::{Roster, RosterFault};
+use tn_roster::{Roster, RosterFault, note};
 use tn_server::Editing;
 use tn_session::{Ended, Gate, Place, Report, SessionFault, serve_session};
+use tn_words::Serving;
 
 /// How long a connection that was told `full` is listened to, in milliseconds, so that what it has
 /// sent by then does not take that word from it.
@@ -83,38 +83,24 @@ impl<'a, H: Threads + Copy, E: Write> Sessions<'a, H, E> {
 
 /// Serves a port of this machine until so many connections were accepted and each of their sessions
 /// has ended. A session that ends in a fault is told in one line on `errors`, and changes nothing else.
-pub fn serve<H, E>(
+pub fn serve<H: Host + Net<Listener = TcpListener, Stream = TcpStream>, E: Write>(
     rt: H,
     alloc: Global,
     serving: Serving,
     errors: &mut E,
-) -> Result<(), LoopbackFault>
-where
-    H: Log
-        + Net<Listener = TcpListener, Stream = TcpStream>
-        + Threads
-        + Wait
-        + Copy
-        + Send
-        + 'static,
-    E: Write,
-{
+) -> Result<(), LoopbackFault> {
     let listener = TcpListener::bind(&rt, (Ipv4Addr::LOCALHOST, serving.port))?;
     serve_on(rt, alloc, &listener, serving, errors)
 }
 
 /// The same, over a listener that is there already.
-pub fn serve_on<H, E>(
+pub fn serve_on<H: Host, E: Write>(
     rt: H,
     alloc: Global,
     listener: &TcpListener,
     serving: Serving,
     errors: &mut E,
-) -> Result<(), LoopbackFault>
-where
-    H: Log + Threads + Wait + Copy + Send + 'static,
-    E: Write,
-{
+) -> Result<(), LoopbackFault> {
     let roster = Roster::new(alloc, usize::from(serving.limit))?;
     let Ok(roster) = Arc::new(alloc, Mutex::new(roster)) else {
         return Err(LoopbackFault::Memory);
@@ -130,18 +116,14 @@ where
     served
 }
 
-fn accept_all<H, E>(
+fn accept_all<H: Host, E: Write>(
     rt: H,
     alloc: Global,
     serving: &Serving,
     listener: &TcpListener,
     roster: &Arc<Mutex<Roster>, Global>,
     sessions: &mut Sessions<'_, H, E>,
-) -> Result<(), LoopbackFault>
-where
-    H: Log + Threads + Wait + Copy + Send + 'static,
-    E: Write,
-{
+) -> Result<(), LoopbackFault> {
     for _ in 0..serving.count {
         let stream = accept(&rt, listener)?;
         let entered = roster.lock(&rt).enter();
@@ -154,7 +136,7 @@ where
 }
 
 // Starts the session that entered, or closes the connection of one that did not.
-fn admit<H, E>(
+fn admit<H: Host, E: Write>(
     rt: H,
     alloc: Global,
     serving: &Serving,
@@ -162,11 +144,7 @@ fn admit<H, E>(
     entered: Result<usize, RosterFault>,
     roster: &Arc<Mutex<Roster>, Global>,
     sessions: &mut Sessions<'_, H, E>,
-)
-where
-    H: Threads + Wait + Copy + Send + 'static,
-    E: Write,
-{
+) {
     if let Ok(number) = entered {
         return start(rt, alloc, serving, stream, number, roster, sessions);
     }
@@ -207,7 +185,7 @@ fn turn_away(mut stream: TcpStream) {
     }
 }
 
-fn start<H, E>(
+fn start<H: Host, E: Write>(
     rt: H,
     alloc: Global,
     serving: &Serving,
@@ -215,11 +193,7 @@ fn start<H, E>(
     number: usize,
     roster: &Arc<Mutex<Roster>, Global>,
     sessions: &mut Sessions<'_, H, E>,
-)
-where
-    H: Threads + Wait + Copy + Send + 'static,
-    E: Write,
-{
+) {
     if sessions.make_way(number) {
         if let Ok(shared) = Arc::try_clone(roster) {
             let serving = *serving;
@@ -238,15 +212,12 @@ where
 }
 
 /// Runs one session over a connection that was accepted, in threads of its own, until it has ended.
-pub fn serve_connection<H>(
+pub fn serve_connection<H: Host>(
     rt: H,
     alloc: Global,
     stream: TcpStream,
     serving: &Serving,
-) -> Result<Report, SessionFault>
-where
-    H: Threads + Wait + Copy + Send + 'static,
-{
+) -> Result<Report, SessionFault> {
     let Ok((reader, mut writer)) = Connection::split(stream) else {
         return Err(SessionFault::Start);
     };

@@ -12,10 +12,13 @@
 ghost use Rattle.std.specs.Prelude.{◌≡◌, ◌<◌, ◌≤◌, [], true, false, IfOk, OnOk, IfErr, OnErr, IsErrOf};
 ghost use Rattle.tn_roster.specs.Held.{is_held, held_count, IsLimit, Enters, Leaves};
 
+pub use notes::note;
 use slab::Slab;
 use std::alloc::{AllocError, Global};
 use std::marker::Model;
 use thiserror::Error;
+
+mod notes;
 
 /// A roster never holds more sessions than this.
 pub const MOST_SESSIONS: usize = 64;

@@ -16,8 +16,6 @@ mod client;
 mod client_loop;
 mod desk;
 mod entries;
-#[cfg(test)]
-mod gate_tests;
 mod joining;
 mod mail;
 mod making;
@@ -26,7 +24,5 @@ mod parties;
 mod sending;
 mod session;
 mod term;
-#[cfg(test)]
-mod tests;
 mod threads;
 mod writing;

@@ -48,6 +48,11 @@ pub trait Finish: Write {
         ensures { Keeps (Self.contents self.old) (Self.contents self.new) };
 }
 
+/// A list of what was written, which keeps it.
+impl Finish for Vec<u8> {
+    fn finish(&mut self) {}
+}
+
 /// What a session tells at its end; a client's has no entries and no stops. A count that has reached the
 /// greatest `u64` stays there.
 #[derive(Clone, Copy, Debug, PartialEq, Eq)]

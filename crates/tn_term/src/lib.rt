@@ -12,5 +12,3 @@ pub mod laws;
 mod messages;
 mod progress;
 mod terminal;
-#[cfg(test)]
-mod tests;

@@ -6,5 +6,4 @@ mod forward;
 mod keys;
 mod midline;
 mod programs;
-mod sessions;
 mod worlds;

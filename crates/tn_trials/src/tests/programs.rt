@@ -1,11 +1,9 @@
 //! Words, and readers and writers that fail.
 
-use std::alloc::{AllocError, Global};
-use std::io::{self, Cursor, ErrorKind, Read, Write};
+use std::alloc::Global;
+use std::io::{self, ErrorKind, Read, Write};
 use std::process::Abort;
-use tn_cli::{
-    Asked, CliFault, Connecting, Serving, WordsFault, read_words, run_local, run_replay, run_words,
-};
+use tn_cli::{Asked, CliFault, Connecting, Serving, WordsFault, read_words, run_local, run_replay};
 use tn_discipline::Limit;
 
 fn asks(rt: &impl Abort, alloc: Global, words: &[&str], wanted: Option<Asked>) {
@@ -32,7 +30,7 @@ fn words_ask_for_runs(rt: HostRuntime) {
 #[test]
 fn words_ask_for_a_server(rt: HostRuntime) {
     let alloc = rt.alloc();
-    let serving = Serving {
+    let asked = Some(Asked::Serve(Serving {
         port: 2323,
         limit: 8,
         count: 1,
@@ -40,17 +38,16 @@ fn words_ask_for_a_server(rt: HostRuntime) {
         line: Limit::standard(),
         local: false,
         verbose: false,
-    };
-    let asked = Some(Asked::Serve(serving));
+    }));
     asks(&rt, alloc, &["tn", "serve", "--port", "2323"], asked);
     let asked = Some(Asked::Serve(Serving {
+        port: 2323,
         limit: 64,
         count: 1_000_000,
         ticks: 1_000,
         line: Limit::new(4_095).unwrap_or(Limit::standard()),
         local: true,
         verbose: true,
-        ..serving
     }));
     let all = [
         "tn",
@@ -92,18 +89,18 @@ fn words_ask_for_a_server(rt: HostRuntime) {
 #[test]
 fn words_ask_for_a_connection(rt: HostRuntime) {
     let alloc = rt.alloc();
-    let connecting = Connecting {
+    let asked = Some(Asked::Connect(Connecting {
         port: 7,
         width: 80,
         height: 24,
         line: Limit::standard(),
-    };
-    let asked = Some(Asked::Connect(connecting));
+    }));
     asks(&rt, alloc, &["tn", "connect", "--port", "7"], asked);
     let asked = Some(Asked::Connect(Connecting {
+        port: 7,
         width: 65_535,
         height: 0,
-        ..connecting
+        line: Limit::standard(),
     }));
     let wide = [
         "tn", "connect", "--port", "7", "--width", "65535", "--height", "0",
@@ -242,47 +239,5 @@ fn a_failed_write_leaves_a_front(rt: HostRuntime) {
     };
     if run_local(alloc, &mut b"a\n".as_slice(), &mut writer).is_ok() {
         assert!(rt; writer.taken.as_slice() == b"text 610a\n".as_slice());
-    }
-}
-
-pub(crate) fn words_of(alloc: Global, word: &str) -> Result<Vec<String>, AllocError> {
-    let mut words = Vec::new(alloc);
-    words.push(String::from_str(alloc, "tn")?)?;
-    words.push(String::from_str(alloc, word)?)?;
-    Ok(words)
-}
-
-#[test]
-fn faults_are_told_in_a_line(rt: HostRuntime) {
-    let alloc = rt.alloc();
-    for (word, room, told, status) in [
-        ("frobnicate", 100, b"tn: usage\n".as_slice(), 2),
-        ("local", 100, b"", 0),
-        ("local", 0, b"tn: write\n", 1),
-        ("--help", 0, b"tn: write\n", 1),
-    ] {
-        let Ok(words) = words_of(alloc, word) else {
-            return;
-        };
-        let mut errors = Vec::new(alloc);
-        let mut writer = Narrow {
-            taken: Vec::new(alloc),
-            room,
-            fails: true,
-        };
-        let ended = run_words(
-            rt,
-            alloc,
-            &words,
-            Cursor::new(*b"a\n"),
-            &mut writer,
-            &mut errors,
-        );
-        if errors.as_slice() == b"tn: memory\n".as_slice() {
-            assert_eq!(rt; ended, 1);
-        } else {
-            assert_eq!(rt; ended, status);
-            assert!(rt; errors.is_empty() || errors.as_slice() == told);
-        }
     }
 }

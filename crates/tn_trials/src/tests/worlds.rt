@@ -1,9 +1,9 @@
 //! Scripts with what they print, and where they stop.
 
-use super::programs::{Narrow, words_of};
+use super::programs::Narrow;
 use std::alloc::{AllocError, Global};
 use std::process::Abort;
-use tn_cli::{CliFault, run_words, run_world};
+use tn_cli::{CliFault, run_world};
 
 fn world(alloc: Global, script: &[u8], output: &mut Vec<u8>) -> Result<(), CliFault> {
     let mut reader = script;
@@ -246,30 +246,5 @@ fn the_output_before_a_fault_may_fail_to_be_written(rt: HostRuntime) {
             Ok(()) => assert!(rt; false),
         }
         assert!(rt; b"mark".starts_with(writer.taken.as_slice()));
-    }
-}
-
-#[test]
-fn the_line_of_a_fault_is_told(rt: HostRuntime) {
-    let alloc = rt.alloc();
-    for (script, told, status) in [
-        (
-            b"mark\nbogus\n".as_slice(),
-            b"tn: line 2: bad command\n".as_slice(),
-            2,
-        ),
-        (b"\nset el 7f\n", b"tn: line 2: refused\n", 3),
-        (b"mark\n", b"", 0),
-    ] {
-        let Ok(words) = words_of(alloc, "world") else {
-            return;
-        };
-        let mut output = Vec::new(alloc);
-        let mut errors = Vec::new(alloc);
-        let ended = run_words(rt, alloc, &words, script, &mut output, &mut errors);
-        if errors.as_slice() != b"tn: memory\n".as_slice() {
-            assert_eq!(rt; ended, status);
-            assert!(rt; errors.is_empty() || errors.as_slice() == told);
-        }
     }
 }

@@ -1,0 +1,15 @@
+//! What is noted of a roster's answers.
+
+use crate::RosterFault;
+use log::{Log, info};
+
+/// Notes, at level info, what became of a session that was to enter the roster: `accepted` and its
+/// number, `full`, `no memory` or `bad limit`. A note that can't be made or written is dropped.
+pub fn note<L: Log>(rt: &L, entered: &Result<usize, RosterFault>) {
+    match entered {
+        Ok(number) => info!(rt; "accepted {}", number),
+        Err(RosterFault::Full) => info!(rt; "full"),
+        Err(RosterFault::Memory) => info!(rt; "no memory"),
+        Err(RosterFault::BadLimit) => info!(rt; "bad limit"),
+    }
+}

@@ -1,0 +1,8 @@
+//! The trials.
+
+mod connections;
+mod cores;
+mod gates;
+mod programs;
+mod sessions;
+mod terminals;

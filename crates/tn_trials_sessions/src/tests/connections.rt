@@ -1,0 +1,129 @@
+//! Sessions over connections of this machine, the roster, and what is noted.
+
+use log::sink::Memory;
+use log::{Level, Logged};
+use std::io::{Read, Write};
+use std::net::{Ipv4Addr, TcpListener, TcpStream};
+use std::test::Fail;
+use std::{io, thread};
+use tn_discipline::Limit;
+use tn_loopback::{connect, serve_connection, serve_on};
+use tn_roster::{Roster, RosterFault, note};
+use tn_session::Ended;
+use tn_words::{Connecting, Serving};
+
+#[test]
+fn a_roster_gives_each_session_a_number(rt: HostRuntime) -> Result<(), Fail> {
+    let alloc = rt.alloc();
+    for limit in [0, 65] {
+        match Roster::new(alloc, limit) {
+            Err(fault) => assert_eq!(rt; fault, RosterFault::BadLimit),
+            Ok(_) => assert!(rt; false),
+        }
+    }
+    let mut roster = Roster::new(alloc, 1)?;
+    assert_eq!(rt; roster.enter(), Ok(0));
+    assert_eq!(rt; roster.enter(), Err(RosterFault::Full));
+    assert_eq!(rt; roster.count(), 1);
+    assert!(rt; roster.leave(0));
+    assert!(rt; roster.enter().is_ok());
+    assert!(rt; !roster.leave(7));
+    Ok(())
+}
+
+#[test]
+fn what_became_of_a_connection_is_noted(rt: HostRuntime) {
+    let alloc = rt.alloc();
+    let logged = Logged::new(rt, Level::Info, Memory::new(alloc));
+    note(&logged, &Ok(0));
+    note(&logged, &Err(RosterFault::Full));
+    let (_, memory) = logged.into_parts();
+    let lines = memory.into_lines();
+    assert_eq!(rt; lines.len(), 2);
+    for (line, message) in lines.as_slice().iter().zip(["accepted 0", "full"]) {
+        assert!(rt; line.as_str().contains("INFO"), "{line}");
+        assert!(rt; line.as_str().ends_with(message), "{line}");
+    }
+}
+
+fn serving(limit: u16, count: u32) -> Serving {
+    Serving {
+        port: 0,
+        limit,
+        count,
+        ticks: 0,
+        line: Limit::standard(),
+        local: false,
+        verbose: false,
+    }
+}
+
+/// Gives its keys one by one.
+#[derive(Drop)]
+struct OneByOne {
+    keys: &'static [u8],
+}
+
+impl Read for OneByOne {
+    fn read(&mut self, buf: &mut [u8]) -> io::Result<usize> {
+        let (Some((key, rest)), Some(slot)) = (self.keys.split_first(), buf.first_mut()) else {
+            return Ok(0);
+        };
+        *slot = *key;
+        self.keys = rest;
+        Ok(1)
+    }
+}
+
+#[test]
+fn a_line_comes_back_over_a_connection(rt: HostRuntime) -> Result<(), Fail> {
+    let alloc = rt.alloc();
+    let listener = TcpListener::bind(&rt, (Ipv4Addr::LOCALHOST, 0))?;
+    let port = listener.local_addr()?.port();
+    let server = thread::spawn(&rt, move || -> bool {
+        let Ok((stream, _)) = listener.accept() else {
+            return false;
+        };
+        let report = serve_connection(rt, alloc, stream, &serving(1, 1));
+        matches!(report, Ok(report) if report.ended == Ended::Done && report.entries == 2)
+    })?;
+    let connecting = Connecting {
+        port,
+        width: 80,
+        height: 24,
+        line: Limit::standard(),
+    };
+    let mut screen = Vec::new(alloc);
+    let keys = OneByOne { keys: b"a\rexit\r" };
+    let connected = connect(rt, alloc, connecting, keys, &mut screen);
+    assert_eq!(rt; connected, Ok(()));
+    assert!(rt; screen.as_slice().ends_with(b"bye\r\n"));
+    assert!(rt; server.join(&rt));
+    Ok(())
+}
+
+#[test]
+fn a_connection_more_than_the_limit_is_told_so(rt: HostRuntime) -> Result<(), Fail> {
+    let alloc = rt.alloc();
+    let listener = TcpListener::bind(&rt, (Ipv4Addr::LOCALHOST, 0))?;
+    let port = listener.local_addr()?.port();
+    let server = thread::spawn(&rt, move || -> bool {
+        let mut errors = Vec::new(alloc);
+        let served = serve_on(rt, alloc, &listener, serving(1, 2), &mut errors);
+        served.is_ok() && errors.is_empty()
+    })?;
+    let mut first = TcpStream::connect(&rt, (Ipv4Addr::LOCALHOST, port))?;
+    let mut opening = [0; 15];
+    first.read_exact(&mut opening)?;
+    let mut second = TcpStream::connect(&rt, (Ipv4Addr::LOCALHOST, port))?;
+    let mut told = Vec::new(alloc);
+    second.read_to_end(&mut told)?;
+    assert!(rt; told.as_slice() == b"full\r\n".as_slice());
+    first.write_all(b"exit\r\0")?;
+    let mut rest = Vec::new(alloc);
+    first.read_to_end(&mut rest)?;
+    assert!(rt; rest.as_slice().ends_with(b"bye\r\n"));
+    drop(first);
+    assert!(rt; server.join(&rt));
+    Ok(())
+}

@@ -1,0 +1,251 @@
+//! That the work goes on in several threads: each waits for what another does.
+
+use super::sessions::{Open, ended, reaction};
+use std::alloc::{AllocError, Global};
+use std::io::Read;
+use std::sync::Arc;
+use std::sync::atomic::{AtomicBool, Ordering};
+use std::test::Fail;
+use std::{io, thread};
+use tn_discipline::{Entry, Limit, Settings};
+use tn_jobs::{After, Job, JobId, Reaction};
+use tn_server::Editing;
+use tn_session::{Ended, Gate, Maker, Place, client_session, serve_session};
+
+/// How many turns a wait takes at most.
+const MOST_TURNS: u32 = 1_048_576;
+
+/// What the threads tell each other.
+#[derive(Drop)]
+struct Flags {
+    entry: AtomicBool,
+    written: AtomicBool,
+    stuck: AtomicBool,
+}
+
+impl Flags {
+    fn wait(&self, flag: &AtomicBool) {
+        wait(flag, &self.stuck);
+    }
+}
+
+// Waits for a flag, and tells where that takes too long.
+fn wait(flag: &AtomicBool, stuck: &AtomicBool) {
+    for _turn in 0..MOST_TURNS {
+        if flag.load(Ordering::SeqCst) {
+            return;
+        }
+        thread::yield_now();
+    }
+    stuck.store(true, Ordering::SeqCst);
+}
+
+/// Gives a line, and its end once a background job has written.
+#[derive(Drop)]
+struct Slow {
+    flags: Arc<Flags, Global>,
+    given: bool,
+}
+
+impl Read for Slow {
+    fn read(&mut self, buf: &mut [u8]) -> io::Result<usize> {
+        if self.given {
+            self.flags.wait(&self.flags.written);
+            return Ok(0);
+        }
+        self.given = true;
+        match buf.get_mut(..3) {
+            Some(front) => {
+                front.copy_from_slice(b"a\r\0");
+                Ok(3)
+            },
+            None => Ok(0),
+        }
+    }
+}
+
+/// In the foreground it waits until a background job has written, which waits for it.
+#[derive(Drop)]
+struct Waiter {
+    flags: Arc<Flags, Global>,
+}
+
+impl Job for Waiter {
+    ghost use Rattle.std.specs.Prelude.{⊤};
+
+    ghost fresh = { λ job. ⊤ };
+
+    ghost reacts = { λ old entry reaction new. ⊤ };
+
+    ghost steps = { λ old reaction new. ⊤ };
+
+    fn entry(&mut self, alloc: Global, _entry: Entry) -> Result<Reaction, AllocError> {
+        self.flags.entry.store(true, Ordering::SeqCst);
+        self.flags.wait(&self.flags.written);
+        reaction(alloc, b"", After::Stay)
+    }
+
+    fn step(&mut self, alloc: Global) -> Result<Reaction, AllocError> {
+        self.flags.wait(&self.flags.entry);
+        reaction(alloc, b"tick\n", After::Done)
+    }
+}
+
+#[derive(Drop)]
+struct Two {
+    flags: Arc<Flags, Global>,
+    left: u8,
+}
+
+impl Maker for Two {
+    type Job = Waiter;
+
+    fn next(&mut self, _alloc: Global) -> Result<Option<Waiter>, AllocError> {
+        if self.left == 0 {
+            return Ok(None);
+        }
+        self.left -= 1;
+        let flags = Arc::try_clone(&self.flags)?;
+        Ok(Some(Waiter { flags }))
+    }
+}
+
+/// Tells once the background job's text was handled.
+#[derive(Drop)]
+struct Telling {
+    flags: Arc<Flags, Global>,
+}
+
+impl Gate for Telling {
+    fn at(&self, place: Place) {
+        if place == Place::TermSaid(JobId(1)) {
+            self.flags.written.store(true, Ordering::SeqCst);
+        }
+    }
+}
+
+#[test]
+fn a_session_runs_on_several_threads(rt: HostRuntime) -> Result<(), Fail> {
+    let alloc = rt.alloc();
+    let flags = Arc::new(
+        alloc,
+        Flags {
+            entry: AtomicBool::new(false),
+            written: AtomicBool::new(false),
+            stuck: AtomicBool::new(false),
+        },
+    )?;
+    let reader = Slow {
+        flags: Arc::try_clone(&flags)?,
+        given: false,
+    };
+    let maker = Two {
+        flags: Arc::try_clone(&flags)?,
+        left: 2,
+    };
+    let telling = Telling {
+        flags: Arc::try_clone(&flags)?,
+    };
+    let gate = Arc::new(alloc, telling)?;
+    let mut out = Vec::new(alloc);
+    let settings = Settings::standard();
+    let limit = Limit::standard();
+    let editing = Editing::Remote;
+    let (report, _ports) = serve_session(
+        rt, alloc, reader, &mut out, settings, limit, editing, maker, gate,
+    )?;
+    assert_eq!(rt; report, ended(Ended::HangUp, 1, 1, 0));
+    assert!(rt; !flags.stuck.load(Ordering::SeqCst));
+    Ok(())
+}
+
+/// What the two readers of a client tell each other.
+#[derive(Drop)]
+struct Meeting {
+    keys: AtomicBool,
+    net: AtomicBool,
+    typed: AtomicBool,
+    stuck: AtomicBool,
+}
+
+/// Types some keys, one in each read, once the network is being read too.
+#[derive(Drop)]
+struct Typist {
+    meeting: Arc<Meeting, Global>,
+    left: u8,
+}
+
+impl Read for Typist {
+    fn read(&mut self, buf: &mut [u8]) -> io::Result<usize> {
+        let meeting = &*self.meeting;
+        meeting.keys.store(true, Ordering::SeqCst);
+        wait(&meeting.net, &meeting.stuck);
+        let Some(first) = buf.first_mut() else {
+            return Ok(0);
+        };
+        if self.left == 0 {
+            meeting.typed.store(true, Ordering::SeqCst);
+            return Ok(0);
+        }
+        self.left -= 1;
+        *first = b'a';
+        Ok(1)
+    }
+}
+
+/// A network that ends once keys are being read too, and all were typed.
+#[derive(Drop)]
+struct Quiet {
+    meeting: Arc<Meeting, Global>,
+}
+
+impl Read for Quiet {
+    fn read(&mut self, _buf: &mut [u8]) -> io::Result<usize> {
+        let meeting = &*self.meeting;
+        meeting.net.store(true, Ordering::SeqCst);
+        wait(&meeting.keys, &meeting.stuck);
+        wait(&meeting.typed, &meeting.stuck);
+        Ok(0)
+    }
+}
+
+#[test]
+fn a_client_session_reads_keys_and_the_network_at_once(rt: HostRuntime) -> Result<(), Fail> {
+    let alloc = rt.alloc();
+    let meeting = Arc::new(
+        alloc,
+        Meeting {
+            keys: AtomicBool::new(false),
+            net: AtomicBool::new(false),
+            typed: AtomicBool::new(false),
+            stuck: AtomicBool::new(false),
+        },
+    )?;
+    let net = Quiet {
+        meeting: Arc::try_clone(&meeting)?,
+    };
+    let keys = Typist {
+        meeting: Arc::try_clone(&meeting)?,
+        left: 3,
+    };
+    let mut out = Vec::new(alloc);
+    let mut screen = Vec::new(alloc);
+    let gate = Arc::new(alloc, Open)?;
+    let limit = Limit::standard();
+    let (report, _ports) = client_session(
+        rt,
+        alloc,
+        net,
+        keys,
+        &mut out,
+        &mut screen,
+        80,
+        24,
+        limit,
+        gate,
+    )?;
+    assert_eq!(rt; report, ended(Ended::HangUp, 3, 0, 0));
+    assert_eq!(rt; out.as_slice(), b"aaa".as_slice());
+    assert!(rt; !meeting.stuck.load(Ordering::SeqCst));
+    Ok(())
+}

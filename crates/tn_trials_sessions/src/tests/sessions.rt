@@ -1,0 +1,194 @@
+//! Sessions over memory.
+
+use std::alloc::{AllocError, Global};
+use std::io::Cursor;
+use std::sync::{Arc, Wait};
+use std::test::Fail;
+use std::thread::Threads;
+use tn_discipline::{Entry, Limit, Settings, Sig, Text};
+use tn_jobs::{After, Job, Reaction};
+use tn_server::Editing;
+use tn_session::{Ended, Gate, Maker, Place, Report, client_session, serve_session};
+
+/// DO LINEMODE, DO NAWS, WILL SUPPRESS-GO-AHEAD, DO SUPPRESS-GO-AHEAD, WILL ECHO.
+const OPENING: usize = 15;
+
+/// Writes each line back; `exit` and the end of the input end it, and a signal is named.
+#[derive(Drop)]
+struct Echo;
+
+fn text_of(alloc: Global, bytes: &[u8]) -> Result<Text, AllocError> {
+    let mut text = Vec::new(alloc);
+    text.extend_from_slice(bytes)?;
+    Ok(Text::from(text))
+}
+
+pub(crate) fn reaction(alloc: Global, bytes: &[u8], after: After) -> Result<Reaction, AllocError> {
+    let text = text_of(alloc, bytes)?;
+    Ok(Reaction { text, after })
+}
+
+impl Job for Echo {
+    ghost use Rattle.std.specs.Prelude.{⊤};
+
+    ghost fresh = { λ job. ⊤ };
+
+    ghost reacts = { λ old entry reaction new. ⊤ };
+
+    ghost steps = { λ old reaction new. ⊤ };
+
+    fn entry(&mut self, alloc: Global, entry: Entry) -> Result<Reaction, AllocError> {
+        match entry {
+            Entry::Text(text) if text.as_slice() == b"exit\n".as_slice() => {
+                reaction(alloc, b"bye\n", After::Done)
+            },
+            Entry::Text(text) => reaction(alloc, text.as_slice(), After::Stay),
+            Entry::Eof => reaction(alloc, b"bye\n", After::Done),
+            Entry::Signal(Sig::Int) => reaction(alloc, b"int\n", After::Stay),
+            Entry::Signal(Sig::Quit) => reaction(alloc, b"quit\n", After::Stay),
+            Entry::Signal(Sig::Tstp) => reaction(alloc, b"tstp\n", After::Stop),
+        }
+    }
+
+    fn step(&mut self, alloc: Global) -> Result<Reaction, AllocError> {
+        reaction(alloc, b"tick\n", After::Done)
+    }
+}
+
+/// Makes so many jobs.
+#[derive(Drop)]
+struct Jobs {
+    left: u8,
+}
+
+impl Maker for Jobs {
+    type Job = Echo;
+
+    fn next(&mut self, _alloc: Global) -> Result<Option<Echo>, AllocError> {
+        if self.left == 0 {
+            return Ok(None);
+        }
+        self.left -= 1;
+        Ok(Some(Echo))
+    }
+}
+
+#[derive(Drop)]
+pub(crate) struct Open;
+
+impl Gate for Open {
+    fn at(&self, _place: Place) {}
+}
+
+// What a session over this input writes after the opening words, and its report.
+fn served<R: Threads + Wait + Copy + Send + 'static, const N: usize>(
+    rt: R,
+    alloc: Global,
+    input: [u8; N],
+    editing: Editing,
+    tostop: bool,
+    jobs: u8,
+) -> Result<(Vec<u8>, Report), Fail> {
+    let mut settings = Settings::standard();
+    settings.flags.tostop = tostop;
+    let mut out = Vec::new(alloc);
+    let limit = Limit::standard();
+    let gate = Arc::new(alloc, Open)?;
+    let maker = Jobs { left: jobs };
+    let reader = Cursor::new(input);
+    let (report, _ports) = serve_session(
+        rt, alloc, reader, &mut out, settings, limit, editing, maker, gate,
+    )?;
+    Ok((out, report))
+}
+
+pub(crate) fn ended(ended: Ended, pieces: u64, entries: u64, stops: u64) -> Report {
+    Report {
+        ended,
+        pieces,
+        entries,
+        stops,
+    }
+}
+
+#[test]
+fn a_session_writes_a_line_back(rt: HostRuntime) -> Result<(), Fail> {
+    let (out, report) = served(rt, rt.alloc(), *b"a\r\0", Editing::Remote, false, 1)?;
+    assert_eq!(rt; out.get(OPENING..), Some(b"a\r\n\xff\xf9".as_slice()));
+    assert_eq!(rt; report, ended(Ended::HangUp, 1, 1, 0));
+    Ok(())
+}
+
+#[test]
+fn a_session_names_an_interrupt(rt: HostRuntime) -> Result<(), Fail> {
+    let (out, report) = served(rt, rt.alloc(), [3], Editing::Remote, false, 1)?;
+    assert_eq!(rt; out.get(OPENING..), Some(b"int\r\n\xff\xf9".as_slice()));
+    assert_eq!(rt; report, ended(Ended::HangUp, 1, 1, 0));
+    Ok(())
+}
+
+#[test]
+fn a_session_counts_a_stop(rt: HostRuntime) -> Result<(), Fail> {
+    let (out, report) = served(rt, rt.alloc(), [26], Editing::Remote, false, 1)?;
+    assert_eq!(rt; out.get(OPENING..), Some(b"tstp\r\n\xff\xf9".as_slice()));
+    assert_eq!(rt; report, ended(Ended::HangUp, 1, 1, 1));
+    Ok(())
+}
+
+#[test]
+fn a_session_ends_with_its_job(rt: HostRuntime) -> Result<(), Fail> {
+    let (out, report) = served(rt, rt.alloc(), *b"exit\r\0", Editing::Remote, false, 1)?;
+    assert_eq!(rt; out.get(OPENING..), Some(b"bye\r\n".as_slice()));
+    assert_eq!(rt; report, ended(Ended::Done, 1, 1, 0));
+    Ok(())
+}
+
+#[test]
+fn a_session_stops_what_writes_in_the_background(rt: HostRuntime) -> Result<(), Fail> {
+    let (out, report) = served(rt, rt.alloc(), [], Editing::Remote, true, 2)?;
+    assert_eq!(rt; out.len(), OPENING);
+    assert_eq!(rt; report, ended(Ended::HangUp, 0, 0, 0));
+    Ok(())
+}
+
+/// The whole table of special characters, MODE with EDIT and TRAPSIG, the line, and GA.
+const EDITED: [u8; 43] = [
+    255, 250, 34, 3, 3, 2, 3, 7, 2, 28, 8, 2, 4, 9, 2, 26, 10, 2, 127, 11, 2, 21, 17, 0, 0, 18, 0,
+    0, 255, 240, 255, 250, 34, 1, 3, 255, 240, 97, 3, 13, 10, 255, 249,
+];
+
+#[test]
+fn a_session_reads_what_the_client_edited(rt: HostRuntime) -> Result<(), Fail> {
+    let input = [255, 251, 34, 255, 250, 34, 1, 7, 255, 240, 97, 3, 13, 10];
+    let (out, report) = served(rt, rt.alloc(), input, Editing::Local, false, 1)?;
+    assert_eq!(rt; out.get(OPENING..), Some(EDITED.as_slice()));
+    assert_eq!(rt; report, ended(Ended::HangUp, 1, 1, 0));
+    Ok(())
+}
+
+#[test]
+fn a_client_session_sends_and_echoes_keys(rt: HostRuntime) -> Result<(), Fail> {
+    let alloc = rt.alloc();
+    let mut out = Vec::new(alloc);
+    let mut screen = Vec::new(alloc);
+    let limit = Limit::standard();
+    let gate = Arc::new(alloc, Open)?;
+    let net = Cursor::new([]);
+    let keys = Cursor::new(*b"a\r");
+    let (report, _ports) = client_session(
+        rt,
+        alloc,
+        net,
+        keys,
+        &mut out,
+        &mut screen,
+        80,
+        24,
+        limit,
+        gate,
+    )?;
+    assert_eq!(rt; out.as_slice(), b"a\r\0".as_slice());
+    assert_eq!(rt; screen.as_slice(), b"a\r\n".as_slice());
+    assert_eq!(rt; report, ended(Ended::HangUp, 1, 0, 0));
+    Ok(())
+}

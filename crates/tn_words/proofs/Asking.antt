@@ -1,0 +1,128 @@
+-- What a parse of the words says of them.
+use Rattle.std.proofs.Common.{◌≡◌, ◌≢◌, ◌⊎◌, inl, inr, ℕ, Bool, true, false, Option, Some, None, List, [], ◌∷◌, codes, length, option_map, refl, sym, ap, ◌∙◌, subst, arith, ◌<◌}
+use Rattle.std.specs.Prelude.{unwrap_or}
+use Rattle.clap.specs.Words.{App, Row, Text, subcommand_name_of, subcommand_of, subcommand_rows_of, HasMatchesOf, takes, fault_of, is_simple, is_simple_and_free, IsAmong}
+use Rattle.clap.specs.declared.error.kind.ErrorKind.{ErrorKind}
+use Rattle.clap.specs.declared.error.kind.ErrorKind.TheVariants as kind
+use Rattle.clap.specs.declared.parser.matches.ArgMatches.{ArgMatches}
+use Rattle.clap.specs.declared.parser.matches.ArgMatches.TheViews.{out-ArgMatches}
+use Rattle.clap.proofs.OnLiterals.{clap_on_literals}
+use Rattle.tn_words.specs.Commands.{tn}
+use Rattle.tn_words.specs.Words.{AskFor, Asks, AsksIn, AsksNothing, AsksConnect, AsksForHelp, AreWrong, Refuses, TellsKind}
+use Rattle.tn_words.specs.declared.settings.Connecting.{Connecting}
+use Rattle.tn_words.specs.declared.words.Asked.{Asked}
+use Rattle.tn_words.specs.declared.words.Asked.TheVariants.{Local, Replay, World, Serve, Connect}
+use Rattle.tn_words.specs.declared.words.WordsFault.{WordsFault}
+use Rattle.tn_words.specs.declared.words.WordsFault.TheVariants as fault
+
+is_simple_tn : is_simple tn ≡ true
+unfolding clap_on_literals
+is_simple_tn = refl
+
+pub is_free_tn : is_simple_and_free tn ≡ true
+unfolding clap_on_literals
+is_free_tn = refl
+
+not_taken : (b : Bool) (k : ErrorKind) → (b ≡ true → k ≡ kind.OutOfMemory) → k ≢ kind.OutOfMemory → b ≡ false
+not_taken true k runs_out wants = absurd (wants (runs_out refl))
+not_taken false k runs_out wants = refl
+
+abbrev IsKind : ErrorKind → List ErrorKind → Type 0
+IsKind k kinds = (k ≡ kind.OutOfMemory) ⊎ IsAmong k kinds
+
+among : (k : ErrorKind) (words : List (List ℕ)) → k ≡ kind.DisplayHelp → IsKind k (fault_of tn words) → AsksForHelp words
+among k words is (inl ran_out) = absurd (cc)
+among k words is (inr found) = subst (λ x. IsAmong x (fault_of tn words)) is found
+
+wrong : (k : ErrorKind) (words : List (List ℕ)) → k ≢ kind.OutOfMemory → k ≢ kind.DisplayHelp → IsKind k (fault_of tn words) → AreWrong words
+wrong k words wants other (inl ran_out) = absurd (wants ran_out)
+wrong k words wants other (inr found) = (k, other, found)
+
+-- an error of the parse is told as it must be
+refused : (words : List (List ℕ)) (k : ErrorKind) (f : WordsFault) → (takes tn words ≡ true → k ≡ kind.OutOfMemory) → IsKind k (fault_of tn words) → TellsKind k f → Refuses words f
+refused words k fault.Usage passes kinds tells = inl (not_taken (takes tn words) k passes tells.0, wrong k words tells.0 tells.1 kinds)
+refused words k fault.Memory passes kinds tells = tt
+refused words k (fault.Help text) passes kinds tells = (not_taken (takes tn words) k passes (λ ran_out. absurd (cc)), among k words tells kinds)
+
+pub refused_by : (app : App) (words : List (List ℕ)) (k : ErrorKind) (f : WordsFault) → app ≡ tn → (takes app words ≡ true → k ≡ kind.OutOfMemory) → IsKind k (fault_of app words) → TellsKind k f → Refuses words f
+refused_by app words k f is passes kinds tells =
+    refused words k f (subst (λ (a : App). takes a words ≡ true → k ≡ kind.OutOfMemory) is passes) (subst (λ (a : App). IsKind k (fault_of a words)) is kinds) tells
+
+composed : {A B C : Type 0} (f : A → B) (g : B → C) (o : Option A) → option_map g (option_map f o) ≡ option_map (λ x. g (f x)) o
+composed f g None = refl
+composed f g (Some x) = refl
+
+-- what the subcommand of a parse asks for, the words ask for
+pub parse_asks : (words : List Text) (m : ArgMatches) (asked : Asked) → HasMatchesOf tn words m → AsksIn (subcommand_rows_of m) asked
+    → AsksIn (subcommand_of tn words) asked
+parse_asks words m asked h asks = subst (λ sub. AsksIn sub asked) (h is_simple_tn).1 asks
+
+pub parse_asks_nothing : (words : List Text) (m : ArgMatches) → HasMatchesOf tn words m → AsksNothing (subcommand_rows_of m)
+    → AsksNothing (subcommand_of tn words)
+parse_asks_nothing words m h nothing = subst (λ sub. AsksNothing sub) (h is_simple_tn).1 nothing
+
+-- the name of a parse's subcommand
+pub name_in : (m : ArgMatches) → subcommand_name_of m ≡ option_map (λ p. p.0) (subcommand_rows_of m)
+name_in m = sym (composed _ _ (out-ArgMatches m).subcommand)
+
+-- a subcommand `connect` whose options ask for no connection asks for nothing
+pub connects_not : (sub : Option (Text × List Row)) (name : Text) (rows : List Row) → option_map (λ p. p.0) sub ≡ Some name
+    → option_map (λ p. p.1) sub ≡ Some rows → name ≡ codes "connect"
+    → ((connecting : Connecting) → ¬ AsksConnect rows connecting) → AsksNothing sub
+connects_not None name rows named has is not asked asks = asks
+connects_not (Some p) name rows named has is not asked asks =
+    let same : p.0 ≡ codes "connect" = ap (λ o. unwrap_or o name) named ∙ is in
+    let at : p.1 ≡ rows = ap (λ o. unwrap_or o rows) has in go asked asks same at where
+      below : (n : ℕ) → n ≡ 7 → n < 7 → ⊥
+      below n is less = absurd (omega arith)
+
+      longer : (other : Text) → p.0 ≡ other → p.0 ≡ codes "connect" → length other ≡ 7
+      longer other is_other same = ap length (sym is_other ∙ same)
+
+      go : (asked : Asked) → Asks p asked → p.0 ≡ codes "connect" → p.1 ≡ rows → ⊥
+      go Local is_other same at = below 5 (longer (codes "local") is_other same) (omega arith)
+      go Replay is_other same at = below 6 (longer (codes "replay") is_other same) (omega arith)
+      go World is_other same at = below 5 (longer (codes "world") is_other same) (omega arith)
+      go (Serve serving) asks same at = below 5 (longer (codes "serve") asks.0 same) (omega arith)
+      go (Connect connecting) asks same at = not connecting (subst (λ rs. AsksConnect rs connecting) at asks.1)
+
+-- words that are written out
+pub asks_local : AskFor (codes "tn" ∷ codes "local" ∷ []) Local
+unfolding clap_on_literals
+asks_local = (refl, refl)
+
+pub asks_replay : AskFor (codes "tn" ∷ codes "replay" ∷ []) Replay
+unfolding clap_on_literals
+asks_replay = (refl, refl)
+
+pub asks_world : AskFor (codes "tn" ∷ codes "world" ∷ []) World
+unfolding clap_on_literals
+asks_world = (refl, refl)
+
+pub local_is_taken : takes tn (codes "tn" ∷ codes "local" ∷ []) ≡ true
+unfolding clap_on_literals
+local_is_taken = refl
+
+pub replay_is_taken : takes tn (codes "tn" ∷ codes "replay" ∷ []) ≡ true
+unfolding clap_on_literals
+replay_is_taken = refl
+
+pub world_is_taken : takes tn (codes "tn" ∷ codes "world" ∷ []) ≡ true
+unfolding clap_on_literals
+world_is_taken = refl
+
+pub more_is_not_taken : takes tn (codes "tn" ∷ codes "local" ∷ codes "x" ∷ []) ≡ false
+unfolding clap_on_literals
+more_is_not_taken = refl
+
+pub none_is_not_taken : takes tn (codes "tn" ∷ []) ≡ false
+unfolding clap_on_literals
+none_is_not_taken = refl
+
+pub asks_for_help : AsksForHelp (codes "tn" ∷ codes "--help" ∷ [])
+unfolding clap_on_literals
+asks_for_help = inl refl
+
+pub asks_for_its_help : AsksForHelp (codes "tn" ∷ codes "local" ∷ codes "-h" ∷ [])
+unfolding clap_on_literals
+asks_for_its_help = inl refl

@@ -1,0 +1,13 @@
+use Rattle.tn_words.proofs.Asking.{asks_local, asks_replay, asks_world, local_is_taken, replay_is_taken, world_is_taken}
+use Rattle.tn_words.proofs.laws.names_ask.Goals as goal
+
+pub returns : goal.returns
+returns c =
+    record {
+      local = asks_local;
+      replay = asks_replay;
+      world = asks_world;
+      local_taken = local_is_taken;
+      replay_taken = replay_is_taken;
+      world_taken = world_is_taken;
+    }

@@ -1,0 +1,5 @@
+use Rattle.tn_words.proofs.Asking.{more_is_not_taken, none_is_not_taken, asks_for_help, asks_for_its_help}
+use Rattle.tn_words.proofs.laws.other_words.Goals as goal
+
+pub returns : goal.returns
+returns c = record { more = more_is_not_taken; none = none_is_not_taken; help = asks_for_help; its_help = asks_for_its_help }

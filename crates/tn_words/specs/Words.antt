@@ -1,0 +1,90 @@
+-- What words ask for, of the command line that `tn` takes.
+use Rattle.std.specs.Prelude.{◌≡◌, ◌≢◌, ◌⊎◌, ◌≤◌, ⊤, ℕ, Bool, true, false, Option, Some, None, IfSome, List, [], codes}
+use Rattle.std.specs.Str.Parse.{IsNumeral, digits_value, without_leading_plus}
+use Rattle.clap.specs.Words.{Row, Text, subcommand_of, takes, fault_of, one_of, IsAmong}
+use Rattle.clap.specs.declared.error.kind.ErrorKind.{ErrorKind}
+use Rattle.clap.specs.declared.error.kind.ErrorKind.TheVariants as kind
+use Rattle.tn_words.specs.Commands.{tn}
+use Rattle.tn_words.specs.declared.words.Asked.{Asked}
+use Rattle.tn_words.specs.declared.words.Asked.TheVariants.{Local, Replay, World, Serve, Connect}
+use Rattle.tn_words.specs.declared.settings.Connecting.{Connecting}
+use Rattle.tn_words.specs.declared.settings.Serving.{Serving}
+use Rattle.tn_words.specs.declared.words.WordsFault.{WordsFault}
+use Rattle.tn_words.specs.declared.words.WordsFault.TheVariants as fault
+
+-- the number that a text writes in decimal digits, where a plus may stand first
+pub record Writes (text : Text) (number : ℕ) : Type 0 where
+  pub numeral : IsNumeral 10 (without_leading_plus text)
+  pub value : digits_value 10 (without_leading_plus text) ≡ number
+
+-- The option of this name has this number, which lies in its range.
+pub record HasNumber (rows : List Row) (name : Text) (least most number : ℕ) : Type 0 where
+  pub text : Text
+  pub has : one_of name rows ≡ Some text
+  pub writes : Writes text number
+  pub at_least : least ≤ number
+  pub at_most : number ≤ most
+
+-- the option has no number of its range
+abbrev pub MissesNumber : List Row → Text → ℕ → ℕ → Type 0
+MissesNumber rows name least most = (number : ℕ) → ¬ HasNumber rows name least most number
+
+-- The option of this name, which takes no value, was given or not.
+pub record HasFlag (rows : List Row) (name : Text) (flag : Bool) : Type 0 where
+  pub given : one_of name rows ≡ Some (codes "true") → flag ≡ true
+  pub not_given : one_of name rows ≡ Some (codes "false") → flag ≡ false
+  pub unknown : one_of name rows ≡ None → flag ≡ false
+
+pub record AsksServe (rows : List Row) (asked : Serving) : Type 0 where
+  pub port : HasNumber rows (codes "port") 1 65535 asked.port
+  pub limit : HasNumber rows (codes "limit") 1 64 asked.limit
+  pub count : HasNumber rows (codes "count") 1 1000000 asked.count
+  pub ticks : HasNumber rows (codes "ticks") 0 1000 asked.ticks
+  pub line : HasNumber rows (codes "line") 255 4095 asked.line
+  pub edited : HasFlag rows (codes "local") asked.local
+  pub verbose : HasFlag rows (codes "verbose") asked.verbose
+
+pub record AsksConnect (rows : List Row) (asked : Connecting) : Type 0 where
+  pub port : HasNumber rows (codes "port") 1 65535 asked.port
+  pub width : HasNumber rows (codes "width") 0 65535 asked.width
+  pub height : HasNumber rows (codes "height") 0 65535 asked.height
+  pub line : HasNumber rows (codes "line") 255 4095 asked.line
+
+-- what a subcommand asks for, by its name and its options
+abbrev pub Asks : Text × List Row → Asked → Type 0
+Asks sub Local = sub.0 ≡ codes "local"
+Asks sub Replay = sub.0 ≡ codes "replay"
+Asks sub World = sub.0 ≡ codes "world"
+Asks sub (Serve serving) = (sub.0 ≡ codes "serve") × AsksServe sub.1 serving
+Asks sub (Connect connecting) = (sub.0 ≡ codes "connect") × AsksConnect sub.1 connecting
+
+abbrev pub AsksIn : Option (Text × List Row) → Asked → Type 0
+AsksIn None asked = ⊥
+AsksIn (Some sub) asked = Asks sub asked
+
+abbrev pub AsksNothing : Option (Text × List Row) → Type 0
+AsksNothing sub = (asked : Asked) → ¬ AsksIn sub asked
+
+-- nothing is wrong with the words, the program's name first, and their subcommand asks for this
+abbrev pub AskFor : List Text → Asked → Type 0
+AskFor words asked = (fault_of tn words ≡ []) × AsksIn (subcommand_of tn words) asked
+
+-- the words ask for help, before anything else is wrong with them
+abbrev pub AsksForHelp : List Text → Type 0
+AsksForHelp words = IsAmong kind.DisplayHelp (fault_of tn words)
+
+-- something else is wrong with them
+abbrev pub AreWrong : List Text → Type 0
+AreWrong words = (k : ErrorKind) × (k ≢ kind.DisplayHelp) × IsAmong k (fault_of tn words)
+
+-- why words give no run: they are not taken, or name none; where memory is wanting, they may be any
+abbrev pub Refuses : List Text → WordsFault → Type 0
+Refuses words fault.Usage = ((takes tn words ≡ false) × AreWrong words) ⊎ AsksNothing (subcommand_of tn words)
+Refuses words fault.Memory = ⊤
+Refuses words (fault.Help text) = (takes tn words ≡ false) × AsksForHelp words
+
+-- what an error of the parse is told as
+abbrev pub TellsKind : ErrorKind → WordsFault → Type 0
+TellsKind k fault.Usage = (k ≢ kind.OutOfMemory) × (k ≢ kind.DisplayHelp)
+TellsKind k fault.Memory = ⊤
+TellsKind k (fault.Help text) = k ≡ kind.DisplayHelp

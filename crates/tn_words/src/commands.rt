@@ -1,0 +1,315 @@
+//! The command line that `tn` takes, as `clap` reads it.
+
+ghost use Rattle.std.specs.Prelude.{◌≡◌, false, IfOk, codes};
+ghost use Rattle.tn_words.specs.Commands.{tn, offline, plain, serve, connect, whole_rule, with_default, flag_rule};
+ghost use Rattle.tn_words.specs.Commands.{port_rule, line_rule};
+ghost use Rattle.clap.specs.Words.{app_of, new_app, rule_of, shape_of};
+ghost use Rattle.clap.specs.declared.builder.command.Command.TheViews.{out-Command};
+
+use clap::{Arg, ArgAction, Command, value_parser};
+use std::alloc::{AllocError, Global};
+
+pub(crate) const LOCAL: &str = "local";
+
+pub(crate) const REPLAY: &str = "replay";
+
+pub(crate) const WORLD: &str = "world";
+
+pub(crate) const SERVE: &str = "serve";
+
+pub(crate) const CONNECT: &str = "connect";
+
+/// An option that takes a whole number: its name, the least and the greatest.
+#[derive(Clone, Copy)]
+pub(crate) struct Whole {
+    pub(crate) name: &'static str,
+    pub(crate) least: u32,
+    pub(crate) most: u32,
+}
+
+pub(crate) const PORT: Whole = Whole {
+    name: "port",
+    least: 1,
+    most: 65_535,
+};
+
+pub(crate) const LIMIT: Whole = Whole {
+    name: "limit",
+    least: 1,
+    most: 64,
+};
+
+pub(crate) const COUNT: Whole = Whole {
+    name: "count",
+    least: 1,
+    most: 1_000_000,
+};
+
+pub(crate) const TICKS: Whole = Whole {
+    name: "ticks",
+    least: 0,
+    most: 1_000,
+};
+
+pub(crate) const LINE: Whole = Whole {
+    name: "line",
+    least: 255,
+    most: 4_095,
+};
+
+pub(crate) const WIDTH: Whole = Whole {
+    name: "width",
+    least: 0,
+    most: 65_535,
+};
+
+pub(crate) const HEIGHT: Whole = Whole {
+    name: "height",
+    least: 0,
+    most: 65_535,
+};
+
+pub(crate) const LOCALLY: &str = "local";
+
+pub(crate) const VERBOSE: &str = "verbose";
+
+/// The whole command line.
+pub(crate) fn tn_command<'a>(alloc: Global) -> Result<Command<'a>, AllocError>
+    ensures { IfOk result (λ command. app_of command ≡ tn) }
+{
+    let command = offline_command(alloc)?;
+    let command = command.subcommand(serve_command(alloc)?)?;
+    let command = command.subcommand(connect_command(alloc)?)?;
+    Ok(command)
+}
+
+// What needs no network.
+fn offline_command<'a>(alloc: Global) -> Result<Command<'a>, AllocError>
+    ensures { IfOk result (λ command. app_of command ≡ offline) }
+{
+    Command::new(alloc, "tn")
+        .about("Telnet with LINEMODE: a line means the same wherever it was edited")
+        .after_help("Example:\n  printf 'ab\\177c\\r' | tn local")
+        .subcommand_required(true)
+        .disable_help_subcommand(true)
+        .subcommand(local_command(alloc))?
+        .subcommand(replay_command(alloc))?
+        .subcommand(world_command(alloc))
+}
+
+fn local_command<'a>(alloc: Global) -> Command<'a>
+    ensures shape { shape_of result ≡ plain (codes "local") }
+    ensures local { (out-Command result).has_globals ≡ false }
+{
+    described(
+        alloc,
+        LOCAL,
+        "Reads typed keys, and prints the entries that they give",
+        "Reads keys from standard input, as they are typed at one terminal with standard settings, \
+         and prints the entries that its foreground job would read, one a line: `text` and the \
+         bytes of a line in hexadecimal, `eof`, `signal int`, `signal quit` or `signal tstp`. \
+         Keys after the last closing key give nothing.",
+        "Example:\n  printf 'ab\\177c\\r' | tn local\n  text 61630a",
+    )
+}
+
+fn replay_command<'a>(alloc: Global) -> Command<'a>
+    ensures shape { shape_of result ≡ plain (codes "replay") }
+    ensures local { (out-Command result).has_globals ≡ false }
+{
+    described(
+        alloc,
+        REPLAY,
+        "Reads a Telnet client's byte stream, and prints the entries that its keys give",
+        "Reads the byte stream of a Telnet client from standard input. Each byte of data is a key, \
+         and a new line is the line feed key; commands, option words and subnegotiations are passed \
+         over. Prints the entries as `tn local` does.",
+        "Example:\n  printf '\\377\\377\\r\\0' | tn replay\n  text ff0a",
+    )
+}
+
+fn world_command<'a>(alloc: Global) -> Command<'a>
+    ensures shape { shape_of result ≡ plain (codes "world") }
+    ensures local { (out-Command result).has_globals ≡ false }
+{
+    described(
+        alloc,
+        WORLD,
+        "Does a script of what happens at a Telnet server, at its client and between them",
+        "Reads a script from standard input, one command a line, and does it in a world of one server, \
+             one client and the bytes on their way between them. Empty lines are passed over. HEX is pairs \
+             of digits in lower case; N is a number up to 1,000,000, and up to 65,535 in `resize`, where \
+             zeros may lead; F is one of `ip`, `abort`, `eof`, `susp`, `ec`, `el`, `forw1` and `forw2`.\n\n\
+             key HEX: the user types these keys\n\
+             to-server N, to-client N: the first N bytes in flight arrive\n\
+             settle: all that is in flight arrives, until nothing is in flight, in at most 64 rounds\n\
+             write HEX: the job writes this\n\
+             pull N: the server sends the first N symbols of the terminal's screen\n\
+             wish local, wish remote: the server asks for editing at one side\n\
+             echo on, echo off: the server sets its terminal's flag ECHO\n\
+             mask HEX, mask off: the server sends a forward mask of at most 32 octets, or drops it\n\
+             resize N N: the client's window has this width and height\n\
+             set F HEX, propose F HEX: a special character, or `ff` for none\n\
+             take: the job asks for an entry, which is printed as by `tn local`, or `none`\n\
+             mark: prints whether all is at rest\n\
+             flight: prints the bytes in flight\n\
+             shown: prints the server's text on the client's screen\n\
+             server-stops, client-stops: this end is gone",
+        "Example:\n  printf 'settle\\nkey 610d\\nsettle\\ntake\\n' | tn world\n  text 610a",
+    )
+}
+
+fn serve_command<'a>(alloc: Global) -> Result<Command<'a>, AllocError>
+    ensures shape { IfOk result (λ command. shape_of command ≡ serve) }
+    ensures local { IfOk result (λ command. (out-Command command).has_globals ≡ false) }
+{
+    let command = described(
+        alloc,
+        SERVE,
+        "Serves Telnet with LINEMODE to this machine, and writes each line back",
+        "Listens on a port of 127.0.0.1, and gives each connection a terminal with standard settings. \
+         Its job writes each line back; the line `exit` and the end of file (^D on an empty line) end \
+         the session with `bye`, an interrupt (^C) writes `int`, a quit (^\\) `quit`, and a stop (^Z) \
+         `tstp`. One connection more than the limit is told `full` and closed.\n\n\
+         It ends by itself, with status 0, once it has taken as many connections as were asked for and \
+         each of their sessions has ended.",
+        "Example:\n  tn serve --port 2323 --count 2\n\nAnd in another terminal, one after the other:\n  \
+         tn connect --port 2323\n  telnet 127.0.0.1 2323",
+    );
+    let command = command
+        .arg(port_option(alloc, "The port of this machine to listen on"))?
+        .arg(whole_option(alloc, LIMIT, "8", "How many sessions there may be at once"))?
+        .arg(whole_option(
+            alloc,
+            COUNT,
+            "1",
+            "Ends after this many accepted connections",
+        ))?
+        .arg(whole_option(
+            alloc,
+            TICKS,
+            "0",
+            "How often a job in the background writes `tick`",
+        ))?
+        .arg(line_option(alloc))?
+        .arg(flag_option(
+            alloc,
+            LOCALLY,
+            "Lets the client edit the lines, where it can",
+        ))?
+        .arg(flag_option(alloc, VERBOSE, "Notes each connection on standard error"))?;
+    Ok(command)
+}
+
+fn connect_command<'a>(alloc: Global) -> Result<Command<'a>, AllocError>
+    ensures shape { IfOk result (λ command. shape_of command ≡ connect) }
+    ensures local { IfOk result (λ command. (out-Command command).has_globals ≡ false) }
+{
+    let command = described(
+        alloc,
+        CONNECT,
+        "Joins a Telnet server on this machine, as a client with LINEMODE",
+        "Connects to a port of 127.0.0.1. Standard input is the keys, as they are typed, and standard \
+         output the screen. Where the server asks for it, lines are edited here and sent whole. At the \
+         end of its input it sends what is left, tells the server that no more comes, and ends once the \
+         server has closed.\n\n\
+         At a terminal, start it with `./tn connect`, which sets the terminal so that each key is sent at \
+         once, and sets it back at the end. With `tn serve` at the other end, the line `exit` ends the \
+         session, and so does ^D on an empty line.",
+        "Example, where `tn serve --port 2323` runs in another terminal:\n  \
+         printf 'hello\\rexit\\r' | tn connect --port 2323",
+    );
+    let command = command
+        .arg(port_option(alloc, "The port of this machine to connect to"))?
+        .arg(whole_option(
+            alloc,
+            WIDTH,
+            "80",
+            "The width of the window, in characters; 0 tells none",
+        ))?
+        .arg(whole_option(
+            alloc,
+            HEIGHT,
+            "24",
+            "The height of the window, in lines; 0 tells none",
+        ))?
+        .arg(line_option(alloc))?;
+    Ok(command)
+}
+
+// A subcommand without options, with what its help says.
+fn described<'a>(
+    alloc: Global,
+    name: &'static str,
+    about: &'static str,
+    long: &'static str,
+    after: &'static str,
+) -> Command<'a>
+    ensures app { app_of result ≡ new_app name.now }
+    ensures local { (out-Command result).has_globals ≡ false }
+{
+    Command::new(alloc, name)
+        .about(about)
+        .long_about(long)
+        .after_help(after)
+}
+
+// An option that takes a whole number.
+fn number_option<'a>(alloc: Global, whole: Whole) -> Arg<'a>
+    ensures rule { rule_of result ≡ whole_rule whole.name.now whole.least whole.most }
+    ensures local { result.global ≡ false }
+{
+    Arg::new(alloc, whole.name)
+        .long(whole.name)
+        .value_name("N")
+        .value_parser(value_parser!(u32).range(i64::from(whole.least)..=i64::from(whole.most)))
+}
+
+// The same, with the number that it has where it is not given.
+fn whole_option<'a>(
+    alloc: Global,
+    whole: Whole,
+    default: &'static str,
+    help: &'static str,
+) -> Arg<'a>
+    ensures rule { rule_of result
+        ≡ with_default (whole_rule whole.name.now whole.least whole.most) default.now }
+    ensures local { result.global ≡ false }
+{
+    number_option(alloc, whole)
+        .default_value(default)
+        .help(help)
+}
+
+fn port_option<'a>(alloc: Global, help: &'static str) -> Arg<'a>
+    ensures rule { rule_of result ≡ port_rule }
+    ensures local { result.global ≡ false }
+{
+    number_option(alloc, PORT)
+        .value_name("P")
+        .required(true)
+        .help(help)
+}
+
+fn line_option<'a>(alloc: Global) -> Arg<'a>
+    ensures rule { rule_of result ≡ line_rule }
+    ensures local { result.global ≡ false }
+{
+    whole_option(
+        alloc,
+        LINE,
+        "255",
+        "How many bytes a line may have, with its closing byte",
+    )
+}
+
+// An option that is given or not.
+fn flag_option<'a>(alloc: Global, name: &'static str, help: &'static str) -> Arg<'a>
+    ensures rule { rule_of result ≡ flag_rule name.now }
+    ensures local { result.global ≡ false }
+{
+    Arg::new(alloc, name)
+        .long(name)
+        .action(ArgAction::SetTrue)
+        .help(help)
+}

@@ -1,0 +1,16 @@
+//! The words of the command line of `tn`, and what they ask for.
+//!
+//! ```
+//! let asked = read_words(alloc, &["tn", "connect", "--port", "2323"])?;
+//! ```
+//!
+//! It runs nothing of what is asked for.
+#![tactic(auto)]
+
+pub use settings::{Connecting, Serving};
+pub use words::{Asked, WordsFault, read_words};
+
+mod commands;
+pub mod laws;
+mod settings;
+mod words;
