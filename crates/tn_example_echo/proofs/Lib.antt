@@ -1,0 +1,2 @@
+pub mod Echoing
+pub mod Saying

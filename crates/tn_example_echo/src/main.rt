@@ -1,0 +1,72 @@
+//! An echo service without threads: reads what one client sends from standard input, and writes what the server
+//! answers to standard output. Each line that the client types comes back.
+//!
+//! `socat TCP-LISTEN:2323,reuseaddr,fork EXEC:./tn_example_echo` makes a service of it.
+#![tactic(auto)]
+
+ghost use Rattle.std.specs.Prelude.{OnOk};
+ghost use Rattle.tn_example_echo.specs.Said.{SaysMore, Echoes};
+
+use std::alloc::Global;
+use std::io;
+use std::io::{ErrorKind, Read, Write};
+use tn_discipline::{Entry, Limit, Settings};
+use tn_server::{ServerEnd, ServerFault};
+
+/// How many entries may wait at one terminal.
+const MOST_WAITING: usize = 1_024;
+
+/// More symbols than a terminal's screen holds.
+const MOST_SYMBOLS: usize = 65_536;
+
+fn main(rt: HostRuntime) -> io::Result<()> {
+    serve(rt.alloc(), &mut rt.stdin(), &mut rt.stdout())
+}
+
+fn serve<R: Read, W: Write>(alloc: Global, reader: &mut R, writer: &mut W) -> io::Result<()> {
+    let mut out = Vec::new(alloc);
+    let started = ServerEnd::start(alloc, Settings::standard(), Limit::standard(), &mut out);
+    let Ok(mut end) = started else {
+        return Err(io::Error::from(ErrorKind::OutOfMemory));
+    };
+    let mut piece = [0; 512];
+    for _ in 0..u64::MAX {
+        writer.write_all(&out)?;
+        writer.flush()?;
+        out.clear();
+        let count = reader.read(&mut piece)?;
+        if count == 0 || answer(&mut end, &piece[..count], &mut out).is_err() {
+            break;
+        }
+    }
+    Ok(())
+}
+
+// Takes a piece of what the client sends, and answers what waits then.
+fn answer(end: &mut ServerEnd, piece: &[u8], out: &mut Vec<u8>) -> Result<(), ServerFault>
+    ensures { OnOk result (SaysMore end.old out.old.items out.new.items end.new) }
+{
+    end.feed(piece, out)?;
+    for _ in 0..MOST_WAITING {
+        if !answer_next(end, out)? {
+            return Ok(());
+        }
+    }
+    Ok(())
+}
+
+// Answers the first entry that waits: a line comes back. False where none waits.
+fn answer_next(end: &mut ServerEnd, out: &mut Vec<u8>) -> Result<bool, ServerFault>
+    ensures says { OnOk result (SaysMore end.old out.old.items out.new.items end.new) }
+    ensures echoes { OnOk result (Echoes end.old end.new) }
+{
+    match end.take(out)? {
+        Some(Entry::Text(line)) => {
+            end.write(line.as_slice());
+            end.pull(MOST_SYMBOLS, out)?;
+            Ok(true)
+        },
+        Some(_) => Ok(true),
+        None => Ok(false),
+    }
+}

@@ -1,0 +1,37 @@
+-- Keys that were typed at one line, and what is shown of the entries that they gave.
+use Rattle.std.specs.Prelude.{◌≡◌, ℕ, List, [], ◌∷◌, ◌++◌, codes}
+use Rattle.tn_discipline.specs.Advancing.{LeadsTo}
+use Rattle.tn_discipline.specs.Canon.{Canon, typed_entries}
+use Rattle.tn_discipline.specs.Characters.{standard_characters}
+use Rattle.tn_discipline.specs.HalfLine.{HalfLine}
+use Rattle.tn_discipline.specs.Keys.{roles_of, standard_flags}
+use Rattle.tn_discipline.specs.Limits.{standard_limit}
+use Rattle.tn_discipline.specs.declared.reads.Entry.{Entry}
+use Rattle.tn_discipline.specs.declared.reads.Entry.TheVariants.{Text, Eof, Signal}
+use Rattle.tn_discipline.specs.declared.reads.Sig.TheVariants.{Int, Quit, Tstp}
+
+-- a terminal with standard settings and lines of the standard limit
+abbrev pub standard : Canon
+standard = record {
+  settings = record { flags = standard_flags; chars = standard_characters };
+  limit = standard_limit;
+}
+
+-- these keys were typed at the line, and gave these entries
+pub record HasTyped (keys : List ℕ) (line : HalfLine) (entries : List Entry) : Type 0 where
+  pub limit : line.limit ≡ standard.limit
+  pub leaves : LeadsTo (roles_of standard.settings keys) line
+  pub ahead : line.ahead ≡ 0
+  pub gave : entries ≡ typed_entries standard keys
+
+-- one key more was typed, whatever was typed before
+abbrev pub TypesKey : ℕ → HalfLine → List Entry → HalfLine → List Entry → Type 0
+TypesKey key old before new after =
+    (keys : List ℕ) → HasTyped keys old before → HasTyped (keys ++ key ∷ []) new after
+
+abbrev pub shown : Entry → List ℕ
+shown (Text bytes) = bytes
+shown Eof = codes "(end of file)\n"
+shown (Signal Int) = codes "(interrupt)\n"
+shown (Signal Quit) = codes "(quit)\n"
+shown (Signal Tstp) = codes "(stop)\n"
