@@ -31,5 +31,5 @@ echoed h line =
 -- Where a line waits first, it comes back.
 abbrev pub Echoes : End → End → Type 0
 Echoes old new =
-    (h : History) (line : List ℕ) (others : List Entry) → LeadsTo h old → waiting h ≡ Text line ∷ others
-    → LeadsTo (echoed h line) new
+    (h : History) (line : List ℕ) (others : List Entry) → LeadsTo h old
+    → waiting h ≡ Text line ∷ others → LeadsTo (echoed h line) new

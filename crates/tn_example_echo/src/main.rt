@@ -1,5 +1,5 @@
-//! An echo service without threads: reads what one client sends from standard input, and writes what the server
-//! answers to standard output. Each line that the client types comes back.
+//! An echo service without threads: reads what one client sends from standard input, and writes what the
+//! server answers to standard output. Each line that the client types comes back.
 //!
 //! `socat TCP-LISTEN:2323,reuseaddr,fork EXEC:./tn_example_echo` makes a service of it.
 #![tactic(auto)]
@@ -35,8 +35,11 @@ fn serve<R: Read, W: Write>(alloc: Global, reader: &mut R, writer: &mut W) -> io
         writer.flush()?;
         out.clear();
         let count = reader.read(&mut piece)?;
-        if count == 0 || answer(&mut end, &piece[..count], &mut out).is_err() {
+        if count == 0 {
             break;
+        }
+        if answer(&mut end, &piece[..count], &mut out).is_err() {
+            return Err(io::Error::from(ErrorKind::Other));
         }
     }
     Ok(())

@@ -1,5 +1,5 @@
-//! A job of one's own behind a server's session: it counts the lines that the user types, and answers each entry by
-//! how many there were. The client is at standard input and standard output.
+//! A job of one's own behind a server's session: it counts the lines that the user types, and answers each
+//! entry by how many there were. The client is at standard input and standard output.
 //!
 //! `socat TCP-LISTEN:2323,reuseaddr,fork EXEC:./tn_example_job` makes a service of it.
 #![tactic(auto)]

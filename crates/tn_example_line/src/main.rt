@@ -1,5 +1,5 @@
-//! A line editor: reads keys from standard input as they are typed at one terminal, and prints the lines that a
-//! program behind that terminal would read.
+//! A line editor: reads keys from standard input as they are typed at one terminal, and prints the lines
+//! that a program behind that terminal would read.
 //!
 //! `printf 'helo\177lo\r'` into it prints `hello`: the user typed `helo`, ERASE, `lo`, return.
 #![tactic(auto)]

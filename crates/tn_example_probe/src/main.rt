@@ -1,6 +1,6 @@
 //! A probe: reads what a peer sends from standard input, and prints what it asks for, a line for each.
 //!
-//! `nc 127.0.0.1 23 </dev/null` into it shows the opening words of a server.
+//! `timeout 2 nc 127.0.0.1 23 </dev/null | ./tn_example_probe` shows the opening words of a server.
 #![tactic(auto)]
 
 ghost use Rattle.std.specs.Prelude.{ℕ, List, IfOk};
