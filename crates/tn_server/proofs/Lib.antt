@@ -9,3 +9,4 @@ pub mod Wishing
 pub mod Loans
 pub mod lemmas
 pub mod Causes
+pub mod Bounding

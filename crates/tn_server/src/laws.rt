@@ -1,18 +1,24 @@
 //! Laws of the definitions alone.
 
-ghost use Rattle.std.specs.Prelude.{◌≡◌, ◌↔◌, ◌<◌, ◌≤◌, ◌++◌, ℕ, List, All, [], length, map};
+ghost use Rattle.std.specs.Prelude.{◌≡◌, ◌↔◌, ◌<◌, ◌≤◌, ◌+◌, ◌*◌, ◌++◌, ℕ, List, All, [], length, map};
 ghost use Rattle.std.specs.List.{flat_map};
 ghost use Rattle.tn_discipline.specs.Canon.{Canon};
-ghost use Rattle.tn_nvt.specs.Spelling.{Fits};
+ghost use Rattle.tn_discipline.specs.Characters.{AreAllowed};
+ghost use Rattle.tn_nvt.specs.Spelling.{Fits, spells};
 ghost use Rattle.tn_nvt.specs.Feeding as nvt;
 ghost use Rattle.tn_nvt.specs.declared.items.Item.{Item};
 ghost use Rattle.tn_pty.specs.Terminal.{output_symbols};
 ghost use Rattle.tn_server.specs.Course.{Course, started, fed, called, stream, in_parts, IsCall, ReadsAs, CourseLeadsTo};
-ghost use Rattle.tn_server.specs.Events.{Event, History, begun, items, gets, opening_settings};
+ghost use Rattle.tn_server.specs.Events.{Event, got, History, begun, items, gets, opening_settings};
+ghost use Rattle.tn_server.specs.Bounds.{most_said, HasAllowedCharacters, most_of_calls, bytes_due};
+ghost use Rattle.tn_wire.specs.Fronts.{IsRead};
 ghost use Rattle.tn_server.specs.Replies.{data_of, replies, items_said};
 ghost use Rattle.tn_server.specs.Screen.{queue};
 ghost use Rattle.tn_server.specs.Calls.{End, LeadsTo, Advances, ReadsNothing, Feeds};
-ghost use Rattle.tn_server.specs.Terms.{settings};
+ghost use Rattle.tn_server.specs.Terms.{settings, chars};
+
+use tn_discipline::laws::accepted_characters;
+use tn_linemode::laws::{answers_name_their_function, tables_stay_allowed};
 
 /// Items that come are the history's last items, and the end was started with the same settings.
 pub fn items_come()
@@ -69,3 +75,32 @@ pub fn texts_are_whole()
         All (λ part. length part ≤ 4096) parts →
         queue (in_parts h parts) ≡ [] }
 {}
+
+/// What an item is answered by at most: an option word by 43 bytes, a subnegotiation by 30 bytes more than it has
+/// itself, and any other by none.
+pub fn replies_bounded()
+    ensures { (h : History) (item : Item) → AreAllowed (chars h) →
+        length (spells (replies h (got item))) ≤ most_said item }
+{
+    tables_stay_allowed();
+    answers_name_their_function();
+}
+
+/// The characters of a history are such as a terminal can have.
+pub fn characters_are_allowed()
+    ensures { (h : History) → HasAllowedCharacters h → AreAllowed (chars h) }
+{
+    accepted_characters();
+    tables_stay_allowed();
+}
+
+/// For a stream of n bytes at most 9n + 31 bytes are sent, or wait to be, echo included, and those that the owner's
+/// own calls add.
+pub fn sending_bounded()
+    ensures { (h : History) (bytes : List ℕ) → HasAllowedCharacters h → IsRead bytes (items h) →
+        bytes_due h ≤ 9 * length bytes + most_of_calls h + 31 }
+{
+    accepted_characters();
+    tables_stay_allowed();
+    answers_name_their_function();
+}
