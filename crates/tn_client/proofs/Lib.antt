@@ -4,3 +4,4 @@ pub mod Standings
 pub mod Gathering
 pub mod Loans
 pub mod Undoing
+pub mod Bounding
