@@ -5,3 +5,4 @@ pub mod Gathering
 pub mod Loans
 pub mod Undoing
 pub mod Bounding
+pub mod Dropping

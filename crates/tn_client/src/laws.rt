@@ -102,3 +102,9 @@ pub fn sending_bounded()
 {
     answers_name_their_function();
 }
+
+/// A piece that goes on with a subnegotiation that is dropped is not refused: it wants no memory, and completes no item.
+pub fn dropping_goes_on()
+    ensures { (c : Course) (old : End) (piece before after seen now : List ℕ) → CourseLeadsTo c old →
+        nvt.IsLetGo old.decoder piece → ¬ StopsWithin old piece before after seen now }
+{}

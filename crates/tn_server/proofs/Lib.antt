@@ -10,3 +10,4 @@ pub mod Loans
 pub mod lemmas
 pub mod Causes
 pub mod Bounding
+pub mod Dropping

@@ -14,8 +14,9 @@ ghost use Rattle.tn_server.specs.Bounds.{most_said, HasAllowedCharacters, most_o
 ghost use Rattle.tn_wire.specs.Fronts.{IsRead};
 ghost use Rattle.tn_server.specs.Replies.{data_of, replies, items_said};
 ghost use Rattle.tn_server.specs.Screen.{queue};
-ghost use Rattle.tn_server.specs.Calls.{End, LeadsTo, Advances, ReadsNothing, Feeds};
+ghost use Rattle.tn_server.specs.Calls.{End, LeadsTo, Advances, ReadsNothing, Feeds, StopsWithin};
 ghost use Rattle.tn_server.specs.Terms.{settings, chars};
+ghost use Rattle.tn_server.specs.declared.faults.ServerFault.{ServerFault};
 
 use tn_discipline::laws::accepted_characters;
 use tn_linemode::laws::{answers_name_their_function, tables_stay_allowed};
@@ -104,3 +105,9 @@ pub fn sending_bounded()
     tables_stay_allowed();
     answers_name_their_function();
 }
+
+/// A piece that goes on with a subnegotiation that is dropped is not refused: it wants no memory, and completes no item.
+pub fn dropping_goes_on()
+    ensures { (h : History) (old new : End) (piece before after : List ℕ) (fault : ServerFault) →
+        LeadsTo h old → nvt.IsLetGo old.decoder piece → ¬ StopsWithin old piece fault before after new }
+{}
