@@ -3,7 +3,9 @@
 ghost use Rattle.std.specs.Prelude.{◌≡◌, ◌↔◌, ◌<◌, ◌≤◌, ◌+◌, ◌*◌, ◌++◌, ℕ, Bool, true, List, All, false, None, [], length, take};
 ghost use Rattle.tn_linemode.specs.Modes.{edits};
 ghost use Rattle.tn_nvt.specs.Feeding as nvt;
-ghost use Rattle.tn_nvt.specs.Spelling.{spells};
+ghost use Rattle.tn_nvt.specs.Spelling.{spelling, spells};
+ghost use Rattle.tn_nvt.specs.declared.items.Item.TheVariants.{Neg, Sub};
+ghost use Rattle.tn_codes.specs.declared.codes.Verb.{Verb};
 ghost use Rattle.tn_nvt.specs.declared.items.Item.{Item};
 ghost use Rattle.tn_client.specs.Events.{Event, got, History, begun, items, keys, gets};
 ghost use Rattle.tn_client.specs.Bounds.{held_sent, most_answered, most_of_calls, bytes_due};
@@ -93,6 +95,15 @@ pub fn replies_bounded()
 {
     answers_name_their_function();
 }
+
+/// No less would do: each of both numbers is met, by an item at which nothing is held.
+pub fn bounds_are_met()
+    ensures word { (h : History) × (verb : Verb) × (option : ℕ) ×
+        (length (spells (replies h (got (Neg verb option)))) ≡ 16) × (held_sent h (Neg verb option) ≡ []) }
+    ensures subnegotiation { (h : History) × (option : ℕ) × (params : List ℕ) ×
+        (length (spells (replies h (got (Sub option params)))) ≡ length (spelling (Sub option params)))
+        × (held_sent h (Sub option params) ≡ []) }
+{}
 
 /// For a stream of n bytes at most 4n + 4 bytes are sent, or held, beside those that the owner's own keys and calls
 /// add.
