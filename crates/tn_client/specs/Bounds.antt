@@ -13,14 +13,15 @@ use Rattle.tn_client.specs.Terms.{mode}
 abbrev pub held_sent : History → Item → List Item
 held_sent h item = end_of_edit_items (edits (mode h)) (edits (mode (next h (got item)))) (held_bytes h)
 
--- What an item is answered by at most, beside that. An option word: by a word (3 bytes) and the window's size (13). A
--- subnegotiation: by an answer that is no longer than it is.
+-- What an item is answered by at most, beside that. An option word: by a word (3 bytes) and the window's size
+-- (13). A subnegotiation: by an answer that is no longer than it is.
 abbrev pub most_answered : Item → ℕ
 most_answered (Neg verb option) = 16
 most_answered (Sub option params) = length (spelling (Sub option params))
 most_answered _ = 0
 
--- What a call of the owner adds at most to what is sent, or held: two bytes for a key; the window's size; a triple.
+-- What a call of the owner adds at most to what is sent, or held: two bytes for a key; the window's size; a
+-- triple.
 abbrev pub most_of_call : Event → ℕ
 most_of_call (typed key) = 2
 most_of_call (got item) = 0

@@ -11,3 +11,4 @@ pub mod lemmas
 pub mod Causes
 pub mod Bounding
 pub mod Dropping
+pub mod Answered
