@@ -21,7 +21,12 @@ fn the_table_is_told_again_where_linemode_comes_on_again(rt: HostRuntime) {
     plays::<Server>(
         &rt,
         rt.alloc(),
-        "join; says fffc22fffb22 fffe22fffd22.fffa220303020307021c08020409021a0a027f0b0215110000120000fff0; says fffc22fffb22fffc22fffb22 fffe22fffd22.fffa220303020307021c08020409021a0a027f0b0215110000120000fff0.fffe22fffd22.fffa220303020307021c08020409021a0a027f0b0215110000120000fff0",
+        "join; says fffc22fffb22 fffe22fffd22.\
+         fffa220303020307021c08020409021a0a027f0b0215110000120000fff0; \
+         says fffc22fffb22fffc22fffb22 fffe22fffd22.\
+         fffa220303020307021c08020409021a0a027f0b0215110000120000fff0.\
+         fffe22fffd22.\
+         fffa220303020307021c08020409021a0a027f0b0215110000120000fff0",
         "true; true",
     );
 }
@@ -32,7 +37,8 @@ fn an_option_word_is_answered_by_forty_three_bytes_at_most(rt: HostRuntime) {
     plays::<Server>(
         &rt,
         rt.alloc(),
-        "wish local; feed fffd01; says fffc22 ; says fffb22 fffd22.fffa220303020307021c08020409021a0a027f0b0215110000120000fff0.fffa220103fff0fffc01",
+        "wish local; feed fffd01; says fffc22 ; says fffb22 fffd22.\
+         fffa220303020307021c08020409021a0a027f0b0215110000120000fff0.fffa220103fff0fffc01",
         "false; true; true",
     );
 }
@@ -63,7 +69,8 @@ fn payloads_of_wrong_lengths_are_passed_over(rt: HostRuntime) {
     plays::<Server>(
         &rt,
         rt.alloc(),
-        "join; says fffa22030a02fff0fffa1f0050fff0 ; size; says fffa22fff0fffa2201fff0fffa22010303fff0 ; mode",
+        "join; says fffa22030a02fff0fffa1f0050fff0 ; size; \
+         says fffa22fff0fffa2201fff0fffa22010303fff0 ; mode",
         "true; (80, 24); true; 0",
     );
     plays::<Client>(
@@ -94,7 +101,8 @@ fn a_line_more_than_the_job_may_be_behind_ends_the_session(rt: HostRuntime) {
     );
 }
 
-// Nothing costs a client more: a word that turns NAWS on, where each byte of the window's size is spelled twice.
+// Nothing costs a client more: a word that turns NAWS on, where each byte of the window's size is spelled
+// twice.
 #[test]
 fn a_client_answers_no_word_by_more_than_sixteen_bytes(rt: HostRuntime) {
     plays::<Client>(
