@@ -4,3 +4,5 @@ pub mod Standings
 pub mod Gathering
 pub mod Loans
 pub mod Undoing
+pub mod Bounding
+pub mod Dropping

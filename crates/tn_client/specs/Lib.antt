@@ -7,3 +7,4 @@ pub mod Calls
 pub mod Course
 pub mod Steps
 pub mod Lending
+pub mod Bounds

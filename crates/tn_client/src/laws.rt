@@ -1,17 +1,23 @@
 //! Laws of the definitions alone.
 
-ghost use Rattle.std.specs.Prelude.{◌≡◌, ◌↔◌, ◌<◌, ◌≤◌, ◌++◌, ℕ, Bool, true, List, All, false, None, [], length, take};
+ghost use Rattle.std.specs.Prelude.{◌≡◌, ◌↔◌, ◌<◌, ◌≤◌, ◌+◌, ◌*◌, ◌++◌, ℕ, Bool, true, List, All, false, None, [], length, take};
 ghost use Rattle.tn_linemode.specs.Modes.{edits};
 ghost use Rattle.tn_nvt.specs.Feeding as nvt;
+ghost use Rattle.tn_nvt.specs.Spelling.{spelling, spells};
+ghost use Rattle.tn_nvt.specs.declared.items.Item.TheVariants.{Neg, Sub};
+ghost use Rattle.tn_codes.specs.declared.codes.Verb.{Verb};
 ghost use Rattle.tn_nvt.specs.declared.items.Item.{Item};
-ghost use Rattle.tn_client.specs.Events.{Event, History, begun, items, keys, gets};
+ghost use Rattle.tn_client.specs.Events.{Event, got, History, begun, items, keys, gets};
+ghost use Rattle.tn_client.specs.Bounds.{held_sent, most_answered, most_of_calls, bytes_due};
+ghost use Rattle.tn_wire.specs.Fronts.{IsRead};
 ghost use Rattle.tn_client.specs.Terms.{options, mode, forward, linemode};
 ghost use Rattle.tn_client.specs.Lines.{ahead, held_bytes, half_line, count_under};
-ghost use Rattle.tn_client.specs.Replies.{items_said};
+ghost use Rattle.tn_client.specs.Replies.{replies, items_said};
 ghost use Rattle.tn_client.specs.Screen.{text_shown};
 ghost use Rattle.tn_client.specs.Calls.{End, LeadsTo, Advances, ReadsNothing, Feeds, StopsWithin};
 ghost use Rattle.tn_client.specs.Course.{Course, started, fed, called, stream, IsCall, ReadsAs, CourseLeadsTo};
 
+use tn_linemode::laws::answers_name_their_function;
 use tn_nvt::laws::one_reading;
 
 /// Items that come are the history's last items, and no key is typed by them.
@@ -79,4 +85,38 @@ pub fn pieces_join()
 pub fn nothing_is_accepted()
     ensures { (c : Course) (old : End) (before after seen now : List ℕ) → CourseLeadsTo c old →
         ¬ StopsWithin old [] before after seen now }
+{}
+
+/// What an item is answered by at most, beside what is held of a line and is sent where EDIT ends: an option
+/// word by 16 bytes, a subnegotiation by as many as it has itself, and any other by none.
+pub fn replies_bounded()
+    ensures { (h : History) (item : Item) →
+        length (spells (replies h (got item))) ≤ length (spells (held_sent h item)) + most_answered item }
+{
+    answers_name_their_function();
+}
+
+/// No less would do: each of both numbers is met, by an item at which nothing is held.
+pub fn bounds_are_met()
+    ensures word { (h : History) × (verb : Verb) × (option : ℕ) ×
+        (length (spells (replies h (got (Neg verb option)))) ≡ 16) × (held_sent h (Neg verb option) ≡ []) }
+    ensures subnegotiation { (h : History) × (option : ℕ) × (params : List ℕ) ×
+        (length (spells (replies h (got (Sub option params)))) ≡ length (spelling (Sub option params)))
+        × (held_sent h (Sub option params) ≡ []) }
+{}
+
+/// For a stream of n bytes at most 4n + 4 bytes are sent, or held, besides those that the owner's own keys and
+/// calls add.
+pub fn sending_bounded()
+    ensures { (h : History) (bytes : List ℕ) → IsRead bytes (items h) →
+        bytes_due h ≤ 4 * length bytes + most_of_calls h + 4 }
+{
+    answers_name_their_function();
+}
+
+/// A piece that goes on with a subnegotiation that is dropped is not refused: it wants no memory, and completes
+/// no item.
+pub fn dropping_goes_on()
+    ensures { (c : Course) (old : End) (piece before after seen now : List ℕ) → CourseLeadsTo c old →
+        nvt.IsLetGo old.decoder piece → ¬ StopsWithin old piece before after seen now }
 {}

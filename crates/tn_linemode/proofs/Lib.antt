@@ -2,3 +2,4 @@ pub mod lemmas
 pub mod Taking
 pub mod Announcing
 pub mod Offers
+pub mod Ending

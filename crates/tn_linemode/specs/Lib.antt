@@ -1,3 +1,4 @@
 pub mod Modes
 pub mod Triples
 pub mod Exchange
+pub mod Repeating

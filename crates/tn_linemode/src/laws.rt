@@ -1,12 +1,13 @@
 //! Laws of the exchange of local characters, over the definitions alone.
 
-ghost use Rattle.std.specs.Prelude.{◌≡◌, ◌≤◌, true, Some, List, [], length, bit_and};
+ghost use Rattle.std.specs.Prelude.{◌≡◌, ◌≤◌, ◌<◌, ℕ, true, false, Some, List, [], length, bit_and};
 ghost use Rattle.std.specs.List.{list_all};
 ghost use Rattle.tn_codes.specs.Codes.{level_code};
 ghost use Rattle.tn_codes.specs.declared.triples.Triple.{Triple};
 ghost use Rattle.tn_discipline.specs.Characters.{Characters, AreAllowed};
 ghost use Rattle.tn_linemode.specs.Triples.{has_ack, level_of};
-ghost use Rattle.tn_linemode.specs.Exchange.{announcement, server_after, server_answers, client_after, client_answers, server_answer, client_answer, Answers};
+ghost use Rattle.tn_linemode.specs.Exchange.{announcement, server_after, server_answers, server_is_asked, client_after, client_answers, server_answer, client_answer, Answers};
+ghost use Rattle.tn_linemode.specs.Repeating.{repeated};
 
 use tn_discipline::Chars;
 use tn_discipline::laws::accepted_characters;
@@ -22,6 +23,20 @@ pub fn answers_bounded()
     ensures client { (c : Characters) (ts : List Triple) → length (client_answers c ts) ≤ length ts }
     ensures announcement { (c : Characters) → length (announcement c) ≡ 8 }
 {}
+
+/// An exchange ends. To what a client answers nobody answers, the server or a peer that sends it back, and it
+/// changes nothing at the server. A peer that sends back what the server answers is silent after as many
+/// rounds as its list has triples, and one more.
+pub fn exchanges_end()
+    ensures answers { (c s : Characters) (ts : List Triple) → server_answers s (client_answers c ts) ≡ [] }
+    ensures table { (c s : Characters) (ts : List Triple) → server_after s (client_answers c ts) ≡ s }
+    ensures asks { (c : Characters) (ts : List Triple) → server_is_asked (client_answers c ts) ≡ false }
+    ensures sent_back { (c d : Characters) (ts : List Triple) → client_answers d (client_answers c ts) ≡ [] }
+    ensures repeated { (c : Characters) (ts : List Triple) (n : ℕ) →
+        AreAllowed c → length ts < n → repeated n c ts ≡ [] }
+{
+    tables_stay_allowed();
+}
 
 /// At the server acknowledgements change nothing, and are not answered.
 pub fn acknowledgements_end_the_exchange()

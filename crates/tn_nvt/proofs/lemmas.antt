@@ -1,2 +1,4 @@
 pub mod Folding
 pub mod Reading
+pub mod Sizes
+pub mod Dropping

@@ -9,3 +9,6 @@ pub mod Wishing
 pub mod Loans
 pub mod lemmas
 pub mod Causes
+pub mod Bounding
+pub mod Dropping
+pub mod Answered

@@ -1,18 +1,30 @@
 //! Laws of the definitions alone.
 
-ghost use Rattle.std.specs.Prelude.{◌≡◌, ◌↔◌, ◌<◌, ◌≤◌, ◌++◌, ℕ, List, All, [], length, map};
+ghost use Rattle.std.specs.Prelude.{◌≡◌, ◌↔◌, ◌<◌, ◌≤◌, ◌+◌, ◌*◌, ◌++◌, ℕ, List, All, [], length, map};
 ghost use Rattle.std.specs.List.{flat_map};
 ghost use Rattle.tn_discipline.specs.Canon.{Canon};
-ghost use Rattle.tn_nvt.specs.Spelling.{Fits};
+ghost use Rattle.tn_codes.specs.Payloads.{parameters_of};
+ghost use Rattle.tn_codes.specs.declared.payloads.Payload.TheVariants.{Slc};
+ghost use Rattle.tn_codes.specs.declared.triples.Triple.{Triple};
+ghost use Rattle.tn_discipline.specs.Characters.{AreAllowed, Characters};
+ghost use Rattle.tn_linemode.specs.Exchange.{client_answers};
+ghost use Rattle.tn_nvt.specs.declared.items.Item.TheVariants.{Sub};
+ghost use Rattle.tn_nvt.specs.Spelling.{Fits, spells};
 ghost use Rattle.tn_nvt.specs.Feeding as nvt;
 ghost use Rattle.tn_nvt.specs.declared.items.Item.{Item};
 ghost use Rattle.tn_pty.specs.Terminal.{output_symbols};
 ghost use Rattle.tn_server.specs.Course.{Course, started, fed, called, stream, in_parts, IsCall, ReadsAs, CourseLeadsTo};
-ghost use Rattle.tn_server.specs.Events.{Event, History, begun, items, gets, opening_settings};
+ghost use Rattle.tn_server.specs.Events.{Event, got, History, begun, items, gets, opening_settings};
+ghost use Rattle.tn_server.specs.Bounds.{most_said, HasAllowedCharacters, most_of_calls, bytes_due};
+ghost use Rattle.tn_wire.specs.Fronts.{IsRead};
 ghost use Rattle.tn_server.specs.Replies.{data_of, replies, items_said};
 ghost use Rattle.tn_server.specs.Screen.{queue};
-ghost use Rattle.tn_server.specs.Calls.{End, LeadsTo, Advances, ReadsNothing, Feeds};
-ghost use Rattle.tn_server.specs.Terms.{settings};
+ghost use Rattle.tn_server.specs.Calls.{End, LeadsTo, Advances, ReadsNothing, Feeds, StopsWithin};
+ghost use Rattle.tn_server.specs.Terms.{settings, chars};
+ghost use Rattle.tn_server.specs.declared.faults.ServerFault.{ServerFault};
+
+use tn_discipline::laws::accepted_characters;
+use tn_linemode::laws::{answers_name_their_function, exchanges_end, tables_stay_allowed};
 
 /// Items that come are the history's last items, and the end was started with the same settings.
 pub fn items_come()
@@ -68,4 +80,49 @@ pub fn texts_are_whole()
     ensures none { (h : History) (parts : List (List ℕ)) → queue h ≡ [] →
         All (λ part. length part ≤ 4096) parts →
         queue (in_parts h parts) ≡ [] }
+{}
+
+/// What an item is answered by at most: an option word by 43 bytes, a subnegotiation by 30 bytes more than it
+/// has itself, and any other by none.
+pub fn replies_bounded()
+    ensures { (h : History) (item : Item) → AreAllowed (chars h) →
+        length (spells (replies h (got item))) ≤ most_said item }
+{
+    tables_stay_allowed();
+    answers_name_their_function();
+}
+
+/// A list of local characters is answered once: to what a client answered the server says nothing, in whatever
+/// state.
+pub fn answers_are_not_answered()
+    ensures { (h : History) (c : Characters) (ts : List Triple) →
+        replies h (got (Sub 34 (parameters_of (Slc (client_answers c ts))))) ≡ [] }
+{
+    exchanges_end();
+}
+
+/// The characters of a history are such as a terminal can have.
+pub fn characters_are_allowed()
+    ensures { (h : History) → HasAllowedCharacters h → AreAllowed (chars h) }
+{
+    accepted_characters();
+    tables_stay_allowed();
+}
+
+/// For a stream of n bytes at most 9n + 31 bytes are sent, or wait to be, echo included, besides those that the
+/// owner's own calls add.
+pub fn sending_bounded()
+    ensures { (h : History) (bytes : List ℕ) → HasAllowedCharacters h → IsRead bytes (items h) →
+        bytes_due h ≤ 9 * length bytes + most_of_calls h + 31 }
+{
+    accepted_characters();
+    tables_stay_allowed();
+    answers_name_their_function();
+}
+
+/// A piece that goes on with a subnegotiation that is dropped is not refused: it wants no memory, and completes
+/// no item.
+pub fn dropping_goes_on()
+    ensures { (h : History) (old new : End) (piece before after : List ℕ) (fault : ServerFault) →
+        LeadsTo h old → nvt.IsLetGo old.decoder piece → ¬ StopsWithin old piece fault before after new }
 {}

@@ -8,6 +8,7 @@ mod beside_clients;
 mod beside_servers;
 mod clients;
 mod faults;
+mod hostile;
 mod servers;
 
 // The script has this outcome.

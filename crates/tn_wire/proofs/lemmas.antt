@@ -3,3 +3,4 @@ pub mod Listing
 pub mod Fitting
 pub mod Reading
 pub mod OptionWords
+pub mod Sizes

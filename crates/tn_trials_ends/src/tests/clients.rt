@@ -13,8 +13,9 @@ const OPENING: &str = "fffd22fffd1ffffb03fffd03fffb01";
 /// The server asks for EDIT and TRAPSIG, and is rid of its ECHO.
 const EDITING: &str = "fffa220103fff0fffc01";
 
+/// A client, to which scripts speak.
 #[derive(Drop)]
-struct Client {
+pub(super) struct Client {
     alloc: Global,
     end: ClientEnd,
     sent: Vec<u8>,

@@ -11,8 +11,9 @@ use tn_server::{Editing, ServerEnd, ServerFault};
 /// What a client of 80 by 24 that has all the options says to the opening words.
 const JOINING: &str = "fffb22fffb1ffffa1f00500018fff0fffd03fffb03fffd01";
 
+/// A server, to which scripts speak.
 #[derive(Drop)]
-struct Server {
+pub(super) struct Server {
     alloc: Global,
     end: ServerEnd,
     sent: Vec<u8>,
@@ -88,6 +89,7 @@ impl Server {
         match words.verb {
             "join" => self.join(),
             "feed" => self.feed(words, page),
+            "says" => self.says(words, page),
             "take" => self.take(page),
             "pull" => self.pull(words.number(), page),
             "wish" => self.wish(words, page),
@@ -123,6 +125,14 @@ impl Server {
             ended = ended.and(self.end.feed(&piece, &mut self.sent));
         }
         let _memory = self.done(ended, page);
+        false
+    }
+
+    // A piece comes. Tells whether this is what is said.
+    fn says(&mut self, words: Words<'_>, page: &mut Page) -> bool {
+        let ended = self.end.feed(&words.bytes(self.alloc), &mut self.sent);
+        page.say(&(ended.is_ok() && self.sent == bytes_of(self.alloc, words.second)));
+        self.sent.clear();
         false
     }
 

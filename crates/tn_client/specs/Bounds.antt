@@ -1,0 +1,37 @@
+-- How much a client end sends at most, in bytes.
+use Rattle.std.specs.Prelude.{ℕ, ◌+◌, List, length}
+use Rattle.tn_linemode.specs.Modes.{edits}
+use Rattle.tn_nvt.specs.Spelling.{spelling, spells}
+use Rattle.tn_nvt.specs.declared.items.Item.{Item}
+use Rattle.tn_nvt.specs.declared.items.Item.TheVariants.{Neg, Sub}
+use Rattle.tn_client.specs.Events.{Event, typed, got, resized, proposed, History, begun, next}
+use Rattle.tn_client.specs.Lines.{held_bytes}
+use Rattle.tn_client.specs.Replies.{byte_items, end_of_edit_items, items_said}
+use Rattle.tn_client.specs.Terms.{mode}
+
+-- what is held of a line is sent at an item that ends EDIT, and none of it at any other
+abbrev pub held_sent : History → Item → List Item
+held_sent h item = end_of_edit_items (edits (mode h)) (edits (mode (next h (got item)))) (held_bytes h)
+
+-- What an item is answered by at most, beside that. An option word: by a word (3 bytes) and the window's size
+-- (13). A subnegotiation: by an answer that is no longer than it is.
+abbrev pub most_answered : Item → ℕ
+most_answered (Neg verb option) = 16
+most_answered (Sub option params) = length (spelling (Sub option params))
+most_answered _ = 0
+
+-- What a call of the owner adds at most to what is sent, or held: two bytes for a key; the window's size; a
+-- triple.
+abbrev pub most_of_call : Event → ℕ
+most_of_call (typed key) = 2
+most_of_call (got item) = 0
+most_of_call (resized width height) = 13
+most_of_call (proposed func value) = 10
+
+abbrev pub most_of_calls : History → ℕ
+most_of_calls (begun width height limit) = 0
+most_of_calls (next h e) = most_of_calls h + most_of_call e
+
+-- the bytes that were sent, and those that are held of a line
+abbrev pub bytes_due : History → ℕ
+bytes_due h = length (spells (items_said h)) + length (spells (byte_items (held_bytes h)))

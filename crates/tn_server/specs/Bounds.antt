@@ -1,0 +1,44 @@
+-- How much a server end sends at most, in bytes.
+use Rattle.std.specs.Prelude.{◌≡◌, ℕ, ◌+◌, ◌*◌, None, length, map}
+use Rattle.tn_discipline.specs.Characters.{AreAllowed, char_fault}
+use Rattle.tn_nvt.specs.Spelling.{spelling, spells}
+use Rattle.tn_nvt.specs.declared.items.Item.{Item}
+use Rattle.tn_nvt.specs.declared.items.Item.TheVariants.{Neg, Sub}
+use Rattle.tn_server.specs.Events.{Event, got, took, wrote, pulled, wished, char_set, echo_set, mask_set, History, begun, next}
+use Rattle.tn_server.specs.Replies.{data_of, items_said}
+use Rattle.tn_server.specs.Screen.{queue}
+use Rattle.tn_server.specs.Terms.{chars}
+
+-- What an item is answered by at most. An option word: by a word (3 bytes), the whole table (30), a MODE (7) and
+-- a word for ECHO (3). A subnegotiation: by answers that are no longer than it is, and by the whole table.
+abbrev pub most_said : Item → ℕ
+most_said (Neg verb option) = 43
+most_said (Sub option params) = length (spelling (Sub option params)) + 30
+most_said _ = 0
+
+-- the characters are such as a terminal can have: those of the start, and each that the owner set since
+abbrev pub HasAllowedCharacters : History → Type 0
+HasAllowedCharacters (begun canon) = AreAllowed canon.settings.chars
+HasAllowedCharacters (next h (char_set func value)) =
+    HasAllowedCharacters h × (char_fault (chars h) func value ≡ None)
+HasAllowedCharacters (next h _) = HasAllowedCharacters h
+
+-- What a call of the owner adds at most to what is sent, or waits to be: GA; two bytes for each byte of output;
+-- a MODE and a word for ECHO; a triple; a word for ECHO; a forward mask. To pull sends what waited.
+abbrev pub most_of_call : Event → ℕ
+most_of_call (got item) = 0
+most_of_call took = 2
+most_of_call (wrote bytes) = 2 * length bytes
+most_of_call (pulled n) = 0
+most_of_call (wished editing) = 10
+most_of_call (char_set func value) = 9
+most_of_call (echo_set on) = 3
+most_of_call (mask_set mask) = 71
+
+abbrev pub most_of_calls : History → ℕ
+most_of_calls (begun canon) = 0
+most_of_calls (next h e) = most_of_calls h + most_of_call e
+
+-- the bytes that were sent, and those of the symbols that wait
+abbrev pub bytes_due : History → ℕ
+bytes_due h = length (spells (items_said h)) + length (spells (map data_of (queue h)))
