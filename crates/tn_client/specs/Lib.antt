@@ -5,5 +5,6 @@ pub mod Replies
 pub mod Screen
 pub mod Calls
 pub mod Course
+pub mod Stopping
 pub mod Steps
 pub mod Lending

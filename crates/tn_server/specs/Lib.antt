@@ -6,5 +6,6 @@ pub mod Replies
 pub mod Faults
 pub mod Calls
 pub mod Course
+pub mod Stopping
 pub mod Steps
 pub mod Lending
