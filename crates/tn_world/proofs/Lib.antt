@@ -16,4 +16,5 @@ pub mod ServerSteps
 pub mod Showing
 pub mod Soundness
 pub mod Tied
+pub mod TooFar
 pub mod Typing

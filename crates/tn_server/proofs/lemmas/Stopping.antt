@@ -37,11 +37,11 @@ front_said h (item ∷ left) more part rest e =
     )
 
 -- a decoder that has read a stream has not failed
-has_read : (d : DecoderState) (bytes : List ℕ) (had : List Item) → nvt.LeadsTo bytes had d → d ≢ failed
+pub has_read : (d : DecoderState) (bytes : List ℕ) (had : List Item) → nvt.LeadsTo bytes had d → d ≢ failed
 has_read d bytes had r = λ is. (subst (λ x. nvt.LeadsTo bytes had x) is r).stands
 
 -- the pair was too far behind at an item, and then as many waited as may
-many_wait : (h : History) (left : List Item) (here : DecoderState) (back : List ℕ) → IsStopCause h left here back (Pty TooFarAhead) → length (waiting h) ≡ most_waiting
+pub many_wait : (h : History) (left : List Item) (here : DecoderState) (back : List ℕ) → IsStopCause h left here back (Pty TooFarAhead) → length (waiting h) ≡ most_waiting
 many_wait h [] here back why = absurd (let f = why.0 in cc)
 many_wait h (item ∷ left) here back why = why.1
 
