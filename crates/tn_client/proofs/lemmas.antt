@@ -4,3 +4,4 @@ pub mod Lines
 pub mod Fitting
 pub mod Courses
 pub mod Words
+pub mod Stopping

@@ -5,6 +5,7 @@ pub mod Replies
 pub mod Screen
 pub mod Calls
 pub mod Course
+pub mod Stopping
 pub mod Steps
 pub mod Lending
 pub mod Bounds

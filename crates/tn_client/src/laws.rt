@@ -15,6 +15,7 @@ ghost use Rattle.tn_client.specs.Lines.{ahead, held_bytes, half_line, count_unde
 ghost use Rattle.tn_client.specs.Replies.{replies, items_said};
 ghost use Rattle.tn_client.specs.Screen.{text_shown};
 ghost use Rattle.tn_client.specs.Calls.{End, LeadsTo, Advances, ReadsNothing, Feeds, StopsWithin};
+ghost use Rattle.tn_client.specs.Stopping.{StopsBetween};
 ghost use Rattle.tn_client.specs.Course.{Course, started, fed, called, stream, IsCall, ReadsAs, CourseLeadsTo};
 
 use tn_linemode::laws::answers_name_their_function;
@@ -65,6 +66,14 @@ pub fn course_fed()
         CourseLeadsTo c old → (f : Feeds old piece before after seen now new) → ReadsAs c h →
         ReadsAs (fed c piece) k →
         text_shown k ≡ text_shown h ++ f.text }
+{}
+
+/// A piece that is refused: what was appended and what was shown begin what all of its items make the client
+/// say and show.
+pub fn course_stopped()
+    ensures { (c : Course) (old : End) (piece before after seen now : List ℕ) (h whole : History) →
+        CourseLeadsTo c old → StopsWithin old piece before after seen now → ReadsAs c h →
+        ReadsAs (fed c piece) whole → StopsBetween h whole before after seen now }
 {}
 
 /// One call more.

@@ -4,3 +4,4 @@ pub mod Terms
 pub mod Fitting
 pub mod Courses
 pub mod Words
+pub mod Stopping

@@ -6,6 +6,7 @@ pub mod Replies
 pub mod Faults
 pub mod Calls
 pub mod Course
+pub mod Stopping
 pub mod Steps
 pub mod Lending
 pub mod Bounds

@@ -20,6 +20,7 @@ ghost use Rattle.tn_wire.specs.Fronts.{IsRead};
 ghost use Rattle.tn_server.specs.Replies.{data_of, replies, items_said};
 ghost use Rattle.tn_server.specs.Screen.{queue};
 ghost use Rattle.tn_server.specs.Calls.{End, LeadsTo, Advances, ReadsNothing, Feeds, StopsWithin};
+ghost use Rattle.tn_server.specs.Stopping.{StopsBetween};
 ghost use Rattle.tn_server.specs.Terms.{settings, chars};
 ghost use Rattle.tn_server.specs.declared.faults.ServerFault.{ServerFault};
 
@@ -56,6 +57,14 @@ pub fn course_fed()
     ensures said { (c : Course) (old new : End) (piece before after : List ℕ) (h k : History) →
         CourseLeadsTo c old → (f : Feeds old piece before after new) → ReadsAs c h → ReadsAs (fed c piece) k →
         items_said k ≡ items_said h ++ f.said }
+{}
+
+/// A piece that is refused: the first of its items are done, and what was appended begins what all of them
+/// make the server say.
+pub fn course_stopped()
+    ensures { (c : Course) (old new : End) (piece before after : List ℕ) (fault : ServerFault)
+        (h whole : History) → CourseLeadsTo c old → StopsWithin old piece fault before after new → ReadsAs c h →
+        ReadsAs (fed c piece) whole → StopsBetween h whole fault before after new }
 {}
 
 /// One call more.

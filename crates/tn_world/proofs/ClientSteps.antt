@@ -1,5 +1,5 @@
 -- What a client end does with keys and with what comes is what the relation says of a client, said of its history.
-use Rattle.std.proofs.Common.{◌≡◌, ◌≢◌, ◌⊎◌, inl, inr, ◌<◌, ℕ, zero, suc, ◌+◌, ◌-◌, ◌==◌, nat_lt, nat_le, Bool, true, false, not, ◌&&◌, ◌||◌, Option, Some, None, List, [], ◌∷◌, ◌++◌, length, refl, sym, ap, ◌∙◌, if◌then◌else◌, subst, arith, append-nil, append_assoc}
+use Rattle.std.proofs.Common.{◌≡◌, ◌⊎◌, inl, inr, ◌<◌, ℕ, zero, suc, ◌-◌, ◌==◌, nat_lt, nat_le, Bool, true, false, not, ◌&&◌, ◌||◌, Option, Some, None, List, [], ◌∷◌, ◌++◌, length, refl, sym, ap, ◌∙◌, if◌then◌else◌, subst, arith, append-nil, append_assoc}
 use Rattle.std.specs.Prelude.{All, bit_or}
 use Rattle.std.proofs.lemmas.Bool.{eqb-true}
 use Rattle.std.proofs.lemmas.List.{append_cancel_left}
@@ -26,17 +26,18 @@ use Rattle.tn_linemode.specs.Modes.{edits, mode_of, is_acknowledged, client_mask
 use Rattle.tn_nvt.specs.Spelling.{Fits}
 use Rattle.tn_nvt.specs.declared.items.Item.{Item}
 use Rattle.tn_nvt.specs.declared.items.Item.TheVariants.{Byte, Newline, Cmd, Neg, Sub}
-use Rattle.tn_option.specs.Options.{Options}
 use Rattle.tn_client.specs.Events.{typed, got, resized, History, next, gets}
 use Rattle.tn_client.specs.Terms as terms
 use Rattle.tn_client.specs.Terms.{linemode, tells_size, payload_at, options, changes, mode_by, mode_at, forward_by, forward_at, chars_by, chars, size}
 use Rattle.tn_client.specs.Lines.{role_of_typed, role_at, line_limit, is_forward, count_under, line, settings_by}
 use Rattle.tn_client.specs.Replies.{byte_items, command_of, command_items, raw_key_items, edited_key_items, sent_ahead_items, key_items, size_items, payload_answers, answer_items, end_of_edit_items, is_same_size, replies, items_said}
 use Rattle.tn_wire.specs.Words.{payload_items, mode_items}
-use Rattle.tn_client.specs.Calls.{End, LeadsTo, Advances, ReadsNothing, Sends, Feeds}
+use Rattle.tn_client.specs.Calls.{End, LeadsTo, Advances, ReadsNothing, Sends, Feeds, StopsWithin}
 use Rattle.tn_client.specs.Steps.{is_sent_now, line_sent, line_typed, count_typed, line_left, count_left, count_told}
 use Rattle.tn_client.proofs.lemmas.Ends.{line_is}
-use Rattle.tn_client.proofs.lemmas.Histories.{mode-small}
+use Rattle.tn_client.proofs.lemmas.Histories.{mode-small, gets-append}
+use Rattle.tn_client.proofs.lemmas.Stopping.{front_said}
+use Rattle.tn_nvt.specs.Feeding as nvt
 use Rattle.tn_client.proofs.lemmas.Lines.{end_at, line_after_key, line_beside_key, line-came, trapped-next, plain-next, trapped-came, plain-came}
 use Rattle.tn_world.specs.relation.Machine as machine
 use Rattle.tn_world.specs.relation.Machine.{Mode, Rules, Message, chatter, Client, Part, Sent, byte, newline, mode_ack, other, bytes, ordinary_key, erase_key, kill_key, edit_key, remote_item, count_next, client_after_key, is_same, client_with_mode, client_after_mode, client_after_message, IsAskable}
@@ -599,6 +600,32 @@ feeds_done rules h old new piece before after server_item now s stays runs f cal
 pub feeds_stay : (rules : Rules) (h : History) (old new : End) (piece before after server_item now : List ℕ) → LeadsTo h old → ClientStays rules old → (f : Feeds old piece before after server_item now new) → All (IsCalmToClient rules.canon.settings) f.items → ClientStays rules new
 feeds_stay rules h old new piece before after server_item now s stays f calm =
     stays_at rules (gets h f.items) new (f.stands h s) (items-came rules h f.items (kept_at rules h old s stays) calm).kept
+
+-- A PIECE THAT WAS REFUSED
+-- What these items say to any server begins with this.
+pub record SaysFront (rules : Rules) (c : Client) (items said : List Item) : Type 0 where
+  pub all : List Item
+  pub rest : List Item
+  pub whole : all ≡ said ++ rest
+  pub writes : SaysItems rules (client_after_messages rules c (client_messages rules items)).items all
+
+-- Of calm items a front of what they say was said.
+pub stops_done : (rules : Rules) (h : History) (old : End) (piece before after seen now bytes : List ℕ) (had : List Item) → LeadsTo h old → nvt.LeadsTo bytes had old.decoder → ClientStays rules old → old.failed ≡ false → (x : StopsWithin old piece before after seen now) → All (IsCalmToClient rules.canon.settings) (x.done ++ x.left) → SaysFront rules (client_core old) (x.done ++ x.left) (x.said ++ x.part)
+stops_done rules h old piece before after seen now bytes had s read stays runs x calm =
+    let items = x.done ++ x.left in
+    let all = items-came rules h items (kept_at rules h old s stays) calm in
+    let u = front_said (gets h x.done) x.left [] x.part x.here x.back (x.why h bytes had s read) in
+    let here : items_said (gets h items) ≡ items_said h ++ ((x.said ++ x.part) ++ u.0) =
+    ap items_said (gets-append h x.done x.left ∙ ap (gets (gets h x.done)) (sym (append-nil x.left)))
+    ∙ u.1 ∙ ap (λ (xs : List Item). xs ++ (x.part ++ u.0)) (x.sends h s)
+    ∙ append_assoc (items_said h) x.said (x.part ++ u.0)
+    ∙ ap (λ (xs : List Item). items_said h ++ xs) (sym (append_assoc x.said x.part u.0)) in
+    record {
+      all = all.said;
+      rest = u.0;
+      whole = append_cancel_left (items_said h) all.said ((x.said ++ x.part) ++ u.0) (sym all.sends ∙ here);
+      writes = subst (λ (c : Client). SaysItems rules (client_after_messages rules c (client_messages rules items)).items all.said) (sym (core_at h old s runs)) all.writes;
+    }
 
 -- A NEW SIZE of the window says nothing of lines
 pub resized_done : (rules : Rules) (h : History) (old new : End) (width height : ℕ) (before after : List ℕ) → LeadsTo h old → old.failed ≡ false → Advances old (resized width height) new → ReadsNothing old new → (g : Sends old (resized width height) before after) → ClientSays rules (client_picture old) g.said (client_picture new)

@@ -1,5 +1,5 @@
 -- From a settled moment at rest the relation of the ends holds after every quiet list of events at which no end failed.
-use Rattle.std.proofs.Common.{◌≡◌, inl, inr, ℕ, Bool, true, false, List, [], ◌∷◌, ◌++◌, take, drop, flat_map, refl, sym, ap, ◌∙◌, subst}
+use Rattle.std.proofs.Common.{◌≡◌, inl, inr, ℕ, Bool, true, false, List, [], ◌∷◌, ◌++◌, take, drop, flat_map, sym, ap, ◌∙◌, subst}
 use Rattle.std.specs.Prelude.{All, option_to_list}
 use Rattle.std.proofs.lemmas.List.Elements.{All-nil, All-cons}
 use Rattle.tn_discipline.specs.Canon.{Canon}
@@ -29,7 +29,7 @@ use Rattle.tn_world.proofs.Tied.{all_parts, happens-tied}
 use Rattle.tn_world.specs.relation.Relation.{IsRelated, IsTied, picture, rules_of}
 
 -- a call that makes no entry and takes none changes no character either
-calls : (e : server_calls.Event) → KeepsEntries e → IsCall e
+pub calls : (e : server_calls.Event) → KeepsEntries e → IsCall e
 calls (server_calls.wrote bytes) p = tt
 calls (server_calls.pulled n) p = tt
 calls (server_calls.wished editing) p = tt
@@ -51,7 +51,7 @@ segments_fit (cut bytes next ∷ segments) rest stream h = segments_fit segments
 reading_fits : (stream : List ℕ) (items : List Item) (rest : List ℕ) → Reading stream items rest → All Fits items
 reading_fits stream items rest r = subst (λ l. All Fits l) (sym r.read) (segments_fit r.segments rest stream r.splits)
 
-flight_fits : (d : DecoderState) (flight : List ℕ) (items : List Item) → InFlight d flight items → All Fits items
+pub flight_fits : (d : DecoderState) (flight : List ℕ) (items : List Item) → InFlight d flight items → All Fits items
 flight_fits d flight items f = (all_parts Fits f.had items (reading_fits (f.stream ++ flight) (f.had ++ items) [] f.reads)).1
 
 -- a key

@@ -4,6 +4,7 @@ pub mod Changing
 pub mod ClientSteps
 pub mod ClientWrites
 pub mod Cut
+pub mod Failing
 pub mod Following
 pub mod Marking
 pub mod Prefixes
@@ -15,4 +16,5 @@ pub mod ServerSteps
 pub mod Showing
 pub mod Soundness
 pub mod Tied
+pub mod TooFar
 pub mod Typing

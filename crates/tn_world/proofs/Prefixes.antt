@@ -3,6 +3,7 @@ use Rattle.std.proofs.Common.{◌≡◌, ℕ, Bool, true, false, List, [], ◌�
 use Rattle.tn_discipline.specs.declared.reads.Entry.{Entry}
 use Rattle.tn_discipline.specs.Canon.{Canon, typed_entries}
 use Rattle.tn_discipline.specs.Steps.{gain_next}
+use Rattle.tn_world.specs.relation.Ends.{ServerEnd, TakesFirst}
 use Rattle.tn_world.specs.relation.Machine.{Rules, Item, Server, item_role, read, read_item, read_all, Client}
 use Rattle.tn_world.specs.Headline.{IsPrefixOf}
 use Rattle.tn_world.specs.relation.Relation.{Agrees, server_at}
@@ -45,6 +46,18 @@ agreed rules typed taken v c a = ap (λ (x : Server). taken ++ x.waiting) a.is �
 pub popped : (s : Canon) (v : Server) (items : List Item) (x : Entry) (entries : List Entry) → v.waiting ≡ x ∷ entries → read_all s v items ≡ fronted x (read_all s (record v { waiting = entries }) items)
 popped s v items x entries is =
     ap (λ l. read_all s (record v { waiting = l }) items) is ∙ read-fronted s x (record v { waiting = entries }) items
+
+-- whether one is taken or none waits, those taken and those that wait stay as they are side by side
+pub taken-waits : (s : Canon) (old new : ServerEnd) (taken entry : List Entry) (items : List Item) → TakesFirst old entry new → (taken ++ entry) ++ (read_all s new.core items).waiting ≡ taken ++ (read_all s old.core items).waiting
+taken-waits s old new taken [] items h =
+    ap (λ (xs : List Entry). xs ++ (read_all s new.core items).waiting) (append-nil taken)
+    ∙ ap (λ (v : ServerEnd). taken ++ (read_all s v.core items).waiting) h.1
+taken-waits s old new taken (x ∷ none) items h =
+    let later = read_all s (record (old.core) { waiting = h.0 }) items in
+    ap (λ (v : ServerEnd). (taken ++ x ∷ none) ++ (read_all s v.core items).waiting) h.3
+    ∙ ap (λ (l : List Entry). (taken ++ x ∷ l) ++ later.waiting) h.2
+    ∙ append_assoc taken (x ∷ []) later.waiting
+    ∙ ap (λ (v : Server). taken ++ v.waiting) (sym (popped s old.core items x h.0 h.1))
 
 pub take-agrees : (rules : Rules) (typed : List ℕ) (taken : List Entry) (v : Server) (c : Client) (items : List Item) (x : Entry) (entries : List Entry) → v.waiting ≡ x ∷ entries → Agrees rules typed taken (read_all rules.canon v items) c → Agrees rules typed (taken ++ x ∷ []) (read_all rules.canon (record v { waiting = entries }) items) c
 take-agrees rules typed taken v c items x entries is a =

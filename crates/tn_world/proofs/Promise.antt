@@ -13,14 +13,14 @@ use Rattle.tn_world.specs.declared.events.Event.{Event}
 use Rattle.tn_world.specs.declared.faults.Cause.{Cause}
 use Rattle.tn_world.proofs.Following.{holds_passes}
 use Rattle.tn_world.proofs.Marking.{mark_holds}
-use Rattle.tn_world.proofs.Tied.{tied-prefix, tied-complete}
+use Rattle.tn_world.proofs.Failing.{both, stage_begins, stage_passes}
+use Rattle.tn_world.proofs.Tied.{tied-complete}
 use Rattle.tn_world.specs.relation.Relation.{picture, rules_of}
 
 -- the headline
-pub passes_prefix : (s : Canon) (start new : World) (events : List Event) → IsMark s start → PassesQuietly start events new → NoneFailed new → IsPrefixOf (entries_made new) (local_entries s new.typed)
-passes_prefix s start new events m p none =
-    let h = holds_passes s start new events none p (mark_holds s start m) in
-    tied-prefix (rules_of s h.linemode) (picture new) h.tied
+pub passes_prefix : (s : Canon) (start new : World) (events : List Event) → IsMark s start → PassesQuietly start events new → IsPrefixOf (entries_made new) (local_entries s new.typed)
+passes_prefix s start new events m p =
+    stage_begins s new (stage_passes s start new events p (both (m.settled.idle.server_failed, m.settled.idle.client_failed) (mark_holds s start m)))
 
 pub passes_complete : (s : Canon) (start new : World) (events : List Event) → IsMark s start → PassesQuietly start events new → NoneFailed new → NothingInFlight new → entries_made new ≡ local_entries s new.typed
 passes_complete s start new events m p none nothing =
@@ -29,7 +29,7 @@ passes_complete s start new events m p none nothing =
 
 pub headline : (s : Canon) (w : World) → FollowsMark s w → Headline s w
 headline s w f = record {
-  prefix = λ none. passes_prefix s f.start w f.events f.mark f.passes none;
+  prefix = passes_prefix s f.start w f.events f.mark f.passes;
   complete = λ none nothing. passes_complete s f.start w f.events f.mark f.passes none nothing;
 }
 

@@ -419,6 +419,14 @@ feeds_replies rules h old new piece before after s stays works f fit calm =
     replies_of rules f.said (feeds_fit h old new piece before after s f)
     (subst (All (IsCalmToClient rules.canon.settings)) (append_cancel_left (items_said h) later.said f.said (sym later.sends ∙ f.sends h s)) later.made)
 
+-- The entries that wait where the first calm items of a piece were done.
+pub stops_waiting : (rules : Rules) (h : History) (old new : End) (done : List Item) → LeadsTo h old → ServerStays rules old → old.failed ≡ false → LeadsTo (gets h done) new → All Fits done → All IsCalmToServer done → new.terminal.entries ≡ (read_all rules.canon (server_core old) (server_items rules done)).waiting
+stops_waiting rules h old new done s stays works stands fit calm =
+    let later = goes_on rules h done (kept_at rules h old s stays) fit calm in
+    sym (waits_are (gets h done) new stands)
+    ∙ ap (λ (v : Server). v.waiting) later.core
+    ∙ ap (λ (v : Server). (read_all rules.canon v (server_items rules done)).waiting) (sym (core_at h old s ∙ ap (core_of h) works))
+
 -- THE OWNER'S CALLS that change no character
 abbrev pub IsCall : Event → Type 0
 IsCall (got item) = ⊥

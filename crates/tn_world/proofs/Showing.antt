@@ -290,7 +290,7 @@ runs_grow old new (e ∷ events) text s runs r o =
     (later.0, (r.0, r.1, g, later.1))
 
 -- where they lead
-runs_sound : (old new : World) (events : List Event) → Runs old events new → HasPast old → HasPast new
+pub runs_sound : (old new : World) (events : List Event) → Runs old events new → HasPast old → HasPast new
 runs_sound old new [] r s = subst HasPast (sym r) s
 runs_sound old new (e ∷ events) r s = runs_sound r.0 new events r.2 (sound_does old r.0 e r.1 s)
 

@@ -14,14 +14,14 @@ use Rattle.tn_discipline.specs.declared.reads.Entry.{Entry}
 use Rattle.tn_discipline.specs.declared.termios.Settings.{Settings}
 use Rattle.tn_world.specs.relation.Calm.{IsCalmToServer, AsksCalmly, IsCalmToClient, server_item, heard_payload, client_message}
 use Rattle.tn_world.specs.Flight.{InFlight}
-use Rattle.tn_world.specs.Headline.{IsPrefixOf, local_entries}
+use Rattle.tn_world.specs.Headline.{local_entries}
 use Rattle.tn_world.specs.relation.Machine as machine
 use Rattle.tn_world.specs.relation.Machine.{Mode, Rules, Message, mode, forward_at, chatter, Server, read_all, Client, client_after_key, client_after_message, IsAskable}
 use Rattle.tn_world.proofs.Cut.{behind, cut_at, no_items}
 use Rattle.tn_world.proofs.Reading.{read_all-append}
 use Rattle.tn_world.proofs.Changing as was
 use Rattle.tn_world.proofs.Changing.{key-agrees, message-agrees}
-use Rattle.tn_world.proofs.Prefixes.{take-agrees, agreed, prefix_after, prefix_same, prefix_trans, read-more}
+use Rattle.tn_world.proofs.Prefixes.{take-agrees, agreed}
 use Rattle.tn_world.specs.relation.Ends.{ServerEnd, ClientEnd, server_items, client_messages, AreReplies, ServerFeeds, with_waiting, TakesFirst, SaysItems, ClientKeys, client_after_messages, ClientFeeds, ClientSays, World, Event, key, to_server, to_client, take_entry, server_call, client_call, Happens, made}
 use Rattle.tn_world.specs.relation.Relation.{Agrees, IsTied, server_at}
 
@@ -58,7 +58,7 @@ askable_as s linemode (Neg verb option) h = tt
 askable_as s linemode (Sub option params) h = askable_payload s linemode (payload_of option params) h
 
 -- messages that come one after another
-all-agree : (rules : Rules) (typed : List ℕ) (taken : List Entry) (v : Server) (c : Client) (items : List Item) → Agrees rules typed taken v c → All (IsCalmToClient rules.canon.settings) items → Agrees rules typed taken (read_all rules.canon v (client_after_messages rules c (client_messages rules items)).items) (client_after_messages rules c (client_messages rules items)).client
+pub all-agree : (rules : Rules) (typed : List ℕ) (taken : List Entry) (v : Server) (c : Client) (items : List Item) → Agrees rules typed taken v c → All (IsCalmToClient rules.canon.settings) items → Agrees rules typed taken (read_all rules.canon v (client_after_messages rules c (client_messages rules items)).items) (client_after_messages rules c (client_messages rules items)).client
 all-agree rules typed taken v c [] a calm = a
 all-agree rules typed taken v c (item ∷ items) a calm =
     let m = client_message rules.linemode item in
@@ -179,12 +179,6 @@ rest-agrees rules m f askable =
       plain = tt;
       count = λ e allowed. no_count rules.canon.settings.flags.isig 0;
     }
-
-pub tied-prefix : (rules : Rules) (w : World) → IsTied rules w → IsPrefixOf (made w) (local_entries rules.canon w.typed)
-tied-prefix rules w t =
-    prefix_trans (made w) (w.taken ++ (read_all rules.canon w.server.core (server_items rules t.items)).waiting) (local_entries rules.canon w.typed)
-    (prefix_after w.taken w.server.core.waiting (read_all rules.canon w.server.core (server_items rules t.items)).waiting (read-more rules.canon w.server.core (server_items rules t.items)))
-    (prefix_same _ _ (agreed rules w.typed w.taken (read_all rules.canon w.server.core (server_items rules t.items)) w.client.core t.agrees))
 
 pub tied-complete : (rules : Rules) (w : World) → IsTied rules w → w.to_server ≡ [] → made w ≡ local_entries rules.canon w.typed
 tied-complete rules w t nothing =

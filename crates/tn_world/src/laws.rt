@@ -1,6 +1,6 @@
 //! The headline and Output, as laws over the definitions alone. A world at a settled moment at rest
-//! goes through events; where it ends with no end failed, the entries that jobs took and those that
-//! wait are compared with those of the typed keys at a local terminal.
+//! goes through events, some of them refused, and then the entries that jobs took and those that wait
+//! are compared with those of the typed keys at a local terminal.
 
 ghost use Rattle.std.specs.Prelude.{◌≡◌, ℕ, false, List};
 ghost use Rattle.tn_discipline.specs.Canon.{Canon};
@@ -10,14 +10,14 @@ ghost use Rattle.tn_world.specs.Output.{IsOutput, OutputGrows};
 ghost use Rattle.tn_world.specs.Worlds.{World, RunsEvent};
 ghost use Rattle.tn_world.specs.declared.events.Event.{Event};
 
-/// Whatever the mode does meanwhile, what was made is a prefix of what the keys give.
+/// Whatever the mode does meanwhile, and whichever end fails, what was made is a prefix of what the keys
+/// give.
 pub fn headline_prefix()
     ensures { (s : Canon) (start end : World) (events : List Event) → IsMark s start →
-        PassesQuietly start events end → NoneFailed end →
-        IsPrefixOf (entries_made end) (local_entries s end.typed) }
+        PassesQuietly start events end → IsPrefixOf (entries_made end) (local_entries s end.typed) }
 {}
 
-/// It is all of it where nothing is in flight.
+/// It is all of it where nothing is in flight and no end has failed.
 pub fn headline_complete()
     ensures { (s : Canon) (start end : World) (events : List Event) → IsMark s start →
         PassesQuietly start events end → NoneFailed end → NothingInFlight end →

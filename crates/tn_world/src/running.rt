@@ -4,7 +4,7 @@ ghost use Rattle.std.specs.Prelude.{◌≡◌, ◌<◌, ℕ, false, List, length
 ghost use Rattle.tn_discipline.specs.Canon.{Canon};
 ghost use Rattle.tn_world.specs.Headline.{Headline, FollowsMark, IsQuiet};
 ghost use Rattle.tn_world.specs.Output.{IsOutput, OutputGrowsAll, OutputGrowsBefore};
-ghost use Rattle.tn_world.specs.Worlds.{RunsEvent, Refuses, Runs, StopsWithin};
+ghost use Rattle.tn_world.specs.Worlds.{RunsEvent, Refuses, Runs, StopsWithin, ShowsCause};
 ghost use Rattle.tn_world.specs.declared.events.Event.TheVariants as event;
 
 use crate::events::Event;
@@ -21,6 +21,7 @@ impl World {
     pub fn run(&mut self, events: &[Event]) -> Result<(), WorldFault>
         ensures runs { OnOk result (Runs self.old events.now self.new) }
         ensures ends { IfErr result (λ fault. StopsWithin self.old events.now fault.at fault.cause self.new) }
+        ensures causes { IfErr result (λ fault. ShowsCause fault.cause self.new) }
         ensures follows { (canon : Canon) → FollowsMark canon self.old → IsQuiet self.old events.now →
             FollowsMark canon self.new }
         ensures headline { (canon : Canon) → FollowsMark canon self.old → IsQuiet self.old events.now →

@@ -7,13 +7,14 @@ use Rattle.tn_discipline.specs.declared.keys.Role.TheVariants as role
 use Rattle.tn_discipline.specs.declared.reads.Entry.{Entry}
 use Rattle.tn_nvt.specs.declared.items.Item.{Item}
 use Rattle.tn_server.specs.Terms.{allows_local}
+use Rattle.tn_world.specs.Headline.{IsPrefixOf, local_entries}
 use Rattle.tn_world.specs.Past.{HasPast}
 use Rattle.tn_world.specs.relation.Calm.{IsCalmToServer, IsCalmToClient}
 use Rattle.tn_world.specs.relation.Ends as ends
 use Rattle.tn_world.specs.relation.Ends.{server_items}
 use Rattle.tn_world.specs.Flight.{InFlight}
 use Rattle.tn_world.specs.relation.Machine.{Rules, Server, read_all, Client, IsAskable}
-use Rattle.tn_world.specs.relation.Pictures.{server_picture, client_picture, ServerStays, ClientStays}
+use Rattle.tn_world.specs.relation.Pictures.{server_core, server_picture, client_picture, ServerStays, ClientStays}
 use Rattle.tn_world.specs.Worlds.{World}
 
 -- a server that goes on
@@ -74,4 +75,17 @@ pub record IsRelated (canon : Canon) (w : World) : Type 0 where
   pub tied : IsTied (rules_of canon linemode) (picture w)
   pub server : ServerStays (rules_of canon linemode) w.server
   pub client : ClientStays (rules_of canon linemode) w.client
+  pub past : HasPast w
+
+-- What is left of it where the client has failed, and says nothing more: the entries taken, followed by those that wait at the
+-- server once it has read what is in flight to it, begin those of the typed keys.
+pub record IsBehind (canon : Canon) (w : World) : Type 0 where
+  pub linemode : Bool
+  pub items : List Item
+  pub flight : InFlight w.server.decoder w.to_server items
+  pub calm : All IsCalmToServer items
+  pub begins : IsPrefixOf (w.taken
+      ++ (read_all canon (server_core w.server) (server_items (rules_of canon linemode) items)).waiting)
+      (local_entries canon w.typed)
+  pub server : ServerStays (rules_of canon linemode) w.server
   pub past : HasPast w

@@ -1,6 +1,7 @@
 use Rattle.std.proofs.Common.{refl, subst}
 use Rattle.tn_world.proofs.Promise.{runs_more, runs_whole, runs_stop, run_follows, end_follows, headline}
 use Rattle.tn_world.proofs.Showing.{runs_grow, ends_grow}
+use Rattle.tn_world.proofs.TooFar.{shows_cause}
 use Rattle.tn_world.specs.Past.{HasPast}
 use Rattle.tn_world.specs.Worlds.{World}
 use Rattle.tn_world.proofs.world.World.run.Goals as goal
@@ -13,6 +14,9 @@ loop-at-preserved c = record { runs = runs_more c.args.self.now c.loop-at.self c
 
 pub returns-in-Err-clause-ends : goal.returns-in-Err-clause-ends
 returns-in-Err-clause-ends c = runs_stop c.args.self.now c.loop-at.self c.happen.new.self c.args.events.now c.loop-at.at c.index-events-at.result c.in-Err.cause c.loop-at-test.true c.index-events-at.is c.loop-at.invariant.runs c.in-Err.ensures.err
+
+pub returns-in-Err-clause-causes : goal.returns-in-Err-clause-causes
+returns-in-Err-clause-causes c = shows_cause c.args.self.now c.happen.new.self c.args.events.now c.loop-at.at c.in-Err.cause (subst (λ (w : World). HasPast w) c.self.view_is c.self.invariant) (returns-in-Err-clause-ends c)
 
 pub returns-in-Err-clause-follows : goal.returns-in-Err-clause-follows
 returns-in-Err-clause-follows c = end_follows c.args.self.now c.happen.new.self c.args.events.now c.loop-at.at c.in-Err.cause (returns-in-Err-clause-ends c)

@@ -1,0 +1,19 @@
+-- Where a piece of the stream leads that was refused.
+use Rattle.std.specs.Prelude.{◌≡◌, ℕ, List, ◌++◌}
+use Rattle.tn_nvt.specs.Spelling.{spells}
+use Rattle.tn_nvt.specs.declared.items.Item.{Item}
+use Rattle.tn_client.specs.Events.{History}
+use Rattle.tn_client.specs.Replies.{items_said}
+use Rattle.tn_client.specs.Screen.{text_shown}
+
+-- The whole piece would have led from one history to the other. What was appended spells a front of what all its items make
+-- the client say, and what was shown is a front of what they all show.
+pub record StopsBetween (h whole : History) (before after seen now : List ℕ) : Type 0 where
+  pub said : List Item
+  pub unsaid : List Item
+  pub appended : after ≡ before ++ spells said
+  pub sends : items_said whole ≡ items_said h ++ (said ++ unsaid)
+  pub text : List ℕ
+  pub unshown : List ℕ
+  pub displayed : now ≡ seen ++ text
+  pub shows : text_shown whole ≡ text_shown h ++ (text ++ unshown)
