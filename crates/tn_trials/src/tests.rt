@@ -6,4 +6,5 @@ mod forward;
 mod keys;
 mod midline;
 mod programs;
+mod refusals;
 mod worlds;

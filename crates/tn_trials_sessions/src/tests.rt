@@ -4,5 +4,6 @@ mod connections;
 mod cores;
 mod gates;
 mod programs;
+mod refusals;
 mod sessions;
 mod terminals;

@@ -12,11 +12,11 @@ use tn_server::{Editing, ServerFault};
 use tn_world::{Cause, Event, ToWhom, World, WorldFault};
 
 /// The most bytes of a delivery.
-const ALL: usize = usize::MAX;
+pub(super) const ALL: usize = usize::MAX;
 
 const KEYS: [u8; 12] = [b'a', b'b', b'c', 255, 3, 26, 4, 127, 127, 21, 13, 10];
 
-fn open(alloc: Global, limit: Limit) -> Result<World, WorldFault> {
+pub(super) fn open(alloc: Global, limit: Limit) -> Result<World, WorldFault> {
     World::open(alloc, Settings::standard(), 80, 24, limit)
 }
 
@@ -25,7 +25,7 @@ fn is_silent(world: &World) -> bool {
 }
 
 // All to the client and then all to the server, while anything is in flight.
-fn settle(world: &mut World) -> Result<(), WorldFault> {
+pub(super) fn settle(world: &mut World) -> Result<(), WorldFault> {
     for _ in 0..64 {
         if is_silent(world) {
             return Ok(());
@@ -35,7 +35,7 @@ fn settle(world: &mut World) -> Result<(), WorldFault> {
     Ok(())
 }
 
-fn settle_with(world: &mut World, event: Event) -> Result<(), WorldFault> {
+pub(super) fn settle_with(world: &mut World, event: Event) -> Result<(), WorldFault> {
     world.run(&[event])?;
     settle(world)
 }
@@ -65,7 +65,7 @@ fn at_a_terminal(alloc: Global, keys: &[u8], most: usize) -> Vec<Entry> {
 }
 
 // What was made are the first of the entries that the keys give, and all of them at rest.
-fn agrees(rt: &impl Abort, alloc: Global, world: &World, most: usize) {
+pub(super) fn agrees(rt: &impl Abort, alloc: Global, world: &World, most: usize) {
     let local = at_a_terminal(alloc, world.typed(), most);
     let (taken, rest) = local.split_at(world.taken().len().min(local.len()));
     assert_eq!(rt; world.taken(), taken);

@@ -142,7 +142,7 @@ impl Read for Endless {
 
 /// Gives some keys, and then fails.
 #[derive(Drop)]
-struct Broken(bool);
+pub(super) struct Broken(pub(super) bool);
 
 impl Read for Broken {
     fn read(&mut self, buf: &mut [u8]) -> io::Result<usize> {

@@ -15,7 +15,7 @@ const OPENING: usize = 15;
 
 /// Writes each line back; `exit` and the end of the input end it, and a signal is named.
 #[derive(Drop)]
-struct Echo;
+pub(super) struct Echo;
 
 fn text_of(alloc: Global, bytes: &[u8]) -> Result<Text, AllocError> {
     let mut text = Vec::new(alloc);
@@ -57,8 +57,8 @@ impl Job for Echo {
 
 /// Makes so many jobs.
 #[derive(Drop)]
-struct Jobs {
-    left: u8,
+pub(super) struct Jobs {
+    pub(super) left: u8,
 }
 
 impl Maker for Jobs {

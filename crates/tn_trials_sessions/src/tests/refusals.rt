@@ -1,0 +1,172 @@
+//! Sessions whose reader or writer fails, or for which memory is refused.
+
+use super::sessions::{Jobs, Open, ended};
+use std::alloc::Global;
+use std::io::{self, ErrorKind, Read, Write};
+use std::process::Abort;
+use std::sync::{Arc, Wait};
+use std::thread::Threads;
+use tn_discipline::{Limit, Settings};
+use tn_server::{Editing, ServerFault};
+use tn_session::{Ended, Finish, Report, SessionFault, serve_session};
+
+/// Gives some bytes at once, and then its end, or a fault.
+#[derive(Drop)]
+struct Once {
+    bytes: &'static [u8],
+    fails: bool,
+}
+
+impl Read for Once {
+    fn read(&mut self, buf: &mut [u8]) -> io::Result<usize> {
+        let count = self.bytes.len().min(buf.len());
+        let (front, rest) = self.bytes.split_at(count);
+        buf[..count].copy_from_slice(front);
+        self.bytes = rest;
+        if count == 0 && self.fails {
+            return Err(io::Error::from(ErrorKind::Other));
+        }
+        Ok(count)
+    }
+}
+
+/// Takes what it is given, but for one call, which fails or takes nothing.
+#[derive(Drop)]
+struct Failing {
+    taken: Vec<u8>,
+    before: u32,
+    takes_none: bool,
+}
+
+impl Write for Failing {
+    fn write(&mut self, buf: &[u8]) -> io::Result<usize> {
+        if self.before == 0 {
+            if self.takes_none {
+                return Ok(0);
+            }
+            return Err(io::Error::from(ErrorKind::Other));
+        }
+        self.before = self.before.saturating_sub(1);
+        self.taken.extend_from_slice(buf)?;
+        Ok(buf.len())
+    }
+
+    fn flush(&mut self) -> io::Result<()> {
+        Ok(())
+    }
+}
+
+impl Finish for Failing {
+    fn finish(&mut self) {}
+}
+
+/// The opening words, the line, and GA.
+const WHOLE: [u8; 20] = [
+    255, 253, 34, 255, 253, 31, 255, 251, 3, 255, 253, 3, 255, 251, 1, 97, 13, 10, 255, 249,
+];
+
+// A session to which a line comes, and then the end of the input or a fault.
+fn served<R: Threads + Wait + Copy + Send + 'static>(
+    rt: R,
+    alloc: Global,
+    fails: bool,
+    writer: &mut Failing,
+) -> Result<Report, SessionFault> {
+    let Ok(gate) = Arc::new(alloc, Open) else {
+        return Err(SessionFault::Memory);
+    };
+    let reader = Once {
+        bytes: b"a\r\0",
+        fails,
+    };
+    let (settings, limit) = (Settings::standard(), Limit::standard());
+    let (maker, editing) = (Jobs { left: 1 }, Editing::Remote);
+    match serve_session(
+        rt, alloc, reader, writer, settings, limit, editing, maker, gate,
+    ) {
+        Ok((report, _ports)) => Ok(report),
+        Err(fault) => Err(fault),
+    }
+}
+
+fn writer(alloc: Global, before: u32, takes_none: bool) -> Failing {
+    Failing {
+        taken: Vec::new(alloc),
+        before,
+        takes_none,
+    }
+}
+
+// How a session may end where an allocation was refused.
+fn is_refused(answer: &Result<Report, SessionFault>) -> bool {
+    match answer {
+        Err(fault) => matches!(
+            fault,
+            SessionFault::Memory | SessionFault::Start | SessionFault::Channel
+        ),
+        Ok(report) => matches!(
+            report.ended,
+            Ended::Fault(
+                SessionFault::Memory
+                    | SessionFault::Write
+                    | SessionFault::Server(ServerFault::Memory | ServerFault::Pty(_))
+            )
+        ),
+    }
+}
+
+// The session ends so and writes all; where an allocation was refused, a second one does, and the first
+// has written a front.
+fn ends<R: Abort + Threads + Wait + Copy + Send + 'static>(
+    rt: R,
+    alloc: Global,
+    fails: bool,
+    how: Ended,
+) {
+    for _try in 0..2 {
+        let mut writer = writer(alloc, u32::MAX, false);
+        let answer = served(rt, alloc, fails, &mut writer);
+        if answer == Ok(ended(how, 1, 1, 0)) && writer.taken.as_slice() == WHOLE.as_slice() {
+            return;
+        }
+        assert!(rt; is_refused(&answer), "{answer:?}");
+        assert!(rt; WHOLE.starts_with(writer.taken.as_slice()));
+    }
+    assert!(rt; false, "refused twice");
+}
+
+#[test]
+fn a_session_tells_a_failed_read(rt: HostRuntime) {
+    ends(rt, rt.alloc(), true, Ended::Fault(SessionFault::Read));
+}
+
+#[test]
+fn a_session_ends_where_its_input_does(rt: HostRuntime) {
+    ends(rt, rt.alloc(), false, Ended::HangUp);
+}
+
+#[test]
+fn a_session_tells_a_failed_write(rt: HostRuntime) {
+    let alloc = rt.alloc();
+    let mut refused = 0u32;
+    let mut failed = 0u32;
+    for (before, takes_none) in (0..16).zip([true, false].into_iter().cycle()) {
+        let mut writer = writer(alloc, before, takes_none);
+        let answer = served(rt, alloc, false, &mut writer);
+        assert!(rt; WHOLE.starts_with(writer.taken.as_slice()));
+        match answer {
+            Ok(report) if report.ended == Ended::HangUp => {
+                assert!(rt; writer.taken.as_slice() == WHOLE.as_slice());
+            },
+            Ok(report) if report.ended == Ended::Fault(SessionFault::Write) => {
+                failed = failed.saturating_add(1);
+            },
+            other => {
+                assert!(rt; is_refused(&other), "{other:?}");
+                refused = refused.saturating_add(1);
+            },
+        }
+    }
+    assert!(rt; refused <= 1);
+    assert!(rt; (2..16).contains(&failed), "{failed}");
+}
