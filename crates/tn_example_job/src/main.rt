@@ -1,7 +1,6 @@
 //! A job of one's own behind a server's session: it counts the lines that the user types, and answers each
-//! entry by how many there were. The client is at standard input and standard output.
-//!
-//! `socat TCP-LISTEN:2323,reuseaddr,fork EXEC:./tn_example_job` makes a service of it.
+//! entry by how many there were. The session reads what a client sends from standard input, and what the
+//! server sends is written to standard output once the session has ended.
 #![tactic(auto)]
 
 ghost use Rattle.std.specs.Prelude.{◌≡◌, IfOk};
@@ -9,23 +8,23 @@ ghost use Rattle.tn_example_job.specs.Counting.{told};
 
 use std::alloc::{AllocError, Global};
 use std::io;
-use std::io::{ErrorKind, Stdout, Write};
+use std::io::{ErrorKind, Write};
 use std::sync::Arc;
 use tn_discipline::{Entry, Limit, Settings, Text};
 use tn_jobs::{After, Job, Reaction};
 use tn_server::Editing;
-use tn_session::{Finish, Gate, Maker, Place, serve_session};
+use tn_session::{Gate, Maker, Place, serve_session};
 
 fn main(rt: HostRuntime) -> io::Result<()> {
     let alloc = rt.alloc();
     let gate = Arc::new(alloc, Unwatched)?;
-    let (keys, mut out) = (rt.stdin(), Screen(rt.stdout()));
+    let (keys, mut out) = (rt.stdin(), Vec::new(alloc));
     let (settings, limit) = (Settings::standard(), Limit::standard());
     let (editing, jobs) = (Editing::Remote, OneJob(false));
     match serve_session(
         rt, alloc, keys, &mut out, settings, limit, editing, jobs, gate,
     ) {
-        Ok(_) => Ok(()),
+        Ok(_) => rt.stdout().write_all(&out),
         Err(_) => Err(io::Error::from(ErrorKind::Other)),
     }
 }
@@ -89,21 +88,4 @@ struct Unwatched;
 
 impl Gate for Unwatched {
     fn at(&self, _place: Place) {}
-}
-
-#[derive(Drop)]
-struct Screen(Stdout);
-
-impl Write for Screen {
-    fn write(&mut self, bytes: &[u8]) -> io::Result<usize> {
-        self.0.write(bytes)
-    }
-
-    fn flush(&mut self) -> io::Result<()> {
-        self.0.flush()
-    }
-}
-
-impl Finish for Screen {
-    fn finish(&mut self) {}
 }
