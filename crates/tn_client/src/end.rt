@@ -259,7 +259,7 @@ impl ClientEnd {
         }
         match self.table.propose(func, value) {
             Err(fault) => Err(ClientFault::Char(fault)),
-            Ok(triple) => match put_triple(self.alloc, triple, out) {
+            Ok(triple) => match put_triple(triple, out) {
                 Ok(()) => Ok(()),
                 Err(_) => Err(ClientFault::Memory),
             },

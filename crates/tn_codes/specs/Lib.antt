@@ -2,3 +2,4 @@ pub mod Codes
 pub mod Masks
 pub mod Payloads
 pub mod PayloadOf
+pub mod Counted

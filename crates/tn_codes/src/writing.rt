@@ -1,12 +1,13 @@
 //! Writes the parameters of a subnegotiation.
 
-ghost use Rattle.std.specs.Prelude.{◌≡◌, ◌+◌, ◌≤◌, ◌<◌, ◌++◌, ◌∷◌, length, flat_map};
-ghost use Rattle.std.specs.Prelude.{vec_len, vec_capacity, OnOk, OnErr};
+ghost use Rattle.std.specs.Prelude.{◌≡◌, ◌+◌, ◌≤◌, ◌<◌, ◌++◌, [], ◌∷◌, length, flat_map};
+ghost use Rattle.std.specs.Prelude.{vec_len, vec_capacity, OnOk, OnErr, IfSome, IfNone};
 ghost use Rattle.tn_codes.specs.declared.codes.Verb.TheVariants.{DoIt};
 ghost use Rattle.tn_codes.specs.Codes.{verb_code};
 ghost use Rattle.tn_codes.specs.Masks as mask;
 ghost use Rattle.tn_codes.specs.Payloads.{Says, option_of, parameters_of, IsShort};
 ghost use Rattle.tn_codes.specs.Payloads.{forwardmask, slc, octets_of};
+ghost use Rattle.tn_codes.specs.Counted.{listed, HasMany};
 
 use crate::codes::Verb;
 use crate::payloads::{FORWARDMASK, MODE, Payload, SLC};
@@ -25,18 +26,50 @@ pub fn write_payload(payload: &Payload, out: &mut Vec<u8>) -> Result<(), AllocEr
         (vec_capacity out.old < vec_len out.old + length (parameters_of payload.now)) }
 {
     match payload {
+        Payload::ForwardOn(mask) => write_mask(trimmed(&mask.0), out),
+        Payload::Slc(triples) => write_triples(triples.as_slice(), out),
+        _ => match few_parameters(payload) {
+            Some(Few::Two(parameters)) => out.extend_from_slice(&parameters),
+            Some(Few::Four(parameters)) => out.extend_from_slice(&parameters),
+            None => Ok(()),
+        },
+    }
+}
+
+/// Two or four parameters, which stand in no list.
+#[derive(Clone, Copy)]
+pub enum Few {
+    Two([u8; 2]),
+    Four([u8; 4]),
+}
+
+/// The parameters of a payload that always has as many of them, at most four: `None` for a mask and
+/// for a list.
+pub fn few_parameters(payload: &Payload) -> Option<Few>
+    ensures some { IfSome result (λ few. listed few ≡ parameters_of payload.now) }
+    ensures said { IfSome result (λ few. Says (option_of payload.now) (listed few) payload.now) }
+    ensures few { IfSome result (λ few. length (listed few) ≤ 4) }
+    ensures none { IfNone result (HasMany payload.now) }
+{
+    match payload {
         Payload::Naws { width, height } => {
             let [a, b] = width.to_be_bytes();
             let [c, d] = height.to_be_bytes();
-            out.extend_from_slice(&[a, b, c, d])
+            Some(Few::Four([a, b, c, d]))
         },
-        Payload::Mode(mask) => out.extend_from_slice(&[MODE, *mask]),
-        Payload::ForwardOn(mask) => write_mask(trimmed(&mask.0), out),
-        Payload::ForwardOff => out.extend_from_slice(&[Verb::DontIt.code(), FORWARDMASK]),
-        Payload::ForwardYes => out.extend_from_slice(&[Verb::Will.code(), FORWARDMASK]),
-        Payload::ForwardNo => out.extend_from_slice(&[Verb::Wont.code(), FORWARDMASK]),
-        Payload::Slc(triples) => write_triples(triples.as_slice(), out),
+        Payload::Mode(mask) => Some(Few::Two([MODE, *mask])),
+        Payload::ForwardOff => Some(Few::Two([Verb::DontIt.code(), FORWARDMASK])),
+        Payload::ForwardYes => Some(Few::Two([Verb::Will.code(), FORWARDMASK])),
+        Payload::ForwardNo => Some(Few::Two([Verb::Wont.code(), FORWARDMASK])),
+        Payload::ForwardOn(_) | Payload::Slc(_) => None,
     }
+}
+
+/// The parameters of a list of one triple.
+pub fn triple_parameters(triple: Triple) -> [u8; 4]
+    ensures { result ≡ parameters_of (Payload.Slc (triple ∷ [])) }
+{
+    [SLC, triple.func, triple.flags, triple.value]
 }
 
 // The octets without the zeros at their end.

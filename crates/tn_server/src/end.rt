@@ -270,7 +270,7 @@ impl ServerEnd {
             Err(fault) => return Err(ServerFault::Char(fault)),
         }
         let is_told = self.terms.has_linemode() && before != value;
-        match put_char(self.alloc, is_told, func, value, out) {
+        match put_char(is_told, func, value, out) {
             Ok(()) => {
                 self.table = table;
                 self.pair.set_chars(table.chars());

@@ -12,7 +12,6 @@ use tn_wire::{put_payload, put_triple};
 
 /// Appends the triple of one character, where it is to be told.
 pub(crate) fn put_char(
-    alloc: Global,
     is_told: bool,
     func: Func,
     value: Option<u8>,
@@ -25,7 +24,7 @@ pub(crate) fn put_char(
     if !is_told {
         return Ok(());
     }
-    put_triple(alloc, triple_of(func, value), out)
+    put_triple(triple_of(func, value), out)
 }
 
 /// Appends a forward mask, or that there is none any more.

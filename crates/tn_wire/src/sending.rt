@@ -6,7 +6,7 @@ ghost use Rattle.tn_nvt.specs.Spelling.{spells};
 ghost use Rattle.tn_wire.specs.Words.{word_items, payload_items, mode_items, list_items};
 
 use std::alloc::{AllocError, Global};
-use tn_codes::{Payload, Triple, Triples, Verb, write_payload};
+use tn_codes::{Few, Payload, Triple, Triples, Verb, few_parameters, triple_parameters, write_payload};
 use tn_nvt::{put_neg, put_sub};
 use tn_option::{LINEMODE, NAWS};
 
@@ -28,9 +28,16 @@ pub fn put_payload(alloc: Global, payload: &Payload, out: &mut Vec<u8>) -> Resul
     ensures ok { OnOk result (out.new.items ≡ out.old.items ++ spells (payload_items payload.now)) }
     ensures err { OnErr result (out.new.items ≡ out.old.items) }
 {
-    let mut params = Vec::new(alloc);
-    write_payload(payload, &mut params)?;
-    put_sub(option_of(payload), &params, out)
+    let option = option_of(payload);
+    match few_parameters(payload) {
+        Some(Few::Two(parameters)) => put_sub(option, &parameters, out),
+        Some(Few::Four(parameters)) => put_sub(option, &parameters, out),
+        None => {
+            let mut parameters = Vec::new(alloc);
+            write_payload(payload, &mut parameters)?;
+            put_sub(option, &parameters, out)
+        },
+    }
 }
 
 // The option whose subnegotiation carries it.
@@ -72,11 +79,9 @@ pub fn put_list(alloc: Global, triples: Vec<Triple>, out: &mut Vec<u8>) -> Resul
 }
 
 /// Appends a list of one triple.
-pub fn put_triple(alloc: Global, triple: Triple, out: &mut Vec<u8>) -> Result<(), AllocError>
+pub fn put_triple(triple: Triple, out: &mut Vec<u8>) -> Result<(), AllocError>
     ensures ok { OnOk result (out.new.items ≡ out.old.items ++ spells (list_items (triple ∷ []))) }
     ensures err { OnErr result (out.new.items ≡ out.old.items) }
 {
-    let mut triples = Vec::new(alloc);
-    triples.push(triple)?;
-    put_list(alloc, triples, out)
+    put_sub(LINEMODE, &triple_parameters(triple), out)
 }

@@ -1,0 +1,21 @@
+-- Parameters that stand in no list.
+use Rattle.std.specs.Prelude.{ℕ, List}
+use Rattle.tn_codes.specs.declared.payloads.Payload.{Payload}
+use Rattle.tn_codes.specs.declared.payloads.Payload.TheVariants.{Naws, Mode, ForwardOn, ForwardOff, ForwardYes, ForwardNo, Slc}
+use Rattle.tn_codes.specs.declared.writing.Few.{Few}
+use Rattle.tn_codes.specs.declared.writing.Few.TheVariants.{Two, Four}
+
+-- the same parameters as a list
+abbrev pub listed : Few → List ℕ
+listed (Two parameters) = parameters
+listed (Four parameters) = parameters
+
+-- a payload that has as many parameters as its mask or its list asks for
+abbrev pub HasMany : Payload → Type 0
+HasMany (Naws width height) = ⊥
+HasMany (Mode mask) = ⊥
+HasMany (ForwardOn mask) = Unit {0}
+HasMany ForwardOff = ⊥
+HasMany ForwardYes = ⊥
+HasMany ForwardNo = ⊥
+HasMany (Slc triples) = Unit {0}
