@@ -193,6 +193,14 @@ impl Pair {
         Ok(count)
     }
 
+    /// The master takes the first symbol; `None` where none waits to be pulled.
+    pub fn pull_symbol(&mut self) -> Option<Symbol>
+        ensures first { result ≡ slice_get self.old.queue 0 }
+        ensures pair { self.new ≡ record self.old { queue = drop 1 self.old.queue } }
+    {
+        self.queue.pop_front()
+    }
+
     /// How many symbols wait to be pulled.
     pub fn queued(&self) -> usize
         ensures value { result ≡ length self.now.queue }
