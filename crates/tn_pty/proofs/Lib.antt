@@ -1,2 +1,2 @@
 pub mod Shown
-pub mod Fronts
+pub mod lemmas

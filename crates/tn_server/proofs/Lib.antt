@@ -3,6 +3,7 @@ pub mod Calling
 pub mod Listing
 pub mod Passing
 pub mod Settling
+pub mod Spelling
 pub mod Standings
 pub mod Turning
 pub mod Wishing

@@ -18,7 +18,7 @@ ghost use Rattle.tn_server.specs.Faults.{IsOfItem, IsOfPiece, IsFault, SaysSomet
 ghost use Rattle.tn_server.specs.Calls.{LeadsTo, Advances, ReadsNothing, Feeds, StopsWithin, call_fault, char_fault_at, mask_fault};
 
 use crate::faults::ServerFault;
-use crate::screen::{SYMBOL_BYTES, spell_all};
+use crate::screen::{SYMBOL_BYTES, spell_front};
 use crate::sending::{put_char, put_mask};
 use crate::taking::Lent;
 use crate::terms::Negotiation;
@@ -203,15 +203,9 @@ impl ServerEnd {
             Ok(()) => {},
             Err(_) => return Err(ServerFault::Memory),
         }
-        let mut symbols = Vec::new(self.alloc);
-        match self.pair.pull(most, &mut symbols) {
-            Ok(count) => {
-                spell_all(&symbols, out);
-                self.pulled = true;
-                Ok(count)
-            },
-            Err(_) => Err(ServerFault::Memory),
-        }
+        spell_front(&mut self.pair, most, out);
+        self.pulled = true;
+        Ok(most)
     }
 
     /// Wishes for editing at one side, and appends what follows: a MODE where LINEMODE is on and the

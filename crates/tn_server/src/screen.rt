@@ -1,21 +1,26 @@
 //! Symbols of the screen as bytes of the stream.
 
-ghost use Rattle.std.specs.Prelude.{◌≡◌, ◌+◌, ◌*◌, ◌≤◌, ◌++◌, map, length, vec_len, vec_capacity};
+ghost use Rattle.std.specs.Prelude.{◌≡◌, ◌+◌, ◌*◌, ◌≤◌, ◌++◌, map, take, drop, length, vec_len, vec_capacity};
 ghost use Rattle.tn_nvt.specs.Spelling.{spelling, spells};
 ghost use Rattle.tn_server.specs.Replies.{data_of};
 
 use tn_discipline::Symbol;
+use tn_pty::Pair;
 
 /// How many bytes a symbol takes at most.
 pub(crate) const SYMBOL_BYTES: usize = 2;
 
-/// Appends the spellings of symbols to a vector that has room.
-pub(crate) fn spell_all(symbols: &[Symbol], out: &mut Vec<u8>)
-    requires { vec_len out.old + 2 * length symbols.now ≤ vec_capacity out.old }
-    ensures { out.new.items ≡ out.old.items ++ spells (map data_of symbols.now) }
+/// Moves the first symbols of a pair to a vector that has room, each in its spelling.
+pub(crate) fn spell_front(pair: &mut Pair, count: usize, out: &mut Vec<u8>)
+    requires enough { count ≤ length pair.old.queue }
+    requires room { vec_len out.old + 2 * count ≤ vec_capacity out.old }
+    ensures out { out.new.items ≡ out.old.items ++ spells (map data_of (take count pair.old.queue)) }
+    ensures pair { pair.new ≡ record pair.old { queue = drop count pair.old.queue } }
 {
-    for symbol in symbols {
-        spell(*symbol, out);
+    for _i in 0..count {
+        if let Some(symbol) = pair.pull_symbol() {
+            spell(symbol, out);
+        }
     }
 }
 

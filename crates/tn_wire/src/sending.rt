@@ -6,7 +6,9 @@ ghost use Rattle.tn_nvt.specs.Spelling.{spells};
 ghost use Rattle.tn_wire.specs.Words.{word_items, payload_items, mode_items, list_items};
 
 use std::alloc::{AllocError, Global};
-use tn_codes::{Few, Payload, Triple, Triples, Verb, few_parameters, triple_parameters, write_payload};
+use tn_codes::{
+    Few, Payload, Triple, Triples, Verb, few_parameters, triple_parameters, write_payload,
+};
 use tn_nvt::{put_neg, put_sub};
 use tn_option::{LINEMODE, NAWS};
 

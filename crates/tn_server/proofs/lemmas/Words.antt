@@ -22,7 +22,7 @@ use Rattle.tn_option.specs.QMethod.{cell}
 use Rattle.tn_option.specs.declared.negotiation.Agree.{Agree}
 use Rattle.tn_option.specs.declared.q_method.AskFault.{AskFault}
 use Rattle.tn_option.specs.declared.q_method.Side.TheVariants.{Us, Them}
-use Rattle.tn_option.proofs.lemmas.Agreement.{Moves, same-Moves, then-Moves}
+use Rattle.tn_option.proofs.lemmas.Agreement.{Moves, then-Moves}
 use Rattle.tn_wire.specs.OptionWords.{words_in}
 use Rattle.tn_wire.proofs.lemmas.OptionWords.{words_in-append, words_in-word, words_in-list, words_in-mode}
 use Rattle.tn_wire.specs.Words.{payload_items, list_items, mode_items}
@@ -31,7 +31,7 @@ use Rattle.tn_server.specs.Course.{IsCall}
 use Rattle.tn_server.specs.Events.{Event, History, next, got, took, wrote, pulled, wished, char_set, echo_set, mask_set, gets}
 use Rattle.tn_server.specs.Replies.{asked_word_items, reply_items, table_items, new_table_items, echo_items, items_by, items_at, list_replies, triple_items, forward_payload, data_of, opening, replies, items_said}
 use Rattle.tn_server.specs.Screen.{queue, sends_ga, none_waits, due}
-use Rattle.tn_server.specs.Terms.{Terms, terms, agreement, opening_options, options, flags, chars, linemode, payload_at, options_after, wish_at, is_echo_set, wish_after, mask_told, asks_echo, asked_mask_of, wants_echo, options_with_echo, chars_after}
+use Rattle.tn_server.specs.Terms.{Terms, terms, agreement, opening_options, options, flags, chars, linemode, payload_at, options_after, wish_at, wish_after, mask_told, asks_echo, asked_mask_of, wants_echo, options_with_echo, chars_after}
 use Rattle.tn_server.specs.declared.wishes.Editing.{Editing}
 
 -- a server's options and those of its client, and the words that are on their way to each

@@ -1,6 +1,6 @@
 use Rattle.std.proofs.Common.{◌≡◌, ◌<◌, ◌++◌, ◌∷◌, [], length, take, sym, ap, ◌∙◌, add-one, arith, append_assoc, vec_len, vec_capacity}
 use Rattle.circular_buffer.specs.Buffer.{buffer}
-use Rattle.tn_pty.proofs.Fronts.{take-suc, drop-suc, one_left}
+use Rattle.tn_pty.proofs.lemmas.Fronts.{take-suc, drop-suc, one_left}
 use Rattle.tn_pty.proofs.pty.move_front.Goals as goal
 use Rattle.tn_pty.proofs.pty.move_front.Goals.{in-Some, in_default}
 
