@@ -234,9 +234,8 @@ impl ClientEnd {
         ensures err { OnErr result (self.new ≡ self.old) }
         ensures err_out { OnErr result (Begins out.old.items out.new.items) }
     {
-        // The line hands its bytes on as they are; what is sent are their spellings.
-        let mut held = Vec::new(self.alloc);
         put_bytes(self.line.held(), out)?;
-        self.line.release(&mut held)
+        self.line.hand_on();
+        Ok(())
     }
 }

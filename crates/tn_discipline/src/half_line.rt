@@ -184,9 +184,18 @@ impl Line {
         ensures some { OnErr result (0 < length self.old.held) }
     {
         out.extend_from_slice(self.held.as_slice())?;
+        self.hand_on();
+        Ok(())
+    }
+
+    /// The bytes that are held were handed on by whoever calls: from now on they are ahead.
+    pub fn hand_on(&mut self)
+        // No key is typed: whatever keys led to this half line lead to the one that is there now.
+        ensures half { KeepsHalf self.old self.new }
+        ensures line { self.new ≡ line_released self.old }
+    {
         self.ahead += self.held.len() as u16;
         self.held.clear();
-        Ok(())
     }
 
     /// Goes on with a half line that is elsewhere: so many bytes of it were handed on, and none is held.
