@@ -1,3 +1,4 @@
 pub mod lemmas
 pub mod Allowed
 pub mod Acting
+pub mod Filling

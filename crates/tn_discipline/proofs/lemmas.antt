@@ -4,3 +4,4 @@ pub mod Histories
 pub mod Reached
 pub mod Forwards
 pub mod Lines
+pub mod Runs

@@ -7,6 +7,8 @@ pub mod Kept
 pub mod Entries
 pub mod Steps
 pub mod HalfLine
+pub mod Runs
+pub mod RolesTable
 pub mod Advancing
 pub mod Canon
 pub mod Echo

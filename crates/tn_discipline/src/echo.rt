@@ -4,7 +4,7 @@ ghost use Rattle.tn_discipline.specs.Keys.{role_of_key};
 
 use crate::half_line::Effect;
 use crate::keys::{Role, role_of};
-use crate::termios::Settings;
+use crate::termios::{Flags, Settings};
 
 /// What a terminal shows: a byte, or a new line.
 #[derive(Clone, Copy, Debug, PartialEq, Eq)]
@@ -30,8 +30,14 @@ fn one_if(shown: bool, symbol: Symbol) -> [Option<Symbol>; 3]
 pub fn echo_of(effect: &Effect, key: u8, settings: &Settings) -> [Option<Symbol>; 3]
     ensures { result ≡ echo_at settings.now.flags (role_of_key settings.now key) effect.now }
 {
-    let flags = settings.flags;
-    match (role_of(settings, key), effect) {
+    echo_of_role(effect, role_of(settings, key), &settings.flags)
+}
+
+/// The same of a key whose role was looked up.
+pub fn echo_of_role(effect: &Effect, role: Role, flags: &Flags) -> [Option<Symbol>; 3]
+    ensures { result ≡ echo_at flags.now role effect.now }
+{
+    match (role, effect) {
         (Role::Ordinary(_), Effect::Dropped) => one_if(flags.echo, Symbol::Byte(BELL)),
         (Role::Ordinary(byte) | Role::Eol(byte) | Role::Eol2(byte), _) => one_if(
             flags.echo,

@@ -1,5 +1,7 @@
-ghost use Rattle.std.specs.Prelude.{◌≡◌, ◌==◌, ◌<◌, ◌+◌, ◌-◌, [], ◌∷◌, ◌++◌, length, IfOk, OnOk, OnErr};
-ghost use Rattle.tn_discipline.specs.Keys.{roles_of, role_of_key, literal_role};
+ghost use Rattle.std.specs.Prelude.{◌≡◌, ◌==◌, ◌<◌, ◌+◌, ◌-◌, [], ◌∷◌, ◌++◌, length, take, min, IfOk, OnOk, OnErr};
+ghost use Rattle.tn_discipline.specs.Keys.{roles_of, role_of_key, literal_role, roles_from};
+ghost use Rattle.tn_discipline.specs.Limits.{most_counted};
+ghost use Rattle.tn_discipline.specs.Runs.{line_after_all, ordinary_roles};
 ghost use Rattle.tn_discipline.specs.Entries.{line_of};
 ghost use Rattle.tn_discipline.specs.HalfLine.{empty_line, line_length, line_released, line_resumed, effect_of, line_after, line_kept, line_erased, effect_entries, GivesText};
 ghost use Rattle.tn_discipline.specs.Advancing.{Advances, DropsExactly, KeepsHalf, LeadsWhereLong};
@@ -112,7 +114,7 @@ impl Line {
         ensures only_a_text { OnErr result (GivesText self.old (role_of_key settings.now key)) }
         ensures err { OnErr result (self.new ≡ self.old) }
     {
-        self.act(role_of(settings, key))
+        self.play(role_of(settings, key))
     }
 
     /// Types a byte of a line that was edited before it came (RFC 1184, section 2.2, EDIT): its role
@@ -130,7 +132,36 @@ impl Line {
         ensures only_a_text { OnErr result (GivesText self.old (literal_role settings.now.chars byte)) }
         ensures err { OnErr result (self.new ≡ self.old) }
     {
-        self.act(role_of_literal(settings, byte))
+        self.play(role_of_literal(settings, byte))
+    }
+
+    /// Types a key whose role was looked up. Memory is wanted for a text alone, and after a refusal the
+    /// line is as it was.
+    pub fn play(&mut self, role: Role) -> Result<Effect, AllocError>
+        ensures advances { IfOk result
+            (λ effect. Advances self.old (roles_from role) (effect_entries effect) self.new) }
+        ensures dropped { IfOk result (DropsExactly self.old (roles_from role)) }
+
+        ensures effect { IfOk result (λ effect. effect ≡ effect_of self.old role) }
+        ensures line { OnOk result (self.new ≡ line_after self.old role) }
+
+        ensures only_a_text { OnErr result (GivesText self.old role) }
+        ensures err { OnErr result (self.new ≡ self.old) }
+    {
+        self.act(role)
+    }
+
+    /// Types ordinary bytes, one after another, and answers how many were kept: as many as fit, and the
+    /// others are dropped. No memory is wanted.
+    pub fn keep_run(&mut self, bytes: &[u8]) -> usize
+        ensures advances { Advances self.old (ordinary_roles bytes.now) [] self.new }
+        ensures each { self.new ≡ line_after_all self.old (ordinary_roles bytes.now) }
+
+        ensures count { let room = most_counted self.old.limit - line_length self.old in
+            result ≡ min room (length bytes.now) }
+        ensures line { self.new ≡ record self.old { held = self.old.held ++ take result bytes.now } }
+    {
+        self.keep_front(bytes)
     }
 
     /// Takes back the last byte, as ERASE does (POSIX.1-2017, XBD 11.1.9): a held one, or else one that
@@ -168,7 +199,7 @@ impl Line {
         ensures only_a_text { OnErr result (GivesText self.old role.Eof) }
         ensures err { OnErr result (self.new ≡ self.old) }
     {
-        self.act(Role::Eof)
+        self.play(Role::Eof)
     }
 
     /// Hands on the bytes that are held: they are appended to `out`, and from now on they are ahead. After
@@ -239,6 +270,20 @@ impl Line {
         }
         self.held.push_reserved(byte);
         Effect::Kept
+    }
+
+    // As many of the bytes as fit.
+    fn keep_front(&mut self, bytes: &[u8]) -> usize
+        ensures count { let room = most_counted self.old.limit - line_length self.old in
+            result ≡ min room (length bytes.now) }
+        ensures within { line_length self.old < self.old.limit }
+        ensures line { self.new ≡ record self.old { held = self.old.held ++ take result bytes.now } }
+    {
+        let most_counted = usize::from(self.limit.bytes()) - 1;
+        let room = most_counted - (self.ahead as usize + self.held.len());
+        let count = room.min(bytes.len());
+        let _room = self.held.extend_from_slice(&bytes[..count]);
+        count
     }
 
     fn erase_byte(&mut self) -> Effect

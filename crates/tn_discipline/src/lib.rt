@@ -13,11 +13,12 @@
 #![tactic(auto)]
 
 pub use characters::{CharFault, Chars, SPECIAL};
-pub use echo::{Symbol, echo_of};
+pub use echo::{Symbol, echo_of, echo_of_role};
 pub use half_line::{Effect, Line};
 pub use keys::{Role, role_of, role_of_literal};
 pub use line_limit::Limit;
 pub use reads::{Entry, Sig, Text};
+pub use role_table::Roles;
 pub use termios::{Flags, Settings};
 
 mod characters;
@@ -27,4 +28,5 @@ mod keys;
 pub mod laws;
 mod line_limit;
 mod reads;
+mod role_table;
 mod termios;

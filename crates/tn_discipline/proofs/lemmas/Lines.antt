@@ -85,7 +85,7 @@ advances_none old r test =
     }
 
 -- no key
-advances_nothing : (old : HalfLine) → Advances old [] [] old
+pub advances_nothing : (old : HalfLine) → Advances old [] [] old
 advances_nothing old =
     record {
       half = λ history leads. subst (λ h. LeadsTo h old) (sym (append-nil history)) leads;

@@ -1,11 +1,10 @@
-use Rattle.tn_discipline.proofs.Acting.{advances_or, drops_or}
 use Rattle.tn_discipline.proofs.lemmas.KeyRoles.{roles_of-one}
 use Rattle.tn_discipline.proofs.half_line.Line.key.Goals as goal
 
 pub returns-clause-advances : goal.returns-clause-advances
 returns-clause-advances c =
-    rw (← roles_of-one c.args.settings.now c.args.key, ← c.role_of.ensures) (advances_or c.act.result c.args.self.now c.act.new.self c.role_of.result c.act.ensures.effect c.act.ensures.line)
+    rw (← roles_of-one c.args.settings.now c.args.key, ← c.role_of.ensures) c.play.ensures.advances
 
 pub returns-clause-dropped : goal.returns-clause-dropped
 returns-clause-dropped c =
-    rw (← roles_of-one c.args.settings.now c.args.key, ← c.role_of.ensures) (drops_or c.act.result c.args.self.now c.role_of.result c.act.ensures.effect)
+    rw (← roles_of-one c.args.settings.now c.args.key, ← c.role_of.ensures) c.play.ensures.dropped

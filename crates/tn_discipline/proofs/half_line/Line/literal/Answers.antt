@@ -1,11 +1,10 @@
-use Rattle.tn_discipline.proofs.Acting.{advances_or, drops_or}
 use Rattle.tn_discipline.proofs.lemmas.KeyRoles.{literal_roles}
 use Rattle.tn_discipline.proofs.half_line.Line.literal.Goals as goal
 
 pub returns-clause-advances : goal.returns-clause-advances
 returns-clause-advances c =
-    rw (← literal_roles c.args.settings.now.chars c.args.byte, ← c.role_of_literal.ensures) (advances_or c.act.result c.args.self.now c.act.new.self c.role_of_literal.result c.act.ensures.effect c.act.ensures.line)
+    rw (← literal_roles c.args.settings.now.chars c.args.byte, ← c.role_of_literal.ensures) c.play.ensures.advances
 
 pub returns-clause-dropped : goal.returns-clause-dropped
 returns-clause-dropped c =
-    rw (← literal_roles c.args.settings.now.chars c.args.byte, ← c.role_of_literal.ensures) (drops_or c.act.result c.args.self.now c.role_of_literal.result c.act.ensures.effect)
+    rw (← literal_roles c.args.settings.now.chars c.args.byte, ← c.role_of_literal.ensures) c.play.ensures.dropped
