@@ -79,9 +79,12 @@ abbrev pub sent_ahead_items : Bool → HalfLine → List Item
 sent_ahead_items true l = byte_items l.held
 sent_ahead_items false l = []
 
-abbrev pub key_items : Bool → Option Mask → Role → HalfLine → ℕ → List Item
-key_items true forward r l key =
+abbrev pub edit_items : Option Mask → Role → HalfLine → List Item
+edit_items forward r l =
     edited_key_items r l ++ sent_ahead_items (sends_ahead forward l.limit (line_length l) r) (line_after l r)
+
+abbrev pub key_items : Bool → Option Mask → Role → HalfLine → ℕ → List Item
+key_items true forward r l key = edit_items forward r l
 key_items false forward r l key = raw_key_items r key
 
 -- RFC 1073: the window's size

@@ -4,19 +4,19 @@ ghost use Rattle.std.specs.Prelude.{◌≡◌, ◌≢◌, ◌⊎◌, ◌<◌, �
 ghost use Rattle.tn_nvt.specs.Spelling.{spells};
 ghost use Rattle.tn_client.specs.Lines.{settings_by, key_settings};
 ghost use Rattle.tn_client.specs.Terms.{is_echoed};
-ghost use Rattle.tn_client.specs.Replies.{byte_items, raw_key_items, key_items};
+ghost use Rattle.tn_client.specs.Replies.{byte_items, raw_key_items, edit_items, key_items};
 ghost use Rattle.tn_client.specs.Screen.{passed_shown, edited_shown, echoed_edited};
 ghost use Rattle.tn_discipline.specs.Characters.{Characters};
 ghost use Rattle.tn_discipline.specs.HalfLine.{line_released, effect_of};
 ghost use Rattle.tn_discipline.specs.Admitted.{count_after};
-ghost use Rattle.tn_discipline.specs.Keys.{role_of_key, roles_from};
+ghost use Rattle.tn_discipline.specs.Keys.{roles_from};
 ghost use Rattle.tn_client.specs.Steps.{role_now, end_after_count, line_typed, sends_where, end_after_key, says_key, shows_key, Begins};
 
 use crate::end::ClientEnd;
 use crate::screen::{echo_raw, make_room, show_all};
 use crate::sending::{put_bytes, put_edited, put_raw};
 use std::alloc::AllocError;
-use tn_discipline::{Effect, Limit, Line, Role, Settings, echo_of, role_of};
+use tn_discipline::{Effect, Limit, Line, Role, Settings, echo_of_role, role_of};
 use tn_option::{ECHO, Side};
 
 // The plain count of a half line after one more key (MAX_CANON; XBD 11.1.6).
@@ -174,36 +174,26 @@ impl ClientEnd {
         let role = role_of(&settings, key);
         let echo = self.echoes(role);
         make_room(echo, screen)?;
-        let effect = self.type_edited(&settings, key, out)?;
+        let effect = self.type_edited(role, out)?;
         if echo {
-            show_all(&echo_of(&effect, key, &settings), screen);
+            show_all(&echo_of_role(&effect, role, &settings.flags), screen);
         }
         Ok(())
     }
 
-    // Types a key into the line and sends what it sends.
-    fn type_edited(
-        &mut self,
-        settings: &Settings,
-        key: u8,
-        out: &mut Vec<u8>,
-    ) -> Result<Effect, AllocError>
-        ensures ok { let role = role_of_key settings.now key in
-            OnOk result (self.new ≡
+    // Types a key of this role into the line and sends what it sends.
+    fn type_edited(&mut self, role: Role, out: &mut Vec<u8>) -> Result<Effect, AllocError>
+        ensures ok { OnOk result (self.new ≡
             record self.old { line = line_typed true self.old.forward self.old.line role }) }
-        ensures effect { IfOk result
-            (λ effect. effect ≡ effect_of self.old.line (role_of_key settings.now key)) }
-        ensures out { let role = role_of_key settings.now key in
-            OnOk result (out.new.items ≡
-            out.old.items ++ spells (key_items true self.old.forward role self.old.line key)) }
+        ensures effect { IfOk result (λ effect. effect ≡ effect_of self.old.line role) }
+        ensures out { OnOk result (out.new.items ≡
+            out.old.items ++ spells (edit_items self.old.forward role self.old.line)) }
         ensures err { OnErr result (self.new ≡ self.old) }
         ensures err_out { OnErr result (Begins out.old.items out.new.items) }
-        ensures grows { let role = role_of_key settings.now key in
-            OnErr result (key_items true self.old.forward role self.old.line key ≢ []) }
+        ensures grows { OnErr result (edit_items self.old.forward role self.old.line ≢ []) }
     {
-        let role = role_of(settings, key);
         put_edited(role, &self.line, out)?;
-        let effect = self.line.key(settings, key)?;
+        let effect = self.line.play(role)?;
         if !self.is_sent_ahead(role, &effect) {
             return Ok(effect);
         }

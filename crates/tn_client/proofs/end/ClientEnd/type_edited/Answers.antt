@@ -1,8 +1,6 @@
-use Rattle.std.proofs.Common.{◌≡◌, ◌≢◌, [], true, sym, ap, ◌∙◌, subst}
-use Rattle.tn_discipline.specs.Keys.{role_of_key}
-use Rattle.tn_discipline.specs.declared.keys.Role.{Role}
+use Rattle.std.proofs.Common.{◌≡◌, ◌≢◌, [], true, sym, ◌∙◌, subst}
 use Rattle.tn_client.specs.Calls.{End}
-use Rattle.tn_client.specs.Replies.{key_items}
+use Rattle.tn_client.specs.Replies.{edit_items}
 use Rattle.tn_client.specs.Steps.{sends_where}
 use Rattle.tn_client.proofs.Undoing.{undone, sends_some}
 use Rattle.tn_client.proofs.end.ClientEnd.type_edited.Goals as goal
@@ -10,8 +8,8 @@ use Rattle.tn_client.proofs.end.ClientEnd.type_edited.Goals.{in-Gives+in-Text-2,
 
 pub returns-in-Err-clause-err : goal.returns-in-Err-clause-err
 returns-in-Err-clause-err c =
-    let sends : sends_where c.self.inside.forward (role_of_key c.args.settings.now c.args.key) c.in_ok-effect.effect ≡ true =
-    ap (λ (r : Role). sends_where c.self.inside.forward r c.in_ok-effect.effect) (sym c.role_of-role.ensures) ∙ sym c.is_sent_ahead.ensures ∙ c.if-not-is_sent_ahead.false in
+    let sends : sends_where c.self.inside.forward c.args.role c.in_ok-effect.effect ≡ true =
+    sym c.is_sent_ahead.ensures ∙ c.if-not-is_sent_ahead.false in
     elim c.match-effect.branch [
       | in-Gives+in-Text-2 w ↦ undone _ _ _ _ _ _ _ c.in_ok-effect.ensures.line (c.self-2.view_is ∙ c.in-Err.ensures.err) c.erase-erased.ensures.line w.self-is c.in_ok-effect.ensures.effect sends ∙ c.self.view_is
       | in-Gives+in-Eof-2 w ↦ undone _ _ _ _ _ _ _ c.in_ok-effect.ensures.line (c.self-2.view_is ∙ c.in-Err.ensures.err) c.erase-erased.ensures.line w.self-is c.in_ok-effect.ensures.effect sends ∙ c.self.view_is
@@ -20,8 +18,8 @@ returns-in-Err-clause-err c =
 
 pub returns-in-Err-clause-grows : goal.returns-in-Err-clause-grows
 returns-in-Err-clause-grows c =
-    let r = role_of_key c.args.settings.now c.args.key in
+    let r = c.args.role in
     let sends : sends_where c.self.inside.forward r c.in_ok-effect.effect ≡ true =
-    ap (λ (r : Role). sends_where c.self.inside.forward r c.in_ok-effect.effect) (sym c.role_of-role.ensures) ∙ sym c.is_sent_ahead.ensures ∙ c.if-not-is_sent_ahead.false in
-    subst (λ (x : End). key_items true x.forward r x.line c.args.key ≢ []) c.self.view_is
-    (sends_some c.self.inside.forward c.self.inside.line r c.in_ok-effect.effect c.args.key c.in_ok-effect.ensures.effect sends)
+    sym c.is_sent_ahead.ensures ∙ c.if-not-is_sent_ahead.false in
+    subst (λ (x : End). edit_items x.forward r x.line ≢ []) c.self.view_is
+    (sends_some c.self.inside.forward c.self.inside.line r c.in_ok-effect.effect 0 c.in_ok-effect.ensures.effect sends)
