@@ -13,7 +13,7 @@ use std::marker::Model;
 use thiserror::Error;
 use tn_codes::Command;
 use tn_discipline::{
-    Chars, Effect, Entry, Flags, Limit, Line, Role, Settings, Sig, Symbol, echo_of, role_of,
+    Chars, Effect, Entry, Flags, Limit, Line, Role, Roles, Settings, Sig, Symbol, echo_of_role,
     role_of_literal,
 };
 
@@ -52,7 +52,7 @@ pub enum PtyFault {
 /// pulls the symbols that are shown; the slave takes entries and writes output.
 #[derive(Drop)]
 pub struct Pair {
-    settings: Settings,
+    roles: Roles,
     line: Line,
     entries: HeapCircularBuffer<Entry>,
     queue: HeapCircularBuffer<Symbol>,
@@ -68,7 +68,7 @@ impl Model for Pair {
     ghost Value = { Terminal };
 
     ghost view = { λ p. record {
-      settings = p.settings;
+      settings = p.roles;
       line = p.line;
       entries = p.entries.items;
       queue = p.queue.items;
@@ -87,7 +87,7 @@ impl Pair {
         ensures { IfOk result (λ pair. pair ≡ new_terminal settings limit) }
     {
         Ok(Pair {
-            settings,
+            roles: Roles::new(alloc, settings)?,
             line: Line::new(alloc, limit)?,
             entries: HeapCircularBuffer::with_capacity(alloc, MOST_WAITING)?,
             queue: HeapCircularBuffer::with_capacity(alloc, QUEUE_SYMBOLS)?,
@@ -111,13 +111,13 @@ impl Pair {
         ensures refused { let role = role_of_key self.old.settings key in
             IfErr result (λ fault. Refuses self.old role fault self.new) }
     {
-        let settings = self.settings;
-        if let Some(fault) = self.refusal(role_of(&settings, key)) {
+        let role = self.roles.role(key);
+        if let Some(fault) = self.refusal(role) {
             return Err(self.close(fault));
         }
-        match self.line.key(&settings, key) {
+        match self.line.play(role) {
             Ok(effect) => {
-                let shown = echo_of(&effect, key, &settings);
+                let shown = echo_of_role(&effect, role, &self.roles.settings().flags);
                 self.keep(effect);
                 if echo {
                     self.show(&shown);
@@ -138,11 +138,11 @@ impl Pair {
         ensures refused { let role = literal_role self.old.settings.chars byte in
             IfErr result (λ fault. Refuses self.old role fault self.new) }
     {
-        let settings = self.settings;
-        if let Some(fault) = self.refusal(role_of_literal(&settings, byte)) {
+        let role = role_of_literal(&self.roles.settings(), byte);
+        if let Some(fault) = self.refusal(role) {
             return Err(self.close(fault));
         }
-        match self.line.literal(&settings, byte) {
+        match self.line.play(role) {
             Ok(effect) => {
                 self.keep(effect);
                 Ok(())
@@ -258,7 +258,7 @@ impl Pair {
         ensures pair { let shown = output_symbols self.old.settings.flags (take result bytes.now) in
             self.new ≡ record self.old { queue = self.old.queue ++ shown } }
     {
-        let flags = self.settings.flags;
+        let flags = self.roles.settings().flags;
         let count = bytes.len().min(QUEUE_SYMBOLS - self.queue.len());
         put_bytes(&mut self.queue, &flags, &bytes[..count]);
         count
@@ -275,7 +275,7 @@ impl Pair {
     pub fn settings(&self) -> Settings
         ensures { result ≡ self.now.settings }
     {
-        self.settings
+        self.roles.settings()
     }
 
     /// Sets the flags for all that is typed and written from now on.
@@ -283,7 +283,9 @@ impl Pair {
         ensures { let settings = record self.old.settings { flags = flags } in
             self.new ≡ record self.old { settings = settings } }
     {
-        self.settings.flags = flags;
+        let mut settings = self.roles.settings();
+        settings.flags = flags;
+        self.roles.set(settings);
     }
 
     /// Sets the special characters for all that is typed from now on.
@@ -291,7 +293,9 @@ impl Pair {
         ensures { let settings = record self.old.settings { chars = chars } in
             self.new ≡ record self.old { settings = settings } }
     {
-        self.settings.chars = chars;
+        let mut settings = self.roles.settings();
+        settings.chars = chars;
+        self.roles.set(settings);
     }
 
     // Why a key of this role is refused, before any memory is looked for.
