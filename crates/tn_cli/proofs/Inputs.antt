@@ -1,6 +1,6 @@
 -- An input that is read piece by piece.
 use Rattle.std.proofs.Common.{◌≡◌, ◌≤◌, ℕ, ◌+◌, List, [], ◌++◌, length, length-append, Option, Some, None, inl, inr, refl, sym, ap, ◌∙◌, arith, append_assoc}
-use Rattle.std.specs.Io.KnownBytes.{Consumes}
+use Rattle.std.specs.Io.KnownBytes.{Consumes, Keeps}
 use Rattle.tn_cli.specs.Streams.{KeepsPiece}
 
 consumes_both : (old mid new : Option (List ℕ)) (xs ys : List ℕ) → Consumes old mid xs → Consumes mid new ys → Consumes old new (xs ++ ys)
@@ -29,6 +29,22 @@ kept_none here kept none = record {
   all = λ same. none;
   within = omega (arith, ap length none);
 }
+
+-- a read that gave nothing
+pub kept_again : (total : ℕ) (old mid new : Option (List ℕ)) (kept : List ℕ) → HasKept total old mid kept → Keeps mid new → HasKept total old new kept
+kept_again total old mid new kept had same = record {
+  bytes = had.bytes;
+  consumed = consumes_kept old mid new had.bytes had.consumed same;
+  count = had.count;
+  all = had.all;
+  within = had.within;
+}
+  where
+    consumes_kept : (a b c : Option (List ℕ)) (xs : List ℕ) → Consumes a b xs → Keeps b c → Consumes a c xs
+    consumes_kept None b c xs one two = tt
+    consumes_kept (Some o) None c xs one two = absurd one
+    consumes_kept (Some o) (Some m) None xs one two = absurd two
+    consumes_kept (Some o) (Some m) (Some n) xs one two = one ∙ ap (λ (zs : List ℕ). xs ++ zs) (sym two)
 
 -- a piece more
 pub kept_more : (total : ℕ) (old mid new : Option (List ℕ)) (before after piece : List ℕ) → HasKept total old mid before → Consumes mid new piece

@@ -2,11 +2,12 @@
 
 ghost use Rattle.std.specs.Prelude.{◌≡◌, ◌+◌, ◌-◌, ◌<◌, ◌≤◌, ◌≢◌, ℕ, List, length, vec_len, IfOk, IfErr, IfSome, OnOk, OnErr, IsErrOf, Ok, Err, take, drop};
 ghost use Rattle.std.specs.Io.KnownBytes.{Consumes, IsAtEnd, Appends, Keeps};
+ghost use Rattle.tn_streams.specs.Telling.{HasFailed};
 ghost use Rattle.tn_cli.specs.Streams.{AppendsFront, IsReadFault, KeepsPiece};
 
 use crate::fault::CliFault;
 use std::alloc::Global;
-use std::io::{ErrorKind, Read, Write};
+use tn_streams::{Drain, Source, is_interrupted};
 
 /// How long an input may be, in bytes.
 const MOST_BYTES: usize = 1_048_576;
@@ -18,7 +19,7 @@ const MOST_READS: u32 = 2_097_152;
 const PIECE_BYTES: usize = 4_096;
 
 /// Reads to the end of the input. Whether it is too long is told also where memory is wanting.
-pub(crate) fn read_whole<R: Read>(alloc: Global, reader: &mut R) -> Result<Vec<u8>, CliFault>
+pub(crate) fn read_whole<R: Source>(alloc: Global, reader: &mut R) -> Result<Vec<u8>, CliFault>
     ensures whole { IfOk result (λ input.
         Consumes (R.remaining reader.old) (R.remaining reader.new) input.items) }
     ensures end { OnOk result (IsAtEnd (R.remaining reader.new)) }
@@ -29,14 +30,15 @@ pub(crate) fn read_whole<R: Read>(alloc: Global, reader: &mut R) -> Result<Vec<u
     ensures memory { IsErrOf result CliFault.Memory →
         IfSome (R.remaining reader.old) (λ input. length input ≤ 1048576) }
     ensures fault { IfErr result IsReadFault }
+    ensures read { IsErrOf result CliFault.Read → HasFailed 2097152 (R.told reader.old) (R.told reader.new) }
 {
     let mut input = Vec::new(alloc);
     let mut total = 0;
     let mut piece = [0; PIECE_BYTES];
     for _read in 0..MOST_READS {
-        let count = match reader.read(&mut piece) {
+        let count = match reader.read_some(&mut piece) {
             Ok(count) => count,
-            Err(error) if error.kind() == ErrorKind::Interrupted => continue,
+            Err(error) if is_interrupted(&error) => continue,
             Err(_) => return Err(CliFault::Read),
         };
         if count == 0 {
@@ -79,20 +81,21 @@ fn if_whole(input: Vec<u8>, count: usize) -> Result<Vec<u8>, CliFault>
 }
 
 /// Writes all of the output. After a fault a front of it was written.
-pub(crate) fn write_whole<W: Write>(writer: &mut W, output: &[u8]) -> Result<(), CliFault>
+pub(crate) fn write_whole<W: Drain>(writer: &mut W, output: &[u8]) -> Result<(), CliFault>
     ensures ok { OnOk result (Appends (W.contents writer.old) (W.contents writer.new) output.now) }
     ensures err { OnErr result (AppendsFront (W.contents writer.old) (W.contents writer.new) output.now) }
     ensures fault { IfErr result (λ fault. fault ≡ CliFault.Write) }
+    ensures failed { OnErr result (HasFailed 18446744073709551615 (W.told writer.old) (W.told writer.new)) }
 {
     let mut written = 0;
     for _write in 0..u64::MAX {
         if written == output.len() {
             return Ok(());
         }
-        match writer.write(&output[written..]) {
+        match writer.write_some(&output[written..]) {
             Ok(0) => return Err(CliFault::Write),
             Ok(count) => written += count,
-            Err(error) if error.kind() == ErrorKind::Interrupted => continue,
+            Err(error) if is_interrupted(&error) => continue,
             Err(_) => return Err(CliFault::Write),
         }
     }

@@ -3,14 +3,15 @@
 ghost use Rattle.std.specs.Prelude.{◌≡◌, ◌≢◌, ◌<◌, ◌≤◌, ℕ, length, IfSome, OnOk, OnErr, IfOk, IsErrOf, Err, map};
 ghost use Rattle.tn_cli.specs.Playing as play;
 ghost use Rattle.tn_cli.specs.Scripts.{lines_of};
+ghost use Rattle.tn_streams.specs.Telling.{HasFailed};
 
 use crate::fault::CliFault;
 use crate::playing::{Stop, play_line};
 use crate::scripts::parts;
 use crate::streams::{read_whole, write_whole};
 use std::alloc::{AllocError, Global};
-use std::io::{Read, Write};
 use tn_discipline::{Limit, Settings};
+use tn_streams::{Drain, Source};
 use tn_world::World;
 
 /// How wide the client's window is, in characters.
@@ -22,7 +23,7 @@ const HEIGHT: u16 = 24;
 /// Reads a script, one command a line, does its commands in a world that is opened with standard
 /// settings, and writes what they print. Nothing is written before the input has ended. Where a
 /// line is no command, or its command is refused, what the lines before it print is written.
-pub fn run_world<R: Read, W: Write>(
+pub fn run_world<R: Source, W: Drain>(
     alloc: Global,
     reader: &mut R,
     writer: &mut W,
@@ -30,6 +31,14 @@ pub fn run_world<R: Read, W: Write>(
     ensures ok { OnOk result (IfSome (R.remaining reader.old) (λ text.
         play.AppendsText (play.PrintsWhole (lines_of text))
         (W.contents writer.old) (W.contents writer.new))) }
+
+    // Of a reader and a writer that tell how many of their calls failed: `Read` only where a read failed or
+    // 2,097,152 were made, and `Write` only where a write failed, or took none of its bytes, or 2^64 - 1 were
+    // made.
+    ensures read_failed { IsErrOf result CliFault.Read →
+        HasFailed 2097152 (R.told reader.old) (R.told reader.new) }
+    ensures write_failed { IsErrOf result CliFault.Write →
+        HasFailed 18446744073709551615 (W.told writer.old) (W.told writer.new) }
 
     // Too long an input is answered `TooLong`, unless a read fails; whether it is, is looked at before
     // anything else can be answered.

@@ -27,13 +27,14 @@ use Rattle.tn_session.specs.declared.mail.Mail.{Mail}
 use Rattle.tn_session.specs.declared.mail.Sender.TheVariants.{Net, Desk, Back}
 use Rattle.tn_session.specs.declared.parties.Ports.{Ports}
 use Rattle.tn_session.specs.declared.parties.Report.{Report}
+use Rattle.tn_term.specs.Ending.{IsFaultCause}
 use Rattle.tn_term.specs.Giving.{GivesFront, entries_put}
 use Rattle.tn_term.specs.Hearing.{entries_by}
 use Rattle.tn_term.specs.Marks.{Runs, run_after_opening, all_whole}
 use Rattle.tn_term.specs.Reaching.{LeadsTo}
 use Rattle.tn_term.specs.Run.{Run, start, opening}
 use Rattle.tn_term.specs.declared.faults.Ended.{Ended}
-use Rattle.tn_term.specs.declared.faults.Ended.TheVariants.{HangUp}
+use Rattle.tn_term.specs.declared.faults.Ended.TheVariants.{HangUp, Fault}
 use Rattle.tn_term.specs.declared.faults.SessionFault.{SessionFault}
 use Rattle.tn_term.specs.declared.faults.SessionFault.TheVariants as fault
 use Rattle.tn_term.specs.declared.messages.Mark.{Mark}
@@ -149,3 +150,7 @@ pub record RunningSession {J : Type 0} (fresh : J → Type 0) (reacts : J → En
   pub in_order : GivesFront schedule.taken schedule.run.history
   pub all_taken : report.ended ≡ HangUp → entries_put schedule.taken ≡ entries schedule.run.history
   pub by_bytes : TakesEntries canon editing given report.ended schedule.taken
+  -- six: a fault is told only where its cause was there
+  pub caused : (f : SessionFault) → report.ended ≡ Fault f
+      → IsFaultCause schedule.wrote_opening (run_after_opening schedule.wrote_opening (start canon editing jobs))
+      schedule.marked f

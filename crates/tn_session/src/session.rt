@@ -36,7 +36,7 @@ use std::thread::Threads;
 use tn_discipline::{Entry, Limit, Settings};
 use tn_jobs::{Job, JobId};
 use tn_server::Editing;
-use tn_term::laws::{all_goes_before_a_hang_up, pieces_are_heard};
+use tn_term::laws::{all_goes_before_a_hang_up, faults_have_causes, pieces_are_heard};
 use tn_term::{Progress, SessionFault, Term};
 
 /// How many mails the mailbox holds.
@@ -341,6 +341,7 @@ where
     };
     pieces_are_heard();
     all_goes_before_a_hang_up();
+    faults_have_causes();
     match run(rt, alloc, reader, writer, begun, channels, shared) {
         Ok(ran) => Ok(ran),
         Err(fault) => Err(fault),

@@ -21,7 +21,7 @@ use Rattle.tn_server.specs.Replies.{items_said, replies}
 use Rattle.tn_server.specs.Screen.{queue}
 use Rattle.tn_term.specs.Counting.{after_halt, after_piece}
 use Rattle.tn_term.specs.Reaching.{LeadsTo, AdvancesRun, BreaksOff, FeedBreaksOff, HaltsIf}
-use Rattle.tn_term.specs.Run.{Run, flushed_history, show, ask, ask_if, answer, halt, halt_if, end_if, IsPart}
+use Rattle.tn_term.specs.Run.{Run, Reads, flushed_history, show, ask, ask_if, answer, halt, halt_if, end_if, IsPart}
 use Rattle.tn_term.specs.declared.progress.Progress.{Progress}
 use Rattle.tn_term.specs.declared.terminal.Term.{Term}
 
@@ -167,28 +167,36 @@ first_said k (item ∷ left) more part (rest, e) =
       m.1 ∙ append_assoc (items_said k) (replies k (got item)) m.0 ∙ ap (λ (xs : List Item). items_said k ++ (xs ++ m.0)) e ∙ ap (λ (xs : List Item). items_said k ++ xs) (append_assoc part rest m.0),
     )
 
+-- the items of the whole piece go on from those of its front
+pub read_past : (old : Term) (end : End) (piece x y : List ℕ) (f : ServerFault) → old.progress.over ≡ false → All (λ b. b < 256) piece → (h : StopsWithin old.end piece f x y end) → (c : Run) → LeadsTo c old → (more : List Item) × Reads c piece (h.done ++ (h.left ++ more))
+read_past old end piece x y f on small h c at =
+    let l = at.live on in
+    let before = h.reads c.stream (items c.history) l.read in
+    let all = has_reading (c.stream ++ piece) (All-append (λ b. b < 256) c.stream piece l.bytes small) in
+    let split : c.stream ++ piece ≡ (c.stream ++ h.front) ++ h.back = ap (λ (bs : List ℕ). c.stream ++ bs) h.whole ∙ sym (append_assoc c.stream h.front h.back) in
+    let P : List ℕ → Type 0 = λ bs. Reading bs all.0 all.1 in
+    let on_from = reads_on (c.stream ++ h.front) h.back before.rest all.1 (items c.history ++ (h.done ++ h.left)) all.0 before.reading (subst P split all.2) in
+    let more : List Item = on_from.0 in
+    let is_all : all.0 ≡ items c.history ++ (h.done ++ (h.left ++ more)) = on_from.1 ∙ append_assoc (items c.history) (h.done ++ h.left) more ∙ ap (λ (ys : List Item). items c.history ++ ys) (append_assoc h.done h.left more) in
+    let Q : List Item → Type 0 = λ ys. Reading (c.stream ++ piece) ys all.1 in
+    (more, (all.1, subst Q is_all all.2))
+
 halts_break : (old new : Term) (end : End) (piece x y : List ℕ) (f : ServerFault) → old.progress.over ≡ false → new ≡ record old { end = end; progress = after_piece old.progress } → All (λ b. b < 256) piece → StopsWithin old.end piece f x y end → FeedBreaksOff old piece x y new
 halts_break old new end piece x y f on is small h = record {
   part = spells (h.said ++ h.part);
   appended = h.appended;
   leads = λ c at.
       let l = at.live on in
-      let before = h.reads c.stream (items c.history) l.read in
-      let all = has_reading (c.stream ++ piece) (All-append (λ b. b < 256) c.stream piece l.bytes small) in
-      let split : c.stream ++ piece ≡ (c.stream ++ h.front) ++ h.back = ap (λ (bs : List ℕ). c.stream ++ bs) h.whole ∙ sym (append_assoc c.stream h.front h.back) in
-      let P : List ℕ → Type 0 = λ bs. Reading bs all.0 all.1 in
-      let on_from = reads_on (c.stream ++ h.front) h.back before.rest all.1 (items c.history ++ (h.done ++ h.left)) all.0 before.reading (subst P split all.2) in
-      let more : List Item = on_from.0 in
+      let past = read_past old end piece x y f on small h c at in
+      let more : List Item = past.0 in
       let xs : List Item = h.done ++ (h.left ++ more) in
-      let is_all : all.0 ≡ items c.history ++ xs = on_from.1 ∙ append_assoc (items c.history) (h.done ++ h.left) more ∙ ap (λ (ys : List Item). items c.history ++ ys) (append_assoc h.done h.left more) in
-      let Q : List Item → Type 0 = λ ys. Reading (c.stream ++ piece) ys all.1 in
       let k = gets c.history h.done in
       let r = first_said k h.left more h.part (h.begins c.history l.stands) in
       let said : items_said (gets c.history xs) ≡ items_said c.history ++ ((h.said ++ h.part) ++ r.0) =
       ap items_said (gets-append c.history h.done (h.left ++ more)) ∙ r.1 ∙ ap (λ (ys : List Item). ys ++ (h.part ++ r.0)) (h.sends c.history l.stands)
       ∙ append_assoc (items_said c.history) h.said (h.part ++ r.0) ∙ ap (λ (ys : List Item). items_said c.history ++ ys) (sym (append_assoc h.said h.part r.0)) in (
         xs,
-        (all.1, subst Q is_all all.2),
+        past.1,
         spells r.0,
         ap spells said ∙ spells-append (items_said c.history) ((h.said ++ h.part) ++ r.0) ∙ ap (λ (bs : List ℕ). spells (items_said c.history) ++ bs) (spells-append (h.said ++ h.part) r.0),
       );

@@ -122,18 +122,18 @@ not_fault ended.HangUp f e = cc
 not_fault ended.Done f e = cc
 not_fault (ended.Fault g) f e = cc
 
-abbrev ended_of : Run → Ended
+abbrev pub ended_of : Run → Ended
 ended_of c = c.progress.ended
 
 answer_ended : (c : Run) (ws : List Entry) → ended_of (answer c ws) ≡ ended_of c
 answer_ended c [] = refl
 answer_ended c (w ∷ ws) = refl
 
-ask_ended : (b : Bool) (c : Run) → ended_of (ask_if b c) ≡ ended_of c
+pub ask_ended : (b : Bool) (c : Run) → ended_of (ask_if b c) ≡ ended_of c
 ask_ended true c = answer_ended (record c { history = grown c.history took }) (waiting c.history)
 ask_ended false c = refl
 
-halt_ended : (b : Bool) (c : Run) → ended_of (halt_if b c) ≡ ended_of c
+pub halt_ended : (b : Bool) (c : Run) → ended_of (halt_if b c) ≡ ended_of c
 halt_ended true c = refl
 halt_ended false c = refl
 

@@ -2,6 +2,8 @@ pub mod Alike
 pub mod Following
 pub mod Doing
 pub mod Breaking
+pub mod Refusing
+pub mod Ending
 pub mod Hanging
 pub mod Agreeing
 pub mod Handling

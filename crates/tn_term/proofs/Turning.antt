@@ -10,7 +10,7 @@ use Rattle.tn_server.specs.declared.faults.ServerFault.{ServerFault}
 use Rattle.tn_term.proofs.Doing.{is_over}
 use Rattle.tn_term.specs.Counting.{after_end, after_halt}
 use Rattle.tn_term.specs.Marks.{put_or_not}
-use Rattle.tn_term.specs.Reaching.{DoesWhole, StopsWithin, IsTurn}
+use Rattle.tn_term.specs.Reaching.{DoesWhole, StopsWithin, RefusesFor, IsTurn}
 use Rattle.tn_term.specs.Run.{Run, ActsUnless, idle, idle_puts, fail, end_if}
 use Rattle.tn_term.specs.declared.faults.Ended.TheVariants.{Fault}
 use Rattle.tn_term.specs.declared.faults.SessionFault.TheVariants as fault
@@ -69,15 +69,15 @@ same_history : (given : Bool) (m : Message) (c whole : Run) → (put_or_not give
 same_history true m c whole = refl
 same_history false m c whole = refl
 
-pub turn_refused : (old mid new : Term) (message : Message) (f : ServerFault) (given : Bool) (x y : List ℕ) (put last : Option (Option Entry)) → x ≡ [] → old.progress.over ≡ false → StopsWithin old message given x y put mid → new.progress ≡ after_halt (after_end (Fault (fault.Server f)) mid.progress) → option_to_list last ≡ end_if mid.progress.asks → IsTurn (Refused f given) old message y put last new
-turn_refused old mid new message f given x y put last none on h is puts = record {
+pub turn_refused : (old mid new : Term) (message : Message) (f : ServerFault) (given : Bool) (x y : List ℕ) (put last : Option (Option Entry)) → x ≡ [] → old.progress.over ≡ false → StopsWithin old message given x y put mid → new.progress ≡ after_halt (after_end (Fault (fault.Server f)) mid.progress) → option_to_list last ≡ end_if mid.progress.asks → RefusesFor old message f → IsTurn (Refused f given) old message y put last new
+turn_refused old mid new message f given x y put last none on h is puts cause = record {
   leads = λ c at.
       let l = h.leads c at in
       let done = put_or_not given message c l.0 in
       let next = fail (fault.Server f) done in
       let over : new.progress.over ≡ true = ap (λ (p : Progress). p.over) is in (
         next,
-        (sym (ap (λ (p : Progress). p.over) at.progress) ∙ on, l.0, l.1, refl),
+        (sym (ap (λ (p : Progress). p.over) at.progress) ∙ on, l.0, l.1, refl, cause c at),
         is_over next new over (is ∙ ap (λ (p : Progress). after_halt (after_end (Fault (fault.Server f)) p)) l.4),
         ap (λ (ps : List (Option Entry)). ps ++ end_if done.progress.asks) l.5 ∙ append_assoc c.puts (option_to_list put) (end_if done.progress.asks)
             ∙ ap (λ (ps : List (Option Entry)). c.puts ++ (option_to_list put ++ ps)) (ap (λ (p : Progress). end_if p.asks) (sym l.4) ∙ sym puts),

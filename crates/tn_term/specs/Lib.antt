@@ -1,6 +1,8 @@
 pub mod Counting
 pub mod Run
+pub mod Refusing
 pub mod Marks
+pub mod Ending
 pub mod Reaching
 pub mod Giving
 pub mod Hearing

@@ -1,6 +1,7 @@
 -- The run of the messages, each with its mark: how far it was done.
 use Rattle.std.specs.Prelude.{◌≡◌, Bool, true, false, List, [], ◌∷◌}
 use Rattle.std.specs.List.{FoldsTo}
+use Rattle.tn_term.specs.Refusing.{IsRefusalCause}
 use Rattle.tn_term.specs.Run.{Run, Handles, fail}
 use Rattle.tn_term.specs.declared.faults.SessionFault.TheVariants as fault
 use Rattle.tn_term.specs.declared.messages.Mark.{Mark}
@@ -26,14 +27,15 @@ abbrev pub put_or_not : Bool → Message → Run → Run → Run
 put_or_not true m c whole = whole
 put_or_not false m c whole = unput m c whole
 
--- A message with its mark. None is written, and no call is made, once nothing has any effect.
+-- A message with its mark. None is written, and no call is made, once nothing has any effect. A call that was refused was so
+-- for its cause.
 abbrev pub Turns : Run → Message × Mark → Run → Type 0
 Turns c (m, mark.Whole) new = Handles c m new
 Turns c (m, mark.WriteFailed) new =
     (c.progress.over ≡ false) × (whole : Run) × Handles c m whole × (new ≡ fail fault.Write whole)
 Turns c (m, mark.Refused f put) new =
     (c.progress.over ≡ false) × (whole : Run) × Handles c m whole
-    × (new ≡ fail (fault.Server f) (put_or_not put m c whole))
+    × (new ≡ fail (fault.Server f) (put_or_not put m c whole)) × IsRefusalCause c m f
 
 -- a message that was done wholly, and written
 abbrev pub is_whole : Mark → Bool

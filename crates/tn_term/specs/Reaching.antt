@@ -10,8 +10,10 @@ use Rattle.tn_server.specs.Calls.{End}
 use Rattle.tn_server.specs.Calls as server
 use Rattle.tn_term.specs.Marks.{Turns, is_whole, put_or_not}
 use Rattle.tn_term.specs.Counting.{after_piece, after_halt}
+use Rattle.tn_term.specs.Refusing.{IsRefusalCause}
 use Rattle.tn_term.specs.Run.{Run, Handles, Reads, feed, writes, Cuts, after_said, end_if}
 use Rattle.tn_jobs.specs.declared.verdicts.Verdict.{Verdict}
+use Rattle.tn_server.specs.declared.faults.ServerFault.{ServerFault}
 use Rattle.tn_term.specs.declared.messages.Mark.{Mark}
 use Rattle.tn_term.specs.declared.messages.Message.{Message}
 use Rattle.tn_term.specs.declared.terminal.Term.{Term}
@@ -120,6 +122,10 @@ pub record StopsWithin (old : Term) (message : Message) (given : Bool) (before a
       × (spells (items_said whole.history) ≡ spells (items_said c.history) ++ (part ++ rest))
       × (new.progress ≡ (put_or_not given message c whole).progress)
       × ((put_or_not given message c whole).puts ≡ c.puts ++ option_to_list put)
+
+-- the call was refused for its cause, wherever the terminal may have been
+abbrev pub RefusesFor : Term → Message → ServerFault → Type 0
+RefusesFor old message f = (c : Run) → LeadsTo c old → IsRefusalCause c message f
 
 -- One message with its mark, from wherever the terminal may have been: these bytes were given, the first of those that the
 -- run sends, and all of them unless something failed.

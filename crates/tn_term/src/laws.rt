@@ -6,11 +6,13 @@ ghost use Rattle.tn_jobs.specs.Jobs.{Jobs, state_at};
 ghost use Rattle.tn_jobs.specs.declared.verdicts.JobState.TheVariants.{Foreground};
 ghost use Rattle.tn_server.specs.declared.wishes.Editing.{Editing};
 ghost use Rattle.tn_term.specs.Agreeing.{Agree};
+ghost use Rattle.tn_term.specs.Ending.{IsFaultCause};
 ghost use Rattle.tn_term.specs.Giving.{GivesFront};
 ghost use Rattle.tn_term.specs.Hearing.{Hears, HangsUp, MayAllCome};
 ghost use Rattle.tn_term.specs.Marks.{Runs, run_after_opening};
 ghost use Rattle.tn_term.specs.Run.{Run, start};
-ghost use Rattle.tn_term.specs.declared.faults.Ended.TheVariants.{HangUp};
+ghost use Rattle.tn_term.specs.declared.faults.Ended.TheVariants.{HangUp, Fault};
+ghost use Rattle.tn_term.specs.declared.faults.SessionFault.{SessionFault};
 ghost use Rattle.tn_term.specs.declared.messages.Mark.{Mark};
 ghost use Rattle.tn_term.specs.declared.messages.Message.{Message};
 
@@ -52,4 +54,15 @@ pub fn runs_agree()
         (marked : List (Message × Mark)) (one two : Run) →
         Runs (run_after_opening opens (start canon editing jobs)) marked one →
         Runs (run_after_opening opens (start canon editing jobs)) marked two → Agree one two }
+{}
+
+/// A run ends by a fault only where the fault's cause was there: a message that reading failed, or that memory
+/// was wanting; a write that failed; or a call of the end that was refused for its cause, too far behind only
+/// where as many entries waited as there may be.
+pub fn faults_have_causes()
+    ensures { (opens : Bool) (canon : Canon) (editing : Editing) (jobs : Jobs)
+        (marked : List (Message × Mark)) (new : Run) (fault : SessionFault) →
+        Runs (run_after_opening opens (start canon editing jobs)) marked new →
+        new.progress.ended ≡ Fault fault →
+        IsFaultCause opens (run_after_opening opens (start canon editing jobs)) marked fault }
 {}

@@ -10,7 +10,7 @@ ghost use Rattle.tn_term.specs.Counting as counting;
 ghost use Rattle.tn_term.specs.Marks.{is_whole};
 ghost use Rattle.tn_term.specs.Run as run;
 ghost use Rattle.tn_term.specs.Run.{Run};
-ghost use Rattle.tn_term.specs.Reaching.{FollowsPath, AdvancesRun, BreaksOff, Feeds, FeedBreaksOff, HaltsIf, Says, SayBreaksOff, DoesWhole, StopsWithin, IsTurn, LeadsTo};
+ghost use Rattle.tn_term.specs.Reaching.{FollowsPath, AdvancesRun, BreaksOff, Feeds, FeedBreaksOff, HaltsIf, Says, SayBreaksOff, DoesWhole, StopsWithin, RefusesFor, IsTurn, LeadsTo};
 
 use crate::faults::{Ended, SessionFault};
 use crate::messages::{Mark, Message, Outcome};
@@ -101,6 +101,7 @@ impl Term {
         ensures ok { OnOk result (AdvancesRun run.flush self.old out.old.items out.new.items [] self.new) }
         ensures err { OnErr result (BreaksOff run.flush self.old out.old.items out.new.items [] self.new) }
         ensures progress { self.new.progress ≡ self.old.progress }
+        ensures fault { IfErr result (λ fault. fault ≡ ServerFault.Memory) }
     {
         match pull_all(&mut self.end, out) {
             Ok(()) => Ok(()),
@@ -116,6 +117,7 @@ impl Term {
         ensures err { OnErr result
             (BreaksOff (run.show (part.now ∷ [])) self.old out.old.items out.new.items [] self.new) }
         ensures progress { self.new.progress ≡ self.old.progress }
+        ensures fault { IfErr result (λ fault. fault ≡ ServerFault.Memory) }
     {
         self.end.write(part);
         match pull_all(&mut self.end, out) {
@@ -133,6 +135,7 @@ impl Term {
             All run.IsPart parts ×
             BreaksOff (run.show parts) self.old out.old.items out.new.items [] self.new) }
         ensures progress { self.new.progress ≡ self.old.progress }
+        ensures fault { IfErr result (λ fault. fault ≡ ServerFault.Memory) }
     {
         let mut rest = text;
         while !rest.is_empty() {
@@ -154,6 +157,7 @@ impl Term {
         ensures err { OnErr result ((parts : List (List ℕ)) × run.Cuts writes text.now parts ×
             BreaksOff (run.show parts) self.old out.old.items out.new.items [] self.new) }
         ensures progress { self.new.progress ≡ self.old.progress }
+        ensures fault { IfErr result (λ fault. fault ≡ ServerFault.Memory) }
     {
         if writes {
             match self.show(text, out) {
@@ -173,6 +177,7 @@ impl Term {
         ensures err { OnErr result ((parts : List (List ℕ)) × run.Cuts writes text.now parts ×
             BreaksOff (λ c. run.flush (run.show parts c)) self.old out.old.items out.new.items [] self.new) }
         ensures progress { self.new.progress ≡ self.old.progress }
+        ensures fault { IfErr result (λ fault. fault ≡ ServerFault.Memory) }
     {
         match self.show_if(writes, text, out) {
             Ok(()) => {},
@@ -193,6 +198,7 @@ impl Term {
         ensures over { self.new.progress.over ≡ false }
         ensures err { OnErr result (self.new ≡ self.old) }
         ensures err_appends { OnErr result (out.new.items ≡ out.old.items) }
+        ensures fault { IfErr result (λ fault. fault ≡ ServerFault.Memory) }
     {
         match self.end.take(out) {
             Ok(Some(entry)) => {
@@ -213,6 +219,7 @@ impl Term {
         requires { self.old.progress.over ≡ false }
         ensures ok { OnOk result (Feeds self.old piece.now out.old.items out.new.items self.new) }
         ensures err { OnErr result (FeedBreaksOff self.old piece.now out.old.items out.new.items self.new) }
+        ensures cause { IfErr result (RefusesFor self.old (Message.Piece piece.now)) }
         ensures asks { self.new.progress.asks ≡ self.old.progress.asks }
         ensures over { self.new.progress.over ≡ false }
     {
@@ -313,6 +320,7 @@ impl Term {
             AdvancesRun run.flush self.old out.old.items out.new.items [] self.new) }
         ensures err { IfErr result (λ s. (s.put ≡ put) × (s.given ≡ true) ×
             BreaksOff run.flush self.old out.old.items out.new.items [] self.new) }
+        ensures fault { IfErr result (λ s. s.fault ≡ ServerFault.Memory) }
     {
         match self.flush(out) {
             Ok(()) => Ok(put),
@@ -340,6 +348,7 @@ impl Term {
             Says id.0 text.now (Some verdict) self.old out.old.items out.new.items put self.new) }
         ensures err { IfErr result (λ s. (s.given ≡ true) ×
             SayBreaksOff id.0 text.now (Some verdict) self.old out.old.items out.new.items s.put self.new) }
+        ensures fault { IfErr result (λ s. s.fault ≡ ServerFault.Memory) }
     {
         let is_over = ends_all(state, verdict.next);
         self.moves(id, state, verdict.next);
@@ -381,6 +390,7 @@ impl Term {
             SayBreaksOff id.0 text.now
             (run.verdict_at (state_at self.old.table id.0) (run.has_text text.now) after self.old.tostop)
             self.old out.old.items out.new.items s.put self.new) }
+        ensures fault { IfErr result (λ s. s.fault ≡ ServerFault.Memory) }
     {
         let Some(state) = self.table.state(id) else {
             return self.finish(None, out);
@@ -398,6 +408,7 @@ impl Term {
         ensures err { IfErr result (λ s.
             StopsWithin self.old (Message.Piece piece.now) s.given out.old.items out.new.items s.put
             self.new) }
+        ensures cause { IfErr result (λ s. RefusesFor self.old (Message.Piece piece.now) s.fault) }
     {
         let asks = self.progress.asks;
         match self.feed(piece, out) {
@@ -430,6 +441,7 @@ impl Term {
             DoesWhole self.old Message.Take out.old.items out.new.items put self.new) }
         ensures err { IfErr result (λ s.
             StopsWithin self.old Message.Take s.given out.old.items out.new.items s.put self.new) }
+        ensures fault { IfErr result (λ s. s.fault ≡ ServerFault.Memory) }
     {
         match self.ask(out) {
             Ok(put) => self.finish(put, out),
@@ -450,6 +462,7 @@ impl Term {
             DoesWhole self.old Message.Refused out.old.items out.new.items put self.new) }
         ensures err { IfErr result (λ s.
             StopsWithin self.old Message.Refused s.given out.old.items out.new.items s.put self.new) }
+        ensures fault { IfErr result (λ s. s.fault ≡ ServerFault.Memory) }
     {
         self.ends_by(Ended::Fault(SessionFault::Memory));
         let pulled = self.flush(out);
@@ -471,6 +484,7 @@ impl Term {
             DoesWhole self.old message out.old.items out.new.items put self.new) }
         ensures err { IfErr result (λ s.
             StopsWithin self.old message s.given out.old.items out.new.items s.put self.new) }
+        ensures cause { IfErr result (λ s. RefusesFor self.old message s.fault) }
     {
         match message {
             Message::Piece(piece) => self.piece(piece.as_slice(), out),

@@ -28,4 +28,6 @@ returns-in-Ok-run-clause-ran g c =
       in_order = front;
       all_taken = all;
       by_bytes = takes_entries s hears heard front all;
+      caused = λ f e.
+          c.faults_have_causes.ensures s.wrote_opening canon c.args.editing made.table s.marked s.run f s.runs (sym (ap (λ (r : Report). r.ended) s.report_is) ∙ e);
     }

@@ -2,6 +2,7 @@ use Rattle.std.proofs.Common.{None, true, false}
 use Rattle.tn_term.specs.declared.messages.Message.TheVariants.{Piece}
 use Rattle.tn_term.proofs.Doing.{does_nothing}
 use Rattle.tn_term.proofs.Handling.{with_ok, with_stuck, handled_piece, stops_piece, stops_feed, stops_fed}
+use Rattle.tn_term.proofs.Refusing.{for_memory, stuck_for_memory}
 use Rattle.tn_term.proofs.terminal.Term.piece.Goals as goal
 
 pub returns-in-Err-clause-err : goal.returns-in-Err-clause-err
@@ -26,3 +27,15 @@ returns-else-asks-clause-ok c =
 pub returns-else-asks-clause-err : goal.returns-else-asks-clause-err
 returns-else-asks-clause-err c =
     with_stuck c.args.self.now (Piece c.args.piece.now) _ _ c.finish-else-asks.new.self _ c.finish-else-asks.result None (λ d. stops_piece c.args.piece.now false c.args.self.now c.feed.new.self c.feed.new.self c.finish-else-asks.new.self _ _ _ _ None c.requires c.if-asks.false c.in-Ok.ensures.ok (does_nothing c.feed.new.self _) d) c.finish-else-asks.ensures.err
+
+pub returns-in-Err-clause-cause : goal.returns-in-Err-clause-cause
+returns-in-Err-clause-cause c = c.in-Err.ensures.cause
+
+pub returns-in-Ok-ask-clause-cause : goal.returns-in-Ok-ask-clause-cause
+returns-in-Ok-ask-clause-cause c = stuck_for_memory c.args.self.now (Piece c.args.piece.now) c.finish.result c.finish.ensures.fault
+
+pub returns-in-Err-ask-clause-cause : goal.returns-in-Err-ask-clause-cause
+returns-in-Err-ask-clause-cause c = for_memory c.args.self.now (Piece c.args.piece.now) _ c.in-Err-ask.ensures.fault
+
+pub returns-else-asks-clause-cause : goal.returns-else-asks-clause-cause
+returns-else-asks-clause-cause c = stuck_for_memory c.args.self.now (Piece c.args.piece.now) c.finish-else-asks.result c.finish-else-asks.ensures.fault

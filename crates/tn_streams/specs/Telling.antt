@@ -1,0 +1,41 @@
+-- What a reader or a writer tells of its calls.
+use Rattle.std.specs.Prelude.{◌≡◌, ◌≢◌, ℕ, ◌+◌, ◌<◌, List, length, Option, Some, None, Result, Ok, Err, ⊤, ◌⊎◌}
+use Rattle.std.specs.IoError.{error_kind}
+use Rattle.std.specs.declared.io.Error.{Error}
+use Rattle.std.specs.declared.io.ErrorKind.TheVariants.{Interrupted}
+
+-- how many calls were made, and how many of them failed
+pub record Calls : Type 0 where
+  pub made : ℕ
+  pub failed : ℕ
+
+-- one that a signal interrupted has not failed
+abbrev pub CountsError : Error → ℕ → ℕ → Type 0
+CountsError e old new = (error_kind e ≡ Interrupted → new ≡ old) × (error_kind e ≢ Interrupted → new ≡ old + 1)
+
+abbrev pub CountsRead : Result ℕ Error → ℕ → ℕ → Type 0
+CountsRead (Ok n) old new = new ≡ old
+CountsRead (Err e) old new = CountsError e old new
+
+-- a write that took none of the bytes that it was handed has failed
+abbrev pub CountsWrite : List ℕ → Result ℕ Error → ℕ → ℕ → Type 0
+CountsWrite bytes (Ok n) old new = (n ≢ 0 → new ≡ old) × (n ≡ 0 → 0 < length bytes → new ≡ old + 1)
+CountsWrite bytes (Err e) old new = CountsError e old new
+
+-- one call more, if it is told; whoever tells nothing goes on to tell nothing
+abbrev pub TellsCall : (ℕ → ℕ → Type 0) → Option Calls → Option Calls → Type 0
+TellsCall counts None new = new ≡ None
+TellsCall counts (Some old) None = ⊤
+TellsCall counts (Some old) (Some new) = (new.made ≡ old.made + 1) × counts old.failed new.failed
+
+-- if it is told: so many calls were made, and none of them failed
+abbrev pub HasMade : ℕ → Option Calls → Option Calls → Type 0
+HasMade count None new = new ≡ None
+HasMade count (Some old) None = ⊤
+HasMade count (Some old) (Some new) = (new.made ≡ old.made + count) × (new.failed ≡ old.failed)
+
+-- if it is told: a call failed, or so many were made
+abbrev pub HasFailed : ℕ → Option Calls → Option Calls → Type 0
+HasFailed most None new = ⊤
+HasFailed most (Some old) None = ⊤
+HasFailed most (Some old) (Some new) = (new.failed ≡ old.failed + 1) ⊎ (new.made ≡ old.made + most)

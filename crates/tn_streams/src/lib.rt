@@ -1,0 +1,72 @@
+//! Readers and writers that may tell how many of their calls failed.
+//!
+//! Every reader and writer of the standard library is one that tells nothing.
+#![tactic(auto)]
+
+ghost use Rattle.std.specs.Prelude.{◌≡◌, ◌≢◌, ℕ, List, None, Option, true, false};
+ghost use Rattle.std.specs.IoError.{error_kind};
+ghost use Rattle.std.specs.Io.{ReadsAtMost, WritesAtMost};
+ghost use Rattle.std.specs.Io.KnownBytes.{ReadConsumes, WriteAppends, Keeps};
+ghost use Rattle.tn_streams.specs.Telling.{Calls, TellsCall, CountsRead, CountsWrite};
+
+use std::io::{Error, ErrorKind, Read, Result, Write};
+pub use tally::Tally;
+
+mod tally;
+
+/// A reader that may tell how many of its calls failed.
+pub trait Source {
+    // The bytes that reads will give from here on, where they are known.
+    ghost remaining: { Self → Option (List ℕ) } = { λ _. None };
+
+    // What it tells of its calls.
+    ghost told: { Self → Option Calls } = { λ _. None };
+
+    /// Reads some bytes, none only at the end or where there is no room.
+    fn read_some(&mut self, buf: &mut [u8]) -> Result<usize>
+        ensures bound { ReadsAtMost result buf.new }
+        ensures bytes { ReadConsumes (remaining self.old) (remaining self.new) result buf.new }
+        ensures tells { TellsCall (CountsRead result) (told self.old) (told self.new) };
+}
+
+/// A writer that may tell how many of its calls failed.
+pub trait Drain {
+    // The bytes that the writer holds, where they are known.
+    ghost contents: { Self → Option (List ℕ) } = { λ _. None };
+
+    // What it tells of its calls.
+    ghost told: { Self → Option Calls } = { λ _. None };
+
+    /// Writes the first of the bytes.
+    fn write_some(&mut self, buf: &[u8]) -> Result<usize>
+        ensures bound { WritesAtMost result buf.now }
+        ensures bytes { WriteAppends (contents self.old) (contents self.new) result buf.now }
+        ensures tells { TellsCall (CountsWrite buf.now result) (told self.old) (told self.new) };
+}
+
+impl<R: Read> Source for R {
+    ghost remaining = { R.Read.remaining };
+
+    fn read_some(&mut self, buf: &mut [u8]) -> Result<usize> {
+        self.read(buf)
+    }
+}
+
+impl<W: Write> Drain for W {
+    ghost contents = { W.Write.contents };
+
+    fn write_some(&mut self, buf: &[u8]) -> Result<usize> {
+        self.write(buf)
+    }
+}
+
+/// Whether a signal interrupted the call, so that it is to be made again.
+pub fn is_interrupted(error: &Error) -> bool
+    ensures again { result ≡ true → error_kind error.now ≡ ErrorKind.Interrupted }
+    ensures failed { result ≡ false → error_kind error.now ≢ ErrorKind.Interrupted }
+{
+    match error.kind() {
+        ErrorKind::Interrupted => true,
+        _ => false,
+    }
+}
