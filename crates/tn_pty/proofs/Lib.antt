@@ -1,2 +1,4 @@
+pub mod lemmas
 pub mod Shown
 pub mod Fronts
+pub mod Queues
