@@ -159,6 +159,7 @@ impl Line {
 
         ensures count { let room = most_counted self.old.limit - line_length self.old in
             result ≡ min room (length bytes.now) }
+        ensures within { line_length self.old < self.old.limit }
         ensures line { self.new ≡ record self.old { held = self.old.held ++ take result bytes.now } }
     {
         self.keep_front(bytes)

@@ -49,6 +49,11 @@ abbrev pub queue_with : List Symbol → List Symbol → List Symbol
 queue_with queue symbols =
     if nat_le (length queue + length symbols) queue_symbols then queue ++ symbols else queue
 
+-- the queue with each of these symbols behind it that fits, one after another
+abbrev pub queue_with_each : List Symbol → List Symbol → List Symbol
+queue_with_each queue [] = queue
+queue_with_each queue (symbol ∷ symbols) = queue_with_each (queue_with queue (symbol ∷ [])) symbols
+
 -- XBD 11.2.3, OPOST and ONLCR: how a byte of output is shown
 abbrev pub output_symbol : Flags → ℕ → Symbol
 output_symbol flags byte = if byte == 10 && (flags.opost && flags.onlcr) then Newline else Byte byte

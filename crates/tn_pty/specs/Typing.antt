@@ -4,6 +4,7 @@ use Rattle.tn_codes.specs.declared.codes.Command.{Command}
 use Rattle.tn_codes.specs.declared.codes.Command.TheVariants as command
 use Rattle.tn_discipline.specs.HalfLine.{HalfLine, effect_of, line_after, effect_entries}
 use Rattle.tn_discipline.specs.Keys.{role_of_key}
+use Rattle.tn_discipline.specs.Runs.{each_role, gains_from}
 use Rattle.tn_discipline.specs.Echo.{echo_at}
 use Rattle.tn_discipline.specs.declared.termios.Settings.{Settings}
 use Rattle.tn_discipline.specs.declared.reads.Sig.TheVariants.{Int, Quit, Tstp}
@@ -38,6 +39,20 @@ terminal_after old r symbols =
       entries = old.entries ++ gain_of old.line r;
       queue = queue_with old.queue symbols;
     }
+
+-- the terminal after a typed key
+abbrev pub typed_after : Bool → Terminal → ℕ → Terminal
+typed_after echo old key =
+    terminal_after old (role_of_key old.settings key) (echo_symbols echo old.settings key old.line)
+
+-- the terminal after typed keys, one after another
+abbrev pub typed_after_all : Bool → Terminal → List ℕ → Terminal
+typed_after_all echo old [] = old
+typed_after_all echo old (key ∷ keys) = typed_after_all echo (typed_after echo old key) keys
+
+-- the entries that typed keys give, one after another
+abbrev pub typed_gains : Terminal → List ℕ → List Entry
+typed_gains old keys = gains_from old.line (each_role old.settings keys)
 
 -- RFC 854 and RFC 1184, section 2: the key that a command stands for. BRK is an interrupt here; commands that
 -- stand for none change no line

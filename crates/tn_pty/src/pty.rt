@@ -1,10 +1,12 @@
-ghost use Rattle.std.specs.Prelude.{◌≡◌, ◌+◌, ◌-◌, ◌<◌, ◌≤◌, true, None, [], ◌++◌, ◌∷◌, length, map, take, drop, min, IfOk, IfErr, IfNone, IfSome, OnOk, OnErr, slice_get, option_copied, count_by, is_some, vec_len, vec_capacity};
+ghost use Rattle.std.specs.Prelude.{◌≡◌, ◌+◌, ◌-◌, ◌<◌, ◌≤◌, true, None, get_or, All, [], ◌++◌, ◌∷◌, length, map, take, drop, min, IfOk, IfErr, IfNone, IfSome, OnOk, OnErr, slice_get, option_copied, count_by, is_some, vec_len, vec_capacity};
 ghost use Rattle.tn_discipline.specs.Keys.{roles_of, role_of_key, literal_role, roles_from};
 ghost use Rattle.tn_discipline.specs.HalfLine.{effect_of, line_after, effect_entries, GivesText};
 ghost use Rattle.tn_discipline.specs.Advancing.{Advances};
-ghost use Rattle.tn_pty.specs.Terminal.{new_terminal, queue_with, output_symbols, output_symbol, fitting_count, shut_terminal, first_signal};
-ghost use Rattle.tn_pty.specs.Typing.{gain_of, symbols_in, echo_symbols, terminal_after, command_role, command_shows, IsCommandRole};
-ghost use Rattle.tn_pty.specs.Faults.{Accepts, Refuses};
+ghost use Rattle.tn_discipline.specs.RolesTable.{IsPlain};
+ghost use Rattle.tn_discipline.specs.declared.echo.Symbol.TheVariants.{Byte};
+ghost use Rattle.tn_pty.specs.Terminal.{new_terminal, queue_with, queue_with_each, output_symbols, output_symbol, fitting_count, shut_terminal, first_signal};
+ghost use Rattle.tn_pty.specs.Typing.{gain_of, symbols_in, echo_symbols, terminal_after, typed_after_all, typed_gains, command_role, command_shows, IsCommandRole};
+ghost use Rattle.tn_pty.specs.Faults.{Accepts, Refuses, AcceptsAll, StopsWithinKeys};
 ghost use Rattle.circular_buffer.specs.Buffer.{buffer};
 
 use circular_buffer::HeapCircularBuffer;
@@ -22,6 +24,9 @@ const QUEUE_SYMBOLS: usize = 4096;
 
 /// How many entries may wait.
 const MOST_WAITING: usize = 1024;
+
+/// What is shown of a byte that the line has no room for.
+const BELL: u8 = 7;
 
 /// The answer to AYT.
 const YES: [Option<Symbol>; 6] = [
@@ -126,6 +131,21 @@ impl Pair {
             },
             Err(_) => Err(self.close(PtyFault::Memory)),
         }
+    }
+
+    /// The master types keys, one after another, which are shown where `echo` is true: each as `raw_key`
+    /// does it, and bytes that join the line as they are in runs. After any fault the keys before the
+    /// one that was refused were typed, and the pair is closed.
+    pub fn type_run(&mut self, keys: &[u8], echo: bool) -> Result<(), PtyFault>
+        // Whatever keys led to this half line, the entries gain what these keys add.
+        ensures advances { let gain = typed_gains self.old keys.now in
+            OnOk result (Advances self.old.line (roles_of self.old.settings keys.now) gain self.new.line) }
+        ensures entries { OnOk result (self.new.entries ≡ self.old.entries ++ typed_gains self.old keys.now) }
+        ensures pair { OnOk result (self.new ≡ typed_after_all echo self.old keys.now) }
+        ensures accepted { OnOk result (AcceptsAll echo self.old keys.now) }
+        ensures refused { IfErr result (λ fault. StopsWithinKeys echo self.old keys.now fault self.new) }
+    {
+        self.type_each(keys, echo)
     }
 
     /// The master types a byte of a line that was edited before it came. Nothing is shown.
@@ -298,6 +318,56 @@ impl Pair {
         self.roles.set(settings);
     }
 
+    fn type_each(&mut self, keys: &[u8], echo: bool) -> Result<(), PtyFault>
+        ensures pair { OnOk result (self.new ≡ typed_after_all echo self.old keys.now) }
+        ensures accepted { OnOk result (AcceptsAll echo self.old keys.now) }
+        ensures refused { IfErr result (λ fault. StopsWithinKeys echo self.old keys.now fault self.new) }
+    {
+        let mut typed = 0;
+        while typed < keys.len() {
+            match self.type_front(&keys[typed..], echo) {
+                Ok(count) => typed += count,
+                Err(fault) => return Err(fault),
+            }
+        }
+        Ok(())
+    }
+
+    // Types the bytes at the front that join the line as they are, or else the first key; answers how many
+    // were typed.
+    fn type_front(&mut self, keys: &[u8], echo: bool) -> Result<usize, PtyFault>
+        requires { 0 < length keys.now }
+        ensures some { IfOk result (λ count. 0 < count) }
+        ensures within { IfOk result (λ count. count ≤ length keys.now) }
+        ensures pair { IfOk result (λ count. self.new ≡ typed_after_all echo self.old (take count keys.now)) }
+        ensures accepted { IfOk result (λ count. AcceptsAll echo self.old (take count keys.now)) }
+        ensures refused { IfErr result (λ fault.
+            Refuses self.old (role_of_key self.old.settings (get_or keys.now 0 0)) fault self.new) }
+    {
+        let count = self.roles.ordinary_front(keys);
+        if count == 0 || self.closed {
+            return match self.raw_key(keys[0], echo) {
+                Ok(()) => Ok(1),
+                Err(fault) => Err(fault),
+            };
+        }
+        self.type_plain(&keys[..count], echo);
+        Ok(count)
+    }
+
+    // Types bytes that join the line as they are: as many as fit are held, and shown as they are, and each
+    // other one as a bell.
+    fn type_plain(&mut self, keys: &[u8], echo: bool)
+        requires { All (IsPlain self.old.settings) keys.now }
+        ensures { self.new ≡ typed_after_all echo self.old keys.now }
+    {
+        let kept = self.line.keep_run(keys);
+        if echo && self.roles.settings().flags.echo {
+            put_echoes(&mut self.queue, &keys[..kept]);
+            put_bells(&mut self.queue, &keys[kept..]);
+        }
+    }
+
     // Why a key of this role is refused, before any memory is looked for.
     fn refusal(&self, role: Role) -> Option<PtyFault>
         ensures none { IfNone result (Accepts self.now role) }
@@ -400,6 +470,28 @@ fn put_present(queue: &mut HeapCircularBuffer<Symbol>, symbols: &[Option<Symbol>
         if let Some(symbol) = symbol {
             let _room = queue.try_push_back(*symbol);
         }
+    }
+}
+
+// Puts each of the bytes that fits into the queue, as it is shown.
+fn put_echoes(queue: &mut HeapCircularBuffer<Symbol>, bytes: &[u8])
+    requires { queue.old.capacity ≡ 4096 }
+    ensures { let shown = map Byte bytes.now in
+        queue.new ≡ buffer (queue_with_each queue.old.items shown) queue.old.capacity }
+{
+    for byte in bytes {
+        let _room = queue.try_push_back(Symbol::Byte(*byte));
+    }
+}
+
+// Puts a bell for each of the bytes into the queue, where it fits.
+fn put_bells(queue: &mut HeapCircularBuffer<Symbol>, bytes: &[u8])
+    requires { queue.old.capacity ≡ 4096 }
+    ensures { let shown = map (λ byte. Byte 7) bytes.now in
+        queue.new ≡ buffer (queue_with_each queue.old.items shown) queue.old.capacity }
+{
+    for _byte in bytes {
+        let _room = queue.try_push_back(Symbol::Byte(BELL));
     }
 }
 
