@@ -15,7 +15,13 @@ const OUTPUT: [u8; 700] = [b'x'; 700];
 // A key, a byte or a command at both.
 fn type_at_both(pair: &mut Pair, plain: &mut Terminal, dice: &mut Dice) -> Result<(), PtyFault> {
     let key = dice.pick(&KEYS);
-    match dice.roll(4) {
+    match dice.roll(5) {
+        4 => {
+            for key in [b'c', key, b'd'] {
+                plain.raw_key(key, true);
+            }
+            pair.type_run(&[b'c', key, b'd'], true)
+        },
         0 => {
             plain.raw_key(key, true);
             pair.raw_key(key, true)

@@ -28,6 +28,8 @@ impl Stage for Typing {
     fn step(&mut self, words: Words<'_>, page: &mut Page) -> bool {
         match words.verb {
             "limit" => return self.renew(words),
+            "release" => return self.release(page),
+            "run" => page.say(&self.line.keep_run(&words.bytes(self.alloc))),
             "held" => page.bytes("held", self.line.held()),
             "count" => page.say(&self.line.held().len()),
             "ahead" => page.say(&self.line.ahead()),
@@ -50,6 +52,18 @@ impl Typing {
         match Line::new(self.alloc, limit) {
             Ok(line) => {
                 self.line = line;
+                false
+            },
+            Err(_) => true,
+        }
+    }
+
+    // Hands on the bytes that are held.
+    fn release(&mut self, page: &mut Page) -> bool {
+        let mut released = Vec::new(self.alloc);
+        match self.line.release(&mut released) {
+            Ok(()) => {
+                page.bytes("released", &released);
                 false
             },
             Err(_) => true,
@@ -157,6 +171,18 @@ fn edited_bytes_close_a_line_at_its_closing_characters_alone(rt: HostRuntime) {
         "close-at forw1 3b; close-at forw2 21; literal 030d; erase; literal 3b; literal 63; literal 21; erase; \
          keys 61; kill; end-of-file; keys 62; end-of-file; held; ahead",
         "Erased; text 033b; text 6321; Nothing; Killed(0); eof; text 62; held; 0",
+    );
+}
+
+#[test]
+fn bytes_that_were_handed_on_are_ahead(rt: HostRuntime) {
+    plays::<Typing>(
+        &rt,
+        rt.alloc(),
+        "keys 6162; release; held; ahead; keys 63; erase; erase; ahead; kill; run 616263; held; release; \
+         run 251x62; run 6364; count; ahead; keys 0a",
+        "released 6162; held; 2; Erased; ErasedAhead; 1; Killed(1); 3; held 616263; released 616263; \
+         251; 0; 251; 3; text 251x62.0a",
     );
 }
 

@@ -93,6 +93,10 @@ impl Master {
     fn type_all(&mut self, words: Words<'_>, page: &mut Page) {
         let mut ended = Ok(());
         for _ in 0..number_of(words.second).max(1) {
+            if words.verb == "run" {
+                ended = ended.and(self.pair.type_run(&words.bytes(self.alloc), true));
+                continue;
+            }
             for key in &words.bytes(self.alloc) {
                 ended = ended.and(self.type_one(words.verb, *key));
             }
@@ -133,6 +137,18 @@ fn a_pair_closes_where_its_slave_is_too_far_behind(rt: HostRuntime) {
         "keys 0a 1024; keys 61; keys 0a; keys 61; edited 61; command f1; half; waiting 1023; \
          waiting 1024; take-lines; take; write 62; queued",
         "TooFarAhead; Closed; Closed; Closed; half 61; text 0a; none; 1024; none; 1; 1026",
+    );
+}
+
+#[test]
+fn keys_are_typed_in_runs(rt: HostRuntime) {
+    plays::<Master>(
+        &rt,
+        rt.alloc(),
+        "run 61620a63037f64; take; take; take; half; pull 99; run 300x65; half; queued; run 0a 1025; take-lines; \
+         take; take-lines; run 61",
+        "text 61620a; int; none; half 64; 8 - - nl - - - - -; half 64253x65.; 300; TooFarAhead; 0; \
+         text 0a; 1022; Closed",
     );
 }
 
