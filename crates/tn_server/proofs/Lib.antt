@@ -2,6 +2,7 @@ pub mod Beginning
 pub mod Calling
 pub mod Listing
 pub mod Passing
+pub mod Running
 pub mod Settling
 pub mod Standings
 pub mod Turning
