@@ -2,6 +2,7 @@ pub mod Beginning
 pub mod Calling
 pub mod Listing
 pub mod Passing
+pub mod Running
 pub mod Settling
 pub mod Spelling
 pub mod Standings
