@@ -1,0 +1,183 @@
+//! Keys and lines over a connection of this machine, whose echo and answer are waited for.
+
+use crate::measure::{Bench, Done, Stuck, Workload};
+use std::alloc::Global;
+use std::io::{Read, Write};
+use std::net::{Ipv4Addr, Net, TcpListener, TcpStream};
+use std::thread;
+use std::time::Clock;
+use tn_discipline::Limit;
+use tn_loopback::{Host, serve_connection};
+use tn_words::Serving;
+
+/// The length of a server's opening words.
+const OPENING: usize = 15;
+
+/// WONT LINEMODE, WONT NAWS, both SUPPRESS-GO-AHEAD, and DO ECHO.
+const ANSWERS: &[u8; 15] = b"\xff\xfc\x22\xff\xfc\x1f\xff\xfd\x03\xff\xfb\x03\xff\xfd\x01";
+
+/// What is sent at once, and how many bytes come back.
+type Question = (&'static [u8], usize);
+
+/// A byte that comes back.
+const BYTE: &[Question; 1] = &[(b"x", 1)];
+
+/// A key and its echo; and ERASE, which leaves the line as it was.
+const KEYS: &[Question; 2] = &[(b"x", 1), (b"\x7f", 3)];
+
+/// A line, its echo and the answer of the job, which is the line.
+const LINE: &[Question; 1] = &[(b"x\r\0", 6)];
+
+/// Asks the questions in turn, and waits each time for what comes back.
+#[derive(Drop)]
+struct Asking {
+    stream: TcpStream,
+    questions: &'static [Question],
+    turn: usize,
+}
+
+impl Workload for Asking {
+    fn once(&mut self) -> Result<Done, Stuck> {
+        let Some((sent, due)) = self.questions.get(self.turn) else {
+            return Err(Stuck);
+        };
+        self.turn = (self.turn.saturating_add(1))
+            .checked_rem(self.questions.len())
+            .unwrap_or(0);
+        let mut back = [0; 8];
+        let due = (*due).min(8);
+        self.stream.write_all(sent)?;
+        self.stream.read_exact(&mut back[..due])?;
+        Ok(Done {
+            bytes: sent.len() as u64,
+            wholes: 1,
+        })
+    }
+}
+
+// Sends back each byte that comes, until there is none.
+fn send_back(mut stream: TcpStream) -> bool {
+    let mut piece = [0; 512];
+    for _ in 0..u64::MAX {
+        let Ok(count) = stream.read(&mut piece) else {
+            return false;
+        };
+        let Some(came) = piece.get(..count) else {
+            return false;
+        };
+        if count == 0 {
+            return true;
+        }
+        if stream.write_all(came).is_err() {
+            return false;
+        }
+    }
+    false
+}
+
+// Both ends of a connection.
+fn connection<H>(rt: &H) -> Result<(TcpStream, TcpStream), Stuck>
+where
+    H: Net<Listener = TcpListener, Stream = TcpStream>,
+{
+    let listener = TcpListener::bind(rt, (Ipv4Addr::LOCALHOST, 0))?;
+    let port = listener.local_addr()?.port();
+    let stream = TcpStream::connect(rt, (Ipv4Addr::LOCALHOST, port))?;
+    let (peer, _) = listener.accept()?;
+    stream.set_nodelay(true)?;
+    Ok((stream, peer))
+}
+
+fn ask_thread<H: Clock, W: Write>(
+    alloc: Global,
+    bench: &mut Bench<'_, H, W>,
+    stream: TcpStream,
+) -> Result<(), Stuck> {
+    let mut load = Asking {
+        stream,
+        questions: BYTE,
+        turn: 0,
+    };
+    bench.tell_middle(
+        alloc,
+        "a byte over loopback, sent back by a thread",
+        &mut load,
+    )
+}
+
+// A thread of this program sends back what comes.
+fn over_a_thread<H, W: Write>(
+    rt: H,
+    alloc: Global,
+    bench: &mut Bench<'_, H, W>,
+) -> Result<(), Stuck>
+where
+    H: Host + Clock + Net<Listener = TcpListener, Stream = TcpStream>,
+{
+    let (stream, peer) = connection(&rt)?;
+    let thread = thread::spawn(&rt, move || -> bool { send_back(peer) })?;
+    let told = ask_thread(alloc, bench, stream);
+    thread.join(&rt);
+    told
+}
+
+// Both agree that the server echoes; then keys are typed, and lines.
+fn ask_session<H: Clock, W: Write>(
+    alloc: Global,
+    bench: &mut Bench<'_, H, W>,
+    mut stream: TcpStream,
+) -> Result<(), Stuck> {
+    let mut opening = [0; OPENING];
+    stream.read_exact(&mut opening)?;
+    stream.write_all(ANSWERS)?;
+    let mut load = Asking {
+        stream,
+        questions: KEYS,
+        turn: 0,
+    };
+    bench.tell_middle(alloc, "a key's echo over loopback", &mut load)?;
+    load.questions = LINE;
+    load.turn = 0;
+    bench.tell_middle(alloc, "a line's echo and answer over loopback", &mut load)
+}
+
+// The session of a server, as `tn serve` runs it.
+fn over_a_session<H, W: Write>(
+    rt: H,
+    alloc: Global,
+    bench: &mut Bench<'_, H, W>,
+) -> Result<(), Stuck>
+where
+    H: Host + Clock + Net<Listener = TcpListener, Stream = TcpStream>,
+{
+    let (stream, peer) = connection(&rt)?;
+    let work = move || -> bool { serve_connection(rt, alloc, peer, &one_connection()).is_ok() };
+    let thread = thread::spawn(&rt, work)?;
+    let told = ask_session(alloc, bench, stream);
+    thread.join(&rt);
+    told
+}
+
+fn one_connection() -> Serving {
+    Serving {
+        port: 0,
+        limit: 1,
+        count: 1,
+        ticks: 0,
+        line: Limit::standard(),
+        local: false,
+        verbose: false,
+    }
+}
+
+pub(crate) fn run<H, W: Write>(
+    rt: H,
+    alloc: Global,
+    bench: &mut Bench<'_, H, W>,
+) -> Result<(), Stuck>
+where
+    H: Host + Clock + Net<Listener = TcpListener, Stream = TcpStream>,
+{
+    over_a_thread(rt, alloc, bench)?;
+    over_a_session(rt, alloc, bench)
+}

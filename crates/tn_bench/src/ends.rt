@@ -1,0 +1,171 @@
+//! Streams into either end.
+
+use crate::measure::{Bench, Done, Stuck, Workload, repeated};
+use std::alloc::Global;
+use std::io::Write;
+use std::time::Clock;
+use tn_client::{ClientEnd, ClientFault};
+use tn_discipline::{Limit, Settings};
+use tn_server::{Editing, ServerEnd, ServerFault};
+
+/// How many bytes a piece has.
+const PIECE: usize = 4_096;
+
+/// A line of 62 characters and its end, as a client that edits sends it.
+const EDITED: &[u8; 64] = b"the quick brown fox jumps over the lazy dog, and all is as was\r\n";
+
+/// The same, as the keys of a client that does not edit.
+pub(crate) const KEYS: &[u8; 64] =
+    b"the quick brown fox jumps over the lazy dog, and all is as was\r\0";
+
+/// What a client answers to the opening words: LINEMODE, its size, both SUPPRESS-GO-AHEAD, ECHO.
+const ANSWERS: &[u8; 24] =
+    b"\xff\xfb\x22\xff\xfb\x1f\xff\xfa\x1f\0\x50\0\x18\xff\xf0\xff\xfd\x03\xff\xfb\x03\xff\xfd\x01";
+
+/// The acknowledgement of a MODE with EDIT and TRAPSIG, and DONT ECHO.
+const EDITS: &[u8; 10] = b"\xff\xfa\x22\x01\x07\xff\xf0\xff\xfe\x01";
+
+impl From<ServerFault> for Stuck {
+    fn from(_fault: ServerFault) -> Stuck {
+        Stuck
+    }
+}
+
+impl From<ClientFault> for Stuck {
+    fn from(_fault: ClientFault) -> Stuck {
+        Stuck
+    }
+}
+
+/// A client is fed what a server writes.
+#[derive(Drop)]
+struct Showing {
+    end: ClientEnd,
+    stream: Vec<u8>,
+    out: Vec<u8>,
+    screen: Vec<u8>,
+}
+
+impl Workload for Showing {
+    fn once(&mut self) -> Result<Done, Stuck> {
+        let mut done = Done::nothing();
+        for piece in self.stream.as_slice().chunks(PIECE) {
+            self.end.feed(piece, &mut self.out, &mut self.screen)?;
+            done = done.and(Done {
+                bytes: piece.len() as u64,
+                wholes: self.screen.len() as u64,
+            });
+            self.screen.clear();
+            self.out.clear();
+        }
+        Ok(done)
+    }
+}
+
+/// A server is fed what a client sends, and its job takes each line.
+#[derive(Drop)]
+pub(crate) struct Serving {
+    end: ServerEnd,
+    stream: Vec<u8>,
+    out: Vec<u8>,
+}
+
+// Takes all lines that wait, and counts them.
+fn take_all(end: &mut ServerEnd, out: &mut Vec<u8>) -> Result<u64, Stuck> {
+    let mut taken: u64 = 0;
+    for _ in 0..PIECE {
+        if end.take(out)?.is_none() {
+            break;
+        }
+        taken = taken.saturating_add(1);
+    }
+    Ok(taken)
+}
+
+impl Workload for Serving {
+    fn once(&mut self) -> Result<Done, Stuck> {
+        let mut done = Done::nothing();
+        for piece in self.stream.as_slice().chunks(PIECE) {
+            self.end.feed(piece, &mut self.out)?;
+            let taken = take_all(&mut self.end, &mut self.out)?;
+            self.end.pull(usize::MAX, &mut self.out)?;
+            self.out.clear();
+            done = done.and(Done {
+                bytes: piece.len() as u64,
+                wholes: taken,
+            });
+        }
+        Ok(done)
+    }
+}
+
+// The client has agreed to all, and edits where that is asked for.
+fn agree(end: &mut ServerEnd, editing: Editing, out: &mut Vec<u8>) -> Result<(), Stuck> {
+    end.feed(ANSWERS, out)?;
+    if let Editing::Local = editing {
+        end.wish(editing, out)?;
+        end.feed(EDITS, out)?;
+    }
+    Ok(())
+}
+
+/// A server whose client sends these bytes so many times.
+pub(crate) fn make_server(
+    alloc: Global,
+    bytes: &[u8],
+    times: u32,
+    editing: Editing,
+) -> Result<Serving, Stuck> {
+    let stream = repeated(alloc, bytes, times)?;
+    let mut out = Vec::new(alloc);
+    let mut end = ServerEnd::start(alloc, Settings::standard(), Limit::standard(), &mut out)?;
+    agree(&mut end, editing, &mut out)?;
+    out.clear();
+    Ok(Serving { end, stream, out })
+}
+
+fn show<H: Clock, W: Write>(
+    alloc: Global,
+    bench: &mut Bench<'_, H, W>,
+    name: &str,
+    bytes: &[u8],
+    times: u32,
+) -> Result<(), Stuck> {
+    let end = ClientEnd::start(alloc, 80, 24, Limit::standard())?;
+    let stream = repeated(alloc, bytes, times)?;
+    let (out, screen) = (Vec::new(alloc), Vec::new(alloc));
+    let mut load = Showing {
+        end,
+        stream,
+        out,
+        screen,
+    };
+    bench.tell(name, &mut load)
+}
+
+fn serve<H: Clock, W: Write>(
+    alloc: Global,
+    bench: &mut Bench<'_, H, W>,
+    name: &str,
+    bytes: &[u8],
+    editing: Editing,
+) -> Result<(), Stuck> {
+    let mut load = make_server(alloc, bytes, 1_024, editing)?;
+    bench.tell(name, &mut load)
+}
+
+pub(crate) fn run<H: Clock, W: Write>(
+    alloc: Global,
+    bench: &mut Bench<'_, H, W>,
+) -> Result<(), Stuck> {
+    show(alloc, bench, "a client shows plain text", b"x", 65_536)?;
+    show(alloc, bench, "a client shows lines of 64", EDITED, 1_024)?;
+    serve(alloc, bench, "a server edits keys", KEYS, Editing::Remote)?;
+    serve(
+        alloc,
+        bench,
+        "a server takes edited lines",
+        EDITED,
+        Editing::Local,
+    )
+}

@@ -1,0 +1,121 @@
+//! How cost grows: the same work at few and at many sessions, at short and at long lines, and with few
+//! and many entries that wait. The cost of a byte is to stay what it is.
+
+use crate::ends::{KEYS, Serving, make_server};
+use crate::measure::{Bench, Done, Stuck, Workload};
+use crate::pairs::{line_of, make_typing};
+use std::alloc::Global;
+use std::io::Write;
+use std::time::Clock;
+use tn_discipline::Limit;
+use tn_server::Editing;
+
+/// How often each of the sessions is fed, counted together.
+const TURNS: usize = 256;
+
+/// How many lines of 64 keys a piece has.
+const LINES: u32 = 16;
+
+/// Servers side by side, each of which is fed in its turn.
+#[derive(Drop)]
+struct Many {
+    servers: Vec<Serving>,
+}
+
+impl Workload for Many {
+    fn once(&mut self) -> Result<Done, Stuck> {
+        let mut done = Done::nothing();
+        for turn in 0..TURNS {
+            let count = self.servers.len();
+            if count == 0 {
+                break;
+            }
+            if let Some(server) = self.servers.get_mut(turn % count) {
+                done = done.and(server.once()?);
+            }
+        }
+        Ok(done)
+    }
+}
+
+fn make_servers(alloc: Global, count: u32) -> Result<Many, Stuck> {
+    let mut servers = Vec::new(alloc);
+    for _ in 0..count {
+        servers.push(make_server(alloc, KEYS, LINES, Editing::Remote)?)?;
+    }
+    Ok(Many { servers })
+}
+
+fn sessions<H: Clock, W: Write>(
+    alloc: Global,
+    bench: &mut Bench<'_, H, W>,
+    name: &str,
+    count: u32,
+) -> Result<(), Stuck> {
+    let mut load = make_servers(alloc, count)?;
+    bench.tell(name, &mut load)
+}
+
+fn keys<H: Clock, W: Write>(
+    alloc: Global,
+    bench: &mut Bench<'_, H, W>,
+    name: &str,
+    length: u32,
+    echo: bool,
+    waiting: u32,
+) -> Result<(), Stuck> {
+    let limit = Limit::new(4_095).unwrap_or(Limit::standard());
+    let keys = line_of(alloc, length, false)?;
+    let mut load = make_typing(alloc, limit, keys, echo, waiting)?;
+    bench.tell(name, &mut load)
+}
+
+pub(crate) fn run<H: Clock, W: Write>(
+    alloc: Global,
+    bench: &mut Bench<'_, H, W>,
+) -> Result<(), Stuck> {
+    sessions(alloc, bench, "1 server edits keys", 1)?;
+    sessions(alloc, bench, "8 servers edit keys", 8)?;
+    sessions(alloc, bench, "64 servers edit keys", 64)?;
+    keys(
+        alloc,
+        bench,
+        "no echo, lines of 254 of 4,095",
+        254,
+        false,
+        0,
+    )?;
+    keys(
+        alloc,
+        bench,
+        "no echo, lines of 4,094 of 4,095",
+        4_094,
+        false,
+        0,
+    )?;
+    keys(alloc, bench, "echo, lines of 254 of 4,095", 254, true, 0)?;
+    keys(
+        alloc,
+        bench,
+        "echo, lines of 4,094 of 4,095",
+        4_094,
+        true,
+        0,
+    )?;
+    keys(
+        alloc,
+        bench,
+        "no echo, lines of 64, 1 entry waits",
+        64,
+        false,
+        0,
+    )?;
+    keys(
+        alloc,
+        bench,
+        "no echo, lines of 64, 1,000 entries wait",
+        64,
+        false,
+        999,
+    )
+}
