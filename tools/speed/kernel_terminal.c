@@ -54,7 +54,7 @@ static void measure(const char *name, int length, int erases, int echo) {
 }
 
 int main(void) {
-    puts("kernel terminal");
+    puts("kernel_terminal");
     measure("no echo, lines of 2", 2, 0, 0);
     measure("no echo, lines of 64", 64, 0, 0);
     measure("no echo, lines of 254", 254, 0, 0);

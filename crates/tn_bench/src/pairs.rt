@@ -22,12 +22,10 @@ pub(crate) struct Typing {
 impl Typing {
     // Types the line once, and takes nothing.
     fn type_line(&mut self) -> Result<(), Stuck> {
-        for key in self.keys.as_slice() {
-            if self.pair.raw_key(*key, self.echo).is_err() {
-                return Err(Stuck);
-            }
+        match self.pair.type_run(self.keys.as_slice(), self.echo) {
+            Ok(()) => Ok(()),
+            Err(_) => Err(Stuck),
         }
-        Ok(())
     }
 }
 
