@@ -21,7 +21,7 @@ local_output keys = printed (typed_entries standard keys)
 
 -- these keys were typed
 pub record LeadsTo (keys : List ℕ) (typing : Typing) : Type 0 where
-  pub settings : typing.settings ≡ standard.settings
+  pub settings : typing.roles ≡ standard.settings
   pub limit : typing.line.limit ≡ standard.limit
   pub leaves : discipline.LeadsTo (roles_of standard.settings keys) typing.line
   pub ahead : typing.line.ahead ≡ 0

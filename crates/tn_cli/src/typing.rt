@@ -1,17 +1,17 @@
 //! Keys typed at one line, and the printed entries that they give.
 
-ghost use Rattle.std.specs.Prelude.{◌≡◌, ℕ, List, [], ◌∷◌, IfOk, OnOk};
+ghost use Rattle.std.specs.Prelude.{◌≡◌, ◌<◌, ◌≤◌, ℕ, List, [], ◌∷◌, length, take, IfOk, OnOk};
 ghost use Rattle.tn_cli.specs.Typing.{LeadsTo, Types, local_output};
 
 use crate::printed::print_entry;
 use std::alloc::{AllocError, Global};
-use tn_discipline::{Effect, Limit, Line, Settings};
+use tn_discipline::{Effect, Limit, Line, Roles, Settings};
 
 /// A line with standard settings, and the lines of the entries that it has given.
 #[derive(Drop)]
 pub(crate) struct Typing {
     alloc: Global,
-    settings: Settings,
+    roles: Roles,
     line: Line,
     printed: Vec<u8>,
 }
@@ -22,7 +22,7 @@ impl Typing {
     {
         Ok(Typing {
             alloc,
-            settings: Settings::standard(),
+            roles: Roles::new(alloc, Settings::standard())?,
             line: Line::new(alloc, Limit::standard())?,
             printed: Vec::new(alloc),
         })
@@ -31,7 +31,8 @@ impl Typing {
     pub(crate) fn key(&mut self, key: u8) -> Result<(), AllocError>
         ensures { OnOk result (Types (key ∷ []) self.old self.new) }
     {
-        if let Effect::Gives(entry) = self.line.key(&self.settings, key)? {
+        let role = self.roles.role(key);
+        if let Effect::Gives(entry) = self.line.play(role)? {
             print_entry(self.alloc, &entry, &mut self.printed)?;
             return Ok(());
         }
@@ -42,10 +43,33 @@ impl Typing {
     pub(crate) fn keys(&mut self, keys: &[u8]) -> Result<(), AllocError>
         ensures { OnOk result (Types keys.now self.old self.new) }
     {
-        for key in keys {
-            self.key(*key)?;
+        let mut typed = 0;
+        while typed < keys.len() {
+            match self.front(&keys[typed..]) {
+                Ok(count) => typed += count,
+                Err(fault) => return Err(fault),
+            }
         }
         Ok(())
+    }
+
+    // Types the bytes at the front that join the line as they are, or else the first key; answers how many
+    // were typed.
+    fn front(&mut self, keys: &[u8]) -> Result<usize, AllocError>
+        requires { 0 < length keys.now }
+        ensures some { IfOk result (λ count. 0 < count) }
+        ensures within { IfOk result (λ count. count ≤ length keys.now) }
+        ensures types { IfOk result (λ count. Types (take count keys.now) self.old self.new) }
+    {
+        let count = self.roles.ordinary_front(keys);
+        if count == 0 {
+            return match self.key(keys[0]) {
+                Ok(()) => Ok(1),
+                Err(fault) => Err(fault),
+            };
+        }
+        let _kept = self.line.keep_run(&keys[..count]);
+        Ok(count)
     }
 
     pub(crate) fn into_printed(self) -> Vec<u8>

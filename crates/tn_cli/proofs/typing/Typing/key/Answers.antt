@@ -1,14 +1,14 @@
 use Rattle.std.proofs.Common.{[], ◌∷◌, ◌++◌, refl, sym, ap, ◌∙◌, append-nil}
 use Rattle.tn_cli.specs.Printed.{printed_entry}
-use Rattle.tn_cli.proofs.Keys.{typed_more, none_gained}
+use Rattle.tn_cli.proofs.Keys.{typed_key, none_gained}
 use Rattle.tn_cli.proofs.typing.Typing.key.Goals as goal
 
 pub returns-in-Gives : goal.returns-in-Gives
 returns-in-Gives c =
-    typed_more c.args.self.now _ c.args.key (c.in-Gives.entry ∷ []) refl (rw c.in-Gives.is at c.in_ok-entry.ensures.advances)
+    typed_key c.args.self.now _ c.args.key c.role-role.result (c.in-Gives.entry ∷ []) refl c.role-role.ensures (rw c.in-Gives.is at c.in_ok-entry.ensures.advances)
     (c.in_ok-print_entry.ensures ∙ ap (λ xs. c.args.self.now.printed.items ++ xs) (sym (append-nil (printed_entry c.in-Gives.entry))))
 
 pub returns : goal.returns
 returns c =
     let gains_none = none_gained c.in_ok-entry.field-0 c.in_default.not-Gives in
-    typed_more c.args.self.now _ c.args.key [] refl (rw gains_none at c.in_ok-entry.ensures.advances) (sym (append-nil c.args.self.now.printed.items))
+    typed_key c.args.self.now _ c.args.key c.role-role.result [] refl c.role-role.ensures (rw gains_none at c.in_ok-entry.ensures.advances) (sym (append-nil c.args.self.now.printed.items))
