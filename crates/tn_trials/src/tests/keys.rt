@@ -3,7 +3,14 @@
 use std::alloc::Global;
 use std::process::Abort;
 use tn_cli::{CliFault, run_local, run_replay};
-use tn_plain::page::bytes_of;
+use tn_plain::page;
+
+// The bytes of a word, all of them also where one allocation is refused.
+fn bytes_of(alloc: Global, word: &str) -> Vec<u8> {
+    let one = page::bytes_of(alloc, word);
+    let other = page::bytes_of(alloc, word);
+    if one.len() < other.len() { other } else { one }
+}
 
 // Want of memory is an ordinary answer; any other is compared.
 fn prints(rt: &impl Abort, printed: &[u8], ended: Result<(), CliFault>, wanted: &str) {

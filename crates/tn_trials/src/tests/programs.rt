@@ -1,10 +1,16 @@
 //! Words, and readers and writers that fail.
 
+ghost use Rattle.std.specs.Prelude.{◌≡◌, None};
+ghost use Rattle.std.specs.Io.{ReadsAtMost, WritesAtMost};
+ghost use Rattle.std.specs.Io.KnownBytes.{ReadConsumes, WriteAppends};
+ghost use Rattle.tn_streams.specs.Counting.{told_by};
+
 use std::alloc::Global;
-use std::io::{self, ErrorKind, Read, Write};
+use std::io::{self, ErrorKind, Read};
 use std::process::Abort;
 use tn_cli::{Asked, CliFault, Connecting, Serving, WordsFault, read_words, run_local, run_replay};
 use tn_discipline::Limit;
+use tn_streams::{Drain, Source, Tally};
 
 fn asks(rt: &impl Abort, alloc: Global, words: &[&str], wanted: Option<Asked>) {
     match read_words(alloc, words) {
@@ -140,16 +146,30 @@ impl Read for Endless {
     }
 }
 
-/// Gives some keys, and then fails.
+/// Gives a key, and then fails; it tells how many of its calls failed.
 #[derive(Drop)]
-pub(super) struct Broken(pub(super) bool);
+pub(super) struct Broken {
+    gave: bool,
+    pub(super) tally: Tally,
+}
 
-impl Read for Broken {
-    fn read(&mut self, buf: &mut [u8]) -> io::Result<usize> {
+impl Broken {
+    pub(super) fn new() -> Broken {
+        Broken {
+            gave: false,
+            tally: Tally::new(),
+        }
+    }
+
+    fn give(&mut self, buf: &mut [u8]) -> io::Result<usize>
+        ensures bound { ReadsAtMost result buf.new }
+        ensures bytes { ReadConsumes None None result buf.new }
+        ensures tally { self.new.tally ≡ self.old.tally }
+    {
         match buf.first_mut() {
-            Some(first) if !self.0 => {
+            Some(first) if !self.gave => {
                 *first = b'\n';
-                self.0 = true;
+                self.gave = true;
                 Ok(1)
             },
             _ => Err(io::Error::from(ErrorKind::Other)),
@@ -157,16 +177,41 @@ impl Read for Broken {
     }
 }
 
-/// Takes one byte at a time, so many of them, and then none or fails.
+impl Source for Broken {
+    ghost told = { λ b. told_by b.tally };
+
+    fn read_some(&mut self, buf: &mut [u8]) -> io::Result<usize> {
+        let answer = self.give(buf);
+        self.tally = self.tally.after_read(&answer);
+        answer
+    }
+}
+
+/// Takes one byte at a time, so many of them, and then none or fails; it tells how many of its calls
+/// failed.
 #[derive(Drop)]
 pub(crate) struct Narrow {
     pub(crate) taken: Vec<u8>,
     pub(crate) room: usize,
     pub(crate) fails: bool,
+    pub(crate) tally: Tally,
 }
 
-impl Write for Narrow {
-    fn write(&mut self, buf: &[u8]) -> io::Result<usize> {
+impl Narrow {
+    pub(crate) fn new(alloc: Global, room: usize, fails: bool) -> Narrow {
+        Narrow {
+            taken: Vec::new(alloc),
+            room,
+            fails,
+            tally: Tally::new(),
+        }
+    }
+
+    fn take(&mut self, buf: &[u8]) -> io::Result<usize>
+        ensures bound { WritesAtMost result buf.now }
+        ensures bytes { WriteAppends None None result buf.now }
+        ensures tally { self.new.tally ≡ self.old.tally }
+    {
         if self.taken.len() < self.room {
             if let Some(first) = buf.first() {
                 self.taken.push(*first)?;
@@ -179,9 +224,15 @@ impl Write for Narrow {
             Ok(0)
         }
     }
+}
 
-    fn flush(&mut self) -> io::Result<()> {
-        Ok(())
+impl Drain for Narrow {
+    ghost told = { λ n. told_by n.tally };
+
+    fn write_some(&mut self, buf: &[u8]) -> io::Result<usize> {
+        let answer = self.take(buf);
+        self.tally = self.tally.after_write(buf, &answer);
+        answer
     }
 }
 
@@ -207,10 +258,12 @@ fn too_much_input_prints_nothing(rt: HostRuntime) {
 fn a_failed_read_prints_nothing(rt: HostRuntime) {
     let alloc = rt.alloc();
     let mut output = Vec::new(alloc);
-    match run_replay(alloc, &mut Broken(false), &mut output) {
+    let mut reader = Broken::new();
+    match run_replay(alloc, &mut reader, &mut output) {
         Err(fault) => assert!(rt; fault == CliFault::Read || fault == CliFault::Memory),
         Ok(()) => assert!(rt; false),
     }
+    assert_eq!(rt; reader.tally.failed(), 1);
     assert!(rt; output.is_empty());
 }
 
@@ -219,24 +272,17 @@ fn a_failed_write_leaves_a_front(rt: HostRuntime) {
     let alloc = rt.alloc();
     for room in 0..8 {
         for fails in [true, false] {
-            let mut writer = Narrow {
-                taken: Vec::new(alloc),
-                room,
-                fails,
-            };
+            let mut writer = Narrow::new(alloc, room, fails);
             let outcome = run_local(alloc, &mut b"a\n".as_slice(), &mut writer);
             match outcome {
-                Err(fault) => assert!(rt; fault == CliFault::Write || fault == CliFault::Memory),
+                Err(CliFault::Write) => assert_eq!(rt; writer.tally.failed(), 1),
+                Err(fault) => assert_eq!(rt; fault, CliFault::Memory),
                 Ok(()) => assert!(rt; false),
             }
             assert!(rt; b"text 610a\n".starts_with(writer.taken.as_slice()));
         }
     }
-    let mut writer = Narrow {
-        taken: Vec::new(alloc),
-        room: 100,
-        fails: true,
-    };
+    let mut writer = Narrow::new(alloc, 100, true);
     if run_local(alloc, &mut b"a\n".as_slice(), &mut writer).is_ok() {
         assert!(rt; writer.taken.as_slice() == b"text 610a\n".as_slice());
     }

@@ -161,14 +161,12 @@ fn begins(rt: &impl Abort, alloc: Global, world: &World) {
 fn local_keys_that_cannot_be_read_print_nothing(rt: HostRuntime) {
     let alloc = rt.alloc();
     let mut output = Vec::new(alloc);
-    let ended = run_local(alloc, &mut Broken(false), &mut output);
+    let mut reader = Broken::new();
+    let ended = run_local(alloc, &mut reader, &mut output);
     assert_eq!(rt; ended, Err(CliFault::Read));
+    assert_eq!(rt; reader.tally.failed(), 1);
     assert!(rt; output.is_empty());
-    let mut writer = Narrow {
-        taken: Vec::new(alloc),
-        room: 0,
-        fails: true,
-    };
+    let mut writer = Narrow::new(alloc, 0, true);
     match run_local(alloc, &mut b"a\n".as_slice(), &mut writer) {
         Err(fault) => assert!(rt; fault == CliFault::Write || fault == CliFault::Memory),
         Ok(()) => assert!(rt; false),

@@ -235,11 +235,7 @@ fn after_a_take(alloc: Global, line: &[u8]) -> Result<Vec<u8>, AllocError> {
 fn the_output_before_a_fault_may_fail_to_be_written(rt: HostRuntime) {
     let alloc = rt.alloc();
     for script in [b"mark\nbogus\n".as_slice(), b"mark\nset el 7f\n", b"mark\n"] {
-        let mut writer = Narrow {
-            taken: Vec::new(alloc),
-            room: 4,
-            fails: true,
-        };
+        let mut writer = Narrow::new(alloc, 4, true);
         match run_world(alloc, &mut { script }, &mut writer) {
             Err(CliFault::Write) => {},
             Err(fault) => assert_eq!(rt; fault, CliFault::Memory),
