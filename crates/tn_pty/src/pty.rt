@@ -318,6 +318,7 @@ impl Pair {
         self.roles.set(settings);
     }
 
+    // Types the keys, a front of them at a time.
     fn type_each(&mut self, keys: &[u8], echo: bool) -> Result<(), PtyFault>
         ensures pair { OnOk result (self.new ≡ typed_after_all echo self.old keys.now) }
         ensures accepted { OnOk result (AcceptsAll echo self.old keys.now) }
