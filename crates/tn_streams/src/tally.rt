@@ -1,6 +1,6 @@
 //! Calls that are counted.
 
-ghost use Rattle.std.specs.Prelude.{◌≡◌, ◌+◌, min};
+ghost use Rattle.std.specs.Prelude.{◌≡◌, ◌≤◌, ◌+◌, min};
 ghost use Rattle.tn_streams.specs.Telling.{TellsCall, CountsRead, CountsWrite};
 ghost use Rattle.tn_streams.specs.Counting.{told_by, no_calls, failed_after};
 
@@ -44,7 +44,9 @@ impl Tally {
 
     /// Counts one read more, which answered this.
     pub fn after_read(self, answer: &Result<usize>) -> Tally
-        ensures { TellsCall (CountsRead answer.now) (told_by self) (told_by result) }
+        ensures tells { TellsCall (CountsRead answer.now) (told_by self) (told_by result) }
+        ensures made { result.made ≡ min (self.made + 1) 18446744073709551615 }
+        ensures failed { result.failed ≤ self.failed + 1 }
     {
         match answer {
             Ok(_) => self.call(false),
@@ -54,7 +56,9 @@ impl Tally {
 
     /// Counts one write more, which was handed these bytes and answered this.
     pub fn after_write(self, bytes: &[u8], answer: &Result<usize>) -> Tally
-        ensures { TellsCall (CountsWrite bytes.now answer.now) (told_by self) (told_by result) }
+        ensures tells { TellsCall (CountsWrite bytes.now answer.now) (told_by self) (told_by result) }
+        ensures made { result.made ≡ min (self.made + 1) 18446744073709551615 }
+        ensures failed { result.failed ≤ self.failed + 1 }
     {
         match answer {
             Ok(count) => self.call(*count == 0 && !bytes.is_empty()),
