@@ -3,3 +3,4 @@ pub mod Run
 pub mod Marks
 pub mod Reaching
 pub mod Bringing
+pub mod Ending

@@ -31,6 +31,20 @@ is_whole mark.ShowFailed = false
 is_whole mark.WriteFailed = false
 is_whole (mark.Refused f) = false
 
+-- no write of it to the network failed
+abbrev pub no_write_failed : Mark → Bool
+no_write_failed mark.Whole = true
+no_write_failed mark.ShowFailed = true
+no_write_failed mark.WriteFailed = false
+no_write_failed (mark.Refused f) = true
+
+-- and none to the screen
+abbrev pub no_show_failed : Mark → Bool
+no_show_failed mark.Whole = true
+no_show_failed mark.ShowFailed = false
+no_show_failed mark.WriteFailed = true
+no_show_failed (mark.Refused f) = true
+
 abbrev pub all_by : (Mark → Bool) → List (Told × Mark) → Bool
 all_by is [] = true
 all_by is ((m, mark) ∷ marked) = is mark && all_by is marked

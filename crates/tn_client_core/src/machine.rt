@@ -2,7 +2,7 @@
 
 ghost use Rattle.std.specs.Prelude.{◌≡◌, true, false, OnOk, OnErr, IfOk, IfErr, []};
 ghost use Rattle.tn_client_core.specs.Counting as counting;
-ghost use Rattle.tn_client_core.specs.Marks.{is_written, is_whole};
+ghost use Rattle.tn_client_core.specs.Marks.{no_write_failed, no_show_failed};
 ghost use Rattle.tn_client_core.specs.Reaching.{LeadsTo, TypesAll, TypesFront, DoesWhole, StopsWithin, IsTurn, sent_bytes};
 ghost use Rattle.tn_client_core.specs.Run as run;
 ghost use Rattle.tn_client_core.specs.Run.{Run};
@@ -199,7 +199,8 @@ impl Core {
         requires out { out.old.items ≡ [] }
         requires screen { screen.old.items ≡ [] }
         ensures turns { IsTurn result self.old told out.new.items screen.new.items self.new }
-        ensures written { is_written result ≡ true → is_whole result ≡ true }
+        ensures unwritten { no_write_failed result ≡ true }
+        ensures unshown { no_show_failed result ≡ true }
     {
         if self.progress.over {
             return Mark::Whole;

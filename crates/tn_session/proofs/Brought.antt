@@ -13,6 +13,7 @@ use Rattle.tn_session.specs.declared.channels.View.{View}
 use Rattle.tn_session.specs.declared.mail.Mail.{Mail}
 use Rattle.tn_session.specs.declared.mail.Sender.{Sender}
 use Rattle.tn_session.specs.declared.mail.Sender.TheVariants.{Net, Desk, Back, Keys}
+use Rattle.tn_streams.specs.Foretelling.{Failures}
 use Rattle.tn_term.specs.declared.messages.Message.{Message}
 use Rattle.tn_term.specs.declared.messages.Message.TheVariants.{Piece, HangUp, ReadFailed, Take, Said, Refused, Left}
 
@@ -94,11 +95,11 @@ ending_bytes (Said job text after) left e = refl
 ending_bytes Refused left e = refl
 ending_bytes Left left e = refl
 
-close_bytes : (s : Sender) (may_stop : Bool) (pieces : List (List ℕ)) (left : Option (List ℕ)) (close : List Message) → Closes may_stop pieces left close → bytes_of (map (mail s) close) ≡ []
-close_bytes s may_stop pieces left close closes =
+close_bytes : (s : Sender) (may_stop : Bool) (pieces : List (List ℕ)) (left : Option (List ℕ)) (foretold : Option Failures) (close : List Message) → Closes may_stop pieces left foretold close → bytes_of (map (mail s) close) ≡ []
+close_bytes s may_stop pieces left foretold close closes =
     let B : List Message → List ℕ = λ ms. bytes_of (map (mail s) ms) in
     ⊎_elim
-    (λ x. ap B x.2 ∙ ap (λ (bs : List ℕ). bs ++ []) (ending_bytes x.0 left x.1))
+    (λ x. ap B x.2 ∙ ap (λ (bs : List ℕ). bs ++ []) (ending_bytes x.0 left x.1.0))
     (λ x. ap B x.2)
     closes
 
@@ -108,22 +109,22 @@ one_list s a b v e f = is_some a b (sym (sender_share s a v e) ∙ sender_share 
     is_some : {A : Type 0} (x y : A) → Some x ≡ Some y → x ≡ y
     is_some x y eq = cc
 
-reader_bytes : (who : Sender) (may_stop : Bool) (given : Option (List ℕ)) (v : View) (mails : List Mail) → ReaderSends who may_stop given v → v ≡ sender who mails → (left : Option (List ℕ)) × Consumes given left (bytes_of mails)
-reader_bytes who may_stop given v mails (pieces, left, close, consumed, closes, is) e =
+reader_bytes : (who : Sender) (may_stop : Bool) (given : Option (List ℕ)) (foretold : Option Failures) (v : View) (mails : List Mail) → ReaderSends who may_stop given foretold v → v ≡ sender who mails → (left : Option (List ℕ)) × Consumes given left (bytes_of mails)
+reader_bytes who may_stop given foretold v mails (pieces, left, close, consumed, closes, is) e =
     let all : bytes_of mails ≡ concat pieces =
     ap bytes_of (one_list who mails (map (mail who) (pieces_of pieces ++ close)) v e is) ∙ pieces_bytes who pieces close
-    ∙ ap (λ (bs : List ℕ). concat pieces ++ bs) (close_bytes who may_stop pieces left close closes) ∙ append-nil (concat pieces) in
+    ∙ ap (λ (bs : List ℕ). concat pieces ++ bs) (close_bytes who may_stop pieces left foretold close closes) ∙ append-nil (concat pieces) in
     let P : List ℕ → Type 0 = λ bs. Consumes given left bs in
     (left, subst P (sym all) consumed)
 
-pub keys_brought : (given : Option (List ℕ)) (v : View) (handled mails : List Mail) → ReaderSends Keys true given v → v ≡ sender Keys mails → from Keys handled ≡ mails → (left : Option (List ℕ)) × Consumes given left (brought origin.Keys (all_told handled))
-keys_brought given v handled mails sent e is =
-    let r = reader_bytes Keys true given v mails sent e in
+pub keys_brought : (given : Option (List ℕ)) (foretold : Option Failures) (v : View) (handled mails : List Mail) → ReaderSends Keys true given foretold v → v ≡ sender Keys mails → from Keys handled ≡ mails → (left : Option (List ℕ)) × Consumes given left (brought origin.Keys (all_told handled))
+keys_brought given foretold v handled mails sent e is =
+    let r = reader_bytes Keys true given foretold v mails sent e in
     let P : List ℕ → Type 0 = λ bs. Consumes given r.0 bs in
     (r.0, subst P (sym (keys_all handled ∙ ap bytes_of is)) r.1)
 
-pub net_brought : (given : Option (List ℕ)) (v : View) (handled mails : List Mail) → ReaderSends Net false given v → v ≡ sender Net mails → from Net handled ≡ mails → from Desk handled ≡ [] → from Back handled ≡ [] → (left : Option (List ℕ)) × Consumes given left (brought origin.Net (all_told handled))
-net_brought given v handled mails sent e is desk back =
-    let r = reader_bytes Net false given v mails sent e in
+pub net_brought : (given : Option (List ℕ)) (foretold : Option Failures) (v : View) (handled mails : List Mail) → ReaderSends Net false given foretold v → v ≡ sender Net mails → from Net handled ≡ mails → from Desk handled ≡ [] → from Back handled ≡ [] → (left : Option (List ℕ)) × Consumes given left (brought origin.Net (all_told handled))
+net_brought given foretold v handled mails sent e is desk back =
+    let r = reader_bytes Net false given foretold v mails sent e in
     let P : List ℕ → Type 0 = λ bs. Consumes given r.0 bs in
     (r.0, subst P (sym (net_all handled desk back ∙ ap bytes_of is)) r.1)

@@ -1,12 +1,14 @@
 -- A whole client session: its passes joined, and what its threads did.
 use Rattle.std.proofs.Common.{◌≡◌, ℕ, ◌+◌, ◌≤◌, true, false, List, [], ◌++◌, Option, Some, None, sym, ap, ◌∙◌, subst, append-nil, arith}
 use Rattle.tn_client_core.proofs.lemmas.Bringing.{in_order}
+use Rattle.tn_client_core.proofs.lemmas.Ending.{fault_cause}
 use Rattle.tn_client_core.specs.Bringing.{TakesInOrder}
 use Rattle.tn_client_core.specs.Reaching.{LeadsTo}
 use Rattle.tn_client_core.specs.Run.{start}
 use Rattle.tn_client_core.specs.declared.machine.Core.{Core}
 use Rattle.tn_client_core.specs.declared.messages.Told.{Told}
 use Rattle.tn_session.proofs.Brought.{keys_brought, net_brought}
+use Rattle.tn_session.proofs.ClientCauses.{read_cause, write_cause}
 use Rattle.tn_session.proofs.Lefts.{EndsLeft, lefts-append, lefts_each, nothing_left}
 use Rattle.tn_session.proofs.Readers.{reader_net}
 use Rattle.tn_session.proofs.Sent.{reader_sent}
@@ -21,6 +23,11 @@ use Rattle.tn_session.specs.declared.mail.Mail.{Mail}
 use Rattle.tn_session.specs.declared.mail.Sender.{Sender}
 use Rattle.tn_session.specs.declared.mail.Sender.TheVariants.{Net, Desk, Back, Keys}
 use Rattle.tn_session.specs.declared.parties.Report.{Report}
+use Rattle.tn_streams.specs.Foretelling.{Failures}
+use Rattle.tn_streams.specs.Telling.{Calls}
+use Rattle.tn_term.specs.declared.faults.Ended.TheVariants as ended
+use Rattle.tn_term.specs.declared.faults.SessionFault.{SessionFault}
+use Rattle.tn_term.specs.declared.faults.SessionFault.TheVariants as fault
 
 -- the passes before anything was sent
 pub ready_two : (v₀ v₁ v₂ n k : View) → v₀ ≡ everyone → v₁ ≡ record v₀ { net = None } → n ≡ record nobody { net = v₀.net } → v₂ ≡ record v₁ { keys = None } → k ≡ record nobody { keys = v₁.keys } → (v₂ ≡ core_view []) × (n ≡ sender Net []) × (k ≡ sender Keys [])
@@ -67,20 +74,24 @@ none_over h items a d woven ea ed na nd enough =
     ends Keys = ed
 
 -- all of a client's session that ran
-pub client_ran : (core last : Core) (keys_given net_given x y u v : Option (List ℕ)) (pass₀ pass₁ net keys n' k' c' : View) (report : Report)
-    → pass₀ ≡ core_view [] → CoreHandles core pass₀ pass₁ x y u v last → NetSends net_given net → KeysSends keys_given keys
+pub client_ran : (core last : Core) (keys_given net_given : Option (List ℕ)) (keys_foretold net_foretold : Option Failures) (x y u v : Option (List ℕ)) (p q r t : Option Calls) (pass₀ pass₁ net keys n' k' c' : View) (report : Report)
+    → pass₀ ≡ core_view [] → CoreHandles core pass₀ pass₁ x y u v p q r t last → NetSends net_given net_foretold net → KeysSends keys_given keys_foretold keys
     → AreTwoSettled pass₁ net keys n' k' c' → report ≡ client_report last.progress
     → (width height limit : ℕ) → LeadsTo (start width height limit) core
-    → RunningClient width height limit keys_given net_given x y u v report k' n' c'
-client_ran core last keys_given net_given x y u v pass₀ pass₁ net keys n' k' c' report ep acted sn sk settled er width height limit at =
+    → RunningClient width height limit keys_given net_given keys_foretold net_foretold x y u v p q r t report k' n' c'
+client_ran core last keys_given net_given keys_foretold net_foretold x y u v p q r t pass₀ pass₁ net keys n' k' c' report ep acted sn sk settled er width height limit at =
     let begin = start width height limit in
     let g = acted.goes.leads begin at in
-    let ns = reader_sent Net false net_given net (reader_net net_given net sn) in
-    let ks = reader_sent Keys true keys_given keys sk in
+    let ns = reader_sent Net false net_given net_foretold net (reader_net net_given net_foretold net sn) in
+    let ks = reader_sent Keys true keys_given keys_foretold keys sk in
     let view : pass₁ ≡ core_view acted.handled = acted.view ∙ ap (λ (w : View). with_handled w acted.handled) ep in
     let s = settled acted.handled ns.mails ks.mails view ns.is ks.is in
     let none = none_over acted.handled s.3.0 ns.mails ks.mails s.3.1 ns.ends ks.ends ns.one ks.one acted.lefts in
-    let woven : Interleaves acted.handled (four ns.mails [] [] ks.mails) = λ r. ap (from r) (sym (append-nil acted.handled) ∙ ap (λ (l : List Mail). acted.handled ++ l) (sym none)) ∙ s.3.1 r in
+    let woven : Interleaves acted.handled (four ns.mails [] [] ks.mails) = λ w. ap (from w) (sym (append-nil acted.handled) ∙ ap (λ (l : List Mail). acted.handled ++ l) (sym none)) ∙ s.3.1 w in
+    let typed : KeysSends keys_given keys_foretold k' = subst (λ (w : View). KeysSends keys_given keys_foretold w) (ks.is ∙ sym s.1) sk in
+    let read : NetSends net_given net_foretold n' = subst (λ (w : View). NetSends net_given net_foretold w) (ns.is ∙ sym s.0) sn in
+    let is : report ≡ client_report g.0.progress = er ∙ ap client_report g.2.progress in
+    let caused = λ (f : SessionFault) (e : report.ended ≡ ended.Fault f). fault_cause width height limit acted.goes.marked g.0 f g.1 (sym (ap (λ (o : Report). o.ended) is) ∙ e) in
     record {
       from_keys = ks.mails;
       from_net = ns.mails;
@@ -89,24 +100,29 @@ client_ran core last keys_given net_given x y u v pass₀ pass₁ net keys n' k'
       net_is = s.0;
       core_is = ap (λ (w : View). w.handled) s.2;
       woven = woven;
-      typed = subst (λ (w : View). KeysSends keys_given w) (ks.is ∙ sym s.1) sk;
-      read = subst (λ (w : View). NetSends net_given w) (ns.is ∙ sym s.0) sn;
+      typed = typed;
+      read = read;
       marked = acted.goes.marked;
       messages = acted.goes.whole;
       run = g.0;
       runs = g.1;
-      keys_brought = keys_brought keys_given keys acted.handled ks.mails sk ks.is (woven Keys);
-      net_brought = net_brought net_given net acted.handled ns.mails (reader_net net_given net sn) ns.is (woven Net) (woven Desk) (woven Back);
+      keys_brought = keys_brought keys_given keys_foretold keys acted.handled ks.mails sk ks.is (woven Keys);
+      net_brought = net_brought net_given net_foretold net acted.handled ns.mails (reader_net net_given net_foretold net sn) ns.is (woven Net) (woven Desk) (woven Back);
       in_order = subst (λ (ms : List Told). TakesInOrder ms g.0) acted.goes.whole (in_order width height limit acted.goes.marked g.0 g.1);
       written = acted.goes.bytes;
       unwritten = g.3.0;
       appended = acted.goes.wrote;
+      tells = acted.goes.tells;
       sends = g.3.1;
       all_sent = g.3.2;
       shown = acted.goes.text;
       unshown = g.4.0;
       displayed = acted.goes.showed;
+      tells_shown = acted.goes.tells_shown;
       shows = g.4.1;
       all_shown = g.4.2;
-      report_is = er ∙ ap client_report g.2.progress;
+      report_is = is;
+      caused = caused;
+      read_failed = λ e. read_cause keys_given net_given keys_foretold net_foretold ks.mails ns.mails acted.handled k' n' acted.goes.marked s.1 s.0 woven typed read acted.goes.whole (caused fault.Read e);
+      write_failed = λ e. write_cause p q r t acted.goes.marked acted.goes.tells acted.goes.tells_shown (caused fault.Write e);
     }

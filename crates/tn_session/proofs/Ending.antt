@@ -1,5 +1,5 @@
 -- What the run heard of the reader, and what the foreground job took where a hang-up ended the session.
-use Rattle.std.proofs.Common.{◌≡◌, ℕ, Bool, true, false, List, [], ◌∷◌, ◌++◌, Option, Some, None, refl, sym, ap, ◌∙◌, ⊎_elim, map, subst, append-nil, append_assoc}
+use Rattle.std.proofs.Common.{◌≡◌, ℕ, Bool, true, false, ◌&&◌, length, List, [], ◌∷◌, ◌++◌, Option, Some, None, refl, sym, ap, ◌∙◌, ⊎_elim, map, subst, append-nil, append_assoc}
 use Rattle.std.proofs.lemmas.List.{append_cancel_left}
 use Rattle.std.specs.Io.KnownBytes.{Consumes, IsAtEnd, prepend_known}
 use Rattle.std.specs.List.{concat}
@@ -11,25 +11,33 @@ use Rattle.tn_jobs.specs.declared.reactions.Reaction.{Reaction}
 use Rattle.tn_server.specs.Events.{items}
 use Rattle.tn_server.specs.Lines.{entries}
 use Rattle.tn_server.specs.declared.wishes.Editing.{Editing}
+use Rattle.tn_session.proofs.Causes.{from_hit, from_miss, HasFailure, has_failure, failure_from, failure_last, never_and, write_failed}
 use Rattle.tn_session.proofs.Lefts.{same_self}
 use Rattle.tn_session.proofs.Mailbox.{sender_share}
 use Rattle.tn_session.specs.Mailbox.{same, from, sender, mail}
 use Rattle.tn_session.specs.Queue.{taker}
-use Rattle.tn_session.specs.Reading.{IsEnding, pieces_of}
+use Rattle.tn_session.specs.Reading.{IsEnding, IsReadCause, most_reads, pieces_of}
 use Rattle.tn_session.specs.Session.{Schedule, HearsReader, TakesEntries}
 use Rattle.tn_session.specs.Stepping.{IsClose, step_said}
 use Rattle.tn_session.specs.Talk.{Closes, turns_said, entries_of, ends_done}
-use Rattle.tn_session.specs.Turns.{messages_of}
+use Rattle.tn_session.specs.Turns.{messages_of, most_writes}
 use Rattle.tn_session.specs.declared.channels.View.{View}
 use Rattle.tn_session.specs.declared.entries.Hand.{Hand}
 use Rattle.tn_session.specs.declared.mail.Mail.{Mail}
 use Rattle.tn_session.specs.declared.mail.Sender.{Sender}
 use Rattle.tn_session.specs.declared.mail.Sender.TheVariants.{Net, Desk, Back, Keys}
 use Rattle.tn_session.specs.declared.parties.Report.{Report}
+use Rattle.tn_streams.proofs.lemmas.Telling.{some_failed}
+use Rattle.tn_streams.specs.Foretelling.{Failures, WillFail}
+use Rattle.tn_streams.specs.Telling.{Calls, SomeFailed}
 use Rattle.tn_term.proofs.lemmas.Hearing.{entries_grow, entries_same}
 use Rattle.tn_term.specs.Giving.{GivesFront, entries_put}
 use Rattle.tn_term.specs.Hearing.{bytes_in, heard, at_end_after, MayCome, MayAllCome, KeepsOn, AllKeepOn, Hears, HangsUp}
+use Rattle.tn_term.specs.Ending.{IsEndedAt, IsFaultCause}
+use Rattle.tn_term.specs.Marks.{no_writes_failed}
+use Rattle.tn_term.specs.Run.{Run}
 use Rattle.tn_term.specs.declared.faults.Ended.TheVariants as ended
+use Rattle.tn_term.specs.declared.faults.SessionFault.TheVariants as fault
 use Rattle.tn_term.specs.declared.messages.Message.{Message}
 use Rattle.tn_term.specs.declared.messages.Message.TheVariants.{Piece, HangUp, ReadFailed, Take, Said, Refused, Left}
 use Rattle.tn_wire.specs.Fronts.{IsRead}
@@ -70,12 +78,6 @@ brings_nothing at_end Take e = record { may = tt; after = refl; bytes = refl }
 brings_nothing at_end (Said id text after) e = record { may = tt; after = refl; bytes = refl }
 brings_nothing at_end Refused e = record { may = tt; after = refl; bytes = refl }
 brings_nothing at_end Left e = record { may = tt; after = refl; bytes = refl }
-
-from_hit : (s : Sender) (x : Mail) (xs : List Mail) → same x.from s ≡ true → from s (x ∷ xs) ≡ x ∷ from s xs
-from_hit s x xs is = rw is refl
-
-from_miss : (s : Sender) (x : Mail) (xs : List Mail) → same x.from s ≡ false → from s (x ∷ xs) ≡ from s xs
-from_miss s x xs is = rw is refl
 
 -- what holds of the mails of all others
 abbrev Others : List Mail → Type 0
@@ -137,6 +139,10 @@ net_bytes [] Take left e = absurd e
 net_bytes [] (Said id t a) left e = absurd e
 net_bytes [] Left left e = absurd e
 
+none_fails : (ms : List Message) → NoneOfNet ms → HasFailure ms → ⊥
+none_fails [] n h = h
+none_fails (m ∷ ms) n h = ⊎_elim (λ e. true_false (sym (ap is_of_net e) ∙ n.0)) (λ f. none_fails ms n.1 f) h
+
 none_of_turns : (id : JobId) (turns : List (Entry × Reaction)) → NoneOfNet (turns_said id turns)
 none_of_turns id [] = tt
 none_of_turns id (t ∷ ts) = (refl, (refl, none_of_turns id ts))
@@ -155,7 +161,7 @@ messages-map s [] = refl
 messages-map s (m ∷ ms) = ap (λ (l : List Message). m ∷ l) (messages-map s ms)
 
 -- the messages of a sender, of what was handled
-messages_from : (s : Sender) (v : View) (mails handled : List Mail) (ms : List Message) → v ≡ sender s mails → v ≡ sender s (map (mail s) ms) → from s handled ≡ mails → messages_of (from s handled) ≡ ms
+pub messages_from : (s : Sender) (v : View) (mails handled : List Mail) (ms : List Message) → v ≡ sender s mails → v ≡ sender s (map (mail s) ms) → from s handled ≡ mails → messages_of (from s handled) ≡ ms
 messages_from s v mails handled ms e f is =
     let same : mails ≡ map (mail s) ms = some_is mails (map (mail s) ms) (sym (sender_share s mails v e) ∙ sender_share s (map (mail s) ms) v f) in
     ap messages_of (is ∙ same) ∙ messages-map s ms
@@ -228,8 +234,8 @@ known_left bytes stream (Some rest) c = (rest, c, λ at. at)
 
 -- A SESSION
 
-module _ {J : Type 0} {fresh : J → Type 0} {reacts : J → Entry → Reaction → J → Type 0} {steps : J → Reaction → J → Type 0} {first : JobId} {others : List ℕ} {canon : Canon} {editing : Editing} {jobs : Jobs} {given old new : Option (List ℕ)} {report : Report} {net desk back term : View} {put took : Hand}
-    (s : Schedule {J = J} fresh reacts steps first others canon editing jobs given old new report net desk back term put took) where
+module _ {J : Type 0} {fresh : J → Type 0} {reacts : J → Entry → Reaction → J → Type 0} {steps : J → Reaction → J → Type 0} {first : JobId} {others : List ℕ} {canon : Canon} {editing : Editing} {jobs : Jobs} {given : Option (List ℕ)} {foretold : Option Failures} {old new : Option (List ℕ)} {told_old told_new : Option Calls} {report : Report} {net desk back term : View} {put took : Hand}
+    (s : Schedule {J = J} fresh reacts steps first others canon editing jobs given foretold old new told_old told_new report net desk back term put took) where
   abbrev pub messages : List Message
   messages = map (λ m. m.0) s.marked
 
@@ -269,7 +275,7 @@ module _ {J : Type 0} {fresh : J → Type 0} {reacts : J → Entry → Reaction 
   net_said = messages_from Net net s.from_net s.handled (pieces_of s.read.0 ++ s.read.2 ∷ Left ∷ []) s.net_is s.read.5 (s.woven Net)
 
   nets : OfNet false s.handled
-  nets = of_net false s.handled none_of_others (subst (MayAllCome false) (sym net_said) (net_may s.read.0 s.read.2 s.read.1 s.read.4))
+  nets = of_net false s.handled none_of_others (subst (MayAllCome false) (sym net_said) (net_may s.read.0 s.read.2 s.read.1 s.read.4.0))
 
   -- no piece follows the end of the input
   pub may_come : MayAllCome false messages
@@ -277,7 +283,7 @@ module _ {J : Type 0} {fresh : J → Type 0} {reacts : J → Entry → Reaction 
 
   -- the pieces that were handled are those that were read
   all_pieces : heard messages ≡ concat s.read.0
-  all_pieces = ap heard s.messages ∙ nets.bytes ∙ ap heard net_said ∙ net_bytes s.read.0 s.read.2 s.read.1 s.read.4
+  all_pieces = ap heard s.messages ∙ nets.bytes ∙ ap heard net_said ∙ net_bytes s.read.0 s.read.2 s.read.1 s.read.4.0
 
   pub heard_of_reader : Hears canon editing messages s.run → (report.ended ≡ ended.HangUp → HangsUp first.0 messages s.run) → HearsReader given report.ended s.run
   heard_of_reader h hung = record {
@@ -287,7 +293,7 @@ module _ {J : Type 0} {fresh : J → Type 0} {reacts : J → Entry → Reaction 
         let u = hung e in
         let keeps = keep_from first.0 Net s.handled (subst (AllKeepOn first.0) s.messages u.kept_on) in
         let last = keep_last first.0 (pieces_of s.read.0) s.read.2 (Left ∷ []) (subst (AllKeepOn first.0) net_said keeps) in
-        at_end_still s.read.1 h.unheard (none_unheard s.run.stream h.unheard (heard messages) h.stream_first u.all_heard) (net_at_end first.0 s.read.2 s.read.1 s.read.4 last);
+        at_end_still s.read.1 h.unheard (none_unheard s.run.stream h.unheard (heard messages) h.stream_first u.all_heard) (net_at_end first.0 s.read.2 s.read.1 s.read.4.0 last);
     read = h.read;
   }
 
@@ -319,3 +325,25 @@ module _ {J : Type 0} {fresh : J → Type 0} {reacts : J → Entry → Reaction 
             let same : IsRead s.run.stream xs = subst (λ (bs : List ℕ). IsRead bs xs) (ap (λ (bs : List ℕ). s.run.stream ++ bs) none ∙ append-nil s.run.stream) whole in
             all e ∙ h.entries_are ∙ sym (entries_same canon editing s.run.stream had xs r.read same),
       )
+
+  -- a message that reading failed is Net's, and it had its cause
+  pub read_cause : (c : Run) → IsEndedAt c s.marked (ended.Fault fault.Read) → WillFail most_reads (length s.read.0) foretold
+  read_cause c r =
+      let told = has_failure s.marked r.before r.last r.after r.whole r.ends in
+      let who = failure_from s.handled (subst HasFailure s.messages told) in
+      by who.0 who.1
+    where
+      cause_of : (last : Message) → last ≡ ReadFailed → IsReadCause foretold (length s.read.0) last → WillFail most_reads (length s.read.0) foretold
+      cause_of last e cause = subst (λ (m : Message). IsReadCause foretold (length s.read.0) m) e cause
+
+      by : (r : Sender) → HasFailure (messages_of (from r s.handled)) → WillFail most_reads (length s.read.0) foretold
+      by Net h = cause_of s.read.2 (failure_last s.read.0 s.read.2 (subst HasFailure net_said h)) s.read.4.1
+      by Desk h = absurd (none_fails (messages_of (from Desk s.handled)) none_of_desk h)
+      by Back h = absurd (none_fails (messages_of (from Back s.handled)) none_of_back h)
+      by Keys h = absurd (none_fails (messages_of (from Keys s.handled)) (none_of_others Keys refl) h)
+
+  -- and where a write is told to have failed, one did
+  pub write_cause : (c : Run) → IsFaultCause s.wrote_opening c s.marked fault.Write → SomeFailed most_writes told_old told_new
+  write_cause c why =
+      some_failed most_writes (s.wrote_opening && no_writes_failed s.marked) told_old told_new s.tells
+      (⊎_elim (λ e. ap (λ (b : Bool). b && no_writes_failed s.marked) e) (λ r. never_and s.wrote_opening (no_writes_failed s.marked) (write_failed s.marked r.before r.last r.after r.whole r.ends)) why)

@@ -5,11 +5,13 @@ use Rattle.std.specs.Io.KnownBytes.{Appends, Keeps, WriteAppends}
 use Rattle.tn_discipline.specs.declared.reads.Entry.{Entry}
 use Rattle.tn_nvt.specs.Spelling.{spells}
 use Rattle.tn_server.specs.Replies.{items_said}
-use Rattle.tn_session.specs.Turns.{Writes, TurnsMessage, GoesOn, left_one, lefts_of, messages_of}
+use Rattle.tn_session.specs.Turns.{Writes, Tells, most_writes, TurnsMessage, GoesOn, left_one, lefts_of, messages_of}
 use Rattle.tn_session.specs.Queue.{putter}
 use Rattle.tn_session.specs.declared.entries.Hand.{Hand}
 use Rattle.tn_session.specs.declared.mail.Mail.{Mail}
-use Rattle.tn_term.specs.Marks.{Turns, is_whole, all_whole}
+use Rattle.tn_streams.proofs.lemmas.Telling.{accounts_none, accounts_well, accounts_both}
+use Rattle.tn_streams.specs.Telling.{Calls}
+use Rattle.tn_term.specs.Marks.{Turns, is_whole, all_whole, no_write_failed, no_writes_failed}
 use Rattle.tn_term.specs.Reaching.{IsTurn, LeadsTo}
 use Rattle.tn_term.specs.Run.{Run, fail}
 use Rattle.tn_term.specs.declared.faults.SessionFault.TheVariants as fault
@@ -117,15 +119,19 @@ Puts v ps w = (l : List (Option Entry)) → v ≡ putter l → w ≡ putter (l +
 pub puts_two : (v u w : Hand) (ps qs : List (Option Entry)) → Puts v ps u → Puts u qs w → Puts v (ps ++ qs) w
 puts_two v u w ps qs one two l e = two (l ++ ps) (one l e) ∙ ap putter (append_assoc l ps qs)
 
+all_told : (written : Bool) (m : Mark) (a b : Option Calls) → no_write_failed m ≡ true → Tells written a b → Tells (no_write_failed m) a b
+all_told written m a b well told = subst (λ (w : Bool). Tells w a b) (sym well) (accounts_well most_writes written a b told)
+
 -- all was written, or the message was refused
-pub turned_on : (written : Bool) (m : Mark) (old new : Term) (message : Message) (bytes : List ℕ) (x y : Option (List ℕ)) (v w : Hand) (put last : Option (Option Entry)) → (written || not (is_whole m)) ≡ true → Writes written x y bytes → IsTurn m old message bytes put last new → Puts v (option_to_list put ++ option_to_list last) w → TurnsMessage old message x y v w new
-turned_on true m old new message bytes x y v w put last e h t p = record { mark = m; bytes = bytes; put = put; last = last; wrote = h; turn = t; puts = p }
-turned_on false m old new message bytes x y v w put last e h t p = record {
+pub turned_on : (written : Bool) (m : Mark) (old new : Term) (message : Message) (bytes : List ℕ) (x y : Option (List ℕ)) (a b : Option Calls) (v w : Hand) (put last : Option (Option Entry)) → (written || not (is_whole m)) ≡ true → no_write_failed m ≡ true → Writes written x y bytes → Tells written a b → IsTurn m old message bytes put last new → Puts v (option_to_list put ++ option_to_list last) w → TurnsMessage old message x y a b v w new
+turned_on true m old new message bytes x y a b v w put last e well h told t p = record { mark = m; bytes = bytes; put = put; last = last; wrote = h; tells = all_told true m a b well told; turn = t; puts = p }
+turned_on false m old new message bytes x y a b v w put last e well h told t p = record {
   mark = m;
   bytes = h.0;
   put = put;
   last = last;
   wrote = h.3;
+  tells = all_told false m a b well told;
   turn = turn_front m old new message h.0 h.1 bytes put last h.2 (broken (is_whole m) e) t;
   puts = p;
 }
@@ -140,9 +146,9 @@ whole_mark mark.WriteFailed e = absurd (false_true e)
 whole_mark (mark.Refused f put) e = absurd (false_true e)
 
 -- a write failed
-pub turned_off : (written : Bool) (m : Mark) (old mid new : Term) (message : Message) (bytes : List ℕ) (x y : Option (List ℕ)) (v w : Hand) (put other last : Option (Option Entry)) → (written || not (is_whole m)) ≡ false → Writes written x y bytes → (bytes ≡ [] → written ≡ true) → IsTurn m old message bytes put other mid → (is_whole m ≡ true → other ≡ None) → ((c : Run) → LeadsTo c mid → LeadsTo (fail fault.Write c) new) → ((c : Run) → LeadsTo c mid → (fail fault.Write c).puts ≡ c.puts ++ option_to_list last) → new.progress.over ≡ true → Puts v (option_to_list put ++ option_to_list last) w → TurnsMessage old message x y v w new
-turned_off true m old mid new message bytes x y v w put other last e h some t unsaid leads puts over p = absurd (true_false e)
-turned_off false m old mid new message bytes x y v w put other last e h some t unsaid leads puts over p =
+pub turned_off : (written : Bool) (m : Mark) (old mid new : Term) (message : Message) (bytes : List ℕ) (x y : Option (List ℕ)) (a b : Option Calls) (v w : Hand) (put other last : Option (Option Entry)) → (written || not (is_whole m)) ≡ false → Writes written x y bytes → Tells written a b → (bytes ≡ [] → written ≡ true) → IsTurn m old message bytes put other mid → (is_whole m ≡ true → other ≡ None) → ((c : Run) → LeadsTo c mid → LeadsTo (fail fault.Write c) new) → ((c : Run) → LeadsTo c mid → (fail fault.Write c).puts ≡ c.puts ++ option_to_list last) → new.progress.over ≡ true → Puts v (option_to_list put ++ option_to_list last) w → TurnsMessage old message x y a b v w new
+turned_off true m old mid new message bytes x y a b v w put other last e h told some t unsaid leads puts over p = absurd (true_false e)
+turned_off false m old mid new message bytes x y a b v w put other last e h told some t unsaid leads puts over p =
     let is_all = whole (is_whole m) e in
     let M : Mark → Type 0 = λ n. IsTurn n old message bytes put other mid in
     let L : Option (Option Entry) → Type 0 = λ o. IsTurn mark.Whole old message bytes put o mid in
@@ -153,6 +159,7 @@ turned_off false m old mid new message bytes x y v w put other last e h some t u
       put = put;
       last = last;
       wrote = h.3;
+      tells = told;
       turn = turn_unwritten old mid new message h.0 h.1 bytes put last h.2 (λ off. false_true (some (t.idle off).0)) t' leads puts over;
       puts = p;
     }
@@ -187,16 +194,25 @@ left_over false b s₀ s₁ s₂ b₁ b₂ r₁ r₂ e₁ e₂ w₁ w₂ q =
       λ e. absurd (false_true e),
     )
 
+well-push : (ms : List (Message × Mark)) (m : Message) (k : Mark) → no_writes_failed (ms ++ (m, k) ∷ []) ≡ (no_writes_failed ms && no_write_failed k)
+well-push [] m mark.Whole = refl
+well-push [] m mark.WriteFailed = refl
+well-push [] m (mark.Refused f put) = refl
+well-push ((n, mark.Whole) ∷ ms) m k = well-push ms m k
+well-push ((n, mark.WriteFailed) ∷ ms) m k = refl
+well-push ((n, mark.Refused f put) ∷ ms) m k = well-push ms m k
+
 and_false : (a b : Bool) → (a && b) ≡ false → (a ≡ false) ⊎ (b ≡ false)
 and_false true b e = inr e
 and_false false b e = inl refl
 
-pub going_on : (a b d : Term) (ms : List Message) (m : Message) (x y z : Option (List ℕ)) (puts : List (Option Entry)) (v w : Hand) → GoesOn a ms x y puts b → (t : TurnsMessage b m y z v w d) → GoesOn a (ms ++ m ∷ []) x z (puts ++ (option_to_list t.put ++ option_to_list t.last)) d
-going_on a b d ms m x y z puts v w one t = record {
+pub going_on : (a b d : Term) (ms : List Message) (m : Message) (x y z : Option (List ℕ)) (r s u : Option Calls) (puts : List (Option Entry)) (v w : Hand) → GoesOn a ms x y r s puts b → (t : TurnsMessage b m y z s u v w d) → GoesOn a (ms ++ m ∷ []) x z r u (puts ++ (option_to_list t.put ++ option_to_list t.last)) d
+going_on a b d ms m x y z r s u puts v w one t = record {
   marked = one.marked ++ (m, t.mark) ∷ [];
   whole = map-push one.marked (m, t.mark) ms one.whole;
   bytes = one.bytes ++ t.bytes;
   wrote = appends_more x y z one.bytes t.bytes one.wrote t.wrote;
+  tells = subst (λ (well : Bool). Tells well r u) (sym (well-push one.marked m t.mark)) (accounts_both most_writes (no_writes_failed one.marked) (no_write_failed t.mark) r s u one.tells t.tells);
   leads = λ c at.
       let p = one.leads c at in
       let q = t.turn.leads p.0 p.2 in
@@ -214,24 +230,26 @@ going_on a b d ms m x y z puts v w one t = record {
   idle = λ off. ap (λ (bs : List ℕ). bs ++ t.bytes) (one.idle off) ∙ (t.turn.idle (one.stays off)).0;
 }
 
-pub going_none : (a : Term) (x : Option (List ℕ)) → GoesOn a [] x x [] a
-going_none a x = record {
+pub going_none : (a : Term) (x : Option (List ℕ)) (r : Option Calls) → GoesOn a [] x x r r [] a
+going_none a x r = record {
   marked = [];
   whole = refl;
   bytes = [];
   wrote = appends_none x;
+  tells = accounts_none most_writes r;
   leads = λ c at. (c, refl, at, sym (append-nil c.puts), [], sym (append-nil (spells (items_said c.history))), λ w. refl);
   over = λ e. absurd (true_false e);
   stays = λ off. off;
   idle = λ off. refl;
 }
 
-pub going_kept : (a b : Term) (ms : List Message) (x y z : Option (List ℕ)) (puts : List (Option Entry)) → Keeps y z → GoesOn a ms x y puts b → GoesOn a ms x z puts b
-going_kept a b ms x y z puts k g = record {
+pub going_kept : (a b : Term) (ms : List Message) (x y z : Option (List ℕ)) (r s u : Option Calls) (puts : List (Option Entry)) → Keeps y z → u ≡ s → GoesOn a ms x y r s puts b → GoesOn a ms x z r u puts b
+going_kept a b ms x y z r s u puts k told g = record {
   marked = g.marked;
   whole = g.whole;
   bytes = g.bytes;
   wrote = appends_kept x y z g.bytes g.wrote k;
+  tells = subst (λ (v : Option Calls). Tells (no_writes_failed g.marked) r v) (sym told) g.tells;
   leads = g.leads;
   over = g.over;
   stays = g.stays;
@@ -250,11 +268,11 @@ messages-push : (xs : List Mail) (x : Mail) → messages_of (xs ++ x ∷ []) ≡
 messages-push [] x = refl
 messages-push (y ∷ ys) x = ap (λ (ms : List Message). y.message ∷ ms) (messages-push ys x)
 
-pub going_next : (a b d : Term) (xs : List Mail) (x : Mail) (u y w z : Option (List ℕ)) (puts : List (Option Entry)) (v h : Hand) → Keeps w z → GoesOn a (messages_of xs) u y puts b → (t : TurnsMessage b x.message y w v h d) → GoesOn a (messages_of (xs ++ x ∷ [])) u z (puts ++ (option_to_list t.put ++ option_to_list t.last)) d
-going_next a b d xs x u y w z puts v h k one t =
+pub going_next : (a b d : Term) (xs : List Mail) (x : Mail) (u y w z : Option (List ℕ)) (e f g i : Option Calls) (puts : List (Option Entry)) (v h : Hand) → Keeps w z → i ≡ g → GoesOn a (messages_of xs) u y e f puts b → (t : TurnsMessage b x.message y w f g v h d) → GoesOn a (messages_of (xs ++ x ∷ [])) u z e i (puts ++ (option_to_list t.put ++ option_to_list t.last)) d
+going_next a b d xs x u y w z e f g i puts v h k told one t =
     let more = puts ++ (option_to_list t.put ++ option_to_list t.last) in
-    let P : List Message → Type 0 = λ ms. GoesOn a ms u z more d in
-    subst P (sym (messages-push xs x)) (going_kept a d _ u w z more k (going_on a b d (messages_of xs) x.message u y w puts v h one t))
+    let P : List Message → Type 0 = λ ms. GoesOn a ms u z e i more d in
+    subst P (sym (messages-push xs x)) (going_kept a d _ u w z e g i more k told (going_on a b d (messages_of xs) x.message u y w e f g puts v h one t))
 
 pub if_some : {A : Type 0} (P Q : A → Type 0) (o : Option A) → IfSome o P → ((x : A) → P x → Q x) → IfSome o Q
 if_some P Q (Some x) h f = f x h

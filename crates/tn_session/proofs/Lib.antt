@@ -10,7 +10,9 @@ pub mod Lefts
 pub mod Sent
 pub mod Numbering
 pub mod Whole
+pub mod Causes
 pub mod Ending
 pub mod CoreGoing
 pub mod Brought
+pub mod ClientCauses
 pub mod ClientWhole

@@ -9,6 +9,7 @@ use Rattle.tn_session.specs.Turns.{left_one, lefts_of}
 use Rattle.tn_session.specs.declared.channels.View.{View}
 use Rattle.tn_session.specs.declared.mail.Mail.{Mail}
 use Rattle.tn_session.specs.declared.mail.Sender.{Sender}
+use Rattle.tn_streams.specs.Foretelling.{Failures}
 use Rattle.tn_term.specs.declared.messages.Message.{Message}
 use Rattle.tn_term.specs.declared.messages.Message.TheVariants.{Piece, HangUp, ReadFailed, Take, Said, Refused, Left}
 
@@ -67,11 +68,11 @@ sent_by s ms all v n e is =
     record { mails = map (mail s) all; is = is; ends = o.ends; one = o.one }
 
 -- a thread that reads
-pub reader_sent : (who : Sender) (may_stop : Bool) (given : Option (List ℕ)) (v : View) → ReaderSends who may_stop given v → Sent who v
-reader_sent who may_stop given v (pieces, left, close, consumed, closes, is) =
+pub reader_sent : (who : Sender) (may_stop : Bool) (given : Option (List ℕ)) (foretold : Option Failures) (v : View) → ReaderSends who may_stop given foretold v → Sent who v
+reader_sent who may_stop given foretold v (pieces, left, close, consumed, closes, is) =
     let read = pieces_of pieces in
     let P : List Message → Type 0 = λ ms. v ≡ sender who (map (mail who) (read ++ ms)) in
     ⊎_elim
-    (λ x. sent_by who (read ++ x.0 ∷ []) (read ++ x.0 ∷ Left ∷ []) v (no_left-append read (x.0 ∷ []) (pieces_stay pieces) (ending_stays x.0 left x.1, tt)) (sym (append_assoc read (x.0 ∷ []) (Left ∷ []))) (subst P x.2 is))
+    (λ x. sent_by who (read ++ x.0 ∷ []) (read ++ x.0 ∷ Left ∷ []) v (no_left-append read (x.0 ∷ []) (pieces_stay pieces) (ending_stays x.0 left x.1.0, tt)) (sym (append_assoc read (x.0 ∷ []) (Left ∷ []))) (subst P x.2 is))
     (λ x. sent_by who read (read ++ Left ∷ []) v (pieces_stay pieces) refl (subst P x.2 is))
     closes

@@ -20,14 +20,17 @@ use Rattle.tn_session.specs.Reading.{NetSends}
 use Rattle.tn_session.specs.Session.{IsOpening, Schedule, report_of}
 use Rattle.tn_session.specs.Stepping.{AreSteps, step_said}
 use Rattle.tn_session.specs.Talk.{IsTalk, Closes, turns_said}
-use Rattle.tn_session.specs.Turns.{HandlesAll, Writes, lefts_of}
+use Rattle.tn_session.specs.Turns.{HandlesAll, Writes, most_writes, lefts_of}
 use Rattle.tn_session.specs.declared.channels.View.{View}
 use Rattle.tn_session.specs.declared.entries.Hand.{Hand}
 use Rattle.tn_session.specs.declared.mail.Mail.{Mail}
 use Rattle.tn_session.specs.declared.mail.Sender.{Sender}
 use Rattle.tn_session.specs.declared.mail.Sender.TheVariants.{Net, Desk, Back, Keys}
 use Rattle.tn_session.specs.declared.parties.Report.{Report}
-use Rattle.tn_term.specs.Marks.{run_after_opening, all_whole}
+use Rattle.tn_streams.proofs.lemmas.Telling.{accounts_both}
+use Rattle.tn_streams.specs.Foretelling.{Failures}
+use Rattle.tn_streams.specs.Telling.{Calls}
+use Rattle.tn_term.specs.Marks.{run_after_opening, all_whole, no_writes_failed}
 use Rattle.tn_term.specs.Reaching.{LeadsTo}
 use Rattle.tn_term.specs.Run.{start, opening}
 use Rattle.tn_term.specs.declared.messages.Message.{Message}
@@ -150,37 +153,37 @@ same_history true canon editing jobs = refl
 same_history false canon editing jobs = refl
 
 -- all of a session that ran
-pub scheduled : {J : Type 0} (fresh : J → Type 0) (reacts : J → Entry → Reaction → J → Type 0) (steps : J → Reaction → J → Type 0) (first : JobId) (others : List ℕ) (words : List ℕ) (given x y z : Option (List ℕ)) (term mid last : Term) (pass₀ pass₁ net desk back : View) (hand₀ hand₁ took : Hand) (n' d' b' t' : View) (p' k' : Hand) (report : Report)
-    → pass₀ ≡ handler [] → hand₀ ≡ putter [] → IsOpening term words x y mid → HandlesAll mid pass₀ pass₁ hand₀ hand₁ y z last
-    → NetSends given net → IsTalk {J = J} first fresh reacts desk took → AreSteps {J = J} fresh steps others back
+pub scheduled : {J : Type 0} (fresh : J → Type 0) (reacts : J → Entry → Reaction → J → Type 0) (steps : J → Reaction → J → Type 0) (first : JobId) (others : List ℕ) (words : List ℕ) (given : Option (List ℕ)) (foretold : Option Failures) (x y z : Option (List ℕ)) (r s t : Option Calls) (term mid last : Term) (pass₀ pass₁ net desk back : View) (hand₀ hand₁ took : Hand) (n' d' b' t' : View) (p' k' : Hand) (report : Report)
+    → pass₀ ≡ handler [] → hand₀ ≡ putter [] → IsOpening term words x y r s mid → HandlesAll mid pass₀ pass₁ hand₀ hand₁ y z s t last
+    → NetSends given foretold net → IsTalk {J = J} first fresh reacts desk took → AreSteps {J = J} fresh steps others back
     → AreSettled pass₁ net desk back hand₁ took n' d' b' t' p' k' → report ≡ report_of last.progress
     → (canon : Canon) (editing : Editing) (jobs : Jobs) → LeadsTo (start canon editing jobs) term → words ≡ spells (items_said (opening canon editing))
-    → Schedule {J = J} fresh reacts steps first others canon editing jobs given x z report n' d' b' t' p' k'
-scheduled {J} fresh reacts steps first others words given x y z term mid last pass₀ pass₁ net desk back hand₀ hand₁ took n' d' b' t' p' k' report ep eh o acted sn talked stepped settled er canon editing jobs at ew =
+    → Schedule {J = J} fresh reacts steps first others canon editing jobs given foretold x z r t report n' d' b' t' p' k'
+scheduled {J} fresh reacts steps first others words given foretold x y z r s t term mid last pass₀ pass₁ net desk back hand₀ hand₁ took n' d' b' t' p' k' report ep eh o acted sn talked stepped settled er canon editing jobs at ew =
     let begin = run_after_opening o.written (start canon editing jobs) in
     let g = acted.goes.leads begin (o.leads (start canon editing jobs) at) in
-    let ns = reader_sent Net false given net (reader_net given net sn) in
+    let ns = reader_sent Net false given foretold net (reader_net given foretold net sn) in
     let ds = desk_sent first fresh reacts desk took talked in
     let bs = back_sent fresh steps others back stepped in
     let puts : g.0.puts ≡ acted.puts = g.3 ∙ ap (λ (ps : List (Option Entry)). ps ++ acted.puts) (no_puts o.written canon editing jobs) in
     let view : pass₁ ≡ handler acted.handled = acted.view ∙ ap (λ (v : View). with_handled v acted.handled) ep in
-    let s = settled acted.handled ns.mails ds.sent.mails bs.mails acted.puts ds.taken view ns.is ds.sent.is bs.is (acted.hand [] eh) ds.took in
-    let none = none_over acted.handled s.6.0 ns.mails ds.sent.mails bs.mails s.6.1 ns.ends ds.sent.ends bs.ends ns.one ds.sent.one bs.one acted.lefts in
+    let all = settled acted.handled ns.mails ds.sent.mails bs.mails acted.puts ds.taken view ns.is ds.sent.is bs.is (acted.hand [] eh) ds.took in
+    let none = none_over acted.handled all.6.0 ns.mails ds.sent.mails bs.mails all.6.1 ns.ends ds.sent.ends bs.ends ns.one ds.sent.one bs.one acted.lefts in
     let sends : spells (items_said g.0.history) ≡ words ++ (acted.goes.bytes ++ g.4) = g.5 ∙ ap (λ (bytes : List ℕ). bytes ++ (acted.goes.bytes ++ g.4)) (ap (λ h. spells (items_said h)) (same_history o.written canon editing jobs) ∙ sym ew) in
     let w = wrote_all o.written words acted.goes.bytes g.4 (spells (items_said g.0.history)) x y z (all_whole acted.goes.marked) o.wrote acted.goes.wrote (λ e. acted.goes.idle (o.over e)) sends g.6 in
-    let N : View → Type 0 = λ v. NetSends given v in
+    let N : View → Type 0 = λ v. NetSends given foretold v in
     let B : View → Type 0 = λ v. AreSteps {J = J} fresh steps others v in
     record {
       from_net = ns.mails;
       from_desk = ds.sent.mails;
       from_back = bs.mails;
       handled = acted.handled;
-      net_is = s.0;
-      desk_is = s.1;
-      back_is = s.2;
-      term_is = ap (λ (v : View). v.handled) s.3;
-      woven = λ r. ap (from r) (sym (append-nil acted.handled) ∙ ap (λ (l : List Mail). acted.handled ++ l) (sym none)) ∙ s.6.1 r;
-      read = subst N (ns.is ∙ sym s.0) sn;
+      net_is = all.0;
+      desk_is = all.1;
+      back_is = all.2;
+      term_is = ap (λ (v : View). v.handled) all.3;
+      woven = λ r. ap (from r) (sym (append-nil acted.handled) ∙ ap (λ (l : List Mail). acted.handled ++ l) (sym none)) ∙ all.6.1 r;
+      read = subst N (ns.is ∙ sym all.0) sn;
       wrote_opening = o.written;
       marked = acted.goes.marked;
       messages = acted.goes.whole;
@@ -191,12 +194,13 @@ scheduled {J} fresh reacts steps first others words given x y z term mid last pa
       appended = w.2;
       sends = w.3;
       all_written = w.4;
-      put_is = s.4 ∙ ap putter (sym puts);
+      tells = accounts_both most_writes o.written (no_writes_failed acted.goes.marked) r s t o.tells acted.goes.tells;
+      put_is = all.4 ∙ ap putter (sym puts);
       taken = ds.taken;
-      took_is = s.5;
-      took_first = (s.7.0, s.7.1 ∙ sym puts);
-      talked = subst (λ (u : View × Hand). IsTalk {J = J} first fresh reacts u.0 u.1) (λ i. ((ds.sent.is ∙ sym s.1) i, (ds.took ∙ sym s.5) i)) talked;
-      stepped = subst B (bs.is ∙ sym s.2) stepped;
+      took_is = all.5;
+      took_first = (all.7.0, all.7.1 ∙ sym puts);
+      talked = subst (λ (u : View × Hand). IsTalk {J = J} first fresh reacts u.0 u.1) (λ i. ((ds.sent.is ∙ sym all.1) i, (ds.took ∙ sym all.5) i)) talked;
+      stepped = subst B (bs.is ∙ sym all.2) stepped;
       report_is = er ∙ ap report_of g.2.progress;
     }
 

@@ -1,12 +1,13 @@
 -- The running client session, of what its ports give back, for every schedule.
-use Rattle.std.specs.Prelude.{◌≡◌, ℕ, true, Option, Some, None, List, [], ◌++◌, map}
+use Rattle.std.specs.Prelude.{◌≡◌, ◌⊎◌, ℕ, true, Option, Some, None, List, [], ◌++◌, length, map}
 use Rattle.std.specs.Io.KnownBytes.{Appends, Consumes}
 use Rattle.crossbeam_channel.specs.Claims.{view, IsSeatAt}
 use Rattle.crossbeam_channel.specs.Ends.{sends_on, receives_on}
 use Rattle.tn_client.specs.Replies.{items_said}
 use Rattle.tn_client.specs.Screen.{text_shown}
 use Rattle.tn_client_core.specs.Bringing.{brought, TakesInOrder}
-use Rattle.tn_client_core.specs.Marks.{Runs, all_written, all_whole}
+use Rattle.tn_client_core.specs.Ending.{IsEndedAt}
+use Rattle.tn_client_core.specs.Marks.{Runs, no_write_failed, no_show_failed, all_by, all_written, all_whole}
 use Rattle.tn_client_core.specs.Reaching.{LeadsTo}
 use Rattle.tn_client_core.specs.Run.{Run, start}
 use Rattle.tn_client_core.specs.declared.machine.Core.{Core}
@@ -18,13 +19,19 @@ use Rattle.tn_nvt.specs.Spelling.{spells}
 use Rattle.tn_session.specs.CoreTurns.{all_told}
 use Rattle.tn_session.specs.Mailbox.{Interleaves, four, sender}
 use Rattle.tn_session.specs.Reader.{KeysSends}
-use Rattle.tn_session.specs.Reading.{NetSends}
+use Rattle.tn_session.specs.Reading.{NetSends, most_reads}
+use Rattle.tn_session.specs.Turns.{Tells, most_writes}
 use Rattle.tn_session.specs.declared.channels.View.{View}
 use Rattle.tn_session.specs.declared.client.Mailbox.{Mailbox}
 use Rattle.tn_session.specs.declared.mail.Mail.{Mail}
 use Rattle.tn_session.specs.declared.mail.Sender.TheVariants.{Net, Keys}
 use Rattle.tn_session.specs.declared.parties.ClientPorts.{ClientPorts}
 use Rattle.tn_session.specs.declared.parties.Report.{Report}
+use Rattle.tn_streams.specs.Foretelling.{Failures, WillFail}
+use Rattle.tn_streams.specs.Telling.{Calls, SomeFailed}
+use Rattle.tn_term.specs.declared.faults.Ended.TheVariants.{Fault}
+use Rattle.tn_term.specs.declared.faults.SessionFault.{SessionFault}
+use Rattle.tn_term.specs.declared.faults.SessionFault.TheVariants as fault
 
 -- the view of the one that handles, in a session of two senders; nobody sends as Desk or Back
 abbrev pub core_view : List Mail → View
@@ -58,7 +65,9 @@ IsFrontOf given bytes = (left : Option (List ℕ)) × Consumes given left bytes
 
 -- Of what Keys and Net sent, in the order that these passes know, and of what the core handled, wrote and showed.
 pub record RunningClient (width height limit : ℕ) (keys_given net_given : Option (List ℕ))
-    (before after seen now : Option (List ℕ)) (report : Report) (keys net core : View) : Type 0 where
+    (keys_foretold net_foretold : Option Failures) (before after seen now : Option (List ℕ))
+    (writer_before writer_after screen_before screen_after : Option Calls)
+    (report : Report) (keys net core : View) : Type 0 where
   -- what each sent, and what was handled
   pub from_keys : List Mail
   pub from_net : List Mail
@@ -69,8 +78,8 @@ pub record RunningClient (width height limit : ℕ) (keys_given net_given : Opti
   -- what was handled is an interleaving of all that was sent
   pub woven : Interleaves handled (four from_net [] [] from_keys)
   -- the pieces are fronts of what the readers gave
-  pub typed : KeysSends keys_given keys
-  pub read : NetSends net_given net
+  pub typed : KeysSends keys_given keys_foretold keys
+  pub read : NetSends net_given net_foretold net
   -- the run of the messages with their marks
   pub marked : List (Told × Mark)
   pub messages : map (λ m. m.0) marked ≡ all_told handled
@@ -84,21 +93,34 @@ pub record RunningClient (width height limit : ℕ) (keys_given net_given : Opti
   pub written : List ℕ
   pub unwritten : List ℕ
   pub appended : Appends before after written
+  pub tells : Tells (all_by no_write_failed marked) writer_before writer_after
   pub sends : spells (items_said run.sent) ≡ written ++ unwritten
   pub all_sent : all_written marked ≡ true → unwritten ≡ []
   -- and what was shown of what it shows
   pub shown : List ℕ
   pub unshown : List ℕ
   pub displayed : Appends seen now shown
+  pub tells_shown : Tells (all_by no_show_failed marked) screen_before screen_after
   pub shows : text_shown run.history ≡ shown ++ unshown
   pub all_shown : all_whole marked ≡ true → unshown ≡ []
   -- the report
   pub report_is : report ≡ client_report run.progress
+  -- a fault is told only where its cause was there
+  pub caused : (f : SessionFault) → report.ended ≡ Fault f → IsEndedAt marked (Fault f)
+  -- that reading failed, only where a read fails, or after as many as are made
+  pub read_failed : report.ended ≡ Fault fault.Read
+      → WillFail most_reads (length typed.0) keys_foretold ⊎ WillFail most_reads (length read.0) net_foretold
+  -- and that a write failed, only where one did, to the network or to the screen
+  pub write_failed : report.ended ≡ Fault fault.Write
+      → SomeFailed most_writes writer_before writer_after ⊎ SomeFailed most_writes screen_before screen_after
 
 -- wherever the core is at first
-abbrev pub IsClientRun : Core → Option (List ℕ) → Option (List ℕ) → Option (List ℕ) → Option (List ℕ)
-    → Option (List ℕ) → Option (List ℕ) → Report → ClientPorts → Type 0
-IsClientRun core keys_given net_given before after seen now report ports =
+abbrev pub IsClientRun : Core → Option (List ℕ) → Option (List ℕ) → Option Failures → Option Failures
+    → Option (List ℕ) → Option (List ℕ) → Option (List ℕ) → Option (List ℕ) → Option Calls → Option Calls
+    → Option Calls → Option Calls → Report → ClientPorts → Type 0
+IsClientRun core keys_given net_given keys_told net_told before after seen now writer_before writer_after
+    screen_before screen_after report ports =
     (width height limit : ℕ) → LeadsTo (start width height limit) core
-    → RunningClient width height limit keys_given net_given before after seen now report (view ports.keys)
-    (view ports.net) (view ports.core)
+    → RunningClient width height limit keys_given net_given keys_told net_told before after seen now
+    writer_before writer_after screen_before screen_after report (view ports.keys) (view ports.net)
+    (view ports.core)

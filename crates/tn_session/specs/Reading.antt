@@ -1,7 +1,8 @@
 -- What the thread that reads sends.
-use Rattle.std.specs.Prelude.{◌≡◌, ℕ, List, Option, [], ◌∷◌, ◌++◌, map, ⊤}
+use Rattle.std.specs.Prelude.{◌≡◌, ℕ, List, Option, [], ◌∷◌, ◌++◌, length, map, ⊤}
 use Rattle.std.specs.List.{concat}
 use Rattle.std.specs.Io.KnownBytes.{Consumes, IsAtEnd}
+use Rattle.tn_streams.specs.Foretelling.{Failures, HasCome, WillFail}
 use Rattle.tn_session.specs.declared.net.Got.{Got}
 use Rattle.tn_session.specs.declared.net.Got.TheVariants.{Bytes, Again, Last}
 use Rattle.tn_term.specs.declared.messages.Message.{Message}
@@ -29,9 +30,24 @@ Gives old new (Last last) = Consumes old new [] × IsEnding last new
 abbrev pub pieces_of : List (List ℕ) → List Message
 pieces_of pieces = map (λ p. Piece p) pieces
 
--- the pieces joined are the first of the bytes that the reader gives, and then comes how it ended
-abbrev pub NetSends : Option (List ℕ) → View → Type 0
-NetSends given v =
+-- how many reads a thread makes at most
+abbrev pub most_reads : ℕ
+most_reads = 4294967295
+
+-- Why the thread says so after so many pieces: that reading failed, only where a read fails, or after as many reads as it makes.
+abbrev pub IsReadCause : Option Failures → ℕ → Message → Type 0
+IsReadCause foretold pieces ReadFailed = WillFail most_reads pieces foretold
+IsReadCause foretold pieces _ = ⊤
+
+-- what was foretold of the read that gave this
+abbrev pub IsForetold : Option Failures → Option Failures → Got → Type 0
+IsForetold old new (Bytes text) = HasCome 1 1 old new
+IsForetold old new Again = HasCome 1 0 old new
+IsForetold old new (Last last) = IsReadCause old 0 last
+
+-- the pieces joined are the first of the bytes that the reader gives, and then comes how it ended, for its cause
+abbrev pub NetSends : Option (List ℕ) → Option Failures → View → Type 0
+NetSends given foretold v =
     (pieces : List (List ℕ)) × (left : Option (List ℕ)) × (last : Message)
-    × Consumes given left (concat pieces) × IsEnding last left
+    × Consumes given left (concat pieces) × (IsEnding last left × IsReadCause foretold (length pieces) last)
     × (v ≡ net_sends (pieces_of pieces ++ last ∷ Left ∷ []))

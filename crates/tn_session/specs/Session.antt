@@ -1,5 +1,5 @@
 -- The running session, of what its ports give back, for every schedule.
-use Rattle.std.specs.Prelude.{◌≡◌, ℕ, Bool, true, false, ◌&&◌, Option, Some, List, [], ◌++◌, map}
+use Rattle.std.specs.Prelude.{◌≡◌, ℕ, Bool, true, false, ◌&&◌, Option, Some, List, [], ◌++◌, length, map}
 use Rattle.std.specs.Io.KnownBytes.{Appends, Consumes, IsAtEnd}
 use Rattle.crossbeam_channel.specs.Claims.{view}
 use Rattle.tn_discipline.specs.Canon.{Canon}
@@ -17,20 +17,22 @@ use Rattle.tn_session.specs.Jobs.{Numbered}
 use Rattle.tn_session.specs.Joining.{IsPrefixOf}
 use Rattle.tn_session.specs.Mailbox.{Interleaves, four, sender}
 use Rattle.tn_session.specs.Queue.{putter, taker}
-use Rattle.tn_session.specs.Reading.{NetSends}
+use Rattle.tn_session.specs.Reading.{NetSends, most_reads}
 use Rattle.tn_session.specs.Stepping.{AreSteps}
 use Rattle.tn_session.specs.Talk.{IsTalk}
-use Rattle.tn_session.specs.Turns.{Writes, messages_of}
+use Rattle.tn_session.specs.Turns.{Writes, Tells, most_writes, messages_of}
 use Rattle.tn_session.specs.declared.channels.View.{View}
 use Rattle.tn_session.specs.declared.entries.Hand.{Hand}
 use Rattle.tn_session.specs.declared.mail.Mail.{Mail}
 use Rattle.tn_session.specs.declared.mail.Sender.TheVariants.{Net, Desk, Back}
 use Rattle.tn_session.specs.declared.parties.Ports.{Ports}
 use Rattle.tn_session.specs.declared.parties.Report.{Report}
+use Rattle.tn_streams.specs.Foretelling.{Failures, WillFail}
+use Rattle.tn_streams.specs.Telling.{Calls, SomeFailed}
 use Rattle.tn_term.specs.Ending.{IsFaultCause}
 use Rattle.tn_term.specs.Giving.{GivesFront, entries_put}
 use Rattle.tn_term.specs.Hearing.{entries_by}
-use Rattle.tn_term.specs.Marks.{Runs, run_after_opening, all_whole}
+use Rattle.tn_term.specs.Marks.{Runs, run_after_opening, all_whole, no_writes_failed}
 use Rattle.tn_term.specs.Reaching.{LeadsTo}
 use Rattle.tn_term.specs.Run.{Run, start, opening}
 use Rattle.tn_term.specs.declared.faults.Ended.{Ended}
@@ -59,9 +61,10 @@ IsRefusal (fault.Client f) = ⊥
 
 -- the opening words were written, or the first of them
 pub record IsOpening (old : Term) (words : List ℕ) (before after : Option (List ℕ))
-    (new : Term) : Type 0 where
+    (told_before told_after : Option Calls) (new : Term) : Type 0 where
   pub written : Bool
   pub wrote : Writes written before after words
+  pub tells : Tells written told_before told_after
   pub leads : (c : Run) → LeadsTo c old → LeadsTo (run_after_opening written c) new
   pub over : written ≡ false → new.progress.over ≡ true
 
@@ -70,7 +73,8 @@ pub record IsOpening (old : Term) (words : List ℕ) (before after : Option (Lis
 pub record Schedule {J : Type 0} (fresh : J → Type 0) (reacts : J → Entry → Reaction → J → Type 0)
     (steps : J → Reaction → J → Type 0)
     (first : JobId) (others : List ℕ) (canon : Canon) (editing : Editing) (jobs : Jobs)
-    (given old new : Option (List ℕ))
+    (given : Option (List ℕ)) (foretold : Option Failures) (old new : Option (List ℕ))
+    (told_old told_new : Option Calls)
     (report : Report) (net desk back term : View) (put took : Hand) : Type 0 where
   -- what each sent, and what was handled
   pub from_net : List Mail
@@ -84,7 +88,7 @@ pub record Schedule {J : Type 0} (fresh : J → Type 0) (reacts : J → Entry �
   -- one: what was handled is an interleaving of all that was sent
   pub woven : Interleaves handled (four from_net from_desk from_back [])
   -- two: the pieces are a front of what the reader gave
-  pub read : NetSends given net
+  pub read : NetSends given foretold net
   -- three: the run of the messages with their marks; what was written of what it sends, and what was put
   pub wrote_opening : Bool
   pub marked : List (Message × Mark)
@@ -96,6 +100,7 @@ pub record Schedule {J : Type 0} (fresh : J → Type 0) (reacts : J → Entry �
   pub appended : Appends old new written
   pub sends : spells (items_said run.history) ≡ written ++ unwritten
   pub all_written : (wrote_opening && all_whole marked) ≡ true → unwritten ≡ []
+  pub tells : Tells (wrote_opening && no_writes_failed marked) told_old told_new
   pub put_is : put ≡ putter run.puts
   -- four: what was taken begins what was put, and what the jobs said is theirs
   pub taken : List (Option Entry)
@@ -108,13 +113,13 @@ pub record Schedule {J : Type 0} (fresh : J → Type 0) (reacts : J → Entry �
 
 -- wherever the terminal is at first
 abbrev pub IsRun : {J : Type 0} → (J → Type 0) → (J → Entry → Reaction → J → Type 0)
-    → (J → Reaction → J → Type 0) → JobId → List ℕ → Term → List ℕ → Option (List ℕ) → Option (List ℕ)
-    → Option (List ℕ) → Report → Ports → Type 0
-IsRun fresh reacts steps first others term words given old new report ports =
+    → (J → Reaction → J → Type 0) → JobId → List ℕ → Term → List ℕ → Option (List ℕ) → Option Failures
+    → Option (List ℕ) → Option (List ℕ) → Option Calls → Option Calls → Report → Ports → Type 0
+IsRun fresh reacts steps first others term words given foretold old new told_old told_new report ports =
     (canon : Canon) (editing : Editing) (jobs : Jobs) → LeadsTo (start canon editing jobs) term
     → words ≡ spells (items_said (opening canon editing))
-    → Schedule fresh reacts steps first others canon editing jobs given old new report (view ports.net)
-    (view ports.desk) (view ports.back) (view ports.term) (view ports.put) (view ports.took)
+    → Schedule fresh reacts steps first others canon editing jobs given foretold old new told_old told_new
+    report (view ports.net) (view ports.desk) (view ports.back) (view ports.term) (view ports.put) (view ports.took)
 
 -- The stream of the run is the first of the bytes that the reader gave, and all of them where a hang-up ended the session;
 -- its items are read by the definitions of the stream.
@@ -135,14 +140,15 @@ TakesEntries canon editing given ended taken =
 -- The whole of it, for the jobs that were made.
 pub record RunningSession {J : Type 0} (fresh : J → Type 0) (reacts : J → Entry → Reaction → J → Type 0)
     (steps : J → Reaction → J → Type 0)
-    (canon : Canon) (editing : Editing) (given old new : Option (List ℕ)) (report : Report)
+    (canon : Canon) (editing : Editing) (given : Option (List ℕ)) (foretold : Option Failures)
+    (old new : Option (List ℕ)) (told_old told_new : Option Calls) (report : Report)
     (net desk back term : View) (put took : Hand) : Type 0 where
   pub jobs : Jobs
   pub first : JobId
   pub others : List ℕ
   pub numbered : Numbered jobs first others
-  pub schedule : Schedule fresh reacts steps first others canon editing jobs given old new report net desk
-      back term put took
+  pub schedule : Schedule fresh reacts steps first others canon editing jobs given foretold old new
+      told_old told_new report net desk back term put took
   -- two: what the run heard of the reader
   pub heard : HearsReader given report.ended schedule.run
   -- five: what the foreground job took is a front of the run's entries, and all of them where a hang-up ended the session;
@@ -154,3 +160,7 @@ pub record RunningSession {J : Type 0} (fresh : J → Type 0) (reacts : J → En
   pub caused : (f : SessionFault) → report.ended ≡ Fault f
       → IsFaultCause schedule.wrote_opening (run_after_opening schedule.wrote_opening (start canon editing jobs))
       schedule.marked f
+  -- that reading failed, only where a read fails, or after as many as are made
+  pub read_failed : report.ended ≡ Fault fault.Read → WillFail most_reads (length schedule.read.0) foretold
+  -- and that a write failed, only where one did
+  pub write_failed : report.ended ≡ Fault fault.Write → SomeFailed most_writes told_old told_new

@@ -15,12 +15,12 @@ use crate::session::MAILS;
 use crate::threads::{start_keys, start_net};
 use crossbeam_channel::bounded_with;
 use std::alloc::Global;
-use std::io::{Read, Write};
 use std::sync::atomic::AtomicBool;
 use std::sync::{Arc, Wait};
 use std::thread::Threads;
 use tn_client_core::{Core, Progress};
 use tn_discipline::Limit;
+use tn_streams::{Drain, Source};
 use tn_term::SessionFault;
 
 // The mailbox of a client's session, its ends and passes.
@@ -133,15 +133,17 @@ fn run<R, N, K, W, S, G>(
 ) -> Result<(Report, ClientPorts), SessionFault>
 where
     R: Threads + Wait + Copy + Send + 'static,
-    N: Read + Drop + Send + 'static,
-    K: Read + Drop + Send + 'static,
+    N: Source + Drop + Send + 'static,
+    K: Source + Drop + Send + 'static,
     W: Finish,
-    S: Write,
+    S: Drain,
     G: Gate + Drop + Send + Sync + 'static,
     requires { IsReadyForTwo mailbox }
     ensures { IfOk result (λ r.
-        IsClientRun core (K.remaining keys_reader) (N.remaining net_reader) (W.contents writer.old)
-        (W.contents writer.new) (S.contents screen.old) (S.contents screen.new) r.0 r.1) }
+        IsClientRun core (K.remaining keys_reader) (N.remaining net_reader) (K.foretold keys_reader)
+        (N.foretold net_reader) (W.contents writer.old) (W.contents writer.new) (S.contents screen.old)
+        (S.contents screen.new) (W.told writer.old) (W.told writer.new) (S.told screen.old)
+        (S.told screen.new) r.0 r.1) }
 {
     let Mailbox {
         to,
@@ -211,15 +213,17 @@ pub fn client_session<R, N, K, W, S, G>(
 ) -> Result<(Report, ClientPorts), SessionFault>
 where
     R: Threads + Wait + Copy + Send + 'static,
-    N: Read + Drop + Send + 'static,
-    K: Read + Drop + Send + 'static,
+    N: Source + Drop + Send + 'static,
+    K: Source + Drop + Send + 'static,
     W: Finish,
-    S: Write,
+    S: Drain,
     G: Gate + Drop + Send + Sync + 'static,
     ensures { IfOk result (λ r.
         RunningClient width height limit (K.remaining keys_reader) (N.remaining net_reader)
-        (W.contents net_writer.old) (W.contents net_writer.new) (S.contents screen.old)
-        (S.contents screen.new) r.0 (view r.1.keys) (view r.1.net) (view r.1.core)) }
+        (K.foretold keys_reader) (N.foretold net_reader) (W.contents net_writer.old)
+        (W.contents net_writer.new) (S.contents screen.old)
+        (S.contents screen.new) (W.told net_writer.old) (W.told net_writer.new) (S.told screen.old)
+        (S.told screen.new) r.0 (view r.1.keys) (view r.1.net) (view r.1.core)) }
 {
     let Ok(core) = Core::start(alloc, width, height, limit) else {
         return Err(SessionFault::Memory);

@@ -12,10 +12,10 @@ use crate::mail::{Mail, Sender};
 use crate::parties::Finish;
 use crate::term::leaves;
 use crate::writing::write_out;
-use std::io::Write;
 use std::sync::Wait;
 use std::sync::atomic::{AtomicBool, Ordering};
 use tn_client_core::{Core, Mark, Origin, Progress, Told};
+use tn_streams::Drain;
 
 /// How many threads send mails.
 const SENDERS: u64 = 2;
@@ -51,7 +51,7 @@ fn is_done(written: bool, shown: bool, mark: Mark) -> bool
 
 // Handles one message: what it appends is written and shown, and where a write fails nothing has any
 // effect from there on.
-fn turn<W: Finish, S: Write>(
+fn turn<W: Finish, S: Drain>(
     core: &mut Core,
     told: Told,
     out: &mut Vec<u8>,
@@ -64,7 +64,8 @@ fn turn<W: Finish, S: Write>(
     ensures out { out.new.items ≡ [] }
     ensures text { text.new.items ≡ [] }
     ensures turned { TurnsTold core.old told (W.contents writer.old) (W.contents writer.new)
-        (S.contents screen.old) (S.contents screen.new) core.new }
+        (S.contents screen.old) (S.contents screen.new) (W.told writer.old) (W.told writer.new)
+        (S.told screen.old) (S.told screen.new) core.new }
 {
     let mark = core.handle(told, out, text);
     let written = write_out(writer, out);
@@ -80,7 +81,8 @@ fn turn<W: Finish, S: Write>(
 // Tells Keys to leave where no more comes from the network or nothing has any effect any more, and the
 // writer once that no more comes from this end. Answers whether the writer was told.
 fn close<W: Finish>(writer: &mut W, progress: Progress, stop: &AtomicBool, closed: bool) -> bool
-    ensures { Keeps (W.contents writer.old) (W.contents writer.new) }
+    ensures contents { Keeps (W.contents writer.old) (W.contents writer.new) }
+    ensures told { W.told writer.new ≡ W.told writer.old }
 {
     if progress.over || progress.at_end {
         stop.store(true, Ordering::SeqCst);
@@ -93,7 +95,7 @@ fn close<W: Finish>(writer: &mut W, progress: Progress, stop: &AtomicBool, close
 }
 
 /// Handles the mails until both senders have left. `None` where the other end of the mailbox is gone.
-pub(crate) fn run_core<R: Wait, W: Finish, S: Write>(
+pub(crate) fn run_core<R: Wait, W: Finish, S: Drain>(
     rt: &R,
     from: &MailReceiver,
     mut pass: MailPass,
@@ -110,7 +112,8 @@ pub(crate) fn run_core<R: Wait, W: Finish, S: Write>(
     ensures mailbox { IfSome result (λ p. IsSeatAt (receives_on from.now) p) }
     ensures acted { IfSome result (λ p.
         CoreHandles core.old (view pass) (view p) (W.contents writer.old) (W.contents writer.new)
-        (S.contents screen.old) (S.contents screen.new) core.new) }
+        (S.contents screen.old) (S.contents screen.new) (W.told writer.old) (W.told writer.new)
+        (S.told screen.old) (S.told screen.new) core.new) }
 {
     let mut lefts = 0u64;
     let mut closed = false;

@@ -5,7 +5,7 @@ ghost use Rattle.crossbeam_channel.specs.Claims.{view, IsSeatAt};
 ghost use Rattle.crossbeam_channel.specs.Ends.{sends_on};
 ghost use Rattle.tn_session.specs.Mailbox.{sender};
 ghost use Rattle.tn_session.specs.Reader.{ReaderSends, KeysSends};
-ghost use Rattle.tn_session.specs.Reading.{Gives, NetSends};
+ghost use Rattle.tn_session.specs.Reading.{Gives, IsForetold, NetSends};
 ghost use Rattle.tn_session.specs.declared.mail.Sender.TheVariants.{Net, Keys};
 
 use crate::channels::{MailPass, MailSender};
@@ -13,10 +13,10 @@ use crate::mail::Sender;
 use crate::parties::{Gate, Place};
 use crate::sending::say;
 use std::alloc::Global;
-use std::io::{ErrorKind, Read};
 use std::sync::Wait;
 use std::sync::atomic::{AtomicBool, Ordering};
 use tn_discipline::Text;
+use tn_streams::{Source, is_interrupted};
 use tn_term::Message;
 
 /// How many bytes one read asks for.
@@ -31,19 +31,20 @@ pub(crate) enum Got {
     Last(Message),
 }
 
-fn read_piece<Rd: Read>(reader: &mut Rd, alloc: Global) -> Got
-    ensures { Gives (Rd.remaining reader.old) (Rd.remaining reader.new) result }
+fn read_piece<Rd: Source>(reader: &mut Rd, alloc: Global) -> Got
+    ensures gives { Gives (Rd.remaining reader.old) (Rd.remaining reader.new) result }
+    ensures foretold { IsForetold (Rd.foretold reader.old) (Rd.foretold reader.new) result }
 {
     let Ok(mut bytes) = Vec::from_elem(alloc, 0u8, PIECE_BYTES) else {
         return Got::Last(Message::Refused);
     };
-    match reader.read(bytes.as_mut_slice()) {
+    match reader.read_some(bytes.as_mut_slice()) {
         Ok(0) => Got::Last(Message::HangUp),
         Ok(n) => {
             bytes.truncate(n);
             Got::Bytes(Text::from(bytes))
         },
-        Err(error) if error.kind() == ErrorKind::Interrupted => Got::Again,
+        Err(error) if is_interrupted(&error) => Got::Again,
         Err(_) => Got::Last(Message::ReadFailed),
     }
 }
@@ -60,7 +61,7 @@ fn is_stopped(stop: Option<&AtomicBool>) -> bool
 
 // Sends the pieces that the reader gives, and then how it ended: after 4,294,967,295 reads as if one had
 // failed. Where there is a flag and it is set after a piece, it leaves. `None` where the other end is gone.
-fn run_reader<R: Wait, Rd: Read + Drop, G: Gate>(
+fn run_reader<R: Wait, Rd: Source + Drop, G: Gate>(
     rt: &R,
     alloc: Global,
     to: &MailSender,
@@ -73,9 +74,10 @@ fn run_reader<R: Wait, Rd: Read + Drop, G: Gate>(
 ) -> Option<MailPass>
     requires mailbox { IsSeatAt (sends_on to.now) pass × (view pass ≡ sender who []) }
     ensures seat { IfSome result (λ p. IsSeatAt (sends_on to.now) p) }
-    ensures sent { IfSome result (λ p. ReaderSends who (is_some stop.entry) (Rd.remaining reader) (view p)) }
+    ensures sent { IfSome result (λ p. ReaderSends who (is_some stop.entry) (Rd.remaining reader)
+        (Rd.foretold reader) (view p)) }
 {
-    for _ in 0..u32::MAX {
+    for _read in 0..u32::MAX {
         match read_piece(&mut reader, alloc) {
             Got::Bytes(text) => {
                 pass = say(rt, to, pass, who, Message::Piece(text))?;
@@ -96,7 +98,7 @@ fn run_reader<R: Wait, Rd: Read + Drop, G: Gate>(
 }
 
 /// Sends what comes from the network. `None` where the other end is gone.
-pub(crate) fn run_net<R: Wait, Rd: Read + Drop, G: Gate>(
+pub(crate) fn run_net<R: Wait, Rd: Source + Drop, G: Gate>(
     rt: &R,
     alloc: Global,
     to: &MailSender,
@@ -106,14 +108,14 @@ pub(crate) fn run_net<R: Wait, Rd: Read + Drop, G: Gate>(
 ) -> Option<MailPass>
     requires mailbox { IsSeatAt (sends_on to.now) pass × (view pass ≡ sender Net []) }
     ensures seat { IfSome result (λ p. IsSeatAt (sends_on to.now) p) }
-    ensures sent { IfSome result (λ p. NetSends (Rd.remaining reader) (view p)) }
+    ensures sent { IfSome result (λ p. NetSends (Rd.remaining reader) (Rd.foretold reader) (view p)) }
 {
     let (who, place) = (Sender::Net, Place::NetPiece);
     run_reader(rt, alloc, to, pass, reader, who, None, gate, place)
 }
 
 /// Sends the keys, until there are no more or the flag is set. `None` where the other end is gone.
-pub(crate) fn run_keys<R: Wait, Rd: Read + Drop, G: Gate>(
+pub(crate) fn run_keys<R: Wait, Rd: Source + Drop, G: Gate>(
     rt: &R,
     alloc: Global,
     to: &MailSender,
@@ -124,7 +126,7 @@ pub(crate) fn run_keys<R: Wait, Rd: Read + Drop, G: Gate>(
 ) -> Option<MailPass>
     requires mailbox { IsSeatAt (sends_on to.now) pass × (view pass ≡ sender Keys []) }
     ensures seat { IfSome result (λ p. IsSeatAt (sends_on to.now) p) }
-    ensures sent { IfSome result (λ p. KeysSends (Rd.remaining reader) (view p)) }
+    ensures sent { IfSome result (λ p. KeysSends (Rd.remaining reader) (Rd.foretold reader) (view p)) }
 {
     let (who, place) = (Sender::Keys, Place::KeysPiece);
     run_reader(rt, alloc, to, pass, reader, who, Some(stop), gate, place)

@@ -1,13 +1,13 @@
 //! Who takes part in a session, and what it gives back.
 
-ghost use Rattle.std.specs.Prelude.{IfOk, IfSome};
+ghost use Rattle.std.specs.Prelude.{◌≡◌, IfOk, IfSome};
 ghost use Rattle.std.specs.Io.KnownBytes.{Keeps};
 
 use crate::channels::MailPass;
 use crate::entries::EntryPass;
 use std::alloc::{AllocError, Global};
-use std::io::Write;
 use tn_jobs::{Job, JobId};
+use tn_streams::Drain;
 use tn_term::Ended;
 
 /// Who makes the jobs of a session: the first is the foreground job, and up to fifteen more run in the
@@ -43,9 +43,10 @@ pub trait Gate {
 }
 
 /// A writer that is told when no more comes from this end. Nothing is said of what that does.
-pub trait Finish: Write {
+pub trait Finish: Drain {
     fn finish(&mut self)
-        ensures { Keeps (Self.contents self.old) (Self.contents self.new) };
+        ensures contents { Keeps (Self.contents self.old) (Self.contents self.new) }
+        ensures told { Self.told self.new ≡ Self.told self.old };
 }
 
 /// A list of what was written, which keeps it.

@@ -29,13 +29,13 @@ use crate::writing::write_out;
 use crossbeam_channel::bounded_with;
 use std::alloc::Global;
 use std::collections::VecDeque;
-use std::io::Read;
 use std::sync::atomic::AtomicBool;
 use std::sync::{Arc, Wait};
 use std::thread::Threads;
 use tn_discipline::{Entry, Limit, Settings};
 use tn_jobs::{Job, JobId};
 use tn_server::Editing;
+use tn_streams::Source;
 use tn_term::laws::{all_goes_before_a_hang_up, faults_have_causes, pieces_are_heard};
 use tn_term::{Progress, SessionFault, Term};
 
@@ -157,7 +157,7 @@ struct Begun<J> {
 fn open<W: Finish>(term: &mut Term, out: &mut Vec<u8>, writer: &mut W)
     ensures out { out.new.items ≡ [] }
     ensures opened { IsOpening term.old out.old.items (W.contents writer.old) (W.contents writer.new)
-        term.new }
+        (W.told writer.old) (W.told writer.new) term.new }
 {
     let written = write_out(writer, out);
     out.clear();
@@ -191,7 +191,7 @@ fn run<R, Rd, W, J, G>(
 ) -> Result<(Report, Ports), SessionFault>
 where
     R: Threads + Wait + Copy + Send + 'static,
-    Rd: Read + Drop + Send + 'static,
+    Rd: Source + Drop + Send + 'static,
     W: Finish,
     J: Job + Send + 'static,
     G: Gate + Drop + Send + Sync + 'static,
@@ -200,7 +200,8 @@ where
     ensures fault { IfErr result IsRefusal }
     ensures ran { IfOk result (λ r.
         IsRun J.fresh J.reacts J.steps begun.first (ids_of begun.line.items) begun.term begun.out.items
-        (Rd.remaining reader) (W.contents writer.old) (W.contents writer.new) r.0 r.1) }
+        (Rd.remaining reader) (Rd.foretold reader) (W.contents writer.old) (W.contents writer.new)
+        (W.told writer.old) (W.told writer.new) r.0 r.1) }
 {
     let Channels {
         to,
@@ -301,7 +302,7 @@ pub fn serve_session<R, Rd, W, M, G>(
 ) -> Result<(Report, Ports), SessionFault>
 where
     R: Threads + Wait + Copy + Send + 'static,
-    Rd: Read + Drop + Send + 'static,
+    Rd: Source + Drop + Send + 'static,
     W: Finish,
     M: Maker + Drop,
     M::Job: Send + 'static,
@@ -309,8 +310,9 @@ where
     ensures fault { IfErr result IsRefusal }
     ensures ran { IfOk result (λ r.
         RunningSession M.Job.fresh M.Job.reacts M.Job.steps (record { settings = settings; limit = limit })
-        editing (Rd.remaining reader) (W.contents writer.old) (W.contents writer.new) r.0 (view r.1.net)
-        (view r.1.desk) (view r.1.back) (view r.1.term) (view r.1.put) (view r.1.took)) }
+        editing (Rd.remaining reader) (Rd.foretold reader) (W.contents writer.old) (W.contents writer.new)
+        (W.told writer.old) (W.told writer.new) r.0 (view r.1.net) (view r.1.desk)
+        (view r.1.back) (view r.1.term) (view r.1.put) (view r.1.took)) }
 {
     let made = make_jobs(alloc, &mut maker)?;
     let Made {

@@ -102,8 +102,8 @@ fn turn<R: Wait, W: Finish>(
     ensures seat { IfSome result (λ h. IsSeatAt (sends_on entries.now) h) }
     ensures out { out.new.items ≡ [] }
     ensures turned { IfSome result (λ h.
-        TurnsMessage term.old message (W.contents writer.old) (W.contents writer.new) (view hand) (view h)
-        term.new) }
+        TurnsMessage term.old message (W.contents writer.old) (W.contents writer.new) (W.told writer.old)
+        (W.told writer.new) (view hand) (view h) term.new) }
 {
     let Outcome { put, last, mark } = term.handle(message, out);
     let hand = put_if(rt, entries, hand, put);
@@ -120,7 +120,8 @@ fn turn<R: Wait, W: Finish>(
 // Tells the threads that no more comes, or that nothing has any effect any more, and the writer once
 // that this end is done. Answers whether the writer was told.
 fn close<W: Finish>(writer: &mut W, progress: Progress, stop: &AtomicBool, closed: bool) -> bool
-    ensures { Keeps (W.contents writer.old) (W.contents writer.new) }
+    ensures contents { Keeps (W.contents writer.old) (W.contents writer.new) }
+    ensures told { W.told writer.new ≡ W.told writer.old }
 {
     if progress.over || progress.at_end {
         stop.store(true, Ordering::SeqCst);
@@ -133,7 +134,8 @@ fn close<W: Finish>(writer: &mut W, progress: Progress, stop: &AtomicBool, close
 }
 
 fn finish_unless<W: Finish>(closed: bool, writer: &mut W)
-    ensures { Keeps (W.contents writer.old) (W.contents writer.new) }
+    ensures contents { Keeps (W.contents writer.old) (W.contents writer.new) }
+    ensures told { W.told writer.new ≡ W.told writer.old }
 {
     if !closed {
         writer.finish();
@@ -161,7 +163,7 @@ pub(crate) fn run_term<R: Wait, W: Finish, G: Gate>(
     ensures entries { IfSome result (λ r. IsSeatAt (sends_on entries.now) r.1) }
     ensures acted { IfSome result (λ r.
         HandlesAll term.old (view pass) (view r.0) (view hand) (view r.1) (W.contents writer.old)
-        (W.contents writer.new) term.new) }
+        (W.contents writer.new) (W.told writer.old) (W.told writer.new) term.new) }
 {
     let mut lefts = 0u64;
     let mut closed = close(writer, term.progress(), stop, false);

@@ -20,7 +20,6 @@ use crate::net::{run_keys, run_net};
 use crate::parties::Gate;
 use std::alloc::Global;
 use std::collections::VecDeque;
-use std::io::Read;
 use std::marker::PhantomData;
 use std::snapshot::Snapshot;
 use std::sync::atomic::AtomicBool;
@@ -28,6 +27,7 @@ use std::sync::{Arc, Wait};
 use std::thread;
 use std::thread::{Promise, PromisedHandle, Threads};
 use tn_jobs::{Job, JobId};
+use tn_streams::Source;
 
 /// What the thread that reads promises.
 #[derive(Drop)]
@@ -36,7 +36,7 @@ pub(crate) struct NetSays<Rd> {
     reader: Snapshot<Rd>,
 }
 
-impl<Rd: Read> Promise<Option<MailPass>> for NetSays<Rd> {
+impl<Rd: Source> Promise<Option<MailPass>> for NetSays<Rd> {
     ghost use Rattle.std.specs.Prelude.{IfSome};
     ghost use Rattle.crossbeam_channel.specs.Claims.{view, IsSeatAt};
     ghost use Rattle.crossbeam_channel.specs.Ends.{sends_on};
@@ -44,7 +44,7 @@ impl<Rd: Read> Promise<Option<MailPass>> for NetSays<Rd> {
 
     ghost kept_by = { λ p r.
         IfSome r (λ pass. IsSeatAt (sends_on p.to.value) pass ×
-        NetSends (Rd.remaining p.reader.value) (view pass)) };
+        NetSends (Rd.remaining p.reader.value) (Rd.foretold p.reader.value) (view pass)) };
 }
 
 /// What the thread that reads the keys promises.
@@ -54,7 +54,7 @@ pub(crate) struct KeysSays<Rd> {
     reader: Snapshot<Rd>,
 }
 
-impl<Rd: Read> Promise<Option<MailPass>> for KeysSays<Rd> {
+impl<Rd: Source> Promise<Option<MailPass>> for KeysSays<Rd> {
     ghost use Rattle.std.specs.Prelude.{IfSome};
     ghost use Rattle.crossbeam_channel.specs.Claims.{view, IsSeatAt};
     ghost use Rattle.crossbeam_channel.specs.Ends.{sends_on};
@@ -62,7 +62,7 @@ impl<Rd: Read> Promise<Option<MailPass>> for KeysSays<Rd> {
 
     ghost kept_by = { λ p r.
         IfSome r (λ pass. IsSeatAt (sends_on p.to.value) pass ×
-        KeysSends (Rd.remaining p.reader.value) (view pass)) };
+        KeysSends (Rd.remaining p.reader.value) (Rd.foretold p.reader.value) (view pass)) };
 }
 
 /// What the thread of the foreground job promises.
@@ -108,7 +108,7 @@ impl<J: Job> Promise<Option<MailPass>> for BackSays<J> {
 /// Starts the thread that reads. `None` where it can't be started.
 pub(crate) fn start_net<
     R: Threads + Wait + Copy + Send + 'static,
-    Rd: Read + Drop + Send + 'static,
+    Rd: Source + Drop + Send + 'static,
     G: Gate + Drop + Send + Sync + 'static,
 >(
     rt: R,
@@ -128,7 +128,8 @@ pub(crate) fn start_net<
     };
     let work = move || -> Option<MailPass>
         requires { IsSeatAt (sends_on to) pass × (view pass ≡ sender Net []) }
-        ensures { IfSome result (λ p. IsSeatAt (sends_on to) p × NetSends (Rd.remaining reader) (view p)) }
+        ensures { IfSome result (λ p. IsSeatAt (sends_on to) p ×
+            NetSends (Rd.remaining reader) (Rd.foretold reader) (view p)) }
     { run_net(&rt, alloc, &to, pass, reader, &*gate) };
     match thread::spawn_with(&rt, promise, work) {
         Ok(handle) => Some(handle),
@@ -139,7 +140,7 @@ pub(crate) fn start_net<
 /// Starts the thread that reads the keys. `None` where it can't be started.
 pub(crate) fn start_keys<
     R: Threads + Wait + Copy + Send + 'static,
-    Rd: Read + Drop + Send + 'static,
+    Rd: Source + Drop + Send + 'static,
     G: Gate + Drop + Send + Sync + 'static,
 >(
     rt: R,
@@ -160,7 +161,8 @@ pub(crate) fn start_keys<
     };
     let work = move || -> Option<MailPass>
         requires { IsSeatAt (sends_on to) pass × (view pass ≡ sender Keys []) }
-        ensures { IfSome result (λ p. IsSeatAt (sends_on to) p × KeysSends (Rd.remaining reader) (view p)) }
+        ensures { IfSome result (λ p. IsSeatAt (sends_on to) p ×
+            KeysSends (Rd.remaining reader) (Rd.foretold reader) (view p)) }
     { run_keys(&rt, alloc, &to, pass, reader, &*stop, &*gate) };
     match thread::spawn_with(&rt, promise, work) {
         Ok(handle) => Some(handle),

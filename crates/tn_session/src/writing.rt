@@ -1,13 +1,14 @@
 //! What the terminal appends is written out, as far as the writer takes it.
 
 ghost use Rattle.std.specs.Prelude.{◌≡◌, [], true};
-ghost use Rattle.tn_session.specs.Turns.{Writes};
+ghost use Rattle.tn_session.specs.Turns.{Tells, Writes};
 
-use std::io::{ErrorKind, Write};
+use tn_streams::{Drain, is_interrupted};
 
 /// Writes these bytes, or the first of them where a write fails. A write that takes none has failed.
-pub(crate) fn write_out<W: Write>(writer: &mut W, bytes: &[u8]) -> bool
+pub(crate) fn write_out<W: Drain>(writer: &mut W, bytes: &[u8]) -> bool
     ensures writes { Writes result (W.contents writer.old) (W.contents writer.new) bytes.now }
+    ensures tells { Tells result (W.told writer.old) (W.told writer.new) }
     ensures none { bytes.now ≡ [] → result ≡ true }
 {
     let mut at = 0;
@@ -15,10 +16,10 @@ pub(crate) fn write_out<W: Write>(writer: &mut W, bytes: &[u8]) -> bool
         if at >= bytes.len() {
             return true;
         }
-        match writer.write(&bytes[at..]) {
+        match writer.write_some(&bytes[at..]) {
             Ok(0) => return false,
             Ok(n) => at += n,
-            Err(error) if error.kind() == ErrorKind::Interrupted => continue,
+            Err(error) if is_interrupted(&error) => continue,
             Err(_) => return false,
         }
     }

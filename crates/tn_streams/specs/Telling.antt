@@ -1,5 +1,5 @@
 -- What a reader or a writer tells of its calls.
-use Rattle.std.specs.Prelude.{◌≡◌, ◌≢◌, ℕ, ◌+◌, ◌<◌, List, length, Option, Some, None, Result, Ok, Err, ⊤, ◌⊎◌}
+use Rattle.std.specs.Prelude.{◌≡◌, ◌≢◌, ℕ, ◌+◌, ◌<◌, ◌≤◌, Bool, false, List, length, Option, Some, None, Result, Ok, Err, ⊤, ◌⊎◌}
 use Rattle.std.specs.IoError.{error_kind}
 use Rattle.std.specs.declared.io.Error.{Error}
 use Rattle.std.specs.declared.io.ErrorKind.TheVariants.{Interrupted}
@@ -39,3 +39,17 @@ abbrev pub HasFailed : ℕ → Option Calls → Option Calls → Type 0
 HasFailed most None new = ⊤
 HasFailed most (Some old) None = ⊤
 HasFailed most (Some old) (Some new) = (new.failed ≡ old.failed + 1) ⊎ (new.made ≡ old.made + most)
+
+-- If it is told: no call is forgotten, and where not all went well, one of them failed, or so many were made.
+abbrev pub AccountsFor : ℕ → Bool → Option Calls → Option Calls → Type 0
+AccountsFor most well None new = new ≡ None
+AccountsFor most well (Some old) None = ⊤
+AccountsFor most well (Some old) (Some new) =
+    (old.made ≤ new.made) × (old.failed ≤ new.failed)
+    × (well ≡ false → (old.failed < new.failed) ⊎ (old.made + most ≤ new.made))
+
+-- if it is told: some of the calls failed, or so many were made
+abbrev pub SomeFailed : ℕ → Option Calls → Option Calls → Type 0
+SomeFailed most None new = ⊤
+SomeFailed most (Some old) None = ⊤
+SomeFailed most (Some old) (Some new) = (old.failed < new.failed) ⊎ (old.made + most ≤ new.made)

@@ -1,4 +1,4 @@
-//! Readers and writers that may tell how many of their calls failed.
+//! Readers and writers that may tell how many of their calls failed, or will fail.
 //!
 //! Every reader and writer of the standard library is one that tells nothing.
 #![tactic(auto)]
@@ -7,6 +7,7 @@ ghost use Rattle.std.specs.Prelude.{◌≡◌, ◌≢◌, ℕ, List, None, Optio
 ghost use Rattle.std.specs.IoError.{error_kind};
 ghost use Rattle.std.specs.Io.{ReadsAtMost, WritesAtMost};
 ghost use Rattle.std.specs.Io.KnownBytes.{ReadConsumes, WriteAppends, Keeps};
+ghost use Rattle.tn_streams.specs.Foretelling.{Failures, ForetellsCall};
 ghost use Rattle.tn_streams.specs.Telling.{Calls, TellsCall, CountsRead, CountsWrite};
 
 use std::io::{Error, ErrorKind, Read, Result, Write};
@@ -22,11 +23,15 @@ pub trait Source {
     // What it tells of its calls.
     ghost told: { Self → Option Calls } = { λ _. None };
 
+    // What it foretells of the calls from here on.
+    ghost foretold: { Self → Option Failures } = { λ _. None };
+
     /// Reads some bytes, none only at the end or where there is no room.
     fn read_some(&mut self, buf: &mut [u8]) -> Result<usize>
         ensures bound { ReadsAtMost result buf.new }
         ensures bytes { ReadConsumes (remaining self.old) (remaining self.new) result buf.new }
-        ensures tells { TellsCall (CountsRead result) (told self.old) (told self.new) };
+        ensures tells { TellsCall (CountsRead result) (told self.old) (told self.new) }
+        ensures foretells { ForetellsCall result (foretold self.old) (foretold self.new) };
 }
 
 /// A writer that may tell how many of its calls failed.

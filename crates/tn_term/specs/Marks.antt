@@ -1,5 +1,5 @@
 -- The run of the messages, each with its mark: how far it was done.
-use Rattle.std.specs.Prelude.{◌≡◌, Bool, true, false, List, [], ◌∷◌}
+use Rattle.std.specs.Prelude.{◌≡◌, Bool, true, false, ◌&&◌, List, [], ◌∷◌}
 use Rattle.std.specs.List.{FoldsTo}
 use Rattle.tn_term.specs.Refusing.{IsRefusalCause}
 use Rattle.tn_term.specs.Run.{Run, Handles, fail}
@@ -48,6 +48,16 @@ all_whole [] = true
 all_whole ((m, mark.Whole) ∷ marked) = all_whole marked
 all_whole ((m, mark.WriteFailed) ∷ marked) = false
 all_whole ((m, mark.Refused f put) ∷ marked) = false
+
+-- no write of it failed
+abbrev pub no_write_failed : Mark → Bool
+no_write_failed mark.Whole = true
+no_write_failed mark.WriteFailed = false
+no_write_failed (mark.Refused f put) = true
+
+abbrev pub no_writes_failed : List (Message × Mark) → Bool
+no_writes_failed [] = true
+no_writes_failed (m ∷ marked) = no_write_failed m.1 && no_writes_failed marked
 
 -- the terminal where the opening words were written, and where that write failed
 abbrev pub run_after_opening : Bool → Run → Run

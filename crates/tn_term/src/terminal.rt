@@ -7,7 +7,7 @@ ghost use Rattle.tn_jobs.specs.Jobs.{state_at, with_state, is_stopped, is_foregr
 ghost use Rattle.tn_nvt.specs.Spelling.{spells};
 ghost use Rattle.tn_server.specs.Replies.{items_said};
 ghost use Rattle.tn_term.specs.Counting as counting;
-ghost use Rattle.tn_term.specs.Marks.{is_whole};
+ghost use Rattle.tn_term.specs.Marks.{is_whole, no_write_failed};
 ghost use Rattle.tn_term.specs.Run as run;
 ghost use Rattle.tn_term.specs.Run.{Run};
 ghost use Rattle.tn_term.specs.Reaching.{FollowsPath, AdvancesRun, BreaksOff, Feeds, FeedBreaksOff, HaltsIf, Says, SayBreaksOff, DoesWhole, StopsWithin, RefusesFor, IsTurn, LeadsTo};
@@ -538,6 +538,7 @@ impl Term {
         requires { out.old.items ≡ [] }
         ensures turns { IsTurn result.mark self.old message out.new.items result.put result.last self.new }
         ensures none { is_whole result.mark ≡ true → result.last ≡ None }
+        ensures unwritten { no_write_failed result.mark ≡ true }
     {
         if self.progress.over {
             return Outcome {

@@ -5,6 +5,7 @@ mod beside_terminals;
 mod forward;
 mod keys;
 mod midline;
+mod playing;
 mod programs;
 mod refusals;
 mod worlds;

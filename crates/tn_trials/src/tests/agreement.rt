@@ -1,17 +1,18 @@
 //! The options of both ends of a world.
 
+use super::playing::{open, play};
 use std::alloc::Global;
 use std::process::Abort;
-use tn_discipline::{Limit, Settings};
-use tn_world::{Event, World, WorldFault};
+use tn_discipline::Limit;
+use tn_world::{Event, WorldFault};
 
 // Whether the options agree once the client has the opening words, and once nothing is in flight.
 fn seen(alloc: Global) -> Result<[bool; 2], WorldFault> {
-    let mut world = World::open(alloc, Settings::standard(), 80, 24, Limit::standard())?;
-    world.run(&[Event::ToClient(15)])?;
+    let mut world = open(alloc, Limit::standard())?;
+    play(&mut world, &[Event::ToClient(15)])?;
     let apart = world.options_agree();
     for _round in 0..4 {
-        world.run(&[Event::ToServer(99), Event::ToClient(99)])?;
+        play(&mut world, &[Event::ToServer(99), Event::ToClient(99)])?;
     }
     Ok([apart, world.options_agree()])
 }

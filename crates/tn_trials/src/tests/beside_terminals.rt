@@ -1,43 +1,19 @@
 //! Worlds of chance beside a local terminal.
 
+use super::playing::{ALL, at_a_line, is_silent, open, play, settle, settle_with};
 use std::alloc::Global;
 use std::process::Abort;
 use tn_client::ClientFault;
 use tn_codes::Func;
-use tn_discipline::{CharFault, Entry, Limit, Settings};
-use tn_plain::canonical::{entries, role_of};
+use tn_discipline::{CharFault, Entry, Limit};
 use tn_plain::chance::Dice;
-use tn_plain::characters::Table;
 use tn_server::{Editing, ServerFault};
-use tn_world::{Cause, Event, ToWhom, World, WorldFault};
-
-/// The most bytes of a delivery.
-pub(super) const ALL: usize = usize::MAX;
+use tn_world::{Cause, Event, World, WorldFault};
 
 const KEYS: [u8; 12] = [b'a', b'b', b'c', 255, 3, 26, 4, 127, 127, 21, 13, 10];
 
-pub(super) fn open(alloc: Global, limit: Limit) -> Result<World, WorldFault> {
-    World::open(alloc, Settings::standard(), 80, 24, limit)
-}
-
-fn is_silent(world: &World) -> bool {
-    world.in_flight(ToWhom::Server).is_empty() && world.in_flight(ToWhom::Client).is_empty()
-}
-
-// All to the client and then all to the server, while anything is in flight.
-pub(super) fn settle(world: &mut World) -> Result<(), WorldFault> {
-    for _ in 0..64 {
-        if is_silent(world) {
-            return Ok(());
-        }
-        world.run(&[Event::ToClient(ALL), Event::ToServer(ALL)])?;
-    }
-    Ok(())
-}
-
-pub(super) fn settle_with(world: &mut World, event: Event) -> Result<(), WorldFault> {
-    world.run(&[event])?;
-    settle(world)
+fn height(dice: &mut Dice) -> u16 {
+    if dice.flips() { 24 } else { 25 }
 }
 
 // Anything but a change of the mode or of a character.
@@ -45,7 +21,7 @@ fn event(dice: &mut Dice) -> Event {
     match dice.roll(12) {
         0 => Event::Take,
         1 => Event::Pull(dice.roll(9)),
-        2 => Event::Resize(80, if dice.flips() { 24 } else { 25 }),
+        2 => Event::Resize(80, height(dice)),
         3 => Event::Echo(dice.flips()),
         4..=6 => Event::ToServer(dice.roll(7)),
         7 | 8 => Event::ToClient(dice.roll(7)),
@@ -53,20 +29,9 @@ fn event(dice: &mut Dice) -> Event {
     }
 }
 
-// The entries of these keys at one line.
-fn at_a_terminal(alloc: Global, keys: &[u8], most: usize) -> Vec<Entry> {
-    let settings = Settings::standard();
-    let table = Table::of(settings.chars);
-    let mut roles = Vec::new(alloc);
-    for key in keys {
-        let _refused = roles.push(role_of(&settings.flags, &table, *key));
-    }
-    entries(alloc, most, &roles)
-}
-
 // What was made are the first of the entries that the keys give, and all of them at rest.
 pub(super) fn agrees(rt: &impl Abort, alloc: Global, world: &World, most: usize) {
-    let local = at_a_terminal(alloc, world.typed(), most);
+    let local = at_a_line(alloc, world.typed(), most);
     let (taken, rest) = local.split_at(world.taken().len().min(local.len()));
     assert_eq!(rt; world.taken(), taken);
     let mut count = 0usize;
@@ -88,7 +53,7 @@ fn change_mode(world: &mut World, dice: &mut Dice) -> Result<(), WorldFault> {
     } else {
         Editing::Remote
     };
-    world.run(&[Event::Wish(editing), Event::ToClient(ALL)])
+    play(world, &[Event::Wish(editing), Event::ToClient(ALL)])
 }
 
 #[test]
@@ -102,7 +67,7 @@ fn a_world_is_a_local_terminal_in_every_order(rt: HostRuntime) -> Result<(), Wor
             if dice.roll(30) == 0 {
                 change_mode(&mut world, &mut dice)?;
             }
-            world.run(&[event(&mut dice)])?;
+            play(&mut world, &[event(&mut dice)])?;
             agrees(&rt, rt.alloc(), &world, 254);
         }
     }
@@ -117,13 +82,13 @@ fn fills_a_line(rt: &impl Abort, alloc: Global, editing: Editing) -> Result<(), 
     settle_with(&mut world, Event::Wish(editing))?;
     assert!(rt; world.mark());
     for _ in 0..299 {
-        world.run(&[Event::Key(b'a')])?;
+        play(&mut world, &[Event::Key(b'a')])?;
     }
     for key in [b'b', 127, 13] {
         settle_with(&mut world, Event::Key(key))?;
     }
     agrees(rt, alloc, &world, 299);
-    world.run(&[Event::Take])?;
+    play(&mut world, &[Event::Take])?;
     match world.taken() {
         [Entry::Text(text)] => assert_eq!(rt; text.as_slice().len(), 299),
         _ => assert!(rt; false),
@@ -140,15 +105,18 @@ fn a_line_is_full_at_its_limit_at_either_end(rt: HostRuntime) -> Result<(), Worl
 #[test]
 fn the_event_that_is_refused_is_named(rt: HostRuntime) -> Result<(), WorldFault> {
     let mut world = open(rt.alloc(), Limit::standard())?;
-    let refused = world.run(&[
-        Event::Take,
-        Event::Propose(Func::Ec, Some(8)),
-        Event::Key(b'a'),
-    ]);
+    let refused = play(
+        &mut world,
+        &[
+            Event::Take,
+            Event::Propose(Func::Ec, Some(8)),
+            Event::Key(b'a'),
+        ],
+    );
     let cause = Cause::Client(ClientFault::NotOn);
     assert_eq!(rt; refused, Err(WorldFault { at: 1, cause }));
     assert!(rt; world.typed().is_empty());
-    let refused = world.run(&[Event::SetChar(Func::El, Some(127))]);
+    let refused = play(&mut world, &[Event::SetChar(Func::El, Some(127))]);
     let cause = Cause::Server(ServerFault::Char(CharFault::Taken));
     assert_eq!(rt; refused, Err(WorldFault { at: 0, cause }));
     Ok(())
@@ -160,16 +128,22 @@ fn a_world_tells_what_was_typed_and_echoed(rt: HostRuntime) -> Result<(), WorldF
     settle(&mut world)?;
     settle_with(&mut world, Event::Wish(Editing::Local))?;
     assert!(rt; world.mark());
-    world.run(&[Event::Key(b'a'), Event::Key(3), Event::Key(4)])?;
+    play(
+        &mut world,
+        &[Event::Key(b'a'), Event::Key(3), Event::Key(4)],
+    )?;
     assert_eq!(rt;
         (world.typed(), world.echoed()),
         (b"a\x03\x04".as_slice(), b"a".as_slice())
     );
-    world.run(&[
-        Event::ClientStops,
-        Event::Key(b'c'),
-        Event::Propose(Func::Ao, None),
-    ])?;
+    play(
+        &mut world,
+        &[
+            Event::ClientStops,
+            Event::Key(b'c'),
+            Event::Propose(Func::Ao, None),
+        ],
+    )?;
     assert_eq!(rt; world.typed(), b"a\x03\x04".as_slice());
     Ok(())
 }
@@ -183,11 +157,11 @@ fn a_world_types_what_memory_is_found_for(rt: HostRuntime) {
     for _ in 0..4 {
         let _settled = settle(&mut world);
         let typed = world.typed().len();
-        let done = match world.run(&[Event::Key(b'a'), Event::Key(13)]) {
+        let done = match play(&mut world, &[Event::Key(b'a'), Event::Key(13)]) {
             Ok(()) => 2,
             Err(fault) => fault.at,
         };
         assert_eq!(rt; world.typed().len(), typed.saturating_add(done));
-        let _taken = world.run(&[Event::ToServer(ALL), Event::Take]);
+        let _taken = play(&mut world, &[Event::ToServer(ALL), Event::Take]);
     }
 }

@@ -1,16 +1,15 @@
 //! Modes that change in the middle of a line, and random worlds beside one local line.
 
 use super::forward::many;
+use super::playing::{at_a_line, is_silent, open, play, settle};
 use super::worlds::plays;
 use std::alloc::{AllocError, Global};
 use std::process::Abort;
-use tn_discipline::{Entry, Limit, Settings};
-use tn_plain::canonical::{entries, role_of};
+use tn_discipline::{Entry, Limit};
 use tn_plain::chance::Dice;
-use tn_plain::characters::Table;
 use tn_plain::payloads::mask;
 use tn_server::Editing;
-use tn_world::{Event, ToWhom, World, WorldFault};
+use tn_world::{Event, World, WorldFault};
 
 #[test]
 fn a_line_changes_hands(rt: HostRuntime) {
@@ -65,24 +64,6 @@ fn chance(dice: &mut Dice) -> Event {
     }
 }
 
-fn settle(world: &mut World) -> Result<(), WorldFault> {
-    for _round in 0..8 {
-        world.run(&[Event::ToClient(9_999), Event::ToServer(9_999)])?;
-    }
-    Ok(())
-}
-
-// What one local line makes of the keys.
-fn local(alloc: Global, limit: Limit, keys: &[u8]) -> Vec<Entry> {
-    let flags = Settings::standard().flags;
-    let table = Table::standard();
-    let mut roles = Vec::new(alloc);
-    for key in keys {
-        let _refused = roles.push(role_of(&flags, &table, *key));
-    }
-    entries(alloc, usize::from(limit.bytes().saturating_sub(1)), &roles)
-}
-
 // Whether all of these entries were made. Those that were are the first of them.
 fn makes(rt: &impl Abort, world: &World, entries: &[Entry]) -> bool {
     assert!(rt; world.taken().len() <= entries.len());
@@ -101,31 +82,30 @@ fn makes(rt: &impl Abort, world: &World, entries: &[Entry]) -> bool {
 }
 
 fn compare(rt: &impl Abort, alloc: Global, limit: Limit, world: &World) {
-    let all = makes(rt, world, &local(alloc, limit, world.typed()));
-    let flies = !world.in_flight(ToWhom::Server).is_empty()
-        || !world.in_flight(ToWhom::Client).is_empty();
-    assert!(rt; all || flies);
+    let most = usize::from(limit.bytes().saturating_sub(1));
+    let all = makes(rt, world, &at_a_line(alloc, world.typed(), most));
+    assert!(rt; all || !is_silent(world));
 }
 
 // A line that may be longer than there is room for.
 fn burst(world: &mut World) -> Result<(), WorldFault> {
     for _ in 0..290 {
-        world.run(&[Event::Key(b'a')])?;
+        play(world, &[Event::Key(b'a')])?;
     }
     Ok(())
 }
 
 fn live(rt: &impl Abort, alloc: Global, seed: u32, limit: Limit) -> Result<(), WorldFault> {
     let mut dice = Dice::new(seed);
-    let mut world = World::open(alloc, Settings::standard(), 80, 24, limit)?;
+    let mut world = open(alloc, limit)?;
     settle(&mut world)?;
     assert!(rt; world.mark());
     for step in 0..160 {
-        world.run(&[chance(&mut dice)])?;
+        play(&mut world, &[chance(&mut dice)])?;
         match dice.roll(60) {
             0 => burst(&mut world)?,
-            1 if step > 120 => world.run(&[Event::ServerStops])?,
-            2 if step > 120 => world.run(&[Event::ClientStops])?,
+            1 if step > 120 => play(&mut world, &[Event::ServerStops])?,
+            2 if step > 120 => play(&mut world, &[Event::ClientStops])?,
             3..=9 => {
                 settle(&mut world)?;
                 compare(rt, alloc, limit, &world);

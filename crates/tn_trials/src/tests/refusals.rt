@@ -1,6 +1,7 @@
 //! Ends that stop or fail, and what is left then.
 
-use super::beside_terminals::{ALL, agrees, open, settle, settle_with};
+use super::beside_terminals::agrees;
+use super::playing::{ALL, open, play, settle, settle_with};
 use super::programs::{Broken, Narrow};
 use std::alloc::{AllocError, Global};
 use std::process::Abort;
@@ -61,7 +62,7 @@ fn an_end_that_stops_leaves_the_first_entries(rt: HostRuntime) -> Result<(), Fai
             assert!(rt; world.mark());
             let events = with_a_stop(alloc, place, server)?;
             for event in events {
-                world.run(&[event])?;
+                play(&mut world, &[event])?;
                 agrees(&rt, alloc, &world, 254);
             }
         }
@@ -86,16 +87,19 @@ fn a_server_that_is_too_far_behind_keeps_what_it_has(rt: HostRuntime) -> Result<
     settle(&mut world)?;
     assert!(rt; world.mark());
     for _ in 0..1_026 {
-        world.run(&[Event::Key(13)])?;
+        play(&mut world, &[Event::Key(13)])?;
     }
     let cause = Cause::Server(ServerFault::Pty(PtyFault::TooFarAhead));
     assert_eq!(rt;
-        world.run(&[Event::ToServer(ALL)]),
+        play(&mut world, &[Event::ToServer(ALL)]),
         Err(WorldFault { at: 0, cause })
     );
     assert_eq!(rt; made(&world), (0, 1_024));
     let cause = Cause::Server(ServerFault::Failed);
-    let refused = world.run(&[Event::Take, Event::Key(b'a'), Event::ToServer(ALL)]);
+    let refused = play(
+        &mut world,
+        &[Event::Take, Event::Key(b'a'), Event::ToServer(ALL)],
+    );
     assert_eq!(rt; refused, Err(WorldFault { at: 2, cause }));
     assert_eq!(rt; made(&world), (1, 1_023));
     assert_eq!(rt; world.typed().len(), 1_027);
@@ -117,7 +121,7 @@ fn an_end_that_fails_leaves_the_first_entries(rt: HostRuntime) {
         return;
     };
     for event in events {
-        match world.run(&[event]) {
+        match play(&mut world, &[event]) {
             Ok(()) => {},
             Err(WorldFault { at, cause }) => {
                 assert_eq!(rt; at, 0);

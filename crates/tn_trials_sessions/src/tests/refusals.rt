@@ -1,45 +1,71 @@
 //! Sessions whose reader or writer fails, or for which memory is refused.
 
+ghost use Rattle.std.specs.Prelude.{◌≡◌, ◌≤◌, Some, None, length};
+ghost use Rattle.std.specs.Io.{WritesAtMost};
+ghost use Rattle.std.specs.Io.KnownBytes.{WriteAppends};
+ghost use Rattle.tn_streams.specs.Counting.{told_by};
+
 use super::sessions::{Jobs, Open, ended};
 use std::alloc::Global;
-use std::io::{self, ErrorKind, Read, Write};
+use std::io::{self, ErrorKind};
 use std::process::Abort;
 use std::sync::{Arc, Wait};
 use std::thread::Threads;
 use tn_discipline::{Limit, Settings};
 use tn_server::{Editing, ServerFault};
 use tn_session::{Ended, Finish, Report, SessionFault, serve_session};
+use tn_streams::{Drain, Source, Tally};
 
-/// Gives some bytes at once, and then its end, or a fault.
+/// Gives some bytes at once, then fails so many times, and then ends; it foretells how many of its calls will
+/// fail.
 #[derive(Drop)]
 struct Once {
     bytes: &'static [u8],
-    fails: bool,
+    failures: u32,
 }
 
-impl Read for Once {
-    fn read(&mut self, buf: &mut [u8]) -> io::Result<usize> {
+impl Once {
+    fn give(&mut self, buf: &mut [u8]) -> usize
+        ensures bound { result ≤ length buf.new }
+        ensures length { length buf.new ≡ length buf.old }
+        ensures failures { self.new.failures ≡ self.old.failures }
+    {
         let count = self.bytes.len().min(buf.len());
         let (front, rest) = self.bytes.split_at(count);
         buf[..count].copy_from_slice(front);
         self.bytes = rest;
-        if count == 0 && self.fails {
-            return Err(io::Error::from(ErrorKind::Other));
-        }
-        Ok(count)
+        count
     }
 }
 
-/// Takes what it is given, but for one call, which fails or takes nothing.
+impl Source for Once {
+    ghost foretold = { λ once. Some (record { failing = once.failures; interrupted = 0 }) };
+
+    fn read_some(&mut self, buf: &mut [u8]) -> io::Result<usize> {
+        if self.bytes.is_empty() && self.failures > 0 {
+            self.failures -= 1;
+            return Err(io::Error::from(ErrorKind::Other));
+        }
+        Ok(self.give(buf))
+    }
+}
+
+/// Takes what it is given, but for one call, which fails or takes nothing; it tells how many of its calls
+/// failed.
 #[derive(Drop)]
 struct Failing {
     taken: Vec<u8>,
     before: u32,
     takes_none: bool,
+    tally: Tally,
 }
 
-impl Write for Failing {
-    fn write(&mut self, buf: &[u8]) -> io::Result<usize> {
+impl Failing {
+    fn take(&mut self, buf: &[u8]) -> io::Result<usize>
+        ensures bound { WritesAtMost result buf.now }
+        ensures bytes { WriteAppends None None result buf.now }
+        ensures tally { self.new.tally ≡ self.old.tally }
+    {
         if self.before == 0 {
             if self.takes_none {
                 return Ok(0);
@@ -50,9 +76,15 @@ impl Write for Failing {
         self.taken.extend_from_slice(buf)?;
         Ok(buf.len())
     }
+}
 
-    fn flush(&mut self) -> io::Result<()> {
-        Ok(())
+impl Drain for Failing {
+    ghost told = { λ f. told_by f.tally };
+
+    fn write_some(&mut self, buf: &[u8]) -> io::Result<usize> {
+        let answer = self.take(buf);
+        self.tally = self.tally.after_write(buf, &answer);
+        answer
     }
 }
 
@@ -69,7 +101,7 @@ const WHOLE: [u8; 20] = [
 fn served<R: Threads + Wait + Copy + Send + 'static>(
     rt: R,
     alloc: Global,
-    fails: bool,
+    failures: u32,
     writer: &mut Failing,
 ) -> Result<Report, SessionFault> {
     let Ok(gate) = Arc::new(alloc, Open) else {
@@ -77,7 +109,7 @@ fn served<R: Threads + Wait + Copy + Send + 'static>(
     };
     let reader = Once {
         bytes: b"a\r\0",
-        fails,
+        failures,
     };
     let (settings, limit) = (Settings::standard(), Limit::standard());
     let (maker, editing) = (Jobs { left: 1 }, Editing::Remote);
@@ -94,6 +126,7 @@ fn writer(alloc: Global, before: u32, takes_none: bool) -> Failing {
         taken: Vec::new(alloc),
         before,
         takes_none,
+        tally: Tally::new(),
     }
 }
 
@@ -120,16 +153,18 @@ fn is_refused(answer: &Result<Report, SessionFault>) -> bool {
 fn ends<R: Abort + Threads + Wait + Copy + Send + 'static>(
     rt: R,
     alloc: Global,
-    fails: bool,
+    failures: u32,
     how: Ended,
 ) {
     for _try in 0..2 {
         let mut writer = writer(alloc, u32::MAX, false);
-        let answer = served(rt, alloc, fails, &mut writer);
+        let answer = served(rt, alloc, failures, &mut writer);
         if answer == Ok(ended(how, 1, 1, 0)) && writer.taken.as_slice() == WHOLE.as_slice() {
             return;
         }
-        assert!(rt; is_refused(&answer), "{answer:?}");
+        // After a failed read a refusal is not told any more: the first fault counts.
+        let failed = failures > 0 && answer == Ok(ended(how, 1, 1, 0));
+        assert!(rt; failed || is_refused(&answer), "{answer:?}");
         assert!(rt; WHOLE.starts_with(writer.taken.as_slice()));
     }
     assert!(rt; false, "refused twice");
@@ -137,12 +172,12 @@ fn ends<R: Abort + Threads + Wait + Copy + Send + 'static>(
 
 #[test]
 fn a_session_tells_a_failed_read(rt: HostRuntime) {
-    ends(rt, rt.alloc(), true, Ended::Fault(SessionFault::Read));
+    ends(rt, rt.alloc(), 1, Ended::Fault(SessionFault::Read));
 }
 
 #[test]
 fn a_session_ends_where_its_input_does(rt: HostRuntime) {
-    ends(rt, rt.alloc(), false, Ended::HangUp);
+    ends(rt, rt.alloc(), 0, Ended::HangUp);
 }
 
 #[test]
@@ -152,13 +187,15 @@ fn a_session_tells_a_failed_write(rt: HostRuntime) {
     let mut failed = 0u32;
     for (before, takes_none) in (0..16).zip([true, false].into_iter().cycle()) {
         let mut writer = writer(alloc, before, takes_none);
-        let answer = served(rt, alloc, false, &mut writer);
+        let answer = served(rt, alloc, 0, &mut writer);
         assert!(rt; WHOLE.starts_with(writer.taken.as_slice()));
         match answer {
             Ok(report) if report.ended == Ended::HangUp => {
                 assert!(rt; writer.taken.as_slice() == WHOLE.as_slice());
+                assert_eq!(rt; writer.tally.failed(), 0);
             },
             Ok(report) if report.ended == Ended::Fault(SessionFault::Write) => {
+                assert_eq!(rt; writer.tally.failed(), 1);
                 failed = failed.saturating_add(1);
             },
             other => {

@@ -13,5 +13,5 @@ invariant-loop g l =
     × ((handled : List Mail)
     × (view l.pass ≡ with_handled (view l.fn.pass) handled)
     × (l.lefts ≡ lefts_of handled)
-    × ToldAll l.fn.core (all_told handled) (g.W.Write.contents l.fn.writer) (g.W.Write.contents l.writer) (g.S.Write.contents l.fn.screen) (g.S.Write.contents l.screen) l.core)
+    × ToldAll l.fn.core (all_told handled) (g.W.Drain.contents l.fn.writer) (g.W.Drain.contents l.writer) (g.S.Drain.contents l.fn.screen) (g.S.Drain.contents l.screen) (g.W.Drain.told l.fn.writer) (g.W.Drain.told l.writer) (g.S.Drain.told l.fn.screen) (g.S.Drain.told l.screen) l.core)
     × (l.out.items ≡ []) × (l.text.items ≡ []) × (l.lefts ≤ 2)

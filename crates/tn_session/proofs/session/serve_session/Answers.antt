@@ -1,10 +1,14 @@
 use Rattle.std.proofs.Common.{◌≡◌, sym, ap, ◌∙◌}
 use Rattle.tn_discipline.specs.Canon.{Canon}
 use Rattle.tn_term.proofs.lemmas.Giving.{puts_are_front, taken_are_front}
-use Rattle.tn_term.specs.declared.faults.Ended.TheVariants.{HangUp}
+use Rattle.tn_term.specs.Marks.{run_after_opening}
+use Rattle.tn_term.specs.Run.{start}
+use Rattle.tn_term.specs.declared.faults.Ended.TheVariants.{HangUp, Fault}
+use Rattle.tn_term.specs.declared.faults.SessionFault.{SessionFault}
+use Rattle.tn_term.specs.declared.faults.SessionFault.TheVariants as fault
 use Rattle.tn_session.specs.declared.parties.Report.{Report}
 use Rattle.tn_session.specs.Turning.{ids_of}
-use Rattle.tn_session.proofs.Ending.{may_come, heard_of_reader, took_all, takes_entries}
+use Rattle.tn_session.proofs.Ending.{may_come, heard_of_reader, took_all, takes_entries, read_cause, write_cause}
 use Rattle.tn_session.proofs.session.serve_session.Goals as goal
 
 pub returns-in-Ok-run-clause-ran : goal.returns-in-Ok-run-clause-ran
@@ -18,6 +22,8 @@ returns-in-Ok-run-clause-ran g c =
     let hung = λ (e : report.ended ≡ HangUp). c.all_goes_before_a_hang_up.ensures s.wrote_opening canon c.args.editing made.table made.first.0 s.marked s.run s.runs (sym (ap (λ (r : Report). r.ended) s.report_is) ∙ e) c.in_ok-made.ensures.made.numbered.foreground (may_come s) in
     let heard = heard_of_reader s hears hung in
     let all = λ (e : report.ended ≡ HangUp). took_all s (hung e) in
+    let begin = run_after_opening s.wrote_opening (start canon c.args.editing made.table) in
+    let caused = λ (f : SessionFault) (e : report.ended ≡ Fault f). c.faults_have_causes.ensures s.wrote_opening canon c.args.editing made.table s.marked s.run f s.runs (sym (ap (λ (r : Report). r.ended) s.report_is) ∙ e) in
     record {
       jobs = made.table;
       first = made.first;
@@ -28,6 +34,7 @@ returns-in-Ok-run-clause-ran g c =
       in_order = front;
       all_taken = all;
       by_bytes = takes_entries s hears heard front all;
-      caused = λ f e.
-          c.faults_have_causes.ensures s.wrote_opening canon c.args.editing made.table s.marked s.run f s.runs (sym (ap (λ (r : Report). r.ended) s.report_is) ∙ e);
+      caused = caused;
+      read_failed = λ e. read_cause s begin (caused fault.Read e);
+      write_failed = λ e. write_cause s begin (caused fault.Write e);
     }

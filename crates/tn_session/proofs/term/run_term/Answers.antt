@@ -19,7 +19,7 @@ loop-init g c = (
     ap (λ (o : Option (List Mail)). record (view c.args.pass) { handled = o }) c.requires.mailbox.1,
     λ k e. e ∙ ap putter (sym (append-nil k)),
     refl,
-    going_kept c.args.term.now _ [] _ _ _ [] c.close-closed.ensures (going_none c.args.term.now (g.W.Write.contents c.args.writer.now)),
+    going_kept c.args.term.now _ [] _ _ _ _ _ _ [] c.close-closed.ensures.contents c.close-closed.ensures.told (going_none c.args.term.now (g.W.Drain.contents c.args.writer.now) (g.W.Drain.told c.args.writer.now)),
   ),
   c.requires.out,
   omega arith,
@@ -45,7 +45,7 @@ loop-preserved g c =
         handled_more (view c.args.pass) (view c.loop.pass) (view c.recv_as.new.pass) i.0 x i.2 c.in-Ok.ensures.rule,
         puts_two (view c.args.hand) (view c.loop.hand) (view c.in_ok-hand.hand) i.1 (option_to_list t.put ++ option_to_list t.last) i.3 t.puts,
         omega (arith, lefts_of-push i.0 x, c.leaves-left.ensures, i.4),
-        going_next c.args.term.now c.loop.term c.turn.new.term i.0 x _ _ _ _ i.1 (view c.loop.hand) (view c.in_ok-hand.hand) c.close-closed-in-loop.ensures i.5 t,
+        going_next c.args.term.now c.loop.term c.turn.new.term i.0 x _ _ _ _ _ _ _ _ i.1 (view c.loop.hand) (view c.in_ok-hand.hand) c.close-closed-in-loop.ensures.contents c.close-closed-in-loop.ensures.told i.5 t,
       ),
       c.turn.ensures.out,
       omega (arith, small, more, c.leaves-left.ensures),
@@ -61,5 +61,5 @@ returns-then-lefts-ge-SENDERS-clause-acted g c =
       view = i.2;
       hand = i.3;
       lefts = omega (arith, enough, i.4);
-      goes = going_kept c.args.term.now c.loop.term _ _ _ _ i.1 c.finish_unless.ensures i.5;
+      goes = going_kept c.args.term.now c.loop.term _ _ _ _ _ _ _ i.1 c.finish_unless.ensures.contents c.finish_unless.ensures.told i.5;
     }

@@ -15,5 +15,5 @@ invariant-loop g l =
     × (view l.pass ≡ with_handled (view l.fn.pass) handled)
     × ((k : List (Option Entry)) → view l.fn.hand ≡ putter k → view l.hand ≡ putter (k ++ puts))
     × (l.lefts ≡ lefts_of handled)
-    × GoesOn l.fn.term (messages_of handled) (g.W.Write.contents l.fn.writer) (g.W.Write.contents l.writer) puts l.term)
+    × GoesOn l.fn.term (messages_of handled) (g.W.Drain.contents l.fn.writer) (g.W.Drain.contents l.writer) (g.W.Drain.told l.fn.writer) (g.W.Drain.told l.writer) puts l.term)
     × (l.out.items ≡ []) × (l.lefts ≤ 3)

@@ -1,0 +1,69 @@
+-- Why a session ended by a read or a write.
+use Rattle.std.proofs.Common.{◌≡◌, ℕ, Bool, true, false, ◌&&◌, ◌⊎◌, inl, inr, ⊎_elim, List, [], ◌∷◌, ◌++◌, refl, sym, ap, ◌∙◌, subst, map}
+use Rattle.tn_session.proofs.Lefts.{same_self}
+use Rattle.tn_session.specs.Mailbox.{same, from}
+use Rattle.tn_session.specs.Reading.{pieces_of}
+use Rattle.tn_session.specs.Turns.{messages_of}
+use Rattle.tn_session.specs.declared.mail.Mail.{Mail}
+use Rattle.tn_session.specs.declared.mail.Sender.{Sender}
+use Rattle.tn_term.specs.Marks.{no_write_failed, no_writes_failed}
+use Rattle.tn_term.specs.declared.messages.Mark.{Mark}
+use Rattle.tn_term.specs.declared.messages.Mark.TheVariants as mark
+use Rattle.tn_term.specs.declared.messages.Message.{Message}
+use Rattle.tn_term.specs.declared.messages.Message.TheVariants.{Piece, ReadFailed, Left}
+
+pub from_hit : (s : Sender) (x : Mail) (xs : List Mail) → same x.from s ≡ true → from s (x ∷ xs) ≡ x ∷ from s xs
+from_hit s x xs is = rw is refl
+
+pub from_miss : (s : Sender) (x : Mail) (xs : List Mail) → same x.from s ≡ false → from s (x ∷ xs) ≡ from s xs
+from_miss s x xs is = rw is refl
+
+-- one of these tells that reading failed
+abbrev pub HasFailure : List Message → Type 0
+HasFailure [] = ⊥
+HasFailure (m ∷ ms) = (m ≡ ReadFailed) ⊎ HasFailure ms
+
+pub has_split : {A : Type 0} (message : A → Message) (before : List A) (last : A) (after : List A) → message last ≡ ReadFailed → HasFailure (map message (before ++ last ∷ after))
+has_split {A} message [] last after e = inl e
+has_split {A} message (m ∷ before) last after e = inr (has_split message before last after e)
+
+pub has_failure : {K : Type 0} (marked : List (Message × K)) (before : List (Message × K)) (last : Message × K) (after : List (Message × K)) → marked ≡ before ++ last ∷ after → last.0 ≡ ReadFailed → HasFailure (map (λ m. m.0) marked)
+has_failure {K} marked before last after whole e = subst (λ (ms : List (Message × K)). HasFailure (map (λ m. m.0) ms)) (sym whole) (has_split (λ (m : Message × K). m.0) before last after e)
+
+-- it is in the list of its sender
+pub failure_from : (mails : List Mail) → HasFailure (messages_of mails) → (s : Sender) × HasFailure (messages_of (from s mails))
+failure_from [] h = absurd h
+failure_from (x ∷ xs) h =
+    let Fails : List Mail → Type 0 = λ l. HasFailure (messages_of l) in
+    ⊎_elim (λ e. (x.from, subst Fails (sym (from_hit x.from x xs (same_self x.from))) (inl e))) (λ more. let later = failure_from xs more in (later.0, by later.0 later.1 (same x.from later.0) refl)) h
+  where
+    by : (s : Sender) → HasFailure (messages_of (from s xs)) → (b : Bool) → same x.from s ≡ b → HasFailure (messages_of (from s (x ∷ xs)))
+    by s f true is = subst (λ (l : List Mail). HasFailure (messages_of l)) (sym (from_hit s x xs is)) (inr f)
+    by s f false is = subst (λ (l : List Mail). HasFailure (messages_of l)) (sym (from_miss s x xs is)) f
+
+no_piece : (p : List ℕ) → Piece p ≡ ReadFailed → ⊥
+no_piece p e = cc
+
+no_left : Left ≡ ReadFailed → ⊥
+no_left e = cc
+
+-- of a thread that reads, after its pieces
+pub failure_last : (pieces : List (List ℕ)) (last : Message) → HasFailure (pieces_of pieces ++ last ∷ Left ∷ []) → last ≡ ReadFailed
+failure_last [] last h = ⊎_elim (λ e. e) (λ f. ⊎_elim (λ e. absurd (no_left e)) (λ none. absurd none) f) h
+failure_last (p ∷ ps) last h = ⊎_elim (λ e. absurd (no_piece p e)) (λ f. failure_last ps last f) h
+
+pub failure_never : (pieces : List (List ℕ)) → HasFailure (pieces_of pieces ++ Left ∷ []) → ⊥
+failure_never [] h = ⊎_elim (λ e. no_left e) (λ none. none) h
+failure_never (p ∷ ps) h = ⊎_elim (λ e. no_piece p e) (λ f. failure_never ps f) h
+
+pub never_and : (a b : Bool) → b ≡ false → (a && b) ≡ false
+never_and true b e = e
+never_and false b e = refl
+
+-- one of these messages was not written
+pub write_failed : (marked before : List (Message × Mark)) (last : Message × Mark) (after : List (Message × Mark)) → marked ≡ before ++ last ∷ after → last.1 ≡ mark.WriteFailed → no_writes_failed marked ≡ false
+write_failed marked before last after whole e = ap no_writes_failed whole ∙ at before
+  where
+    at : (front : List (Message × Mark)) → no_writes_failed (front ++ last ∷ after) ≡ false
+    at [] = ap (λ (k : Mark). no_write_failed k && no_writes_failed after) e
+    at (m ∷ ms) = never_and (no_write_failed m.1) (no_writes_failed (ms ++ last ∷ after)) (at ms)

@@ -1,0 +1,81 @@
+-- Why a client's session ended by a read or a write.
+use Rattle.std.proofs.Common.{◌≡◌, ℕ, Bool, true, false, ◌&&◌, ◌⊎◌, inl, inr, ⊎_elim, List, [], ◌∷◌, ◌++◌, Option, refl, sym, ap, ◌∙◌, subst, map, length}
+use Rattle.tn_client_core.specs.Ending.{IsEndedAt}
+use Rattle.tn_client_core.specs.Marks.{no_write_failed, no_show_failed, all_by}
+use Rattle.tn_client_core.specs.declared.messages.Mark.{Mark}
+use Rattle.tn_client_core.specs.declared.messages.Mark.TheVariants as mark
+use Rattle.tn_client_core.specs.declared.messages.Told.{Told}
+use Rattle.tn_session.proofs.Causes.{HasFailure, has_split, failure_from, failure_last, failure_never, never_and}
+use Rattle.tn_session.proofs.Ending.{messages_from}
+use Rattle.tn_session.specs.CoreTurns.{all_told}
+use Rattle.tn_session.specs.Mailbox.{Interleaves, from, four, sender}
+use Rattle.tn_session.specs.Reader.{KeysSends, Closes}
+use Rattle.tn_session.specs.Reading.{NetSends, IsReadCause, most_reads, pieces_of}
+use Rattle.tn_session.specs.Turns.{Tells, most_writes, messages_of}
+use Rattle.tn_session.specs.declared.channels.View.{View}
+use Rattle.tn_session.specs.declared.mail.Mail.{Mail}
+use Rattle.tn_session.specs.declared.mail.Sender.{Sender}
+use Rattle.tn_session.specs.declared.mail.Sender.TheVariants.{Net, Desk, Back, Keys}
+use Rattle.tn_streams.proofs.lemmas.Telling.{some_failed}
+use Rattle.tn_streams.specs.Foretelling.{Failures, WillFail}
+use Rattle.tn_streams.specs.Telling.{Calls, SomeFailed}
+use Rattle.tn_term.specs.declared.faults.Ended.TheVariants as ended
+use Rattle.tn_term.specs.declared.faults.SessionFault.TheVariants as fault
+use Rattle.tn_term.specs.declared.messages.Message.{Message}
+use Rattle.tn_term.specs.declared.messages.Message.TheVariants.{ReadFailed, Left}
+
+messages_told : (mails : List Mail) → map (λ (t : Told). t.message) (all_told mails) ≡ messages_of mails
+messages_told [] = refl
+messages_told (x ∷ xs) = ap (λ (ms : List Message). x.message ∷ ms) (messages_told xs)
+
+-- the message in which the run ended, of those that were handled
+failure_told : (marked before : List (Told × Mark)) (last : Told × Mark) (after : List (Told × Mark)) (mails : List Mail) → marked ≡ before ++ last ∷ after → map (λ m. m.0) marked ≡ all_told mails → last.0.message ≡ ReadFailed → HasFailure (messages_of mails)
+failure_told marked before last after mails whole is e =
+    let told = has_split (λ (m : Told × Mark). m.0.message) before last after e in
+    let all : HasFailure (map (λ (m : Told × Mark). m.0.message) marked) = subst (λ (ms : List (Told × Mark)). HasFailure (map (λ (m : Told × Mark). m.0.message) ms)) (sym whole) told in
+    let same : map (λ (m : Told × Mark). m.0.message) marked ≡ messages_of mails = twice marked ∙ ap (map (λ (t : Told). t.message)) is ∙ messages_told mails in
+    subst HasFailure same all
+  where
+    twice : (ms : List (Told × Mark)) → map (λ (m : Told × Mark). m.0.message) ms ≡ map (λ (t : Told). t.message) (map (λ m. m.0) ms)
+    twice [] = refl
+    twice (m ∷ ms) = ap (λ (xs : List Message). m.0.message ∷ xs) (twice ms)
+
+cause_of : (foretold : Option Failures) (count : ℕ) (last : Message) → last ≡ ReadFailed → IsReadCause foretold count last → WillFail most_reads count foretold
+cause_of foretold count last e cause = subst (λ (m : Message). IsReadCause foretold count m) e cause
+
+keys_close : (foretold : Option Failures) (pieces : List (List ℕ)) (left : Option (List ℕ)) (close : List Message) → Closes true pieces left foretold close → HasFailure (pieces_of pieces ++ close) → WillFail most_reads (length pieces) foretold
+keys_close foretold pieces left close closes h =
+    let Fails : List Message → Type 0 = λ ms. HasFailure (pieces_of pieces ++ ms) in
+    ⊎_elim
+    (λ x. cause_of foretold (length pieces) x.0 (failure_last pieces x.0 (subst Fails x.2 h)) x.1.1)
+    (λ x. absurd (failure_never pieces (subst Fails x.2 h)))
+    closes
+
+pub read_cause : (keys_given net_given : Option (List ℕ)) (keys_foretold net_foretold : Option Failures) (from_keys from_net handled : List Mail) (keys net : View) (marked : List (Told × Mark)) → keys ≡ sender Keys from_keys → net ≡ sender Net from_net → Interleaves handled (four from_net [] [] from_keys) → (typed : KeysSends keys_given keys_foretold keys) → (read : NetSends net_given net_foretold net) → map (λ m. m.0) marked ≡ all_told handled → IsEndedAt marked (ended.Fault fault.Read) → WillFail most_reads (length typed.0) keys_foretold ⊎ WillFail most_reads (length read.0) net_foretold
+read_cause keys_given net_given keys_foretold net_foretold from_keys from_net handled keys net marked keys_is net_is woven typed read messages r =
+    let who = failure_from handled (failure_told marked r.before r.last r.after handled r.whole messages r.ends) in
+    by who.0 who.1
+  where
+    none : (s : Sender) → from s handled ≡ [] → HasFailure (messages_of (from s handled)) → ⊥
+    none s is h = let Fails : List Mail → Type 0 = λ l. HasFailure (messages_of l) in subst Fails is h
+
+    by : (s : Sender) → HasFailure (messages_of (from s handled)) → WillFail most_reads (length typed.0) keys_foretold ⊎ WillFail most_reads (length read.0) net_foretold
+    by Net h = inr (cause_of net_foretold (length read.0) read.2 (failure_last read.0 read.2 (subst HasFailure (messages_from Net net from_net handled (pieces_of read.0 ++ read.2 ∷ Left ∷ []) net_is read.5 (woven Net)) h)) read.4.1)
+    by Keys h = inl (keys_close keys_foretold typed.0 typed.1 typed.2 typed.4 (subst HasFailure (messages_from Keys keys from_keys handled (pieces_of typed.0 ++ typed.2) keys_is typed.5 (woven Keys)) h))
+    by Desk h = absurd (none Desk (woven Desk) h)
+    by Back h = absurd (none Back (woven Back) h)
+
+-- a mark that says otherwise
+by_false : (is : Mark → Bool) (marked before : List (Told × Mark)) (last : Told × Mark) (after : List (Told × Mark)) → marked ≡ before ++ last ∷ after → is last.1 ≡ false → all_by is marked ≡ false
+by_false is marked before last after whole e = ap (all_by is) whole ∙ at before
+  where
+    at : (front : List (Told × Mark)) → all_by is (front ++ last ∷ after) ≡ false
+    at [] = ap (λ (b : Bool). b && all_by is after) e
+    at ((m, k) ∷ ms) = never_and (is k) (all_by is (ms ++ last ∷ after)) (at ms)
+
+pub write_cause : (p q r t : Option Calls) (marked : List (Told × Mark)) → Tells (all_by no_write_failed marked) p q → Tells (all_by no_show_failed marked) r t → IsEndedAt marked (ended.Fault fault.Write) → SomeFailed most_writes p q ⊎ SomeFailed most_writes r t
+write_cause p q r t marked tells shows at =
+    ⊎_elim
+    (λ e. inl (some_failed most_writes (all_by no_write_failed marked) p q tells (by_false no_write_failed marked at.before at.last at.after at.whole (ap no_write_failed e))))
+    (λ e. inr (some_failed most_writes (all_by no_show_failed marked) r t shows (by_false no_show_failed marked at.before at.last at.after at.whole (ap no_show_failed e))))
+    at.ends
