@@ -74,32 +74,44 @@ fn a_world_is_a_local_terminal_in_every_order(rt: HostRuntime) -> Result<(), Wor
     Ok(())
 }
 
-// A line is full at this limit, wherever it is edited.
-fn fills_a_line(rt: &impl Abort, alloc: Global, editing: Editing) -> Result<(), WorldFault> {
-    let limit = Limit::new(300).unwrap_or(Limit::standard());
-    let mut world = open(alloc, limit)?;
-    settle(&mut world)?;
-    settle_with(&mut world, Event::Wish(editing))?;
+// 299 ordinary keys, one more, an erased one, and the end of the line.
+fn type_too_much(rt: &impl Abort, world: &mut World, editing: Editing) -> Result<(), WorldFault> {
+    settle_with(world, Event::Wish(editing))?;
     assert!(rt; world.mark());
     for _ in 0..299 {
-        play(&mut world, &[Event::Key(b'a')])?;
+        play(world, &[Event::Key(b'a')])?;
     }
-    for key in [b'b', 127, 13] {
-        settle_with(&mut world, Event::Key(key))?;
-    }
-    agrees(rt, alloc, &world, 299);
-    play(&mut world, &[Event::Take])?;
-    match world.taken() {
-        [Entry::Text(text)] => assert_eq!(rt; text.as_slice().len(), 299),
+    settle_with(world, Event::Key(b'b'))?;
+    settle_with(world, Event::Key(127))?;
+    settle_with(world, Event::Key(13))
+}
+
+// The line that was taken, the first of the world, has so many bytes.
+fn took_a_line(rt: &impl Abort, world: &World, length: usize) {
+    match world.taken().first() {
+        Some(Entry::Text(text)) => assert_eq!(rt; text.as_slice().len(), length),
         _ => assert!(rt; false),
     }
+}
+
+// A line is full at this limit, wherever it is edited.
+fn fills_a_line(rt: &impl Abort, world: &mut World, editing: Editing) -> Result<(), WorldFault> {
+    settle(world)?;
+    type_too_much(rt, world, editing)?;
+    play(world, &[Event::Take])?;
+    took_a_line(rt, world, 299);
     Ok(())
 }
 
 #[test]
 fn a_line_is_full_at_its_limit_at_either_end(rt: HostRuntime) -> Result<(), WorldFault> {
-    fills_a_line(&rt, rt.alloc(), Editing::Remote)?;
-    fills_a_line(&rt, rt.alloc(), Editing::Local)
+    let limit = Limit::new(300).unwrap_or(Limit::standard());
+    for editing in [Editing::Remote, Editing::Local] {
+        let mut world = open(rt.alloc(), limit)?;
+        fills_a_line(&rt, &mut world, editing)?;
+        agrees(&rt, rt.alloc(), &world, 299);
+    }
+    Ok(())
 }
 
 #[test]
@@ -148,6 +160,16 @@ fn a_world_tells_what_was_typed_and_echoed(rt: HostRuntime) -> Result<(), WorldF
     Ok(())
 }
 
+// Two keys are typed, or those before the one that is refused.
+fn types_two_keys(rt: &impl Abort, world: &mut World) {
+    let typed = world.typed().len();
+    let done = match play(world, &[Event::Key(b'a'), Event::Key(13)]) {
+        Ok(()) => 2,
+        Err(fault) => fault.at,
+    };
+    assert_eq!(rt; world.typed().len(), typed.saturating_add(done));
+}
+
 // A growth may be refused at any place: the keys before it are typed, and no other.
 #[test]
 fn a_world_types_what_memory_is_found_for(rt: HostRuntime) {
@@ -156,12 +178,7 @@ fn a_world_types_what_memory_is_found_for(rt: HostRuntime) {
     };
     for _ in 0..4 {
         let _settled = settle(&mut world);
-        let typed = world.typed().len();
-        let done = match play(&mut world, &[Event::Key(b'a'), Event::Key(13)]) {
-            Ok(()) => 2,
-            Err(fault) => fault.at,
-        };
-        assert_eq!(rt; world.typed().len(), typed.saturating_add(done));
+        types_two_keys(&rt, &mut world);
         let _taken = play(&mut world, &[Event::ToServer(ALL), Event::Take]);
     }
 }
