@@ -15,7 +15,8 @@ pub use tally::Tally;
 
 mod tally;
 
-/// A reader that may tell how many of its calls failed.
+/// A reader that may tell how many of its calls failed, and foretell how many will: one that is given away
+/// can't be asked afterwards.
 pub trait Source {
     // The bytes that reads will give from here on, where they are known.
     ghost remaining: { Self → Option (List ℕ) } = { λ _. None };
