@@ -28,6 +28,15 @@ const KEYS: &[Question; 2] = &[(b"x", 1), (b"\x7f", 3)];
 /// A line, its echo and the answer of the job, which is the line.
 const LINE: &[Question; 1] = &[(b"x\r\0", 6)];
 
+/// Who answers at the other end of a connection.
+#[derive(Clone, Copy)]
+enum Who {
+    /// A thread that sends back what comes.
+    Thread,
+    /// The session of a server, as `tn serve` runs it.
+    Session,
+}
+
 /// Asks the questions in turn, and waits each time for what comes back.
 #[derive(Drop)]
 struct Asking {
@@ -105,22 +114,6 @@ fn ask_thread<H: Clock, W: Write>(
     )
 }
 
-// A thread of this program sends back what comes.
-fn over_a_thread<H, W: Write>(
-    rt: H,
-    alloc: Global,
-    bench: &mut Bench<'_, H, W>,
-) -> Result<(), Stuck>
-where
-    H: Host + Clock + Net<Listener = TcpListener, Stream = TcpStream>,
-{
-    let (stream, peer) = connection(&rt)?;
-    let thread = thread::spawn(&rt, move || -> bool { send_back(peer) })?;
-    let told = ask_thread(alloc, bench, stream);
-    thread.join(&rt);
-    told
-}
-
 // Both agree that the server echoes; then keys are typed, and lines.
 fn ask_session<H: Clock, W: Write>(
     alloc: Global,
@@ -141,19 +134,29 @@ fn ask_session<H: Clock, W: Write>(
     bench.tell_middle(alloc, "a line's echo and answer over loopback", &mut load)
 }
 
-// The session of a server, as `tn serve` runs it.
-fn over_a_session<H, W: Write>(
+fn answer<H: Host>(rt: H, alloc: Global, peer: TcpStream, who: Who) -> bool {
+    match who {
+        Who::Thread => send_back(peer),
+        Who::Session => serve_connection(rt, alloc, peer, &one_connection()).is_ok(),
+    }
+}
+
+// What is sent over a connection comes back from a thread of this program.
+fn over<H, W: Write>(
     rt: H,
     alloc: Global,
     bench: &mut Bench<'_, H, W>,
+    who: Who,
 ) -> Result<(), Stuck>
 where
     H: Host + Clock + Net<Listener = TcpListener, Stream = TcpStream>,
 {
     let (stream, peer) = connection(&rt)?;
-    let work = move || -> bool { serve_connection(rt, alloc, peer, &one_connection()).is_ok() };
-    let thread = thread::spawn(&rt, work)?;
-    let told = ask_session(alloc, bench, stream);
+    let thread = thread::spawn(&rt, move || -> bool { answer(rt, alloc, peer, who) })?;
+    let told = match who {
+        Who::Thread => ask_thread(alloc, bench, stream),
+        Who::Session => ask_session(alloc, bench, stream),
+    };
     thread.join(&rt);
     told
 }
@@ -178,6 +181,6 @@ pub(crate) fn run<H, W: Write>(
 where
     H: Host + Clock + Net<Listener = TcpListener, Stream = TcpStream>,
 {
-    over_a_thread(rt, alloc, bench)?;
-    over_a_session(rt, alloc, bench)
+    over(rt, alloc, bench, Who::Thread)?;
+    over(rt, alloc, bench, Who::Session)
 }

@@ -15,7 +15,7 @@ use tn_world::{Event, ToWhom, World, WorldFault};
 const MOST_ROUNDS: u32 = 64;
 
 /// Why a line was not done.
-#[derive(Clone, Copy, Debug, PartialEq, Eq)]
+#[derive(Clone, Copy, PartialEq, Eq)]
 pub(crate) enum Stop {
     /// The line is no command.
     Bad,

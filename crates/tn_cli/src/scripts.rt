@@ -21,7 +21,7 @@ const MOST_SIZE: u32 = 65_535;
 const MOST_OCTETS: usize = 32;
 
 /// What one line of a script asks for.
-#[derive(Debug, Drop)]
+#[derive(Drop)]
 pub(crate) enum Command {
     /// The user types these keys.
     Keys(Text),

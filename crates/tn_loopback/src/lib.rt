@@ -9,16 +9,15 @@
 //! the network, and listens on 127.0.0.1 alone.
 #![tactic(auto)]
 
-pub use answering::Answerer;
 pub use connecting::connect;
 pub use fault::LoopbackFault;
 pub use host::Host;
 pub use serving::{serve, serve_connection, serve_on};
 
-mod answering;
 mod connecting;
 mod connection;
 mod fault;
 mod host;
+mod jobs;
 mod keys;
 mod serving;

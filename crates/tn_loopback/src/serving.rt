@@ -1,9 +1,9 @@
 //! `tn serve`: each connection has a session in threads of its own.
 
-use crate::answering::Jobs;
 use crate::connection::Connection;
 use crate::fault::LoopbackFault;
 use crate::host::Host;
+use crate::jobs::Jobs;
 use std::alloc::Global;
 use std::io::{ErrorKind, Read, Write};
 use std::net::{Ipv4Addr, Net, Shutdown, TcpListener, TcpStream};

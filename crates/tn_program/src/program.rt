@@ -1,12 +1,13 @@
 //! The program: words and streams in, a status out.
 
-ghost use Rattle.std.specs.Prelude.{◌≡◌, ◌≢◌, IfOk, OnOk, map, string_bytes};
+ghost use Rattle.std.specs.Prelude.{◌≡◌, ◌≢◌, IfOk, IsOk, OnOk, map, string_bytes};
 ghost use Rattle.tn_cli.specs.Faults.{status_after};
 ghost use Rattle.tn_program.specs.Runs.{RunsAsked, DoesAsAsked};
 ghost use Rattle.tn_program.specs.Statuses.{status_after_sessions};
 
 use std::alloc::{AllocError, Global};
 use std::fmt::Display;
+use std::io;
 use std::io::{ErrorKind, Read, Write};
 use std::net::{Net, TcpListener, TcpStream};
 use tn_cli::{CliFault, run_local, run_replay, run_world};
@@ -16,9 +17,33 @@ use tn_words::{Asked, WordsFault, read_words};
 /// The status of a process whose words were not accepted.
 const USAGE: u8 = 2;
 
-/// Runs what the words ask for, the program's name first, and gives the status to end with. A fault
-/// is told in one line on `errors`; a line that cannot be written there is dropped.
+/// Runs what the words of the command line ask for, the program's name first, where they could be had,
+/// and gives the status to end with: 0 only where that was done. A fault is told in one line on
+/// `errors`; a line that cannot be written there is dropped.
 pub fn run_words<
+    H: Host + Net<Listener = TcpListener, Stream = TcpStream>,
+    R: Read + Drop + Send + 'static,
+    W: Write,
+    E: Write,
+>(
+    rt: H,
+    alloc: Global,
+    words: io::Result<Vec<String>>,
+    reader: R,
+    writer: &mut W,
+    errors: &mut E,
+) -> u8
+    ensures had { result ≡ 0 → IsOk words }
+    ensures done { result ≡ 0 → IfOk words (λ words. DoesAsAsked (map string_bytes words.items)
+        (R.remaining reader) (W.contents writer.old) (W.contents writer.new)) }
+{
+    match words {
+        Ok(words) => run_strings(rt, alloc, &words, reader, writer, errors),
+        Err(error) => refuse_words(error.kind(), errors),
+    }
+}
+
+fn run_strings<
     H: Host + Net<Listener = TcpListener, Stream = TcpStream>,
     R: Read + Drop + Send + 'static,
     W: Write,
@@ -63,9 +88,9 @@ fn run_texts<
     }
 }
 
-/// The status to end with where the words of the command line could not be had: want of memory, or
-/// words that are not accepted, as those that are not text.
-pub fn refuse_words<E: Write>(kind: ErrorKind, errors: &mut E) -> u8
+// The status to end with where the words of the command line could not be had: want of memory, or
+// words that are not accepted, as those that are not text.
+fn refuse_words<E: Write>(kind: ErrorKind, errors: &mut E) -> u8
     ensures memory { kind ≡ ErrorKind.OutOfMemory → result ≡ 1 }
     ensures usage { kind ≢ ErrorKind.OutOfMemory → result ≡ 2 }
     ensures failed { result ≢ 0 }

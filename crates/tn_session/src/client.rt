@@ -42,14 +42,14 @@ fn make_mailbox(alloc: Global) -> Option<Mailbox>
     let Ok((to, from, mut pass)) = bounded_with::<Mail, View, AllRoles, Global>(alloc, MAILS) else {
         return None;
     };
-    let net = to.another::<CutNet>(&mut pass);
-    let keys = to.another::<CutKeys>(&mut pass);
     let Ok(net_to) = to.try_clone() else {
         return None;
     };
     let Ok(keys_to) = to.try_clone() else {
         return None;
     };
+    let net = to.another::<CutNet>(&mut pass);
+    let keys = to.another::<CutKeys>(&mut pass);
     Some(Mailbox {
         to,
         from,

@@ -70,15 +70,6 @@ fn make_channels(alloc: Global) -> Option<Channels>
     let Ok((to, from, mut pass)) = bounded_with::<Mail, View, AllRoles, Global>(alloc, MAILS) else {
         return None;
     };
-    let Ok((put, take, mut hand)) = bounded_with::<Option<Entry>, Hand, InTurn, Global>(
-        alloc, ENTRIES,
-    ) else {
-        return None;
-    };
-    let net = to.another::<CutNet>(&mut pass);
-    let desk = to.another::<CutDesk>(&mut pass);
-    let back = to.another::<CutBack>(&mut pass);
-    let took = put.another::<CutTaker>(&mut hand);
     let Ok(net_to) = to.try_clone() else {
         return None;
     };
@@ -88,6 +79,15 @@ fn make_channels(alloc: Global) -> Option<Channels>
     let Ok(back_to) = to.try_clone() else {
         return None;
     };
+    let Ok((put, take, mut hand)) = bounded_with::<Option<Entry>, Hand, InTurn, Global>(
+        alloc, ENTRIES,
+    ) else {
+        return None;
+    };
+    let net = to.another::<CutNet>(&mut pass);
+    let desk = to.another::<CutDesk>(&mut pass);
+    let back = to.another::<CutBack>(&mut pass);
+    let took = put.another::<CutTaker>(&mut hand);
     Some(Channels {
         to,
         from,

@@ -48,7 +48,7 @@ fn faults_are_told_in_a_line(rt: HostRuntime) {
         let ended = run_words(
             rt,
             alloc,
-            &words,
+            Ok(words),
             Cursor::new(*b"a\n"),
             &mut writer,
             &mut errors,
@@ -79,7 +79,7 @@ fn the_line_of_a_fault_is_told(rt: HostRuntime) {
         };
         let mut output = Vec::new(alloc);
         let mut errors = Vec::new(alloc);
-        let ended = run_words(rt, alloc, &words, script, &mut output, &mut errors);
+        let ended = run_words(rt, alloc, Ok(words), script, &mut output, &mut errors);
         if errors.as_slice() != b"tn: memory\n".as_slice() {
             assert_eq!(rt; ended, status);
             assert!(rt; errors.is_empty() || errors.as_slice() == told);

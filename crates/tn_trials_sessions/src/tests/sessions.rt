@@ -2,6 +2,7 @@
 
 use std::alloc::{AllocError, Global};
 use std::io::Cursor;
+use std::process::Abort;
 use std::sync::{Arc, Wait};
 use std::test::Fail;
 use std::thread::Threads;
@@ -81,10 +82,10 @@ impl Gate for Open {
 }
 
 // What a session over this input writes after the opening words, and its report.
-fn served<R: Threads + Wait + Copy + Send + 'static, const N: usize>(
+fn served<R: Threads + Wait + Copy + Send + 'static>(
     rt: R,
     alloc: Global,
-    input: [u8; N],
+    input: &'static [u8],
     editing: Editing,
     tostop: bool,
     jobs: u8,
@@ -95,9 +96,8 @@ fn served<R: Threads + Wait + Copy + Send + 'static, const N: usize>(
     let limit = Limit::standard();
     let gate = Arc::new(alloc, Open)?;
     let maker = Jobs { left: jobs };
-    let reader = Cursor::new(input);
     let (report, _ports) = serve_session(
-        rt, alloc, reader, &mut out, settings, limit, editing, maker, gate,
+        rt, alloc, input, &mut out, settings, limit, editing, maker, gate,
     )?;
     Ok((out, report))
 }
@@ -111,41 +111,34 @@ pub(crate) fn ended(ended: Ended, pieces: u64, entries: u64, stops: u64) -> Repo
     }
 }
 
-#[test]
-fn a_session_writes_a_line_back(rt: HostRuntime) -> Result<(), Fail> {
-    let (out, report) = served(rt, rt.alloc(), *b"a\r\0", Editing::Remote, false, 1)?;
-    assert_eq!(rt; out.get(OPENING..), Some(b"a\r\n\xff\xf9".as_slice()));
-    assert_eq!(rt; report, ended(Ended::HangUp, 1, 1, 0));
+// The session writes so much after its opening words, with one job, and ends so.
+fn writes<R: Abort + Threads + Wait + Copy + Send + 'static>(
+    rt: R,
+    alloc: Global,
+    rows: &[(&'static [u8], &[u8], Report)],
+) -> Result<(), Fail> {
+    for (input, wanted, report) in rows {
+        let (out, told) = served(rt, alloc, *input, Editing::Remote, false, 1)?;
+        assert_eq!(rt; out.get(OPENING..), Some(*wanted));
+        assert_eq!(rt; told, *report);
+    }
     Ok(())
 }
 
 #[test]
-fn a_session_names_an_interrupt(rt: HostRuntime) -> Result<(), Fail> {
-    let (out, report) = served(rt, rt.alloc(), [3], Editing::Remote, false, 1)?;
-    assert_eq!(rt; out.get(OPENING..), Some(b"int\r\n\xff\xf9".as_slice()));
-    assert_eq!(rt; report, ended(Ended::HangUp, 1, 1, 0));
-    Ok(())
-}
-
-#[test]
-fn a_session_counts_a_stop(rt: HostRuntime) -> Result<(), Fail> {
-    let (out, report) = served(rt, rt.alloc(), [26], Editing::Remote, false, 1)?;
-    assert_eq!(rt; out.get(OPENING..), Some(b"tstp\r\n\xff\xf9".as_slice()));
-    assert_eq!(rt; report, ended(Ended::HangUp, 1, 1, 1));
-    Ok(())
-}
-
-#[test]
-fn a_session_ends_with_its_job(rt: HostRuntime) -> Result<(), Fail> {
-    let (out, report) = served(rt, rt.alloc(), *b"exit\r\0", Editing::Remote, false, 1)?;
-    assert_eq!(rt; out.get(OPENING..), Some(b"bye\r\n".as_slice()));
-    assert_eq!(rt; report, ended(Ended::Done, 1, 1, 0));
-    Ok(())
+fn a_session_answers_what_is_typed(rt: HostRuntime) -> Result<(), Fail> {
+    let rows: [(&[u8], &[u8], Report); 4] = [
+        (b"a\r\0", b"a\r\n\xff\xf9", ended(Ended::HangUp, 1, 1, 0)),
+        (b"\x03", b"int\r\n\xff\xf9", ended(Ended::HangUp, 1, 1, 0)),
+        (b"\x1a", b"tstp\r\n\xff\xf9", ended(Ended::HangUp, 1, 1, 1)),
+        (b"exit\r\0", b"bye\r\n", ended(Ended::Done, 1, 1, 0)),
+    ];
+    writes(rt, rt.alloc(), &rows)
 }
 
 #[test]
 fn a_session_stops_what_writes_in_the_background(rt: HostRuntime) -> Result<(), Fail> {
-    let (out, report) = served(rt, rt.alloc(), [], Editing::Remote, true, 2)?;
+    let (out, report) = served(rt, rt.alloc(), b"", Editing::Remote, true, 2)?;
     assert_eq!(rt; out.len(), OPENING);
     assert_eq!(rt; report, ended(Ended::HangUp, 0, 0, 0));
     Ok(())
@@ -157,10 +150,12 @@ const EDITED: [u8; 43] = [
     0, 255, 240, 255, 250, 34, 1, 3, 255, 240, 97, 3, 13, 10, 255, 249,
 ];
 
+/// WILL LINEMODE, the acknowledgement of that mode, `a`, an interrupt, and the line's end.
+const AT_CLIENT: &[u8; 14] = b"\xff\xfb\x22\xff\xfa\x22\x01\x07\xff\xf0a\x03\r\n";
+
 #[test]
 fn a_session_reads_what_the_client_edited(rt: HostRuntime) -> Result<(), Fail> {
-    let input = [255, 251, 34, 255, 250, 34, 1, 7, 255, 240, 97, 3, 13, 10];
-    let (out, report) = served(rt, rt.alloc(), input, Editing::Local, false, 1)?;
+    let (out, report) = served(rt, rt.alloc(), AT_CLIENT, Editing::Local, false, 1)?;
     assert_eq!(rt; out.get(OPENING..), Some(EDITED.as_slice()));
     assert_eq!(rt; report, ended(Ended::HangUp, 1, 1, 0));
     Ok(())

@@ -5,11 +5,23 @@ use std::process::Abort;
 use tn_plain::page::{Stage, unlike};
 
 mod beside_clients;
+mod beside_lines;
+mod beside_pairs;
+mod beside_payloads;
 mod beside_servers;
+mod beside_streams;
+mod characters;
 mod clients;
+mod codes;
 mod faults;
 mod hostile;
+mod jobs;
+mod linemode;
+mod lines;
+mod options;
+mod pairs;
 mod servers;
+mod streams;
 
 // The script has this outcome.
 fn plays<S: Stage>(rt: &impl Abort, alloc: Global, script: &str, wanted: &str) {

@@ -1,23 +1,23 @@
-//! The jobs of a served session.
+//! What a served session's job answers to what its user types.
 
 ghost use Rattle.std.specs.Prelude.{◌≡◌, IfOk};
-ghost use Rattle.tn_loopback.specs.Answering.{say, answer_line};
+ghost use Rattle.tn_answerer.specs.Answering.{say, answer_line};
 
 use std::alloc::{AllocError, Global};
 use tn_discipline::{Entry, Sig, Text};
 use tn_jobs::{After, Job, Reaction};
-use tn_session::Maker;
 
 /// A job of a served session. In the foreground it writes each line back; the line `exit` and the end
 /// of file end it with `bye`, and a signal is named. In the background it ticks as often as is left.
 #[derive(Drop)]
 pub struct Answerer {
-    left: u16,
+    /// How many ticks are left to a job in the background; a job in the foreground has no use of it.
+    pub left: u16,
 }
 
 impl Job for Answerer {
     ghost use Rattle.std.specs.Prelude.{◌≡◌, ◌<◌, ⊤};
-    ghost use Rattle.tn_loopback.specs.Answering.{answer, Ticks};
+    ghost use Rattle.tn_answerer.specs.Answering.{answer, Ticks};
 
     ghost fresh = { λ job. ⊤ };
 
@@ -68,35 +68,4 @@ fn say(alloc: Global, words: &str, after: After) -> Result<Reaction, AllocError>
         text: Text::from(text),
         after,
     })
-}
-
-/// Makes the jobs of a session: one in the foreground and, where it has something to do, one that
-/// ticks in the background.
-#[derive(Drop)]
-pub(crate) struct Jobs {
-    first: bool,
-    ticks: u16,
-}
-
-impl Jobs {
-    pub(crate) fn new(ticks: u16) -> Jobs {
-        Jobs { first: true, ticks }
-    }
-}
-
-impl Maker for Jobs {
-    type Job = Answerer;
-
-    fn next(&mut self, _alloc: Global) -> Result<Option<Answerer>, AllocError> {
-        if self.first {
-            self.first = false;
-            return Ok(Some(Answerer { left: 0 }));
-        }
-        if self.ticks == 0 {
-            return Ok(None);
-        }
-        let left = self.ticks;
-        self.ticks = 0;
-        Ok(Some(Answerer { left }))
-    }
 }

@@ -1,9 +1,0 @@
-//! Trials of each end by itself: scripts with what comes of them, under a sentence as their name, and
-//! each end beside a plain program of its definition. Nothing here is part of the program, and nothing
-//! of it is proved but that it is safe and ends.
-#![tactic(auto)]
-
-#[cfg(test)]
-mod plain;
-#[cfg(test)]
-mod tests;
