@@ -40,14 +40,14 @@ core_view h = record { handled = Some h; net = None; desk = Some []; back = Some
 -- nothing was sent or handled
 pub record IsReadyForTwo (m : Mailbox) : Type 0 where
   pub one_mailbox : receives_on m.from ≡ sends_on m.to
-  pub net_to : sends_on m.net_to ≡ sends_on m.to
-  pub keys_to : sends_on m.keys_to ≡ sends_on m.to
+  pub net_to : sends_on m.net.to ≡ sends_on m.to
+  pub keys_to : sends_on m.keys.to ≡ sends_on m.to
   pub pass : IsSeatAt (sends_on m.to) m.pass
-  pub net : IsSeatAt (sends_on m.to) m.net
-  pub keys : IsSeatAt (sends_on m.to) m.keys
+  pub net : IsSeatAt (sends_on m.to) m.net.pass
+  pub keys : IsSeatAt (sends_on m.to) m.keys.pass
   pub pass_is : view m.pass ≡ core_view []
-  pub net_is : view m.net ≡ sender Net []
-  pub keys_is : view m.keys ≡ sender Keys []
+  pub net_is : view m.net.pass ≡ sender Net []
+  pub keys_is : view m.keys.pass ≡ sender Keys []
 
 -- whatever the lists are: they are those of the new passes too, and what was handled begins an interleaving of what was sent
 abbrev pub AreTwoSettled : View → View → View → View → View → View → Type 0

@@ -21,23 +21,23 @@ handler h = record { handled = Some h; net = None; desk = None; back = None; key
 
 -- nothing was sent, handled, put or taken
 pub record IsReady (c : Channels) : Type 0 where
-  pub one_mailbox : receives_on c.from ≡ sends_on c.to
-  pub net_to : sends_on c.net_to ≡ sends_on c.to
-  pub desk_to : sends_on c.desk_to ≡ sends_on c.to
-  pub back_to : sends_on c.back_to ≡ sends_on c.to
-  pub pass : IsSeatAt (sends_on c.to) c.pass
-  pub net : IsSeatAt (sends_on c.to) c.net
-  pub desk : IsSeatAt (sends_on c.to) c.desk
-  pub back : IsSeatAt (sends_on c.to) c.back
+  pub one_mailbox : receives_on c.ends.from ≡ sends_on c.ends.to
+  pub net_to : sends_on c.net.to ≡ sends_on c.ends.to
+  pub desk_to : sends_on c.desk.to ≡ sends_on c.ends.to
+  pub back_to : sends_on c.back.to ≡ sends_on c.ends.to
+  pub pass : IsSeatAt (sends_on c.ends.to) c.pass
+  pub net : IsSeatAt (sends_on c.ends.to) c.net.pass
+  pub desk : IsSeatAt (sends_on c.ends.to) c.desk.pass
+  pub back : IsSeatAt (sends_on c.ends.to) c.back.pass
   pub pass_is : view c.pass ≡ handler []
-  pub net_is : view c.net ≡ sender Net []
-  pub desk_is : view c.desk ≡ sender Desk []
-  pub back_is : view c.back ≡ sender Back []
-  pub one_queue : receives_on c.take ≡ sends_on c.put
-  pub hand : IsSeatAt (sends_on c.put) c.hand
-  pub took : IsSeatAt (sends_on c.put) c.took
+  pub net_is : view c.net.pass ≡ sender Net []
+  pub desk_is : view c.desk.pass ≡ sender Desk []
+  pub back_is : view c.back.pass ≡ sender Back []
+  pub one_queue : receives_on c.take.from ≡ sends_on c.ends.put
+  pub hand : IsSeatAt (sends_on c.ends.put) c.hand
+  pub took : IsSeatAt (sends_on c.ends.put) c.take.pass
   pub hand_is : view c.hand ≡ putter []
-  pub took_is : view c.took ≡ taker []
+  pub took_is : view c.take.pass ≡ taker []
 
 -- whatever the lists are: they are those of the new passes too, what was handled begins an interleaving of what was sent,
 -- and what was taken begins what was put

@@ -20,6 +20,7 @@ use Rattle.tn_session.specs.Queue.{putter, taker}
 use Rattle.tn_session.specs.Reading.{NetSends, most_reads}
 use Rattle.tn_session.specs.Stepping.{AreSteps}
 use Rattle.tn_session.specs.Talk.{IsTalk}
+use Rattle.tn_session.specs.Turning.{IsLine, ids_of}
 use Rattle.tn_session.specs.Turns.{Writes, Tells, most_writes, messages_of}
 use Rattle.tn_session.specs.declared.channels.View.{View}
 use Rattle.tn_session.specs.declared.entries.Hand.{Hand}
@@ -27,6 +28,7 @@ use Rattle.tn_session.specs.declared.mail.Mail.{Mail}
 use Rattle.tn_session.specs.declared.mail.Sender.TheVariants.{Net, Desk, Back}
 use Rattle.tn_session.specs.declared.parties.Ports.{Ports}
 use Rattle.tn_session.specs.declared.parties.Report.{Report}
+use Rattle.tn_session.specs.declared.session.Begun.{Begun}
 use Rattle.tn_streams.specs.Foretelling.{Failures, WillFail}
 use Rattle.tn_streams.specs.Telling.{Calls, SomeFailed}
 use Rattle.tn_term.specs.Ending.{IsFaultCause}
@@ -120,6 +122,24 @@ IsRun fresh reacts steps first others term words given foretold old new told_old
     → words ≡ spells (items_said (opening canon editing))
     → Schedule fresh reacts steps first others canon editing jobs given foretold old new told_old told_new
     report (view ports.net) (view ports.desk) (view ports.back) (view ports.term) (view ports.put) (view ports.took)
+
+-- the jobs were made, and the terminal is started with them
+pub record IsBegun {J : Type 0} (fresh : J → Type 0) (canon : Canon) (editing : Editing) (b : Begun J) : Type 0 where
+  pub jobs : Jobs
+  pub numbered : Numbered jobs b.posts.first (ids_of b.posts.line.items)
+  pub line : IsLine fresh b.posts.line.items
+  pub job : fresh b.posts.job
+  pub at : LeadsTo (start canon editing jobs) b.term
+  pub words : b.out.items ≡ spells (items_said (opening canon editing))
+
+-- from after the opening words on, whatever these were
+abbrev pub RunsOn : {J : Type 0} → (J → Type 0) → (J → Entry → Reaction → J → Type 0)
+    → (J → Reaction → J → Type 0) → JobId → List ℕ → Option (List ℕ) → Option Failures
+    → Option (List ℕ) → Option (List ℕ) → Option Calls → Option Calls → Term → Report → Ports → Type 0
+RunsOn fresh reacts steps first others given foretold opened new told_opened told_new term report ports =
+    (began : Term) (words : List ℕ) (old : Option (List ℕ)) (told_old : Option Calls)
+    → IsOpening began words old opened told_old told_opened term
+    → IsRun fresh reacts steps first others began words given foretold old new told_old told_new report ports
 
 -- The stream of the run is the first of the bytes that the reader gave, and all of them where a hang-up ended the session;
 -- its items are read by the definitions of the stream.

@@ -98,3 +98,10 @@ pub type MailPass = Pass<Mail, View>;
 pub type MailSender = RuledSender<Mail, View, AllRoles>;
 
 pub type MailReceiver = RuledReceiver<Mail, View, AllRoles>;
+
+/// A seat at the mailbox: where its holder sends, and the pass.
+#[derive(Drop)]
+pub(crate) struct MailSeat {
+    pub(crate) to: MailSender,
+    pub(crate) pass: MailPass,
+}

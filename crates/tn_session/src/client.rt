@@ -1,18 +1,18 @@
 //! A running client session, from its first key to its report.
 
-ghost use Rattle.std.specs.Prelude.{◌≡◌, IfOk, IfSome};
+ghost use Rattle.std.specs.Prelude.{◌≡◌, [], IfOk, IfSome};
 ghost use Rattle.crossbeam_channel.specs.Claims.{view, IsSeatAt};
-ghost use Rattle.crossbeam_channel.specs.Ends.{sends_on};
-ghost use Rattle.tn_session.specs.Client.{IsReadyForTwo, AreTwoSettled, IsClientRun, RunningClient, client_report};
+ghost use Rattle.crossbeam_channel.specs.Ends.{sends_on, receives_on};
+ghost use Rattle.tn_session.specs.Client.{core_view, IsReadyForTwo, AreTwoSettled, IsClientRun, RunningClient, client_report};
 
 use crate::channels::{
-    AllRoles, CutKeys, CutNet, Knows, MailPass, MailReceiver, MailSender, Union, View,
+    AllRoles, CutKeys, CutNet, Knows, MailPass, MailReceiver, MailSeat, MailSender, Union, View,
 };
 use crate::client_loop::run_core;
 use crate::mail::Mail;
 use crate::parties::{ClientPorts, Finish, Gate, Report};
 use crate::session::MAILS;
-use crate::threads::{start_keys, start_net};
+use crate::threads::{ClientReturned, ClientStarted, Watch, start_keys, start_net};
 use crossbeam_channel::bounded_with;
 use std::alloc::Global;
 use std::sync::atomic::AtomicBool;
@@ -29,10 +29,8 @@ struct Mailbox {
     to: MailSender,
     from: MailReceiver,
     pass: MailPass,
-    net_to: MailSender,
-    net: MailPass,
-    keys_to: MailSender,
-    keys: MailPass,
+    net: MailSeat,
+    keys: MailSeat,
 }
 
 // Makes the mailbox and cuts its passes. `None` where memory is wanting.
@@ -54,10 +52,14 @@ fn make_mailbox(alloc: Global) -> Option<Mailbox>
         to,
         from,
         pass,
-        net_to,
-        net,
-        keys_to,
-        keys,
+        net: MailSeat {
+            to: net_to,
+            pass: net,
+        },
+        keys: MailSeat {
+            to: keys_to,
+            pass: keys,
+        },
     })
 }
 
@@ -65,9 +67,8 @@ fn make_mailbox(alloc: Global) -> Option<Mailbox>
 #[derive(Drop)]
 struct Shared<G> {
     net: Arc<G, Global>,
-    keys: Arc<G, Global>,
+    keys: Watch<G>,
     stop: Arc<AtomicBool, Global>,
-    keys_stop: Arc<AtomicBool, Global>,
 }
 
 fn share<G: Gate + Drop>(alloc: Global, gate: Arc<G, Global>) -> Option<Shared<G>> {
@@ -82,9 +83,11 @@ fn share<G: Gate + Drop>(alloc: Global, gate: Arc<G, Global>) -> Option<Shared<G
     };
     Some(Shared {
         net,
-        keys: gate,
+        keys: Watch {
+            gate,
+            stop: keys_stop,
+        },
         stop,
-        keys_stop,
     })
 }
 
@@ -118,8 +121,58 @@ fn report(progress: Progress) -> Report
     }
 }
 
-// Runs the threads, and this one as the core's. On each path out of it every thread that was started has
-// been joined.
+// Runs this thread as the core's, beside those that were started. On each path out of it they have been
+// joined.
+fn run_beside<R, N, K, W, S>(
+    rt: &R,
+    alloc: Global,
+    started: ClientStarted<N, K>,
+    to: MailSender,
+    from: MailReceiver,
+    pass: MailPass,
+    core: &mut Core,
+    writer: &mut W,
+    screen: &mut S,
+    stop: &AtomicBool,
+) -> Result<(Report, ClientPorts), SessionFault>
+where
+    R: Threads + Wait,
+    N: Source,
+    K: Source,
+    W: Finish,
+    S: Drain,
+    requires mailbox { (receives_on from ≡ sends_on to) × IsSeatAt (sends_on to) pass ×
+        (view pass ≡ core_view []) }
+    requires net { sends_on started.net.promise.to.value ≡ sends_on to }
+    requires keys { sends_on started.keys.promise.to.value ≡ sends_on to }
+    ensures { IfOk result (λ r.
+        IsClientRun core.old (K.remaining started.keys.promise.reader.value)
+        (N.remaining started.net.promise.reader.value) (K.foretold started.keys.promise.reader.value)
+        (N.foretold started.net.promise.reader.value) (W.contents writer.old) (W.contents writer.new)
+        (S.contents screen.old) (S.contents screen.new) (W.told writer.old) (W.told writer.new)
+        (S.told screen.old) (S.told screen.new) r.0 r.1) }
+{
+    let mut out = Vec::new(alloc);
+    let mut text = Vec::new(alloc);
+    let Some(pass) = run_core(
+        rt, &from, pass, core, &mut out, &mut text, writer, screen, stop,
+    ) else {
+        writer.finish();
+        drop(to);
+        drop(from);
+        started.join(rt);
+        return Err(SessionFault::Channel);
+    };
+    let Some(returned) = started.join(rt) else {
+        return Err(SessionFault::Channel);
+    };
+    let ClientReturned { net, keys } = returned;
+    let ports = settle(&to, pass, net, keys);
+    Ok((report(core.progress()), ports))
+}
+
+// Starts the threads, and runs this one as the core's. On each path out of it every thread that was started
+// has been joined.
 fn run<R, N, K, W, S, G>(
     rt: R,
     alloc: Global,
@@ -127,7 +180,7 @@ fn run<R, N, K, W, S, G>(
     keys_reader: K,
     writer: &mut W,
     screen: &mut S,
-    mut core: Core,
+    core: &mut Core,
     mailbox: Mailbox,
     shared: Shared<G>,
 ) -> Result<(Report, ClientPorts), SessionFault>
@@ -140,7 +193,7 @@ where
     G: Gate + Drop + Send + Sync + 'static,
     requires { IsReadyForTwo mailbox }
     ensures { IfOk result (λ r.
-        IsClientRun core (K.remaining keys_reader) (N.remaining net_reader) (K.foretold keys_reader)
+        IsClientRun core.old (K.remaining keys_reader) (N.remaining net_reader) (K.foretold keys_reader)
         (N.foretold net_reader) (W.contents writer.old) (W.contents writer.new) (S.contents screen.old)
         (S.contents screen.new) (W.told writer.old) (W.told writer.new) (S.told screen.old)
         (S.told screen.new) r.0 r.1) }
@@ -149,51 +202,72 @@ where
         to,
         from,
         pass,
-        net_to,
         net,
-        keys_to,
         keys,
     } = mailbox;
     let Shared {
-        net: net_gate,
-        keys: keys_gate,
+        net: gate,
+        keys: watch,
         stop,
-        keys_stop,
     } = shared;
-    let mut out = Vec::new(alloc);
-    let mut text = Vec::new(alloc);
-    let Some(net_thread) = start_net(rt, alloc, net_to, net, net_reader, net_gate) else {
+    let Some(net) = start_net(rt, alloc, net, net_reader, gate) else {
         writer.finish();
         return Err(SessionFault::Start);
     };
-    let Some(keys_thread) = start_keys(rt, alloc, keys_to, keys, keys_reader, keys_stop, keys_gate)
-    else {
+    let Some(keys) = start_keys(rt, alloc, keys, keys_reader, watch) else {
         writer.finish();
         drop(to);
         drop(from);
-        net_thread.join(&rt);
+        net.join(&rt);
         return Err(SessionFault::Start);
     };
-    let Some(pass) = run_core(
-        &rt, &from, pass, &mut core, &mut out, &mut text, writer, screen, &*stop,
-    ) else {
-        writer.finish();
-        drop(to);
-        drop(from);
-        net_thread.join(&rt);
-        keys_thread.join(&rt);
-        return Err(SessionFault::Channel);
+    let started = ClientStarted { net, keys };
+    run_beside(
+        &rt, alloc, started, to, from, pass, core, writer, screen, &*stop,
+    )
+}
+
+// Makes what a session runs on, and runs it.
+fn converse<R, N, K, W, S, G>(
+    rt: R,
+    alloc: Global,
+    net_reader: N,
+    keys_reader: K,
+    writer: &mut W,
+    screen: &mut S,
+    core: &mut Core,
+    gate: Arc<G, Global>,
+) -> Result<(Report, ClientPorts), SessionFault>
+where
+    R: Threads + Wait + Copy + Send + 'static,
+    N: Source + Drop + Send + 'static,
+    K: Source + Drop + Send + 'static,
+    W: Finish,
+    S: Drain,
+    G: Gate + Drop + Send + Sync + 'static,
+    ensures { IfOk result (λ r.
+        IsClientRun core.old (K.remaining keys_reader) (N.remaining net_reader) (K.foretold keys_reader)
+        (N.foretold net_reader) (W.contents writer.old) (W.contents writer.new) (S.contents screen.old)
+        (S.contents screen.new) (W.told writer.old) (W.told writer.new) (S.told screen.old)
+        (S.told screen.new) r.0 r.1) }
+{
+    let Some(mailbox) = make_mailbox(alloc) else {
+        return Err(SessionFault::Memory);
     };
-    let net = net_thread.join(&rt);
-    let keys = keys_thread.join(&rt);
-    let Some(net) = net else {
-        return Err(SessionFault::Channel);
+    let Some(shared) = share(alloc, gate) else {
+        return Err(SessionFault::Memory);
     };
-    let Some(keys) = keys else {
-        return Err(SessionFault::Channel);
-    };
-    let ports = settle(&to, pass, net, keys);
-    Ok((report(core.progress()), ports))
+    run(
+        rt,
+        alloc,
+        net_reader,
+        keys_reader,
+        writer,
+        screen,
+        core,
+        mailbox,
+        shared,
+    )
 }
 
 /// Runs a client's session over a connection: its reader and its writer, the user's keys and screen, and a
@@ -225,27 +299,17 @@ where
         (S.contents screen.new) (W.told net_writer.old) (W.told net_writer.new) (S.told screen.old)
         (S.told screen.new) r.0 (view r.1.keys) (view r.1.net) (view r.1.core)) }
 {
-    let Ok(core) = Core::start(alloc, width, height, limit) else {
+    let Ok(mut core) = Core::start(alloc, width, height, limit) else {
         return Err(SessionFault::Memory);
     };
-    let Some(mailbox) = make_mailbox(alloc) else {
-        return Err(SessionFault::Memory);
-    };
-    let Some(shared) = share(alloc, gate) else {
-        return Err(SessionFault::Memory);
-    };
-    match run(
+    converse(
         rt,
         alloc,
         net_reader,
         keys_reader,
         net_writer,
         screen,
-        core,
-        mailbox,
-        shared,
-    ) {
-        Ok(ran) => Ok(ran),
-        Err(fault) => Err(fault),
-    }
+        &mut core,
+        gate,
+    )
 }

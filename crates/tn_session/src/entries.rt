@@ -63,3 +63,10 @@ pub type EntryPass = Pass<Option<Entry>, Hand>;
 pub type EntrySender = RuledSender<Option<Entry>, Hand, InTurn>;
 
 pub type EntryReceiver = RuledReceiver<Option<Entry>, Hand, InTurn>;
+
+/// The seat of the one that takes entries: where they come, and the pass.
+#[derive(Drop)]
+pub(crate) struct EntrySeat {
+    pub(crate) from: EntryReceiver,
+    pub(crate) pass: EntryPass,
+}

@@ -8,23 +8,22 @@ ghost use Rattle.tn_discipline.specs.Canon.{Canon};
 ghost use Rattle.tn_jobs.specs.Jobs.{Jobs};
 ghost use Rattle.tn_server.specs.declared.wishes.Editing.{Editing as EditingT};
 ghost use Rattle.tn_session.specs.Jobs.{IsMade};
-ghost use Rattle.tn_session.specs.Joining.{IsReady};
-ghost use Rattle.tn_session.specs.Session.{IsOpening, IsRun, IsRefusal, RunningSession, report_of};
+ghost use Rattle.tn_session.specs.Joining.{IsReady, handler};
+ghost use Rattle.tn_session.specs.Queue.{putter};
+ghost use Rattle.tn_session.specs.Session.{IsBegun, IsOpening, IsRun, IsRefusal, RunsOn, RunningSession, report_of};
 ghost use Rattle.tn_session.specs.Turning.{IsLine, ids_of};
-ghost use Rattle.tn_term.specs.Reaching.{LeadsTo};
-ghost use Rattle.tn_term.specs.Run.{start};
 
 use crate::back::Runner;
 use crate::channels::{
-    AllRoles, CutBack, CutDesk, CutNet, MailPass, MailReceiver, MailSender, View,
+    AllRoles, CutBack, CutDesk, CutNet, MailPass, MailReceiver, MailSeat, MailSender, View,
 };
-use crate::entries::{CutTaker, EntryPass, EntryReceiver, EntrySender, Hand, InTurn};
+use crate::entries::{CutTaker, EntryPass, EntrySeat, EntrySender, Hand, InTurn};
 use crate::joining::settle;
 use crate::mail::Mail;
 use crate::making::{Made, make_jobs};
 use crate::parties::{Finish, Gate, Maker, Ports, Report};
 use crate::term::run_term;
-use crate::threads::{start_back, start_desk, start_net};
+use crate::threads::{Returned, Started, Watch, start_back, start_desk, start_net};
 use crate::writing::write_out;
 use crossbeam_channel::bounded_with;
 use std::alloc::Global;
@@ -45,22 +44,24 @@ pub(crate) const MAILS: usize = 64;
 /// How many entries the channel of entries holds.
 const ENTRIES: usize = 2;
 
+// The terminal's ends of both channels.
+#[derive(Drop)]
+struct Ends {
+    to: MailSender,
+    from: MailReceiver,
+    put: EntrySender,
+}
+
 // The channels of a session, their ends and passes.
 #[derive(Drop)]
 struct Channels {
-    to: MailSender,
-    from: MailReceiver,
+    ends: Ends,
     pass: MailPass,
-    net_to: MailSender,
-    net: MailPass,
-    desk_to: MailSender,
-    desk: MailPass,
-    back_to: MailSender,
-    back: MailPass,
-    put: EntrySender,
     hand: EntryPass,
-    take: EntryReceiver,
-    took: EntryPass,
+    net: MailSeat,
+    desk: MailSeat,
+    back: MailSeat,
+    take: EntrySeat,
 }
 
 // Makes both channels and cuts their passes. `None` where memory is wanting.
@@ -89,19 +90,25 @@ fn make_channels(alloc: Global) -> Option<Channels>
     let back = to.another::<CutBack>(&mut pass);
     let took = put.another::<CutTaker>(&mut hand);
     Some(Channels {
-        to,
-        from,
+        ends: Ends { to, from, put },
         pass,
-        net_to,
-        net,
-        desk_to,
-        desk,
-        back_to,
-        back,
-        put,
         hand,
-        take,
-        took,
+        net: MailSeat {
+            to: net_to,
+            pass: net,
+        },
+        desk: MailSeat {
+            to: desk_to,
+            pass: desk,
+        },
+        back: MailSeat {
+            to: back_to,
+            pass: back,
+        },
+        take: EntrySeat {
+            from: take,
+            pass: took,
+        },
     })
 }
 
@@ -110,10 +117,8 @@ fn make_channels(alloc: Global) -> Option<Channels>
 struct Shared<G> {
     net: Arc<G, Global>,
     desk: Arc<G, Global>,
-    back: Arc<G, Global>,
-    term: Arc<G, Global>,
-    stop: Arc<AtomicBool, Global>,
-    back_stop: Arc<AtomicBool, Global>,
+    back: Watch<G>,
+    term: Watch<G>,
 }
 
 fn share<G: Gate + Drop>(alloc: Global, gate: Arc<G, Global>) -> Option<Shared<G>> {
@@ -135,22 +140,61 @@ fn share<G: Gate + Drop>(alloc: Global, gate: Arc<G, Global>) -> Option<Shared<G
     Some(Shared {
         net,
         desk,
-        back,
-        term: gate,
-        stop,
-        back_stop,
+        back: Watch {
+            gate: back,
+            stop: back_stop,
+        },
+        term: Watch { gate, stop },
     })
+}
+
+// The jobs that a session runs: the one in the foreground, and those in the background.
+#[derive(Drop)]
+struct Posts<J> {
+    first: JobId,
+    job: J,
+    line: VecDeque<Runner<J>>,
+    tostop: bool,
 }
 
 // The jobs, the terminal and what it says first.
 #[derive(Drop)]
 struct Begun<J> {
-    first: JobId,
-    job: J,
-    line: VecDeque<Runner<J>>,
-    tostop: bool,
+    posts: Posts<J>,
     term: Term,
     out: Vec<u8>,
+}
+
+// Makes the jobs and starts the terminal.
+fn begin<M: Maker + Drop>(
+    alloc: Global,
+    settings: Settings,
+    limit: Limit,
+    editing: Editing,
+    mut maker: M,
+) -> Result<Begun<M::Job>, SessionFault>
+    ensures fault { IfErr result IsRefusal }
+    ensures begun { IfOk result (λ begun.
+        IsBegun M.Job.fresh (record { settings = settings; limit = limit }) editing begun) }
+{
+    let tostop = settings.flags.tostop;
+    let Made {
+        table,
+        first,
+        job,
+        line,
+    } = make_jobs(alloc, &mut maker)?;
+    let mut out = Vec::new(alloc);
+    let Ok(term) = Term::start(alloc, settings, limit, editing, table, &mut out) else {
+        return Err(SessionFault::Memory);
+    };
+    let posts = Posts {
+        first,
+        job,
+        line,
+        tostop,
+    };
+    Ok(Begun { posts, term, out })
 }
 
 // Writes the opening words. Where that fails, nothing has any effect from there on.
@@ -178,16 +222,73 @@ fn report(progress: Progress) -> Report
     }
 }
 
-// Runs the threads, and this one as the terminal's. On each path out of it every thread that was
+// Runs this thread as the terminal's, beside those that were started. On each path out of it they have been
+// joined.
+fn run_beside<R, Rd, W, J, G>(
+    rt: &R,
+    started: Started<Rd, J>,
+    ends: Ends,
+    pass: MailPass,
+    hand: EntryPass,
+    term: &mut Term,
+    out: &mut Vec<u8>,
+    writer: &mut W,
+    stop: &AtomicBool,
+    gate: &G,
+) -> Result<(Report, Ports), SessionFault>
+where
+    R: Threads + Wait,
+    Rd: Source,
+    W: Finish,
+    J: Job,
+    G: Gate,
+    requires mailbox { (receives_on ends.from ≡ sends_on ends.to) × IsSeatAt (sends_on ends.to) pass ×
+        (view pass ≡ handler []) }
+    requires entries { IsSeatAt (sends_on ends.put) hand × (view hand ≡ putter []) }
+    requires net { sends_on started.net.promise.to.value ≡ sends_on ends.to }
+    requires desk { (sends_on started.desk.promise.to.value ≡ sends_on ends.to) ×
+        (receives_on started.desk.promise.from.value ≡ sends_on ends.put) }
+    requires back { sends_on started.back.promise.to.value ≡ sends_on ends.to }
+    requires out { out.old.items ≡ [] }
+    ensures fault { IfErr result IsRefusal }
+    ensures ran { IfOk result (λ r.
+        RunsOn J.fresh J.reacts J.steps started.desk.promise.id (ids_of started.back.promise.line.value.items)
+        (Rd.remaining started.net.promise.reader.value) (Rd.foretold started.net.promise.reader.value)
+        (W.contents writer.old) (W.contents writer.new) (W.told writer.old) (W.told writer.new)
+        term.old r.0 r.1) }
+{
+    let Some((pass, hand)) = run_term(
+        rt, &ends.from, &ends.put, pass, hand, term, out, writer, stop, gate,
+    ) else {
+        writer.finish();
+        drop(ends);
+        started.join(rt);
+        return Err(SessionFault::Channel);
+    };
+    let Some(returned) = started.join(rt) else {
+        return Err(SessionFault::Channel);
+    };
+    let Returned {
+        net,
+        desk,
+        took,
+        back,
+    } = returned;
+    let ports = settle(&ends.to, &ends.put, pass, net, desk, back, hand, took);
+    Ok((report(term.progress()), ports))
+}
+
+// Starts the threads, and runs this one as the terminal's. On each path out of it every thread that was
 // started has been joined.
 fn run<R, Rd, W, J, G>(
     rt: R,
     alloc: Global,
     reader: Rd,
     writer: &mut W,
-    begun: Begun<J>,
-    channels: Channels,
-    shared: Shared<G>,
+    posts: Posts<J>,
+    term: &mut Term,
+    out: &mut Vec<u8>,
+    outfit: Outfit<G>,
 ) -> Result<(Report, Ports), SessionFault>
 where
     R: Threads + Wait + Copy + Send + 'static,
@@ -195,95 +296,113 @@ where
     W: Finish,
     J: Job + Send + 'static,
     G: Gate + Drop + Send + Sync + 'static,
-    requires ready { IsReady channels }
-    requires fresh { J.fresh begun.job × IsLine J.fresh begun.line.items }
+    requires ready { IsReady outfit.channels }
+    requires fresh { J.fresh posts.job × IsLine J.fresh posts.line.items }
+    requires out { out.old.items ≡ [] }
     ensures fault { IfErr result IsRefusal }
     ensures ran { IfOk result (λ r.
-        IsRun J.fresh J.reacts J.steps begun.first (ids_of begun.line.items) begun.term begun.out.items
-        (Rd.remaining reader) (Rd.foretold reader) (W.contents writer.old) (W.contents writer.new)
-        (W.told writer.old) (W.told writer.new) r.0 r.1) }
+        RunsOn J.fresh J.reacts J.steps posts.first (ids_of posts.line.items) (Rd.remaining reader)
+        (Rd.foretold reader) (W.contents writer.old) (W.contents writer.new) (W.told writer.old)
+        (W.told writer.new) term.old r.0 r.1) }
 {
+    let Outfit { channels, shared } = outfit;
     let Channels {
-        to,
-        from,
+        ends,
         pass,
-        net_to,
-        net,
-        desk_to,
-        desk,
-        back_to,
-        back,
-        put,
         hand,
+        net,
+        desk,
+        back,
         take,
-        took,
     } = channels;
-    let Begun {
+    let Posts {
         first,
         job,
         line,
         tostop,
-        mut term,
-        mut out,
-    } = begun;
+    } = posts;
     let Shared {
         net: net_gate,
         desk: desk_gate,
-        back: back_gate,
-        term: gate,
-        stop,
-        back_stop,
+        back: back_watch,
+        term: watch,
     } = shared;
-    open(&mut term, &mut out, writer);
-    let Some(net_thread) = start_net(rt, alloc, net_to, net, reader, net_gate) else {
+    let Some(net) = start_net(rt, alloc, net, reader, net_gate) else {
         writer.finish();
         return Err(SessionFault::Start);
     };
-    let Some(desk_thread) = start_desk(rt, alloc, desk_to, take, desk, took, first, job, desk_gate)
-    else {
+    let Some(desk) = start_desk(rt, alloc, desk, take, first, job, desk_gate) else {
         writer.finish();
-        drop(to);
-        drop(from);
-        drop(put);
-        net_thread.join(&rt);
+        drop(ends);
+        net.join(&rt);
         return Err(SessionFault::Start);
     };
-    let Some(back_thread) = start_back(rt, alloc, back_to, back, line, tostop, back_stop, back_gate)
-    else {
+    let Some(back) = start_back(rt, alloc, back, line, tostop, back_watch) else {
         writer.finish();
-        drop(to);
-        drop(from);
-        drop(put);
-        net_thread.join(&rt);
-        desk_thread.join(&rt);
+        drop(ends);
+        net.join(&rt);
+        desk.join(&rt);
         return Err(SessionFault::Start);
     };
-    let Some((pass, hand)) = run_term(
-        &rt, &from, &put, pass, hand, &mut term, &mut out, writer, &*stop, &*gate,
-    ) else {
-        writer.finish();
-        drop(to);
-        drop(from);
-        drop(put);
-        net_thread.join(&rt);
-        desk_thread.join(&rt);
-        back_thread.join(&rt);
-        return Err(SessionFault::Channel);
+    let started = Started { net, desk, back };
+    run_beside(
+        &rt,
+        started,
+        ends,
+        pass,
+        hand,
+        term,
+        out,
+        writer,
+        &*watch.stop,
+        &*watch.gate,
+    )
+}
+
+// What a session runs on.
+#[derive(Drop)]
+struct Outfit<G> {
+    channels: Channels,
+    shared: Shared<G>,
+}
+
+fn equip<G: Gate + Drop>(alloc: Global, gate: Arc<G, Global>) -> Option<Outfit<G>>
+    ensures { IfSome result (λ outfit. IsReady outfit.channels) }
+{
+    let channels = make_channels(alloc)?;
+    let shared = share(alloc, gate)?;
+    Some(Outfit { channels, shared })
+}
+
+// Writes the opening words and runs the threads.
+fn run_begun<R, Rd, W, J, G>(
+    rt: R,
+    alloc: Global,
+    reader: Rd,
+    writer: &mut W,
+    posts: Posts<J>,
+    term: &mut Term,
+    out: &mut Vec<u8>,
+    gate: Arc<G, Global>,
+) -> Result<(Report, Ports), SessionFault>
+where
+    R: Threads + Wait + Copy + Send + 'static,
+    Rd: Source + Drop + Send + 'static,
+    W: Finish,
+    J: Job + Send + 'static,
+    G: Gate + Drop + Send + Sync + 'static,
+    requires fresh { J.fresh posts.job × IsLine J.fresh posts.line.items }
+    ensures fault { IfErr result IsRefusal }
+    ensures ran { IfOk result (λ r.
+        IsRun J.fresh J.reacts J.steps posts.first (ids_of posts.line.items) term.old out.old.items
+        (Rd.remaining reader) (Rd.foretold reader) (W.contents writer.old) (W.contents writer.new)
+        (W.told writer.old) (W.told writer.new) r.0 r.1) }
+{
+    let Some(outfit) = equip(alloc, gate) else {
+        return Err(SessionFault::Memory);
     };
-    let net = net_thread.join(&rt);
-    let desk = desk_thread.join(&rt);
-    let back = back_thread.join(&rt);
-    let Some(net) = net else {
-        return Err(SessionFault::Channel);
-    };
-    let Some((desk, took)) = desk else {
-        return Err(SessionFault::Channel);
-    };
-    let Some(back) = back else {
-        return Err(SessionFault::Channel);
-    };
-    let ports = settle(&to, &put, pass, net, desk, back, hand, took);
-    Ok((report(term.progress()), ports))
+    open(term, out, writer);
+    run(rt, alloc, reader, writer, posts, term, out, outfit)
 }
 
 /// Runs a session over a connection: its reader and its writer, a terminal with these settings whose
@@ -297,7 +416,7 @@ pub fn serve_session<R, Rd, W, M, G>(
     settings: Settings,
     limit: Limit,
     editing: Editing,
-    mut maker: M,
+    maker: M,
     gate: Arc<G, Global>,
 ) -> Result<(Report, Ports), SessionFault>
 where
@@ -314,38 +433,14 @@ where
         (W.told writer.old) (W.told writer.new) r.0 (view r.1.net) (view r.1.desk)
         (view r.1.back) (view r.1.term) (view r.1.put) (view r.1.took)) }
 {
-    let made = make_jobs(alloc, &mut maker)?;
-    let Made {
-        table,
-        first,
-        job,
-        line,
-    } = made;
-    let flags = settings.flags;
-    let tostop = flags.tostop;
-    let mut out = Vec::new(alloc);
-    let Ok(term) = Term::start(alloc, settings, limit, editing, table, &mut out) else {
-        return Err(SessionFault::Memory);
-    };
-    let Some(channels) = make_channels(alloc) else {
-        return Err(SessionFault::Memory);
-    };
-    let Some(shared) = share(alloc, gate) else {
-        return Err(SessionFault::Memory);
-    };
-    let begun = Begun {
-        first,
-        job,
-        line,
-        tostop,
-        term,
-        out,
-    };
     pieces_are_heard();
     all_goes_before_a_hang_up();
     faults_have_causes();
-    match run(rt, alloc, reader, writer, begun, channels, shared) {
-        Ok(ran) => Ok(ran),
-        Err(fault) => Err(fault),
-    }
+    let begun = begin(alloc, settings, limit, editing, maker)?;
+    let Begun {
+        posts,
+        mut term,
+        mut out,
+    } = begun;
+    run_begun(rt, alloc, reader, writer, posts, &mut term, &mut out, gate)
 }

@@ -13,9 +13,9 @@ ghost use Rattle.tn_session.specs.Turning.{IsLine, ids_of};
 ghost use Rattle.tn_session.specs.declared.mail.Sender.TheVariants.{Net, Desk, Back, Keys};
 
 use crate::back::{Runner, run_back};
-use crate::channels::{MailPass, MailSender};
+use crate::channels::{MailPass, MailSeat, MailSender};
 use crate::desk::run_desk;
-use crate::entries::{EntryPass, EntryReceiver};
+use crate::entries::{EntryPass, EntryReceiver, EntrySeat};
 use crate::net::{run_keys, run_net};
 use crate::parties::Gate;
 use std::alloc::Global;
@@ -105,6 +105,13 @@ impl<J: Job> Promise<Option<MailPass>> for BackSays<J> {
         AreSteps J.fresh J.steps (ids_of p.line.value.items) (view pass)) };
 }
 
+/// The gate, and the flag that tells to stop.
+#[derive(Drop)]
+pub(crate) struct Watch<G> {
+    pub(crate) gate: Arc<G, Global>,
+    pub(crate) stop: Arc<AtomicBool, Global>,
+}
+
 /// Starts the thread that reads. `None` where it can't be started.
 pub(crate) fn start_net<
     R: Threads + Wait + Copy + Send + 'static,
@@ -113,15 +120,15 @@ pub(crate) fn start_net<
 >(
     rt: R,
     alloc: Global,
-    to: MailSender,
-    pass: MailPass,
+    seat: MailSeat,
     reader: Rd,
     gate: Arc<G, Global>,
 ) -> Option<PromisedHandle<Option<MailPass>, NetSays<Rd>>>
-    requires mailbox { IsSeatAt (sends_on to) pass × (view pass ≡ sender Net []) }
-    ensures { IfSome result (λ h. (sends_on h.promise.to.value ≡ sends_on to) ×
+    requires mailbox { IsSeatAt (sends_on seat.to) seat.pass × (view seat.pass ≡ sender Net []) }
+    ensures { IfSome result (λ h. (sends_on h.promise.to.value ≡ sends_on seat.to) ×
         (h.promise.reader.value ≡ reader)) }
 {
+    let MailSeat { to, pass } = seat;
     let promise = NetSays {
         to: Snapshot::of(&to),
         reader: Snapshot::of(&reader),
@@ -145,16 +152,16 @@ pub(crate) fn start_keys<
 >(
     rt: R,
     alloc: Global,
-    to: MailSender,
-    pass: MailPass,
+    seat: MailSeat,
     reader: Rd,
-    stop: Arc<AtomicBool, Global>,
-    gate: Arc<G, Global>,
+    watch: Watch<G>,
 ) -> Option<PromisedHandle<Option<MailPass>, KeysSays<Rd>>>
-    requires mailbox { IsSeatAt (sends_on to) pass × (view pass ≡ sender Keys []) }
-    ensures { IfSome result (λ h. (sends_on h.promise.to.value ≡ sends_on to) ×
+    requires mailbox { IsSeatAt (sends_on seat.to) seat.pass × (view seat.pass ≡ sender Keys []) }
+    ensures { IfSome result (λ h. (sends_on h.promise.to.value ≡ sends_on seat.to) ×
         (h.promise.reader.value ≡ reader)) }
 {
+    let MailSeat { to, pass } = seat;
+    let Watch { gate, stop } = watch;
     let promise = KeysSays {
         to: Snapshot::of(&to),
         reader: Snapshot::of(&reader),
@@ -178,20 +185,21 @@ pub(crate) fn start_desk<
 >(
     rt: R,
     alloc: Global,
-    to: MailSender,
-    from: EntryReceiver,
-    pass: MailPass,
-    hand: EntryPass,
+    seat: MailSeat,
+    entries: EntrySeat,
     id: JobId,
     job: J,
     gate: Arc<G, Global>,
 ) -> Option<PromisedHandle<Option<(MailPass, EntryPass)>, DeskSays<J>>>
-    requires mailbox { IsSeatAt (sends_on to) pass × (view pass ≡ sender Desk []) }
-    requires entries { IsSeatAt (receives_on from) hand × (view hand ≡ taker []) }
+    requires mailbox { IsSeatAt (sends_on seat.to) seat.pass × (view seat.pass ≡ sender Desk []) }
+    requires entries { IsSeatAt (receives_on entries.from) entries.pass ×
+        (view entries.pass ≡ taker []) }
     requires fresh { J.fresh job }
-    ensures { IfSome result (λ h. (sends_on h.promise.to.value ≡ sends_on to) ×
-        (receives_on h.promise.from.value ≡ receives_on from) × (h.promise.id ≡ id)) }
+    ensures { IfSome result (λ h. (sends_on h.promise.to.value ≡ sends_on seat.to) ×
+        (receives_on h.promise.from.value ≡ receives_on entries.from) × (h.promise.id ≡ id)) }
 {
+    let MailSeat { to, pass } = seat;
+    let EntrySeat { from, pass: hand } = entries;
     let promise = DeskSays {
         to: Snapshot::of(&to),
         from: Snapshot::of(&from),
@@ -218,18 +226,18 @@ pub(crate) fn start_back<
 >(
     rt: R,
     alloc: Global,
-    to: MailSender,
-    pass: MailPass,
+    seat: MailSeat,
     line: VecDeque<Runner<J>>,
     tostop: bool,
-    stop: Arc<AtomicBool, Global>,
-    gate: Arc<G, Global>,
+    watch: Watch<G>,
 ) -> Option<PromisedHandle<Option<MailPass>, BackSays<J>>>
-    requires mailbox { IsSeatAt (sends_on to) pass × (view pass ≡ sender Back []) }
+    requires mailbox { IsSeatAt (sends_on seat.to) seat.pass × (view seat.pass ≡ sender Back []) }
     requires jobs { IsLine J.fresh line.items }
-    ensures { IfSome result (λ h. (sends_on h.promise.to.value ≡ sends_on to) ×
+    ensures { IfSome result (λ h. (sends_on h.promise.to.value ≡ sends_on seat.to) ×
         (ids_of h.promise.line.value.items ≡ ids_of line.items)) }
 {
+    let MailSeat { to, pass } = seat;
+    let Watch { gate, stop } = watch;
     let promise = BackSays {
         to: Snapshot::of(&to),
         line: Snapshot::of(&line),
@@ -243,5 +251,91 @@ pub(crate) fn start_back<
     match thread::spawn_with(&rt, promise, work) {
         Ok(handle) => Some(handle),
         Err(_) => None,
+    }
+}
+
+/// The threads of a session that were started.
+pub(crate) struct Started<Rd: Source, J: Job> {
+    pub(crate) net: PromisedHandle<Option<MailPass>, NetSays<Rd>>,
+    pub(crate) desk: PromisedHandle<Option<(MailPass, EntryPass)>, DeskSays<J>>,
+    pub(crate) back: PromisedHandle<Option<MailPass>, BackSays<J>>,
+}
+
+/// What the threads of a session give back.
+#[derive(Drop)]
+pub(crate) struct Returned {
+    pub(crate) net: MailPass,
+    pub(crate) desk: MailPass,
+    pub(crate) took: EntryPass,
+    pub(crate) back: MailPass,
+}
+
+impl<Rd: Source, J: Job> Started<Rd, J> {
+    /// Joins them all. `None` where a channel of one had no other end.
+    pub(crate) fn join<R: Threads + Wait>(self, rt: &R) -> Option<Returned>
+        ensures net { IfSome result (λ r. IsSeatAt (sends_on self.net.promise.to.value) r.net ×
+            NetSends (Rd.remaining self.net.promise.reader.value) (Rd.foretold self.net.promise.reader.value)
+            (view r.net)) }
+        ensures desk { IfSome result (λ r. IsSeatAt (sends_on self.desk.promise.to.value) r.desk ×
+            IsSeatAt (receives_on self.desk.promise.from.value) r.took ×
+            IsTalk self.desk.promise.id J.fresh J.reacts (view r.desk) (view r.took)) }
+        ensures back { IfSome result (λ r. IsSeatAt (sends_on self.back.promise.to.value) r.back ×
+            AreSteps J.fresh J.steps (ids_of self.back.promise.line.value.items) (view r.back)) }
+    {
+        let Started { net, desk, back } = self;
+        let net = net.join(rt);
+        let desk = desk.join(rt);
+        let back = back.join(rt);
+        let Some(net) = net else {
+            return None;
+        };
+        let Some((desk, took)) = desk else {
+            return None;
+        };
+        let Some(back) = back else {
+            return None;
+        };
+        Some(Returned {
+            net,
+            desk,
+            took,
+            back,
+        })
+    }
+}
+
+/// The threads of a client's session that were started.
+pub(crate) struct ClientStarted<N: Source, K: Source> {
+    pub(crate) net: PromisedHandle<Option<MailPass>, NetSays<N>>,
+    pub(crate) keys: PromisedHandle<Option<MailPass>, KeysSays<K>>,
+}
+
+/// What the threads of a client's session give back.
+#[derive(Drop)]
+pub(crate) struct ClientReturned {
+    pub(crate) net: MailPass,
+    pub(crate) keys: MailPass,
+}
+
+impl<N: Source, K: Source> ClientStarted<N, K> {
+    /// Joins them both. `None` where the mailbox had no other end for one.
+    pub(crate) fn join<R: Threads + Wait>(self, rt: &R) -> Option<ClientReturned>
+        ensures net { IfSome result (λ r. IsSeatAt (sends_on self.net.promise.to.value) r.net ×
+            NetSends (N.remaining self.net.promise.reader.value) (N.foretold self.net.promise.reader.value)
+            (view r.net)) }
+        ensures keys { IfSome result (λ r. IsSeatAt (sends_on self.keys.promise.to.value) r.keys ×
+            KeysSends (K.remaining self.keys.promise.reader.value) (K.foretold self.keys.promise.reader.value)
+            (view r.keys)) }
+    {
+        let ClientStarted { net, keys } = self;
+        let net = net.join(rt);
+        let keys = keys.join(rt);
+        let Some(net) = net else {
+            return None;
+        };
+        let Some(keys) = keys else {
+            return None;
+        };
+        Some(ClientReturned { net, keys })
     }
 }

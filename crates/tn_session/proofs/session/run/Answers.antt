@@ -1,26 +1,17 @@
-use Rattle.std.proofs.Common.{ℕ, List, ap, subst, ◌∙◌}
-use Rattle.crossbeam_channel.specs.Claims.{view}
+use Rattle.std.proofs.Common.{ℕ, List, IfOk, subst}
 use Rattle.tn_jobs.specs.declared.held_jobs.JobId.{JobId}
-use Rattle.tn_session.specs.Reading.{NetSends}
-use Rattle.tn_session.specs.Session.{report_of}
-use Rattle.tn_session.specs.Stepping.{AreSteps}
-use Rattle.tn_session.specs.Talk.{IsTalk}
+use Rattle.tn_session.specs.Session.{RunsOn}
 use Rattle.tn_session.specs.Turning.{ids_of}
-use Rattle.tn_session.proofs.Whole.{scheduled}
 use Rattle.tn_session.proofs.session.run.Goals as goal
 
 pub returns-clause-ran : goal.returns-clause-ran
 returns-clause-ran g c =
-    let ports = c.settle-ports.result in
-    let start = c.args.channels in
-    let begun = c.args.begun in
-    let net = c.in-Some-net.net in
-    let desk = c.in-Some-desk in
-    let back = c.in-Some-back.back in
-    let ended = c.in-Some-run_term in
-    scheduled g.J.Job.fresh g.J.Job.reacts g.J.Job.steps begun.first (ids_of begun.line.items) begun.out.items (g.Rd.Source.remaining c.args.reader) (g.Rd.Source.foretold c.args.reader) _ _ _ _ _ _ begun.term c.open.new.term c.run_term.new.term (view start.pass) (view ended.pass) (view net) (view desk.desk) (view back) (view start.hand) (view ended.hand) (view desk.took) (view ports.net) (view ports.desk) (view ports.back) (view ports.term) (view ports.put) (view ports.took) c.report.result
-    c.requires.ready.pass_is c.requires.ready.hand_is c.open.ensures.opened ended.ensures.acted
-    (subst (λ r. NetSends (g.Rd.Source.remaining r) (g.Rd.Source.foretold r) (view net)) c.in-Some.ensures.1 c.in-Some-net.ensures.1)
-    (subst (λ (id : JobId). IsTalk id g.J.Job.fresh g.J.Job.reacts (view desk.desk) (view desk.took)) c.in-Some-start_desk.ensures.2 desk.ensures.2)
-    (subst (λ (ids : List ℕ). AreSteps g.J.Job.fresh g.J.Job.steps ids (view back)) c.in-Some-start_back.ensures.1 c.in-Some-back.ensures.1)
-    c.settle-ports.ensures (c.report.ensures ∙ ap report_of c.progress.ensures)
+    let posts = c.args.posts in
+    let net = c.in-Some.net in
+    let desk = c.in-Some-start_desk.desk in
+    let back = c.in-Some-start_back.back in
+    let writer = c.args.writer.now in
+    let last = c.run_beside.new.writer in
+    let by_id = subst (λ (id : JobId). IfOk c.run_beside.result (λ r. RunsOn g.J.Job.fresh g.J.Job.reacts g.J.Job.steps id (ids_of back.promise.line.value.items) (g.Rd.Source.remaining net.promise.reader.value) (g.Rd.Source.foretold net.promise.reader.value) (g.W.Drain.contents writer) (g.W.Drain.contents last) (g.W.Drain.told writer) (g.W.Drain.told last) c.args.term.now r.0 r.1)) c.in-Some-start_desk.ensures.2 c.run_beside.ensures.ran in
+    let by_ids = subst (λ (ids : List ℕ). IfOk c.run_beside.result (λ r. RunsOn g.J.Job.fresh g.J.Job.reacts g.J.Job.steps posts.first ids (g.Rd.Source.remaining net.promise.reader.value) (g.Rd.Source.foretold net.promise.reader.value) (g.W.Drain.contents writer) (g.W.Drain.contents last) (g.W.Drain.told writer) (g.W.Drain.told last) c.args.term.now r.0 r.1)) c.in-Some-start_back.ensures.1 by_id in
+    subst (λ reader. IfOk c.run_beside.result (λ r. RunsOn g.J.Job.fresh g.J.Job.reacts g.J.Job.steps posts.first (ids_of posts.line.items) (g.Rd.Source.remaining reader) (g.Rd.Source.foretold reader) (g.W.Drain.contents writer) (g.W.Drain.contents last) (g.W.Drain.told writer) (g.W.Drain.told last) c.args.term.now r.0 r.1)) c.in-Some.ensures.1 by_ids

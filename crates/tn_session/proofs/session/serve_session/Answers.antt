@@ -9,26 +9,30 @@ use Rattle.tn_term.specs.declared.faults.SessionFault.TheVariants as fault
 use Rattle.tn_session.specs.declared.parties.Report.{Report}
 use Rattle.tn_session.specs.Turning.{ids_of}
 use Rattle.tn_session.proofs.Ending.{may_come, heard_of_reader, took_all, takes_entries, read_cause, write_cause}
+use Rattle.tn_session.proofs.Whole.{map_ok}
 use Rattle.tn_session.proofs.session.serve_session.Goals as goal
 
-pub returns-in-Ok-run-clause-ran : goal.returns-in-Ok-run-clause-ran
-returns-in-Ok-run-clause-ran g c =
+pub returns-clause-ran : goal.returns-clause-ran
+returns-clause-ran g c = map_ok c.run_begun.result _ _ (λ r ran.
     let canon : Canon = record { settings = c.args.settings; limit = c.args.limit } in
-    let made = c.in_ok-made.made in
-    let s = c.in-Ok-run.ensures.ran canon c.args.editing made.table c.in-Ok.ensures.at c.in-Ok.ensures.out in
-    let report = c.in-Ok-run.ran.0 in
-    let front = taken_are_front s.taken s.took_first.0 s.run.puts s.run.history s.took_first.1 (puts_are_front s.wrote_opening canon c.args.editing made.table s.marked s.run s.runs) in
-    let hears = c.pieces_are_heard.ensures s.wrote_opening canon c.args.editing made.table s.marked s.run s.runs in
-    let hung = λ (e : report.ended ≡ HangUp). c.all_goes_before_a_hang_up.ensures s.wrote_opening canon c.args.editing made.table made.first.0 s.marked s.run s.runs (sym (ap (λ (r : Report). r.ended) s.report_is) ∙ e) c.in_ok-made.ensures.made.numbered.foreground (may_come s) in
+    let begun = c.in_ok-begun.begun in
+    let is = c.in_ok-begun.ensures.begun in
+    let jobs = is.jobs in
+    let posts = begun.posts in
+    let s = ran canon c.args.editing jobs is.at is.words in
+    let report = r.0 in
+    let front = taken_are_front s.taken s.took_first.0 s.run.puts s.run.history s.took_first.1 (puts_are_front s.wrote_opening canon c.args.editing jobs s.marked s.run s.runs) in
+    let hears = c.pieces_are_heard.ensures s.wrote_opening canon c.args.editing jobs s.marked s.run s.runs in
+    let hung = λ (e : report.ended ≡ HangUp). c.all_goes_before_a_hang_up.ensures s.wrote_opening canon c.args.editing jobs posts.first.0 s.marked s.run s.runs (sym (ap (λ (r : Report). r.ended) s.report_is) ∙ e) is.numbered.foreground (may_come s) in
     let heard = heard_of_reader s hears hung in
     let all = λ (e : report.ended ≡ HangUp). took_all s (hung e) in
-    let begin = run_after_opening s.wrote_opening (start canon c.args.editing made.table) in
-    let caused = λ (f : SessionFault) (e : report.ended ≡ Fault f). c.faults_have_causes.ensures s.wrote_opening canon c.args.editing made.table s.marked s.run f s.runs (sym (ap (λ (r : Report). r.ended) s.report_is) ∙ e) in
+    let begin = run_after_opening s.wrote_opening (start canon c.args.editing jobs) in
+    let caused = λ (f : SessionFault) (e : report.ended ≡ Fault f). c.faults_have_causes.ensures s.wrote_opening canon c.args.editing jobs s.marked s.run f s.runs (sym (ap (λ (r : Report). r.ended) s.report_is) ∙ e) in
     record {
-      jobs = made.table;
-      first = made.first;
-      others = ids_of made.line.items;
-      numbered = c.in_ok-made.ensures.made.numbered;
+      jobs = jobs;
+      first = posts.first;
+      others = ids_of posts.line.items;
+      numbered = is.numbered;
       schedule = s;
       heard = heard;
       in_order = front;
@@ -37,4 +41,5 @@ returns-in-Ok-run-clause-ran g c =
       caused = caused;
       read_failed = λ e. read_cause s begin (caused fault.Read e);
       write_failed = λ e. write_cause s begin (caused fault.Write e);
-    }
+    })
+    c.run_begun.ensures.ran
