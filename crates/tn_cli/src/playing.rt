@@ -1,21 +1,23 @@
 //! The commands of a script, done in a world.
 
-ghost use Rattle.std.specs.Prelude.{◌≡◌, ◌≢◌, ◌++◌, [], ◌∷◌, ◌↔◌, IfOk, OnOk, OnErr, IsErrOf, Err, map, IsTrue};
+ghost use Rattle.std.specs.Prelude.{◌≡◌, ◌≢◌, ◌++◌, [], ◌∷◌, ◌↔◌, IfOk, OnOk, OnErr, IfErr, IsErrOf, Err, map, IsTrue};
 ghost use Rattle.tn_world.specs.Headline.{NothingInFlight};
+ghost use Rattle.tn_world.specs.Worlds.{Runs};
 ghost use Rattle.tn_world.specs.declared.events.Event.TheVariants as event;
 ghost use Rattle.tn_cli.specs.Playing as play;
 ghost use Rattle.tn_cli.specs.declared.playing.Stop.TheVariants.{Bad, Refused, Memory};
 
-use crate::printed::print_entry;
+use crate::printed::{print_digits, print_entry};
 use crate::scripts::{Command, read_command};
 use std::alloc::{AllocError, Global};
-use tn_world::{Event, ToWhom, World, WorldFault};
+use std::slice;
+use tn_world::{Event, ToWhom, World};
 
 /// How often all that is in flight is delivered.
 const MOST_ROUNDS: u32 = 64;
 
 /// Why a line was not done.
-#[derive(Clone, Copy, PartialEq, Eq)]
+#[derive(Clone, Copy)]
 pub(crate) enum Stop {
     /// The line is no command.
     Bad,
@@ -23,14 +25,6 @@ pub(crate) enum Stop {
     Refused,
     /// There was no memory for what it needs outside the world.
     Memory,
-}
-
-impl From<WorldFault> for Stop {
-    ghost from_gives = { λ _ stop. stop ≡ Refused };
-
-    fn from(_fault: WorldFault) -> Stop {
-        Stop::Refused
-    }
 }
 
 impl From<AllocError> for Stop {
@@ -58,10 +52,7 @@ pub(crate) fn play_line(
         return Ok(());
     }
     match read_command(alloc, line)? {
-        Some(command) => {
-            perform(alloc, world, command, out)?;
-            Ok(())
-        },
+        Some(command) => perform(alloc, world, &command, out),
         None => Err(Stop::Bad),
     }
 }
@@ -70,46 +61,33 @@ pub(crate) fn play_line(
 fn perform(
     alloc: Global,
     world: &mut World,
-    command: Command,
+    command: &Command,
     out: &mut Vec<u8>,
 ) -> Result<(), Stop>
     ensures ok { OnOk result
-        (play.Prints (play.RunsCommand world.old command) out.old.items out.new.items world.new) }
+        (play.Prints (play.RunsCommand world.old command.now) out.old.items out.new.items world.new) }
     ensures refused { IsErrOf result Refused →
-        play.RefusesCommand world.old command × (out.new.items ≡ out.old.items) }
+        play.RefusesCommand world.old command.now × (out.new.items ≡ out.old.items) }
     ensures not_bad { result ≢ Err Bad }
 {
     match command {
-        Command::Keys(keys) => {
-            let events = keys_typed(alloc, keys.as_slice())?;
-            world.run(&events)?;
-            Ok(())
-        },
-        Command::Happen(event) => {
-            world.run(&[event])?;
-            Ok(())
-        },
-        Command::Settle => {
-            settle(world)?;
-            Ok(())
-        },
-        Command::Take => {
-            take(alloc, world, out)?;
-            Ok(())
-        },
-        Command::Mark => {
-            mark(world, out)?;
-            Ok(())
-        },
-        Command::Flight => {
-            print_flight(alloc, world, out)?;
-            Ok(())
-        },
-        Command::Shown => {
-            print_bytes(alloc, b"shown ", world.shown(), out)?;
-            Ok(())
-        },
+        Command::Keys(keys) => type_keys(alloc, world, keys.as_slice()),
+        Command::Happen(event) => run(world, slice::from_ref(event)),
+        Command::Settle => settle(world),
+        Command::Take => take(alloc, world, out),
+        Command::Mark => mark(world, out),
+        Command::Flight => print_flight(alloc, world, out),
+        Command::Shown => print_bytes(alloc, b"shown ", world.shown(), out),
     }
+}
+
+fn type_keys(alloc: Global, world: &mut World, keys: &[u8]) -> Result<(), Stop>
+    ensures ok { OnOk result (Runs world.old (map event.Key keys.now) world.new) }
+    ensures refused { IsErrOf result Refused → play.RefusesEvents world.old (map event.Key keys.now) }
+    ensures not_bad { result ≢ Err Bad }
+{
+    let events = keys_typed(alloc, keys)?;
+    run(world, &events)
 }
 
 fn keys_typed(alloc: Global, keys: &[u8]) -> Result<Vec<Event>, AllocError>
@@ -122,10 +100,30 @@ fn keys_typed(alloc: Global, keys: &[u8]) -> Result<Vec<Event>, AllocError>
     Ok(events)
 }
 
+fn run_event(world: &mut World, next: Event) -> Result<(), Stop>
+    ensures ok { OnOk result (Runs world.old (next ∷ []) world.new) }
+    ensures err { OnErr result (play.RefusesEvents world.old (next ∷ [])) }
+    ensures refused { IfErr result (λ stop. stop ≡ Refused) }
+{
+    run(world, slice::from_ref(&next))
+}
+
+fn run(world: &mut World, events: &[Event]) -> Result<(), Stop>
+    ensures ok { OnOk result (Runs world.old events.now world.new) }
+    ensures err { OnErr result (play.RefusesEvents world.old events.now) }
+    ensures refused { IfErr result (λ stop. stop ≡ Refused) }
+{
+    match world.run(events) {
+        Ok(()) => Ok(()),
+        Err(_) => Err(Stop::Refused),
+    }
+}
+
 // Delivers all that is in flight, until nothing is.
-fn settle(world: &mut World) -> Result<(), WorldFault>
+fn settle(world: &mut World) -> Result<(), Stop>
     ensures ok { OnOk result (play.Settles world.old world.new) }
     ensures err { OnErr result (play.RefusesToSettle world.old) }
+    ensures refused { IfErr result (λ stop. stop ≡ Refused) }
 {
     for _round in 0..MOST_ROUNDS {
         if is_quiet(world) {
@@ -142,15 +140,15 @@ fn is_quiet(world: &World) -> bool
     world.in_flight(ToWhom::Server).is_empty() && world.in_flight(ToWhom::Client).is_empty()
 }
 
-fn deliver(world: &mut World) -> Result<(), WorldFault>
+fn deliver(world: &mut World) -> Result<(), Stop>
     ensures ok { OnOk result (play.Delivers world.old world.new) }
     ensures err { OnErr result (play.RefusesRound world.old) }
+    ensures refused { IfErr result (λ stop. stop ≡ Refused) }
 {
     let returning = world.in_flight(ToWhom::Client).len();
-    world.run(&[Event::ToClient(returning)])?;
+    run_event(world, Event::ToClient(returning))?;
     let going = world.in_flight(ToWhom::Server).len();
-    world.run(&[Event::ToServer(going)])?;
-    Ok(())
+    run_event(world, Event::ToServer(going))
 }
 
 fn take(alloc: Global, world: &mut World, out: &mut Vec<u8>) -> Result<(), Stop>
@@ -160,49 +158,53 @@ fn take(alloc: Global, world: &mut World, out: &mut Vec<u8>) -> Result<(), Stop>
     ensures not_bad { result ≢ Err Bad }
 {
     let before = world.taken().len();
-    world.run(&[Event::Take])?;
+    run_event(world, Event::Take)?;
     match world.taken().get(before) {
-        Some(entry) => print_entry(alloc, entry, out)?,
-        None => out.extend_from_slice(b"none\n")?,
+        Some(entry) => {
+            print_entry(alloc, entry, out)?;
+            Ok(())
+        },
+        None => append(out, b"none\n"),
     }
-    Ok(())
 }
 
-fn mark(world: &mut World, out: &mut Vec<u8>) -> Result<(), AllocError>
-    ensures { OnOk result (play.Prints (play.PrintsMark world.old) out.old.items out.new.items world.new) }
+fn mark(world: &mut World, out: &mut Vec<u8>) -> Result<(), Stop>
+    ensures ok { OnOk result (play.Prints (play.PrintsMark world.old) out.old.items out.new.items world.new) }
+    ensures memory { IfErr result (λ stop. stop ≡ Memory) }
 {
     if world.mark() {
-        out.extend_from_slice(b"mark true\n")?;
-        return Ok(());
+        return append(out, b"mark true\n");
     }
-    out.extend_from_slice(b"mark false\n")?;
-    Ok(())
+    append(out, b"mark false\n")
 }
 
-fn print_flight(alloc: Global, world: &World, out: &mut Vec<u8>) -> Result<(), AllocError>
-    ensures { OnOk result (out.new.items ≡ out.old.items ++ play.printed_flight world.now) }
+fn print_flight(alloc: Global, world: &World, out: &mut Vec<u8>) -> Result<(), Stop>
+    ensures ok { OnOk result (out.new.items ≡ out.old.items ++ play.printed_flight world.now) }
+    ensures memory { IfErr result (λ stop. stop ≡ Memory) }
 {
     print_bytes(alloc, b"to-server ", world.in_flight(ToWhom::Server), out)?;
-    print_bytes(alloc, b"to-client ", world.in_flight(ToWhom::Client), out)?;
-    Ok(())
+    print_bytes(alloc, b"to-client ", world.in_flight(ToWhom::Client), out)
 }
 
 // Appends a name, and some bytes in hexadecimal or a dash.
-fn print_bytes(
-    alloc: Global,
-    name: &[u8],
-    bytes: &[u8],
-    out: &mut Vec<u8>,
-) -> Result<(), AllocError>
-    ensures { OnOk result (out.new.items ≡ out.old.items ++ (name.now ++ play.printed_bytes bytes.now)) }
+fn print_bytes(alloc: Global, name: &[u8], bytes: &[u8], out: &mut Vec<u8>) -> Result<(), Stop>
+    ensures ok { OnOk result (out.new.items ≡ out.old.items ++ (name.now ++ play.printed_bytes bytes.now)) }
+    ensures memory { IfErr result (λ stop. stop ≡ Memory) }
 {
-    out.extend_from_slice(name)?;
+    append(out, name)?;
     if bytes.is_empty() {
-        out.extend_from_slice(b"-\n")?;
-        return Ok(());
+        return append(out, b"-\n");
     }
-    let digits = hex::encode(alloc, bytes)?;
-    out.extend_from_slice(digits.as_bytes())?;
-    out.extend_from_slice(b"\n")?;
+    print_digits(alloc, bytes, out)?;
     Ok(())
+}
+
+fn append(out: &mut Vec<u8>, text: &[u8]) -> Result<(), Stop>
+    ensures ok { OnOk result (out.new.items ≡ out.old.items ++ text.now) }
+    ensures memory { IfErr result (λ stop. stop ≡ Memory) }
+{
+    match out.extend_from_slice(text) {
+        Ok(()) => Ok(()),
+        Err(_) => Err(Stop::Memory),
+    }
 }

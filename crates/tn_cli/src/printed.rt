@@ -1,6 +1,7 @@
 //! Entries as lines of text.
 
 ghost use Rattle.std.specs.Prelude.{◌≡◌, ◌++◌, ◌∷◌, OnOk, codes};
+ghost use Rattle.hex.specs.Hex.{encode_lower};
 ghost use Rattle.tn_cli.specs.Printed.{printed_entry, signal_line};
 
 use std::alloc::{AllocError, Global};
@@ -12,14 +13,21 @@ pub(crate) fn print_entry(alloc: Global, entry: &Entry, out: &mut Vec<u8>) -> Re
 {
     match entry {
         Entry::Text(text) => {
-            let digits = hex::encode(alloc, text.as_slice())?;
             out.extend_from_slice(b"text ")?;
-            out.extend_from_slice(digits.as_bytes())?;
-            out.extend_from_slice(b"\n")
+            print_digits(alloc, text.as_slice(), out)
         },
         Entry::Eof => out.extend_from_slice(b"eof\n"),
         Entry::Signal(sig) => out.extend_from_slice(line_of_signal(*sig)),
     }
+}
+
+/// Appends bytes in hexadecimal, and a line feed.
+pub(crate) fn print_digits(alloc: Global, bytes: &[u8], out: &mut Vec<u8>) -> Result<(), AllocError>
+    ensures { OnOk result (out.new.items ≡ out.old.items ++ (encode_lower bytes.now ++ codes "\n")) }
+{
+    let digits = hex::encode(alloc, bytes)?;
+    out.extend_from_slice(digits.as_bytes())?;
+    out.extend_from_slice(b"\n")
 }
 
 fn line_of_signal(sig: Sig) -> &'static [u8]

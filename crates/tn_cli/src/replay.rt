@@ -54,8 +54,8 @@ pub fn run_replay<R: Source, W: Drain>(
 fn entries_of_stream(alloc: Global, stream: &[u8]) -> Result<Vec<u8>, AllocError>
     ensures { IfOk result (λ output. IsReplayOf stream.now output.items) }
 {
-    let mut decoder = Decoder::new(alloc);
     let mut typing = Typing::new(alloc)?;
+    let mut decoder = Decoder::new(alloc);
     match decoder.feed_to(stream, &mut typing) {
         Ok(()) => Ok(typing.into_printed()),
         Err(_) => Err(AllocError),

@@ -1,6 +1,6 @@
 //! The lines of a world's script.
 
-ghost use Rattle.std.specs.Prelude.{◌≡◌, ◌==◌, IfOk, map, option_and_then};
+ghost use Rattle.std.specs.Prelude.{◌≡◌, ◌==◌, IfOk, bytes_eq, map, option_and_then};
 ghost use Rattle.std.specs.List.{slice_split, list_all};
 ghost use Rattle.tn_cli.specs.Scripts as script;
 
@@ -56,16 +56,17 @@ pub(crate) fn read_command(alloc: Global, line: &[u8]) -> Result<Option<Command>
     ensures { IfOk result (λ command. command ≡ script.command_of line.now) }
 {
     let words = parts(alloc, line, b' ')?;
-    match words.as_slice() {
+    command_of_words(alloc, &words)
+}
+
+fn command_of_words(alloc: Global, words: &[&[u8]]) -> Result<Option<Command>, AllocError>
+    ensures { IfOk result (λ command.
+        command ≡ script.command_of_words (map (λ word. word.now) words.now)) }
+{
+    match words {
         [verb] => Ok(alone(verb)),
-        [verb, word] => {
-            let command = with_word(alloc, verb, word)?;
-            Ok(command)
-        },
-        [verb, first, second] => {
-            let command = with_words(alloc, verb, first, second)?;
-            Ok(command)
-        },
+        [verb, word] => with_word(alloc, verb, word),
+        [verb, first, second] => with_words(alloc, verb, first, second),
         [] => Ok(None),
         [_, _, _, _, ..] => Ok(None),
     }
@@ -74,12 +75,17 @@ pub(crate) fn read_command(alloc: Global, line: &[u8]) -> Result<Option<Command>
 // The value beside the word that this one is, where it is one of them.
 macro_rules! value_of_word {
     ($word:expr; $($name:literal => $value:expr,)+) => {{
-        let word: &[u8] = $word;
-        $(if word == $name.as_slice() {
+        $(if is_word($word, $name) {
             return Some($value);
         })+
         None
     }};
+}
+
+fn is_word(word: &[u8], name: &[u8]) -> bool
+    ensures { result ≡ bytes_eq word.now name.now }
+{
+    word == name
 }
 
 fn alone(verb: &[u8]) -> Option<Command>
@@ -114,13 +120,13 @@ fn with_word(alloc: Global, verb: &[u8], word: &[u8]) -> Result<Option<Command>,
 fn with_name(verb: &[u8], name: &[u8]) -> Option<Command>
     ensures { result ≡ script.with_name verb.now name.now }
 {
-    if verb == b"wish".as_slice() {
+    if is_word(verb, b"wish") {
         return wished(name);
     }
-    if verb == b"echo".as_slice() {
+    if is_word(verb, b"echo") {
         return echoed(name);
     }
-    if verb == b"mask".as_slice() {
+    if is_word(verb, b"mask") {
         return unmasked(name);
     }
     None
@@ -172,13 +178,13 @@ fn with_number(verb: &[u8], number: usize) -> Option<Command>
 fn with_bytes(verb: &[u8], bytes: Text) -> Option<Command>
     ensures { result ≡ script.with_bytes verb.now bytes }
 {
-    if verb == b"key".as_slice() {
+    if is_word(verb, b"key") {
         return Some(Command::Keys(bytes));
     }
-    if verb == b"write".as_slice() {
+    if is_word(verb, b"write") {
         return Some(Command::Happen(Event::Write(bytes)));
     }
-    if verb == b"mask".as_slice() {
+    if is_word(verb, b"mask") {
         return masked(bytes.as_slice());
     }
     None

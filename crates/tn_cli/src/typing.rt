@@ -33,8 +33,7 @@ impl Typing {
     {
         let role = self.roles.role(key);
         if let Effect::Gives(entry) = self.line.play(role)? {
-            print_entry(self.alloc, &entry, &mut self.printed)?;
-            return Ok(());
+            return print_entry(self.alloc, &entry, &mut self.printed);
         }
         Ok(())
     }

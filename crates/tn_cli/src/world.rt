@@ -3,7 +3,9 @@
 ghost use Rattle.std.specs.Prelude.{◌≡◌, ◌≢◌, ◌<◌, ◌≤◌, ℕ, length, IfSome, OnOk, OnErr, IfOk, IsErrOf, Err, map};
 ghost use Rattle.tn_cli.specs.Playing as play;
 ghost use Rattle.tn_cli.specs.Scripts.{lines_of};
+ghost use Rattle.tn_cli.specs.Typing.{standard};
 ghost use Rattle.tn_streams.specs.Telling.{HasFailed};
+ghost use Rattle.tn_world.specs.Opened.{IsOpened};
 
 use crate::fault::CliFault;
 use crate::playing::{Stop, play_line};
@@ -82,10 +84,10 @@ fn play_script(
         play.AppendsPrint (play.EndsWith (lines_of script.now) end) printed.old.items printed.new.items) }
 {
     let lines = parts(alloc, script, b'\n')?;
-    let end = play_lines(alloc, &lines, printed)?;
-    Ok(end)
+    play_lines(alloc, &lines, printed)
 }
 
+// Does lines in a world that is opened for them.
 fn play_lines(
     alloc: Global,
     lines: &[&[u8]],
@@ -94,17 +96,31 @@ fn play_lines(
     ensures { IfOk result (λ end. play.AppendsPrint
         (play.EndsWith (map (λ line. line.now) lines.now) end) printed.old.items printed.new.items) }
 {
-    let Ok(mut world) = World::open(
+    match World::open(
         alloc,
         Settings::standard(),
         WIDTH,
         HEIGHT,
         Limit::standard(),
-    ) else {
-        return Err(AllocError);
-    };
+    ) {
+        Ok(mut world) => play_in(alloc, &mut world, lines, printed),
+        Err(_) => Err(AllocError),
+    }
+}
+
+// Does lines in this world, up to the one that ends them with a fault.
+fn play_in(
+    alloc: Global,
+    world: &mut World,
+    lines: &[&[u8]],
+    printed: &mut Vec<u8>,
+) -> Result<Option<CliFault>, AllocError>
+    requires { IsOpened standard 80 24 world.old }
+    ensures { IfOk result (λ end. play.AppendsPrint
+        (play.EndsWith (map (λ line. line.now) lines.now) end) printed.old.items printed.new.items) }
+{
     for (index, line) in lines.iter().enumerate() {
-        match play_line(alloc, &mut world, line, printed) {
+        match play_line(alloc, world, line, printed) {
             Ok(()) => {},
             Err(Stop::Bad) => return Ok(Some(CliFault::Script(index + 1))),
             Err(Stop::Refused) => return Ok(Some(CliFault::World(index + 1))),

@@ -8,8 +8,15 @@ use log::{Log, info};
 pub fn note<L: Log>(rt: &L, entered: &Result<usize, RosterFault>) {
     match entered {
         Ok(number) => info!(rt; "accepted {}", number),
-        Err(RosterFault::Full) => info!(rt; "full"),
-        Err(RosterFault::Memory) => info!(rt; "no memory"),
-        Err(RosterFault::BadLimit) => info!(rt; "bad limit"),
+        Err(fault) => info!(rt; "{}", refusal(*fault)),
+    }
+}
+
+// What a refusal is noted as.
+fn refusal(fault: RosterFault) -> &'static str {
+    match fault {
+        RosterFault::Full => "full",
+        RosterFault::Memory => "no memory",
+        RosterFault::BadLimit => "bad limit",
     }
 }

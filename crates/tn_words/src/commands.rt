@@ -1,11 +1,13 @@
 //! The command line that `tn` takes, as `clap` reads it.
 
-ghost use Rattle.std.specs.Prelude.{◌≡◌, false, IfOk, codes};
+ghost use Rattle.std.specs.Prelude.{◌≡◌, false, IfOk, codes, pos};
 ghost use Rattle.tn_words.specs.Commands.{tn, offline, plain, serve, connect, whole_rule, with_default, flag_rule};
 ghost use Rattle.tn_words.specs.Commands.{port_rule, line_rule};
 ghost use Rattle.clap.specs.Words.{app_of, new_app, rule_of, shape_of};
 ghost use Rattle.clap.specs.declared.builder.command.Command.TheViews.{out-Command};
+ghost use Rattle.clap.specs.declared.builder.value_parser.ValueParser.TheVariants as parser;
 
+use clap::builder::ValueParser;
 use clap::{Arg, ArgAction, Command, value_parser};
 use std::alloc::{AllocError, Global};
 
@@ -262,7 +264,14 @@ fn number_option<'a>(alloc: Global, whole: Whole) -> Arg<'a>
     Arg::new(alloc, whole.name)
         .long(whole.name)
         .value_name("N")
-        .value_parser(value_parser!(u32).range(i64::from(whole.least)..=i64::from(whole.most)))
+        .value_parser(reader(whole))
+}
+
+// What reads the number of such an option.
+fn reader<'a>(whole: Whole) -> ValueParser<'a>
+    ensures { result ≡ parser.Signed (pos whole.least) (pos whole.most) }
+{
+    value_parser!(u32).range(i64::from(whole.least)..=i64::from(whole.most))
 }
 
 // The same, with the number that it has where it is not given.

@@ -1,12 +1,13 @@
 use Rattle.std.proofs.Common.{[], ◌∷◌, ◌++◌, refl, sym, ap, ◌∙◌, append-nil}
+use Rattle.std.proofs.lemmas.Result.{on_ok_weaker}
 use Rattle.tn_cli.specs.Printed.{printed_entry}
 use Rattle.tn_cli.proofs.Keys.{typed_key, none_gained}
 use Rattle.tn_cli.proofs.typing.Typing.key.Goals as goal
 
 pub returns-in-Gives : goal.returns-in-Gives
 returns-in-Gives c =
-    typed_key c.args.self.now _ c.args.key c.role-role.result (c.in-Gives.entry ∷ []) refl c.role-role.ensures (rw c.in-Gives.is at c.in_ok-entry.ensures.advances)
-    (c.in_ok-print_entry.ensures ∙ ap (λ xs. c.args.self.now.printed.items ++ xs) (sym (append-nil (printed_entry c.in-Gives.entry))))
+    on_ok_weaker c.print_entry.result (λ printed. typed_key c.args.self.now _ c.args.key c.role-role.result (c.in-Gives.entry ∷ []) refl c.role-role.ensures (rw c.in-Gives.is at c.in_ok-entry.ensures.advances)
+    (printed ∙ ap (λ xs. c.args.self.now.printed.items ++ xs) (sym (append-nil (printed_entry c.in-Gives.entry))))) c.print_entry.ensures
 
 pub returns : goal.returns
 returns c =
