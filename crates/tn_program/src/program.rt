@@ -1,6 +1,7 @@
 //! The program: words and streams in, a status out.
 
-ghost use Rattle.std.specs.Prelude.{◌≡◌, ◌≢◌, IfOk, IsOk, OnOk, map, string_bytes};
+ghost use Rattle.std.specs.Prelude.{◌≡◌, ◌≢◌, IfErr, IfOk, IsOk, OnOk, map, string_bytes};
+ghost use Rattle.std.specs.IoError.{error_kind};
 ghost use Rattle.tn_cli.specs.Faults.{status_after};
 ghost use Rattle.tn_program.specs.Runs.{RunsAsked, DoesAsAsked};
 ghost use Rattle.tn_program.specs.Statuses.{status_after_sessions};
@@ -34,6 +35,8 @@ pub fn run_words<
     errors: &mut E,
 ) -> u8
     ensures had { result ≡ 0 → IsOk words }
+    ensures memory { IfErr words (λ error. error_kind error ≡ ErrorKind.OutOfMemory → result ≡ 1) }
+    ensures usage { IfErr words (λ error. error_kind error ≢ ErrorKind.OutOfMemory → result ≡ 2) }
     ensures done { result ≡ 0 → IfOk words (λ words. DoesAsAsked (map string_bytes words.items)
         (R.remaining reader) (W.contents writer.old) (W.contents writer.new)) }
 {
