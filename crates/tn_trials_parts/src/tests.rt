@@ -1,4 +1,5 @@
-//! The trials.
+//! The trials. What they compare they compare by `==` in most places, since printing both values where they
+//! differ would take most of a trial's proof.
 
 use std::alloc::Global;
 use std::process::Abort;
@@ -27,5 +28,12 @@ mod streams;
 fn plays<S: Stage>(rt: &impl Abort, alloc: Global, script: &str, wanted: &str) {
     if let Some(page) = unlike::<S>(alloc, script, wanted) {
         assert_eq!(rt; page.text(), wanted);
+    }
+}
+
+// Each script has its outcome.
+fn play_all<S: Stage>(rt: &impl Abort, alloc: Global, scripts: &[(&str, &str)]) {
+    for &(script, wanted) in scripts {
+        plays::<S>(rt, alloc, script, wanted);
     }
 }

@@ -90,22 +90,35 @@ impl Client {
     // The mode becomes this one. Where EDIT ends, what is held is sent; where it begins, the half line
     // goes on from the keys that the server edited, all of which were sent.
     fn leave(&mut self, mode: u8) {
-        if self.edits() && mode & 1 == 0 {
-            self.send_line(&[]);
-            self.trapping = self.copied(&self.roles);
-            self.plain = self.copied(&self.roles);
-            self.roles.clear();
-            self.lengths.clear();
-        } else if !self.edits() && mode & 1 == 1 {
-            self.roles = if mode & 2 != 0 {
-                self.copied(&self.trapping)
-            } else {
-                self.copied(&self.plain)
-            };
-            let length = self.half().len();
-            let _refused = self.lengths.push(length);
+        match (self.edits(), mode & 1 == 1) {
+            (true, false) => self.end_editing(),
+            (false, true) => self.begin_editing(mode & 2 != 0),
+            _ => {},
         }
         self.mode = mode;
+    }
+
+    fn end_editing(&mut self) {
+        self.send_line(&[]);
+        self.trapping = self.copied(&self.roles);
+        self.plain = self.copied(&self.roles);
+        self.roles.clear();
+        self.lengths.clear();
+    }
+
+    fn begin_editing(&mut self, is_trapping: bool) {
+        self.roles = if is_trapping {
+            self.copied(&self.trapping)
+        } else {
+            self.copied(&self.plain)
+        };
+        self.count_half();
+    }
+
+    // The half line has had its length.
+    fn count_half(&mut self) {
+        let length = self.half().len();
+        let _refused = self.lengths.push(length);
     }
 
     fn copied(&self, roles: &[Role]) -> Vec<Role> {
@@ -143,14 +156,18 @@ impl Client {
 impl Client {
     fn told_by(&mut self, params: &[u8]) {
         match params {
-            [1, mask] if *mask & 4 == 0 && *mask & 3 != self.mode => {
-                self.leave(*mask & 3);
-                say_sub(34, &[1, *mask & 3 | 4], &mut self.sent);
-            },
+            [1, mask] => self.mode_came(*mask),
             [253, 2, octets @ ..] if octets.len() <= 32 => self.masked(octets, 251),
             [254, 2] => self.masked(&[], 252),
             [3, list @ ..] if list.len() % 3 == 0 => self.listed(list),
             _ => {},
+        }
+    }
+
+    fn mode_came(&mut self, mask: u8) {
+        if mask & 4 == 0 && mask & 3 != self.mode {
+            self.leave(mask & 3);
+            say_sub(34, &[1, mask & 3 | 4], &mut self.sent);
         }
     }
 
@@ -165,17 +182,23 @@ impl Client {
         let mut answers = Vec::new(self.alloc);
         let _refused = answers.push(3);
         for triple in list.chunks(3) {
-            if let [func, modifier, value] = triple {
-                let answer = self.offered(*func, *modifier & 3, *value);
-                if *modifier & 128 == 0 {
-                    for byte in answer.iter().flatten() {
-                        let _refused = answers.push(*byte);
-                    }
-                }
-            }
+            self.answer(triple, &mut answers);
         }
         if answers.len() > 1 {
             say_sub(34, &answers, &mut self.sent);
+        }
+    }
+
+    // An acknowledgement is not answered.
+    fn answer(&mut self, triple: &[u8], answers: &mut Vec<u8>) {
+        let [func, modifier, value] = triple else {
+            return;
+        };
+        let answer = self.offered(*func, *modifier & 3, *value);
+        if let Some(answer) = answer
+            && *modifier & 128 == 0
+        {
+            let _refused = answers.extend_from_slice(&answer);
         }
     }
 
@@ -232,8 +255,7 @@ impl Client {
             self.send_line(&[]);
             self.lengths.clear();
         }
-        let length = self.half().len();
-        let _refused = self.lengths.push(length);
+        self.count_half();
     }
 
     // An ordinary byte of the forward mask, for which the line has room.
@@ -259,10 +281,18 @@ impl Client {
     }
 
     fn pass(&mut self, role: Role, key: u8) {
+        self.send_key(role, key);
+        self.show_key(key);
+    }
+
+    fn send_key(&mut self, role: Role, key: u8) {
         match role {
             Role::Signal(sig) => self.send_signal(sig),
             _ => self.send_byte(key),
         }
+    }
+
+    fn show_key(&mut self, key: u8) {
         match key {
             _ if self.options.is_on(false, 1) => {},
             10 | 13 => self.show(b"\r\n"),
@@ -311,19 +341,28 @@ impl Client {
 
     // The echo of a key that is about to join the roles, where the server has none.
     fn echo(&mut self, role: Role) {
+        if self.options.is_on(false, 1) {
+            return;
+        }
         let counted = self.half().len();
-        match role {
-            _ if self.options.is_on(false, 1) => {},
-            Role::Ordinary(_) if counted >= 254 => self.show(&[7]),
-            Role::Ordinary(byte) | Role::Eol(byte) | Role::Eol2(byte) => self.show(&[byte]),
-            Role::Nl | Role::Kill => self.show(b"\r\n"),
-            Role::Erase if counted > 0 => self.show(&[8, 32, 8]),
-            _ => {},
+        for byte in echo_of(role, counted).iter().flatten() {
+            let _refused = self.shown.push(*byte);
         }
     }
 
     /// The half line: what is kept of the keys after the last that closed a line.
     pub(crate) fn half(&self) -> Vec<u8> {
         half(self.alloc, 254, &self.roles)
+    }
+}
+
+// The echo of a key behind so many bytes of the half line.
+fn echo_of(role: Role, counted: usize) -> [Option<u8>; 3] {
+    match role {
+        Role::Ordinary(_) if counted >= 254 => [Some(7), None, None],
+        Role::Ordinary(byte) | Role::Eol(byte) | Role::Eol2(byte) => [Some(byte), None, None],
+        Role::Nl | Role::Kill => [Some(13), Some(10), None],
+        Role::Erase if counted > 0 => [Some(8), Some(32), Some(8)],
+        _ => [None; 3],
     }
 }

@@ -180,15 +180,7 @@ impl Server {
         let mut is_asked = false;
         let _refused = answers.push(3);
         for triple in list.chunks(3) {
-            if let [func, modifier, value] = triple
-                && *modifier & 128 == 0
-            {
-                is_asked |= self.asks_for_table(*func, *modifier & 3, *value);
-                let answer = self.offered(*func, *modifier & 3, *value);
-                for byte in answer.iter().flatten() {
-                    let _refused = answers.push(*byte);
-                }
-            }
+            is_asked |= self.answer(triple, &mut answers);
         }
         if answers.len() > 1 {
             say_sub(34, &answers, &mut self.sent);
@@ -196,6 +188,21 @@ impl Server {
         if is_asked {
             self.say_table();
         }
+    }
+
+    // An acknowledgement is not answered. Answers whether the table is asked for.
+    fn answer(&mut self, triple: &[u8], answers: &mut Vec<u8>) -> bool {
+        let [func, modifier, value] = triple else {
+            return false;
+        };
+        if *modifier & 128 != 0 {
+            return false;
+        }
+        let is_asked = self.asks_for_table(*func, *modifier & 3, *value);
+        if let Some(answer) = self.offered(*func, *modifier & 3, *value) {
+            let _refused = answers.extend_from_slice(&answer);
+        }
+        is_asked
     }
 
     fn asks_for_table(&mut self, func: u8, level: u8, value: u8) -> bool {

@@ -50,17 +50,17 @@ fn pull_at_both(
 ) {
     let mut symbols = Vec::new(alloc);
     let _refused = pair.pull(most, &mut symbols);
-    assert_eq!(rt; symbols, plain.pull(most));
+    assert!(rt; symbols == plain.pull(most));
 }
 
 fn write_at_both(rt: &impl Abort, pair: &mut Pair, plain: &mut Terminal, count: usize) {
     let output = OUTPUT.get(..count).unwrap_or(&[]);
-    assert_eq!(rt; pair.write(output), plain.write(output));
+    assert!(rt; pair.write(output) == plain.write(output));
 }
 
 fn take_at_both(rt: &impl Abort, pair: &mut Pair, plain: &mut Terminal) {
     let is_found = pair.take().is_some();
-    assert_eq!(rt; is_found, plain.take());
+    assert!(rt; is_found == plain.take());
 }
 
 // Some call at both.
@@ -77,8 +77,8 @@ fn step(rt: &impl Abort, alloc: Global, pair: &mut Pair, plain: &mut Terminal, d
 }
 
 fn are_alike(rt: &impl Abort, pair: &Pair, plain: &Terminal) {
-    assert_eq!(rt; pair.half(), plain.half().as_slice());
-    assert_eq!(rt; pair.waiting(0), plain.entries().get(plain.taken()));
+    assert!(rt; pair.half() == plain.half().as_slice());
+    assert!(rt; pair.waiting(0) == plain.entries().get(plain.taken()));
 }
 
 #[test]

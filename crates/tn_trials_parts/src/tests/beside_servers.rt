@@ -4,7 +4,7 @@ use crate::plain::server::Server;
 use std::alloc::Global;
 use std::process::Abort;
 use tn_codes::Func;
-use tn_discipline::{Entry, Limit, Settings};
+use tn_discipline::{Entry, Limit, Settings, Sig};
 use tn_plain::chance::Dice;
 use tn_pty::PtyFault;
 use tn_server::{Editing, ServerEnd, ServerFault};
@@ -83,6 +83,14 @@ fn settings(dice: &mut Dice) -> Settings {
     settings
 }
 
+fn editing(dice: &mut Dice) -> Editing {
+    if dice.flips() {
+        Editing::Local
+    } else {
+        Editing::Remote
+    }
+}
+
 // What a client says that has all the options.
 const JOINING: [u8; 15] = [
     255, 251, 34, 255, 251, 31, 255, 253, 3, 255, 251, 3, 255, 253, 1,
@@ -130,25 +138,25 @@ impl Trial {
 
     fn take(&mut self, rt: &impl Abort) -> Result<(), ServerFault> {
         let entry = self.end.take(&mut self.sent)?;
-        assert_eq!(rt; entry.is_some(), self.plain.take());
+        assert!(rt; entry.is_some() == self.plain.take());
         let _refused = self.taken.extend(entry);
         Ok(())
     }
 
     fn write(&mut self, rt: &impl Abort, bytes: &[u8]) {
         let count = self.plain.terminal.write(bytes);
-        assert_eq!(rt; self.end.write(bytes), count);
+        assert!(rt; self.end.write(bytes) == count);
     }
 
     fn pull(&mut self, rt: &impl Abort, most: usize) -> Result<(), ServerFault> {
         let count = self.end.pull(most, &mut self.sent)?;
-        assert_eq!(rt; count, self.plain.pull(most));
+        assert!(rt; count == self.plain.pull(most));
         Ok(())
     }
 
     fn wish(&mut self, rt: &impl Abort, editing: Editing) -> Result<(), ServerFault> {
         let is_sent = self.end.wish(editing, &mut self.sent)?;
-        assert_eq!(rt; is_sent, self.plain.wish(editing));
+        assert!(rt; is_sent == self.plain.wish(editing));
         Ok(())
     }
 
@@ -156,7 +164,7 @@ impl Trial {
         let func = Func::from_code(func).unwrap_or(Func::Ec);
         let set = self.end.set_char(func, value, &mut self.sent);
         let refusal = self.plain.set_char(func.code(), value);
-        assert_eq!(rt; set.err(), refusal.map(ServerFault::Char));
+        assert!(rt; set.err() == refusal.map(ServerFault::Char));
     }
 
     fn set_echo(&mut self, on: bool) -> Result<(), ServerFault> {
@@ -167,26 +175,28 @@ impl Trial {
     // Some call or none.
     fn call(&mut self, rt: &impl Abort, dice: &mut Dice) -> Result<(), ServerFault> {
         match dice.roll(16) {
+            3..=5 => self.take(rt),
+            6 | 7 => self.pull(rt, dice.roll(900)),
+            8 => self.wish(rt, editing(dice)),
+            10 => self.set_echo(dice.flips()),
+            roll => {
+                self.change(rt, roll, dice);
+                Ok(())
+            },
+        }
+    }
+
+    // What memory is not refused to.
+    fn change(&mut self, rt: &impl Abort, roll: usize, dice: &mut Dice) {
+        match roll {
             0..=2 => self.write_some(rt, dice),
-            3..=5 => self.take(rt)?,
-            6 | 7 => self.pull(rt, dice.roll(900))?,
-            8 => self.wish(
-                rt,
-                if dice.flips() {
-                    Editing::Local
-                } else {
-                    Editing::Remote
-                },
-            )?,
             9 => self.set_char(
                 rt,
                 dice.pick(&FUNCS),
                 dice.flips().then_some(dice.pick(&VALUES)),
             ),
-            10 => self.set_echo(dice.flips())?,
             _ => {},
         }
-        Ok(())
     }
 
     fn write_some(&mut self, rt: &impl Abort, dice: &mut Dice) {
@@ -198,11 +208,10 @@ impl Trial {
     }
 
     fn assert_alike(&self, rt: &impl Abort) {
-        assert_eq!(rt; self.sent, self.plain.sent);
-        assert_eq!(rt; self.end.mode(), self.plain.mode);
-        assert_eq!(rt; self.end.size(), self.plain.size);
-        assert_eq!(rt; self.end.half(), self.plain.terminal.half().as_slice());
-        assert_eq!(rt; self.taken.len(), self.plain.terminal.taken());
+        assert!(rt; self.sent == self.plain.sent);
+        assert!(rt; self.end.mode() == self.plain.mode && self.end.size() == self.plain.size);
+        assert!(rt; self.end.half() == self.plain.terminal.half().as_slice());
+        assert!(rt; self.taken.len() == self.plain.terminal.taken());
         self.assert_entries(rt, &self.plain.terminal.entries());
     }
 
@@ -210,45 +219,58 @@ impl Trial {
     fn assert_entries(&self, rt: &impl Abort, entries: &[Entry]) {
         let count = entries.len().min(self.taken.len());
         let (taken, waiting) = entries.split_at(count);
-        assert_eq!(rt; self.taken.as_slice(), taken);
-        for (index, entry) in waiting.iter().enumerate() {
-            assert_eq!(rt; self.end.waiting(index), Some(entry));
-        }
-        assert_eq!(rt; self.end.waiting(waiting.len()), None);
-        let signal = waiting.iter().find_map(|entry| match entry {
-            Entry::Signal(sig) => Some(*sig),
-            _ => None,
-        });
-        assert_eq!(rt; self.end.signal_waiting(), signal);
+        assert!(rt; self.taken.as_slice() == taken);
+        wait(rt, &self.end, waiting);
+    }
+}
+
+// These entries wait, and no more.
+fn wait(rt: &impl Abort, end: &ServerEnd, entries: &[Entry]) {
+    for (index, entry) in entries.iter().enumerate() {
+        assert!(rt; end.waiting(index) == Some(entry));
+    }
+    assert!(rt; end.waiting(entries.len()).is_none());
+    assert!(rt; end.signal_waiting() == entries.iter().find_map(signal_of));
+}
+
+fn signal_of(entry: &Entry) -> Option<Sig> {
+    match entry {
+        Entry::Signal(sig) => Some(*sig),
+        _ => None,
     }
 }
 
 // A piece comes, and some call is made. Answers whether the end goes on.
 fn go_on(rt: &impl Abort, trial: &mut Trial, dice: &mut Dice) -> bool {
     if let Err(fault) = trial.feed(dice) {
-        assert_eq!(rt; fault, ServerFault::Pty(PtyFault::TooFarAhead));
+        assert!(rt; fault == ServerFault::Pty(PtyFault::TooFarAhead));
         return false;
     }
     let called = trial.call(rt, dice);
-    assert_eq!(rt; called, Ok(()));
+    assert!(rt; called.is_ok());
     true
 }
 
-// One end with so many pieces, and calls between them, as long as it is not too far ahead.
+// One end.
 fn run_beside(rt: &impl Abort, alloc: Global, dice: &mut Dice) -> Result<(), ServerFault> {
     let mut trial = Trial::start(alloc, settings(dice))?;
+    live(rt, &mut trial, dice);
+    Ok(())
+}
+
+// So many pieces, and calls between them, as long as the end is not too far ahead.
+fn live(rt: &impl Abort, trial: &mut Trial, dice: &mut Dice) {
     if dice.flips() {
         say(&JOINING, &mut trial.stream);
     }
     for count in 0..100 {
-        if !go_on(rt, &mut trial, dice) {
-            return Ok(());
+        if !go_on(rt, trial, dice) {
+            return;
         }
         if count % 33 == 0 {
             trial.assert_alike(rt);
         }
     }
-    Ok(())
 }
 
 #[test]

@@ -1,6 +1,6 @@
 //! A client end: what it sends, and what its user sees.
 
-use super::plays;
+use super::play_all;
 use std::alloc::Global;
 use tn_client::{ClientEnd, ClientFault};
 use tn_discipline::Limit;
@@ -111,122 +111,83 @@ impl Client {
     }
 }
 
-#[test]
-fn a_client_joins_and_tells_its_size(rt: HostRuntime) {
-    plays::<Client>(
-        &rt,
-        rt.alloc(),
+const ANSWERS: &[(&str, &str)] = &[
+    // A client joins and tells its size.
+    (
         "resize 255 24; resize 80 24; feed fffd22fffd1ffffb03fffd03fffb01; resize 255 24; \
          resize 255 24; resize 80 24; ours 34; ours 1; failed",
         "sent fffb22fffb1ffffa1f00500018fff0fffd03fffb03fffd01; sent fffa1f00ffff0018fff0; \
          sent fffa1f00500018fff0; Yes; No; false",
-    );
-}
-
-#[test]
-fn a_client_answers_options(rt: HostRuntime) {
-    plays::<Client>(
-        &rt,
-        rt.alloc(),
+    ),
+    // A client answers options.
+    (
         "join; feed fffb63; feed fffb63; feed fffd01; feed fffb22; feed fffd22; feed fffc01",
         "sent fffe63; sent fffe63; sent fffc01; sent fffe22; sent fffe01",
-    );
-}
-
-#[test]
-fn a_client_acknowledges_a_mode_that_is_new(rt: HostRuntime) {
-    plays::<Client>(
-        &rt,
-        rt.alloc(),
+    ),
+    // A client acknowledges a mode that is new.
+    (
         "join; feed fffa220103fff0; feed fffa220103fff0; feed fffa220113fff0; feed fffa220104fff0; \
          feed fffa220101fff0; feed fffa220100fff0; feed fffa220102fff0; mode",
         "sent fffa220107fff0; sent fffa220105fff0; sent fffa220104fff0; sent fffa220106fff0; 2",
-    );
-}
-
-#[test]
-fn a_client_takes_a_forward_mask_and_drops_it(rt: HostRuntime) {
-    plays::<Client>(
-        &rt,
-        rt.alloc(),
+    ),
+    // A client takes a forward mask and drops it.
+    (
         "join; feed fffa22fd0208fff0; feed fffa22fe02fff0",
         "sent fffa22fb02fff0; sent fffa22fc02fff0",
-    );
-}
-
-#[test]
-fn held_bytes_are_sent_where_editing_ends(rt: HostRuntime) {
-    plays::<Client>(
-        &rt,
-        rt.alloc(),
-        "join; edit; keys 61ff; half; ahead; feed fffa220102fff0; half; feed fffa220103fff0; keys 7879; \
-         feed fffe22; mode; half; feed fffa220103fff0",
-        "shown 61ff; half 61ff; 0; sent 61fffffffa220106fff0; half; sent fffa220107fff0; shown 7879; \
-         sent 7879fffc22; 0; half",
-    );
-}
-
-#[test]
-fn keys_are_passed_on_where_the_server_edits(rt: HostRuntime) {
-    plays::<Client>(
-        &rt,
-        rt.alloc(),
-        "keys 030d0aff; join; keys 617f0d",
-        "sent 030d000affff; shown 030d0a0d0aff; sent 617f0d00",
-    );
-}
-
-// A signal is echoed as any other byte then.
-#[test]
-fn signals_alone_become_commands_under_trapsig(rt: HostRuntime) {
-    plays::<Client>(
-        &rt,
-        rt.alloc(),
-        "join; edit; feed fffa220102fff0; keys 031c1a04",
-        "sent fffa220106fff0; sent fff4ffeeffed04; shown 031c1a04",
-    );
-}
-
-#[test]
-fn a_client_edits_lines(rt: HostRuntime) {
-    plays::<Client>(
-        &rt,
-        rt.alloc(),
-        "join; edit; keys 610304; keys 617f0d; keys 616215630a; keys 1c1a04; keys 254x78; keys 797a; half",
-        "sent fff461ffec; shown 61; sent 0d0a; shown 610820080d0a; sent 630d0a; shown 61620d0a630d0a; \
-         sent ffeeffedffec; shown 254x78.; shown 0707; half 254x78.",
-    );
-}
-
-// While the server echoes, a key shows nothing here.
-#[test]
-fn a_client_shows_what_the_server_writes(rt: HostRuntime) {
-    plays::<Client>(
-        &rt,
-        rt.alloc(),
-        "join; edit; feed fffb0168690d0a0d00; feed 610a62ffff630d64; keys 710d",
-        "sent fffd01; shown 68690d0a0d; shown 610a62ff630d64; sent 710d0a",
-    );
-}
-
-#[test]
-fn a_client_takes_the_characters_that_it_is_told(rt: HostRuntime) {
-    plays::<Client>(
-        &rt,
-        rt.alloc(),
+    ),
+    // A client takes the characters that it is told.
+    (
         "join; edit; feed fffa22030a0215fff0; feed fffa22030a8208fff0; feed fffa220311023bfff0; \
          feed fffa2203050214fff0; feed fffa22030a020afff0; char el; char ec; keys 6162087f3b",
         "sent fffa22030a8215fff0; sent fffa220311823bfff0; sent fffa2203050000fff0; None; Some(8); \
          sent 617f3b; shown 61620820087f3b",
-    );
-}
-
-#[test]
-fn a_proposal_changes_nothing_by_itself(rt: HostRuntime) {
-    plays::<Client>(
-        &rt,
-        rt.alloc(),
+    ),
+    // A proposal changes nothing by itself.
+    (
         "propose ao; join; propose ec 08; char ec; propose el 7f; propose el 0d; propose ao 09",
         "NotOn; sent fffa22030a0208fff0; Some(127); Char(Taken); Char(Reserved); Char(NotSettable)",
-    );
+    ),
+];
+
+#[test]
+fn a_client_answers_what_its_server_says(rt: HostRuntime) {
+    play_all::<Client>(&rt, rt.alloc(), ANSWERS);
+}
+
+const TYPING: &[(&str, &str)] = &[
+    // Held bytes are sent where editing ends.
+    (
+        "join; edit; keys 61ff; half; ahead; feed fffa220102fff0; half; feed fffa220103fff0; keys 7879; \
+         feed fffe22; mode; half; feed fffa220103fff0",
+        "shown 61ff; half 61ff; 0; sent 61fffffffa220106fff0; half; sent fffa220107fff0; shown 7879; \
+         sent 7879fffc22; 0; half",
+    ),
+    // Keys are passed on where the server edits.
+    (
+        "keys 030d0aff; join; keys 617f0d",
+        "sent 030d000affff; shown 030d0a0d0aff; sent 617f0d00",
+    ),
+    // Signals alone become commands under TRAPSIG.
+    // A signal is echoed as any other byte then.
+    (
+        "join; edit; feed fffa220102fff0; keys 031c1a04",
+        "sent fffa220106fff0; sent fff4ffeeffed04; shown 031c1a04",
+    ),
+    // A client edits lines.
+    (
+        "join; edit; keys 610304; keys 617f0d; keys 616215630a; keys 1c1a04; keys 254x78; keys 797a; half",
+        "sent fff461ffec; shown 61; sent 0d0a; shown 610820080d0a; sent 630d0a; shown 61620d0a630d0a; \
+         sent ffeeffedffec; shown 254x78.; shown 0707; half 254x78.",
+    ),
+    // A client'shows what the server writes.
+    // While the server echoes, a key shows nothing here.
+    (
+        "join; edit; feed fffb0168690d0a0d00; feed 610a62ffff630d64; keys 710d",
+        "sent fffd01; shown 68690d0a0d; shown 610a62ff630d64; sent 710d0a",
+    ),
+];
+
+#[test]
+fn a_client_sends_and_shows_what_is_typed(rt: HostRuntime) {
+    play_all::<Client>(&rt, rt.alloc(), TYPING);
 }

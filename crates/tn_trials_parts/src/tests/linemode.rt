@@ -1,6 +1,6 @@
 //! The tables of local characters, and the modes (RFC 1184).
 
-use super::plays;
+use super::play_all;
 use std::alloc::Global;
 use tn_codes::Triple;
 use tn_discipline::Chars;
@@ -126,64 +126,47 @@ impl Tables {
     }
 }
 
-#[test]
-fn a_server_takes_what_it_may(rt: HostRuntime) {
-    plays::<Tables>(
-        &rt,
-        rt.alloc(),
+const SCRIPTS: &[(&str, &str)] = &[
+    // A server takes what it may.
+    (
         "server-got 0a0203; server-got 050214; server-got 0a8208; server-got 000200; \
          server-got 008200000301000100; server-got 0a02080b0208; server-has ec; server-got 000300; \
          server-has ec; announce; set el 7f; set el 08; server-has el",
         "answers 0a027f; answers 050000; answers; asked; answers; answers; answers 0a82080b0215; Some(8); \
          asked; answers; Some(127); answers 03020307021c08020409021a0a027f0b0215110000120000; \
          Err(Taken); Ok(()); Some(8)",
-    );
-}
-
-// What a client of the world sends when LINEMODE comes on: its whole table, with the flush flags and
-// levels of its own, two terminal characters more, and then an EL that is disabled.
-#[test]
-fn a_server_bears_a_client_s_own_table(rt: HostRuntime) {
-    plays::<Tables>(
-        &rt,
-        rt.alloc(),
+    ),
+    // A server bears a client's own table.
+    // What a client of the world sends when LINEMODE comes on: its whole table, with the flush flags and
+    // levels of its own, two terminal characters more, and then an EL that is disabled.
+    (
         "server-got 01230003620304020f05021407621c08020409421a0a03000b01180c02170d02120e02160f021110021311\
          03ff120000130207c800000b1aff; server-has el",
         "answers 0100000400000500000b82180c00000d00000e00000f00001000001300000b8000; None",
-    );
-}
-
-#[test]
-fn a_client_takes_what_it_is_told(rt: HostRuntime) {
-    plays::<Tables>(
-        &rt,
-        rt.alloc(),
+    ),
+    // A client takes what it is told.
+    (
         "client-got 03020307021c080204; propose ec 08; propose ec; propose ec 0a; propose ao 0a; \
          client-got 0a0215; client-has ec; client-has el; client-got 0b820308020a08010d000300; \
          client-has ip; client-has el; client-has eof; client-got 1202091282091200090902ff130209130009",
         "answers; answers 0a0208; answers 0a0000; Reserved; NotSettable; answers 0a8215; Some(21); None; \
          answers; None; Some(3); Some(4); answers 128209128000098000130000",
-    );
-}
-
-#[test]
-fn a_mode_waits_for_its_acknowledgement(rt: HostRuntime) {
-    plays::<Tables>(
-        &rt,
-        rt.alloc(),
+    ),
+    // A mode waits for its acknowledgement.
+    (
         "wish 3; wish 3; server-modes; server-hears 7; server-hears 1; server-hears 26; server-modes; \
          wish 8; reset; server-modes",
         "Some(3); None; 3; 0; None; Some(true); Some(false); 3; 3; Some(0); 0; 0",
-    );
-}
-
-#[test]
-fn a_client_acknowledges_what_changes(rt: HostRuntime) {
-    plays::<Tables>(
-        &rt,
-        rt.alloc(),
+    ),
+    // A client acknowledges what changes.
+    (
         "client-hears 3; client-hears 19; client-hears 7; client-mode; client-hears 0; client-hears 1; \
          reset; client-mode",
         "Some(7); None; None; 3; Some(4); Some(5); 0",
-    );
+    ),
+];
+
+#[test]
+fn tables_and_modes_stand_as_they_were_told(rt: HostRuntime) {
+    play_all::<Tables>(&rt, rt.alloc(), SCRIPTS);
 }

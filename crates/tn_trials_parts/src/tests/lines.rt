@@ -1,6 +1,6 @@
 //! The half line, the roles of its keys, and their echo.
 
-use super::plays;
+use super::play_all;
 use std::alloc::{AllocError, Global};
 use tn_discipline::{
     Effect, Limit, Line, Settings, Sig, Symbol, echo_of, role_of, role_of_literal,
@@ -151,73 +151,51 @@ fn tell(effect: &Effect, page: &mut Page) {
     }
 }
 
-#[test]
-fn a_line_gives_the_entries_of_its_keys(rt: HostRuntime) {
-    plays::<Typing>(
-        &rt,
-        rt.alloc(),
+const SCRIPTS: &[(&str, &str)] = &[
+    // A line gives the entries of its keys.
+    (
         "keys 61627f630d; keys 7f1504; keys 610404; keys 6103620a; keys 1c1a61; held; ahead; erase; \
          close-at forw2 3b; keys 61623b63; held",
         "Erased; text 61630a; Nothing; Killed(0); eof; text 61; eof; int; text 61620a; quit; tstp; held 61; 0; \
          Erased; text 61623b; held 63",
-    );
-}
-
-#[test]
-fn edited_bytes_close_a_line_at_its_closing_characters_alone(rt: HostRuntime) {
-    plays::<Typing>(
-        &rt,
-        rt.alloc(),
+    ),
+    // Edited bytes close a line at its closing characters alone.
+    (
         "close-at forw1 3b; close-at forw2 21; literal 030d; erase; literal 3b; literal 63; literal 21; erase; \
          keys 61; kill; end-of-file; keys 62; end-of-file; held; ahead",
         "Erased; text 033b; text 6321; Nothing; Killed(0); eof; text 62; held; 0",
-    );
-}
-
-#[test]
-fn bytes_that_were_handed_on_are_ahead(rt: HostRuntime) {
-    plays::<Typing>(
-        &rt,
-        rt.alloc(),
+    ),
+    // Bytes that were handed on are ahead.
+    (
         "keys 6162; release; held; ahead; keys 63; erase; erase; ahead; kill; run 616263; held; release; \
          run 251x62; run 6364; count; ahead; keys 0a",
         "released 6162; held; 2; Erased; ErasedAhead; 1; Killed(1); 3; held 616263; released 616263; \
          251; 0; 251; 3; text 251x62.0a",
-    );
-}
-
-#[test]
-fn keys_have_roles(rt: HostRuntime) {
-    plays::<Typing>(
-        &rt,
-        rt.alloc(),
+    ),
+    // Keys have roles.
+    (
         "roles 0d0a03047f15; close-at forw1 3b; close-at forw2 21; roles 3b21",
         "(Nl, Ordinary(13), false); (Nl, Nl, true); (Signal(Int), Ordinary(3), false); \
          (Eof, Ordinary(4), false); (Erase, Ordinary(127), false); (Kill, Ordinary(21), false); \
          (Eol(59), Eol(59), true); (Eol2(33), Eol2(33), true)",
-    );
-}
-
-#[test]
-fn a_line_is_full_at_its_limit(rt: HostRuntime) {
-    plays::<Typing>(
-        &rt,
-        rt.alloc(),
+    ),
+    // A line is full at its limit.
+    (
         "keys 254x61; keys 62; count; keys 7f0d; limit 4095; keys 4094x61; keys 61; count",
         "Dropped; 254; Erased; text 253x61.0a; Dropped; 4094",
-    );
-}
-
-#[test]
-fn a_key_shows_what_it_did(rt: HostRuntime) {
-    plays::<Typing>(
-        &rt,
-        rt.alloc(),
+    ),
+    // A key shows what it did.
+    (
         "echo 617f7f1503040d; close-at forw2 3b; echo 3b; keys 254x61; echo 61; silent; echo 7f62; \
          echo-newlines; echo 0a",
         "Kept itself; Erased bs sp bs; Nothing; Killed(0) nl; int; eof; text 0a nl; text 3b itself; \
          Dropped bel; Erased; Kept; text 253x61.620a nl",
-    );
+    ),
+];
+
+#[test]
+fn a_line_does_what_its_keys_say(rt: HostRuntime) {
+    play_all::<Typing>(&rt, rt.alloc(), SCRIPTS);
 }
 
 #[test]
@@ -225,18 +203,15 @@ fn a_limit_is_of_255_to_4095_bytes(rt: HostRuntime) {
     for (bytes, within) in [(254, false), (255, true), (4095, true), (4096, false)] {
         let limit = Limit::new(bytes);
         assert_eq!(rt; limit.is_some(), within, "of {bytes}");
-        assert_eq!(rt; limit.map_or(bytes, Limit::bytes), bytes);
+        assert!(rt; limit.map_or(bytes, Limit::bytes) == bytes);
     }
-    assert_eq!(rt; Limit::new(255), Some(Limit::standard()));
+    assert!(rt; Limit::new(255) == Some(Limit::standard()));
 }
 
 #[test]
 fn bytes_that_were_erased_ahead_are_wiped(rt: HostRuntime) {
     let shown = echo_of(&Effect::ErasedAhead, 127, &Settings::standard());
-    assert_eq!(rt; shown, [8, 32, 8].map(|byte| Some(Symbol::Byte(byte))));
+    assert!(rt; shown == [8, 32, 8].map(|byte| Some(Symbol::Byte(byte))));
     let signal = Effect::Gives(tn_discipline::Entry::Signal(Sig::Int));
-    assert_eq!(rt;
-        echo_of(&signal, 3, &Settings::standard()),
-        [None, None, None]
-    );
+    assert!(rt; echo_of(&signal, 3, &Settings::standard()) == [None, None, None]);
 }

@@ -1,6 +1,6 @@
 //! The engine of the Q method (RFC 1143).
 
-use super::plays;
+use super::play_all;
 use std::alloc::Global;
 use std::process::Abort;
 use tn_codes::Verb;
@@ -65,28 +65,26 @@ fn verb_of(words: Words<'_>) -> Verb {
     }
 }
 
-#[test]
-fn a_wish_queues_behind_another(rt: HostRuntime) {
-    plays::<Options>(
-        &rt,
-        rt.alloc(),
+const AT_ONE_END: &[(&str, &str)] = &[
+    // A wish queues behind another.
+    (
         "wish-on them 34; wish-on them 34; wish-off them 34; wish-off them 34; got will 34; \
          state them 34; wish-off them 3; wish-on us 99",
         "Ok(Some((DoIt, 34))); Err(AlreadyAsked); Ok(None); Err(AlreadyQueued); Some((DontIt, 34)); \
          WantNoEmpty; Err(AlreadySo); Err(UnknownOption)",
-    );
-}
-
-#[test]
-fn other_options_are_refused_each_time(rt: HostRuntime) {
-    plays::<Options>(
-        &rt,
-        rt.alloc(),
+    ),
+    // Other options are refused each time.
+    (
         "agree; got do 1; on us 1; got will 1; on them 1; got do 34; got will 31; got will 99; got do 99; \
          got wont 99; got dont 99; got will 99; state them 99",
         "Some((Will, 1)); true; Some((DontIt, 1)); false; Some((Wont, 34)); Some((DontIt, 31)); \
          Some((DontIt, 99)); Some((Wont, 99)); None; None; Some((DontIt, 99)); No",
-    );
+    ),
+];
+
+#[test]
+fn an_engine_answers_wishes_and_words(rt: HostRuntime) {
+    play_all::<Options>(&rt, rt.alloc(), AT_ONE_END);
 }
 
 // The end that performs LINEMODE, the other, and the words on their way to each.
@@ -168,33 +166,32 @@ impl TwoEnds {
     }
 }
 
-#[test]
-fn wishes_that_cross_agree(rt: HostRuntime) {
-    let script = "performer on; other on; deliver; states";
-    plays::<TwoEnds>(&rt, rt.alloc(), script, "Will; DoIt; Yes; Yes");
-}
-
-#[test]
-fn a_far_end_refuses(rt: HostRuntime) {
-    let script = "refusing; performer on; deliver; states";
-    plays::<TwoEnds>(&rt, rt.alloc(), script, "Will; DontIt; No; No");
-}
-
-#[test]
-fn a_wish_is_taken_back_before_its_answer(rt: HostRuntime) {
-    let script = "performer on; performer off; deliver; deliver; states";
-    plays::<TwoEnds>(&rt, rt.alloc(), script, "Will; DoIt; Wont; DontIt; No; No");
-}
-
-#[test]
-fn a_far_end_wishes_behind_its_refusal(rt: HostRuntime) {
-    let script = "refusing; performer on; deliver; other on; deliver; deliver; states";
-    plays::<TwoEnds>(
-        &rt,
-        rt.alloc(),
-        script,
+const AT_TWO_ENDS: &[(&str, &str)] = &[
+    // Wishes that cross agree.
+    (
+        "performer on; other on; deliver; states",
+        "Will; DoIt; Yes; Yes",
+    ),
+    // A far end refuses.
+    (
+        "refusing; performer on; deliver; states",
+        "Will; DontIt; No; No",
+    ),
+    // A wish is taken back before its answer.
+    (
+        "performer on; performer off; deliver; deliver; states",
+        "Will; DoIt; Wont; DontIt; No; No",
+    ),
+    // A far end wishes behind its refusal.
+    (
+        "refusing; performer on; deliver; other on; deliver; deliver; states",
         "Will; DontIt; DoIt; Will; Yes; Yes",
-    );
+    ),
+];
+
+#[test]
+fn two_ends_agree_once_all_words_came(rt: HostRuntime) {
+    play_all::<TwoEnds>(&rt, rt.alloc(), AT_TWO_ENDS);
 }
 
 const STATES: [QState; 6] = [
@@ -274,12 +271,12 @@ fn wanted(state: QState, cause: Cause) -> Result<Option<bool>, AskFault> {
 
 fn is_the_cell(rt: &impl Abort, side: Side, state: QState, cause: Cause) {
     let mut engine = engine_at(side, state);
-    assert_eq!(rt; engine.q_state(side, LINEMODE), state);
+    assert!(rt; engine.q_state(side, LINEMODE) == state);
     let answer = changed(&mut engine, side, cause);
     assert_eq!(rt; answer, wanted(state, cause), "at {state:?}");
     let next = cell(true, state, cause).0;
     assert_eq!(rt; engine.q_state(side, LINEMODE), next, "at {state:?}");
-    assert_eq!(rt; engine.q_state(side, NAWS), QState::No);
+    assert!(rt; engine.q_state(side, NAWS) == QState::No);
     assert!(rt; !engine.is_on(Side::Us, ECHO));
 }
 

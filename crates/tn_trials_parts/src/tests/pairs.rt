@@ -1,6 +1,6 @@
 //! A pair: keys at the master, entries at the slave, and what the screen is given.
 
-use super::plays;
+use super::play_all;
 use std::alloc::Global;
 use tn_codes::Command;
 use tn_discipline::{Entry, Limit, Settings, Symbol};
@@ -119,67 +119,45 @@ impl Master {
     }
 }
 
-#[test]
-fn a_pair_gives_entries_once_and_in_order(rt: HostRuntime) {
-    plays::<Master>(
-        &rt,
-        rt.alloc(),
+const SCRIPTS: &[(&str, &str)] = &[
+    // A pair gives entries once and in order.
+    (
         "keys 610a03; signal; waiting 1; waiting 2; take; signal; take; take; signal",
         "Some(Int); int; none; text 610a; Some(Int); int; none; None",
-    );
-}
-
-#[test]
-fn a_pair_closes_where_its_slave_is_too_far_behind(rt: HostRuntime) {
-    plays::<Master>(
-        &rt,
-        rt.alloc(),
+    ),
+    // A pair closes where its slave is too far behind.
+    (
         "keys 0a 1024; keys 61; keys 0a; keys 61; edited 61; command f1; half; waiting 1023; \
          waiting 1024; take-lines; take; write 62; queued",
         "TooFarAhead; Closed; Closed; Closed; half 61; text 0a; none; 1024; none; 1; 1026",
-    );
-}
-
-#[test]
-fn keys_are_typed_in_runs(rt: HostRuntime) {
-    plays::<Master>(
-        &rt,
-        rt.alloc(),
+    ),
+    // Keys are typed in runs.
+    (
         "run 61620a63037f64; take; take; take; half; pull 99; run 300x65; half; queued; run 0a 1025; take-lines; \
          take; take-lines; run 61",
         "text 61620a; int; none; half 64; 8 - - nl - - - - -; half 64253x65.; 300; TooFarAhead; 0; \
          text 0a; 1022; Closed",
-    );
-}
-
-#[test]
-fn commands_act_whatever_is_typed(rt: HostRuntime) {
-    plays::<Master>(
-        &rt,
-        rt.alloc(),
+    ),
+    // Commands act whatever is typed.
+    (
         "edited 61036263; command f7f4f3eeedf9; edited 0a; edited 78; command f8f8; edited 78; command f8ec; \
          take; take; take; take; take; take; take; queued",
         "int; int; quit; tstp; text 6103620a; eof; none; 0",
-    );
-}
-
-#[test]
-fn a_pair_keeps_settings_and_size(rt: HostRuntime) {
-    plays::<Master>(
-        &rt,
-        rt.alloc(),
+    ),
+    // A pair keeps settings and size.
+    (
         "size; resize 80 24; size; close-at forw2 3b; edited 3b; take; plain-newlines; write 0a; pull 9",
         "(0, 0); (80, 24); text 3b; 1; 1 lf",
-    );
-}
-
-#[test]
-fn a_pair_shows_what_fits(rt: HostRuntime) {
-    plays::<Master>(
-        &rt,
-        rt.alloc(),
+    ),
+    // A pair shows what fits.
+    (
         "command f6; pull 1; pull 9; write 4093x61; command f6; queued; keys 62; queued; keys 7f; queued; \
          silent-keys 63; queued; keys 64; queued; write 6161; queued",
         "1 -; 5 - - - - nl; 4093; 4093; 4094; 4094; 4094; 4095; 1; 4096",
-    );
+    ),
+];
+
+#[test]
+fn a_pair_does_what_its_master_and_its_slave_ask(rt: HostRuntime) {
+    play_all::<Master>(&rt, rt.alloc(), SCRIPTS);
 }

@@ -1,6 +1,6 @@
 //! A server end: what it sends, and what its job gets.
 
-use super::plays;
+use super::play_all;
 use std::alloc::Global;
 use tn_discipline::{Entry, Limit, Settings};
 use tn_option::Side;
@@ -186,23 +186,16 @@ impl Server {
     }
 }
 
-#[test]
-fn a_server_opens_and_answers_options(rt: HostRuntime) {
-    plays::<Server>(
-        &rt,
-        rt.alloc(),
+const ANSWERS: &[(&str, &str)] = &[
+    // A server opens and answers options.
+    (
         "opening; feed fffb63; feed fffb63; feed fffd63; feed fffa1f00090009fff0; size; join; size; \
          feed fffa1fffffffff0007fff0; size; feed fffc1f; feed fffa1f00090009fff0; size",
         "sent fffd22fffd1ffffb03fffd03fffb01; sent fffe63; sent fffe63; sent fffc63; (0, 0); (80, 24); \
          (65535, 7); sent fffe1f; (65535, 7)",
-    );
-}
-
-#[test]
-fn a_server_exchanges_characters(rt: HostRuntime) {
-    plays::<Server>(
-        &rt,
-        rt.alloc(),
+    ),
+    // A server exchanges characters.
+    (
         "join; feed fffa22030a0203fff0; feed fffa2203050214fff0; feed fffa22030a8208fff0; \
          feed fffa2203000200fff0; feed fffa22030a0208fff0; feed 616208; half; \
          feed fffa2203000300fff0; feed 08097f; half",
@@ -210,154 +203,102 @@ fn a_server_exchanges_characters(rt: HostRuntime) {
          sent fffa220303020307021c08020409021a0a027f0b0215110000120000fff0; \
          sent fffa22030a8208fff0; half 61; \
          sent fffa220303020307021c08020409021a0a027f0b0215110000120000fff0; half 6108",
-    );
-}
-
-#[test]
-fn a_forward_mask_is_sent_where_linemode_is_on(rt: HostRuntime) {
-    plays::<Server>(
-        &rt,
-        rt.alloc(),
+    ),
+    // A forward mask is sent where LINEMODE is on.
+    (
         "mask 08; join; mask 000000000008; mask 0000; mask off; feed fffc22; mask 08; mask off",
         "NotOn; sent fffa22fd02000000000008fff0; sent fffa22fd02fff0; sent fffa22fe02fff0; sent fffe22; \
          NotOn; NotOn",
-    );
-}
-
-// Where it has its ECHO, it wants it without its flag too.
-#[test]
-fn a_job_changes_characters(rt: HostRuntime) {
-    plays::<Server>(
-        &rt,
-        rt.alloc(),
+    ),
+    // A job changes characters.
+    // Where it has its ECHO, it wants it without its flag too.
+    (
         "join; set ec 08; set el 08; set el 0d; set ao 0d; set ec 08; echo off",
         "sent fffa22030a0208fff0; Char(Taken); Char(Reserved); Char(NotSettable)",
-    );
-}
-
-#[test]
-fn a_changed_character_is_told_once_linemode_is_on(rt: HostRuntime) {
-    plays::<Server>(
-        &rt,
-        rt.alloc(),
+    ),
+    // A changed character is told once LINEMODE is on.
+    (
         "set ec; feed fffb22",
         "sent fffa220303020307021c08020409021a0a00000b0215110000120000fff0",
-    );
-}
+    ),
+    // A subnegotiation that is cut is no mode.
+    ("join; feed fffa2201fffb63; mode", "sent fffe63; 0"),
+];
 
 #[test]
-fn a_server_edits_until_its_mode_is_acknowledged(rt: HostRuntime) {
-    plays::<Server>(
-        &rt,
-        rt.alloc(),
+fn a_server_answers_what_its_client_says(rt: HostRuntime) {
+    play_all::<Server>(&rt, rt.alloc(), ANSWERS);
+}
+
+const EDITING: &[(&str, &str)] = &[
+    // A server edits until its mode is acknowledged.
+    (
         "join; wish local; wish local; feed 61627f; mode; half; feed fffa220107fff0; mode; half; \
          feed 7f04; half; feed 0d0affecfff4; take; take; take; take",
         "true; sent fffa220103fff0fffc01; false; 0; half 61; 3; half 61; half 617f04; text 617f040a; eof; int; none",
-    );
-}
-
-#[test]
-fn a_signal_comes_before_the_line_that_the_client_edited(rt: HostRuntime) {
-    plays::<Server>(
-        &rt,
-        rt.alloc(),
+    ),
+    // A signal comes before the line that the client edited.
+    (
         "join; wish local; feed fffa220107fff0fffe01fff461ffec; take; take; take",
         "true; sent fffa220103fff0fffc01; int; text 61; none",
-    );
-}
-
-#[test]
-fn a_server_wants_its_echo_where_nobody_else_shows_keys(rt: HostRuntime) {
-    plays::<Server>(
-        &rt,
-        rt.alloc(),
+    ),
+    // A server wants its echo where nobody else shows keys.
+    (
         "join; wish local; feed fffa220107fff0fffe01; echo off; feed fffa220100fff0; mode; \
          feed fffc22; mode",
         "true; sent fffa220103fff0fffc01; sent fffb01; sent fffa220100fff0; 3; sent fffe22; 0",
-    );
-}
-
-#[test]
-fn a_wish_waits_for_linemode(rt: HostRuntime) {
-    plays::<Server>(
-        &rt,
-        rt.alloc(),
+    ),
+    // A wish waits for LINEMODE.
+    (
         "wish local; feed fffb22",
         "false; sent fffa220303020307021c08020409021a0a027f0b0215110000120000fff0fffa220103fff0",
-    );
-}
-
-#[test]
-fn a_server_that_ignores_returns_edits_by_itself(rt: HostRuntime) {
-    plays::<Server>(
-        &rt,
-        rt.alloc(),
+    ),
+    // A server that ignores returns edits by itself.
+    (
         "ignoring-returns; join; wish local; feed fffa220101fff0; echo off",
         "false",
-    );
-}
+    ),
+];
 
 #[test]
-fn a_subnegotiation_that_is_cut_is_no_mode(rt: HostRuntime) {
-    plays::<Server>(
-        &rt,
-        rt.alloc(),
-        "join; feed fffa2201fffb63; mode",
-        "sent fffe63; 0",
-    );
+fn a_server_edits_or_leaves_it_to_its_client(rt: HostRuntime) {
+    play_all::<Server>(&rt, rt.alloc(), EDITING);
 }
 
-#[test]
-fn a_server_goes_ahead_once_after_output(rt: HostRuntime) {
-    plays::<Server>(
-        &rt,
-        rt.alloc(),
+const JOBS: &[(&str, &str)] = &[
+    // A server goes ahead once after output.
+    (
         "take; write 780a; pull 99; take; take; write 0dff; pull 99; take; take",
         "none; 2; 2; sent 780d0a; none; sent fff9; none; 2; 2; sent 0d00ffff; none; sent fff9; none",
-    );
-}
-
-#[test]
-fn a_server_answers_and_echoes(rt: HostRuntime) {
-    plays::<Server>(
-        &rt,
-        rt.alloc(),
+    ),
+    // A server answers and echoes.
+    (
         "feed fff6; pull 99; feed 61; pull 99; join; pull 99; feed 627f0d00; pull 99",
         "6; sent 5b5965735d0d0a; 0; 0; 5; sent 620820080d0a",
-    );
-}
-
-#[test]
-fn entries_come_once_and_in_order(rt: HostRuntime) {
-    plays::<Server>(
-        &rt,
-        rt.alloc(),
+    ),
+    // Entries come once and in order.
+    (
         "feed 610a03; waiting 1; waiting 2; signal; take; signal; take; signal; take; \
          feed 78797f7a0affff77; take; half",
         "int; none; Some(Int); text 610a; Some(Int); int; None; none; text 787a0a; half ff77",
-    );
-}
-
-#[test]
-fn commands_erase_and_kill_whoever_edits(rt: HostRuntime) {
-    plays::<Server>(
-        &rt,
-        rt.alloc(),
+    ),
+    // Commands erase and kill whoever edits.
+    (
         "feed fff7; half; feed fff8; half; feed 616263fff7; half; feed fff8; half; feed 0afff76465ff; \
          half; feed f7; half; take; take; join; feed fff8616263fff7; half; option them 34; option us 34",
         "half; half; half 6162; half; half 6465; half 64; text 0a; none; half 6162; Yes; No",
-    );
-}
-
-// The bytes after the key that is too much are not acted on, and those before it are.
-#[test]
-fn a_server_fails_where_its_job_is_too_far_behind(rt: HostRuntime) {
-    plays::<Server>(
-        &rt,
-        rt.alloc(),
+    ),
+    // A server fails where its job is too far behind.
+    // The bytes after the key that is too much are not acted on, and those before it are.
+    (
         "feed 0d00 1024; feed 61fffb630d00fffb63; failed; half; feed 62; wish remote; echo on; set ao; \
          waiting 1023; waiting 1024; take-lines; take; write 62; pull 99; take",
         "sent fffe63; Pty(TooFarAhead); true; half 61; Failed; Failed; Failed; Failed; text 0a; none; \
          1024; none; 1; 1; sent 62; none; sent fff9",
-    );
+    ),
+];
+
+#[test]
+fn a_job_gets_entries_and_its_output_is_shown(rt: HostRuntime) {
+    play_all::<Server>(&rt, rt.alloc(), JOBS);
 }
