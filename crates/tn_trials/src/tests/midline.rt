@@ -1,46 +1,38 @@
 //! Modes that change in the middle of a line, and random worlds beside one local line.
 
-use super::forward::many;
-use super::playing::{at_a_line, is_silent, open, play, settle};
-use super::worlds::plays;
-use std::alloc::{AllocError, Global};
+use super::playing::{agrees, open, play, rests, settle, types};
+use super::worlds::print_all;
+use std::alloc::Global;
 use std::process::Abort;
-use tn_discipline::{Entry, Limit};
+use tn_discipline::Limit;
 use tn_plain::chance::Dice;
 use tn_plain::payloads::mask;
 use tn_server::Editing;
 use tn_world::{Event, World, WorldFault};
 
-#[test]
-fn a_line_changes_hands(rt: HostRuntime) {
-    let alloc = rt.alloc();
-    for (script, text) in [
-        (
-            b"settle\nmark\nkey 6162\nsettle\nwish local\nsettle\nkey 7f630d\nflight\nsettle\ntake\n".as_slice(),
-            b"mark true\nto-server fff7630d0a\nto-client -\ntext 61630a\n".as_slice(),
-        ),
-        (
-            b"settle\nwish local\nsettle\nmark\nkey 6162\nwish remote\nsettle\nkey 7f630d\nflight\nsettle\ntake\n",
-            b"mark true\nto-server 7f630d00\nto-client -\ntext 61630a\n",
-        ),
-        (
-            b"settle\nmark\nkey 6103\nsettle\nwish local\nsettle\nkey 7f0d\nflight\nsettle\ntake\ntake\n",
-            b"mark true\nto-server fff70d0a\nto-client -\nsignal int\ntext 0a\n",
-        ),
-    ] {
-        plays(&rt, alloc, script, Ok(()), text);
-    }
-}
+const SCRIPTS: &[(&str, &str)] = &[
+    (
+        "settle\nmark\nkey 6162\nsettle\nwish local\nsettle\nkey 7f630d\nflight\nsettle\ntake\n",
+        "mark true\nto-server fff7630d0a\nto-client -\ntext 61630a\n",
+    ),
+    (
+        "settle\nwish local\nsettle\nmark\nkey 6162\nwish remote\nsettle\nkey 7f630d\nflight\nsettle\ntake\n",
+        "mark true\nto-server 7f630d00\nto-client -\ntext 61630a\n",
+    ),
+    (
+        "settle\nmark\nkey 6103\nsettle\nwish local\nsettle\nkey 7f0d\nflight\nsettle\ntake\ntake\n",
+        "mark true\nto-server fff70d0a\nto-client -\nsignal int\ntext 0a\n",
+    ),
+    // A full line changes hands.
+    (
+        "settle\nmark\nkey |254*61|\nsettle\nwish local\nsettle\nkey 627f0d\nflight\nsettle\ntake\n",
+        "mark true\nto-server fff70d0a\nto-client -\ntext |253*61|0a\n",
+    ),
+];
 
 #[test]
-fn a_full_line_changes_hands(rt: HostRuntime) -> Result<(), AllocError> {
-    let alloc = rt.alloc();
-    let rest = b"\nsettle\nwish local\nsettle\nkey 627f0d\nflight\nsettle\ntake\n";
-    let script = many(alloc, (b"settle\nmark\nkey ", b"61", rest), 254)?;
-    let told = b"mark true\nto-server fff70d0a\nto-client -\ntext ";
-    let text = many(alloc, (told, b"61", b"0a\n"), 253)?;
-    plays(&rt, alloc, &script, Ok(()), &text);
-    Ok(())
+fn a_line_changes_hands(rt: HostRuntime) {
+    print_all(&rt, rt.alloc(), SCRIPTS);
 }
 
 const KEYS: [u8; 14] = [
@@ -64,59 +56,54 @@ fn chance(dice: &mut Dice) -> Event {
     }
 }
 
-// Whether all of these entries were made. Those that were are the first of them.
-fn makes(rt: &impl Abort, world: &World, entries: &[Entry]) -> bool {
-    assert!(rt; world.taken().len() <= entries.len());
-    for (made, entry) in world.taken().iter().zip(entries) {
-        assert!(rt; made == entry);
+// What happens seldom: a line that may be longer than there is room for, ends that stop late, and rest.
+fn rarely(world: &mut World, roll: usize, late: bool) -> Result<(), WorldFault> {
+    match roll {
+        0 => types(world, &[b'a'; 290]),
+        1 if late => play(world, Event::ServerStops),
+        2 if late => play(world, Event::ClientStops),
+        3..=9 => settle(world),
+        _ => Ok(()),
     }
-    let left = entries.get(world.taken().len()..).unwrap_or(&[]);
-    for (place, entry) in left.iter().enumerate() {
-        match world.waiting(place) {
-            Some(made) => assert!(rt; made == entry),
-            None => return false,
-        }
-    }
-    assert!(rt; world.waiting(left.len()).is_none());
-    true
 }
 
-fn compare(rt: &impl Abort, alloc: Global, limit: Limit, world: &World) {
-    let most = usize::from(limit.bytes().saturating_sub(1));
-    let all = makes(rt, world, &at_a_line(alloc, world.typed(), most));
-    assert!(rt; all || !is_silent(world));
-}
-
-// A line that may be longer than there is room for.
-fn burst(world: &mut World) -> Result<(), WorldFault> {
-    for _ in 0..290 {
-        play(world, &[Event::Key(b'a')])?;
+fn happen(
+    rt: &impl Abort,
+    alloc: Global,
+    world: &mut World,
+    dice: &mut Dice,
+    late: bool,
+    most: usize,
+) -> Result<(), WorldFault> {
+    play(world, chance(dice))?;
+    let roll = dice.roll(60);
+    rarely(world, roll, late)?;
+    if (3..=10).contains(&roll) {
+        agrees(rt, alloc, world, most);
     }
     Ok(())
 }
 
-fn live(rt: &impl Abort, alloc: Global, seed: u32, limit: Limit) -> Result<(), WorldFault> {
-    let mut dice = Dice::new(seed);
-    let mut world = open(alloc, limit)?;
-    settle(&mut world)?;
-    assert!(rt; world.mark());
+fn live(
+    rt: &impl Abort,
+    alloc: Global,
+    world: &mut World,
+    dice: &mut Dice,
+    most: usize,
+) -> Result<(), WorldFault> {
+    assert!(rt; rests(world)?);
     for step in 0..160 {
-        play(&mut world, &[chance(&mut dice)])?;
-        match dice.roll(60) {
-            0 => burst(&mut world)?,
-            1 if step > 120 => play(&mut world, &[Event::ServerStops])?,
-            2 if step > 120 => play(&mut world, &[Event::ClientStops])?,
-            3..=9 => {
-                settle(&mut world)?;
-                compare(rt, alloc, limit, &world);
-            },
-            10 => compare(rt, alloc, limit, &world),
-            _ => {},
-        }
+        happen(rt, alloc, world, dice, step > 120, most)?;
     }
-    settle(&mut world)?;
-    compare(rt, alloc, limit, &world);
+    settle(world)?;
+    agrees(rt, alloc, world, most);
     Ok(())
+}
+
+fn live_by(rt: &impl Abort, alloc: Global, seed: u32, limit: Limit) -> Result<(), WorldFault> {
+    let most = usize::from(limit.bytes().saturating_sub(1));
+    let mut world = open(alloc, limit)?;
+    live(rt, alloc, &mut world, &mut Dice::new(seed), most)
 }
 
 #[test]
@@ -124,7 +111,7 @@ fn random_worlds_agree_with_one_local_line(rt: HostRuntime) -> Result<(), WorldF
     let long = Limit::new(300).unwrap_or(Limit::standard());
     for seed in 0..100 {
         let limit = if seed < 50 { Limit::standard() } else { long };
-        live(&rt, rt.alloc(), seed, limit)?;
+        live_by(&rt, rt.alloc(), seed, limit)?;
     }
     Ok(())
 }

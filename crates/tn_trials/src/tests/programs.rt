@@ -12,31 +12,41 @@ use tn_cli::{Asked, CliFault, Connecting, Serving, WordsFault, read_words, run_l
 use tn_discipline::Limit;
 use tn_streams::{Drain, Source, Tally};
 
-fn asks(rt: &impl Abort, alloc: Global, words: &[&str], wanted: Option<Asked>) {
-    match read_words(alloc, words) {
-        Ok(asked) => assert_eq!(rt; Some(asked), wanted),
-        Err(WordsFault::Usage) => assert_eq!(rt; None, wanted),
-        Err(WordsFault::Memory) => {},
-        Err(WordsFault::Help(text)) => assert!(rt; false, "{text}"),
+// What the words of a line ask for. Want of memory is an ordinary answer, and help is asked for elsewhere.
+fn is_told(read: Result<Asked, WordsFault>, wanted: Option<Asked>) -> bool {
+    match read {
+        Ok(asked) => wanted == Some(asked),
+        Err(WordsFault::Usage) => wanted.is_none(),
+        Err(WordsFault::Memory) => true,
+        Err(WordsFault::Help(_)) => false,
     }
+}
+
+fn read_line(alloc: Global, line: &str) -> Result<Asked, WordsFault> {
+    let mut words = Vec::new(alloc);
+    for word in line.split(' ') {
+        if words.push(word).is_err() {
+            return Err(WordsFault::Memory);
+        }
+    }
+    read_words(alloc, &words)
+}
+
+fn asks(rt: &impl Abort, alloc: Global, line: &str, wanted: Option<Asked>) {
+    assert!(rt; is_told(read_line(alloc, line), wanted), "{line}");
 }
 
 #[test]
 fn words_ask_for_runs(rt: HostRuntime) {
     let alloc = rt.alloc();
-    asks(&rt, alloc, &["tn", "local"], Some(Asked::Local));
-    asks(&rt, alloc, &["tn", "replay"], Some(Asked::Replay));
-    asks(&rt, alloc, &["tn", "world"], Some(Asked::World));
-    asks(&rt, alloc, &["tn"], None);
-    asks(&rt, alloc, &["tn", "frobnicate"], None);
-    asks(&rt, alloc, &["tn", "local", "x"], None);
-    asks(&rt, alloc, &["tn", "world", "x"], None);
+    asks(&rt, alloc, "tn local", Some(Asked::Local));
+    asks(&rt, alloc, "tn replay", Some(Asked::Replay));
+    asks(&rt, alloc, "tn world", Some(Asked::World));
 }
 
 #[test]
 fn words_ask_for_a_server(rt: HostRuntime) {
-    let alloc = rt.alloc();
-    let asked = Some(Asked::Serve(Serving {
+    let asked = Asked::Serve(Serving {
         port: 2323,
         limit: 8,
         count: 1,
@@ -44,9 +54,13 @@ fn words_ask_for_a_server(rt: HostRuntime) {
         line: Limit::standard(),
         local: false,
         verbose: false,
-    }));
-    asks(&rt, alloc, &["tn", "serve", "--port", "2323"], asked);
-    let asked = Some(Asked::Serve(Serving {
+    });
+    asks(&rt, rt.alloc(), "tn serve --port 2323", Some(asked));
+}
+
+#[test]
+fn words_ask_for_all_of_a_server(rt: HostRuntime) {
+    let asked = Asked::Serve(Serving {
         port: 2323,
         limit: 64,
         count: 1_000_000,
@@ -54,84 +68,70 @@ fn words_ask_for_a_server(rt: HostRuntime) {
         line: Limit::new(4_095).unwrap_or(Limit::standard()),
         local: true,
         verbose: true,
-    }));
-    let all = [
-        "tn",
-        "serve",
-        "--limit=64",
-        "--count",
-        "1000000",
-        "--ticks=1000",
-        "--line",
-        "4095",
-        "--local",
-        "--verbose",
-        "--port=2323",
-    ];
-    asks(&rt, alloc, &all, asked);
-    for (option, number) in [
-        ("--port", "0"),
-        ("--port", "65536"),
-        ("--limit", "0"),
-        ("--limit", "65"),
-        ("--count", "0"),
-        ("--count", "1000001"),
-        ("--ticks", "1001"),
-        ("--line", "254"),
-        ("--line", "4096"),
-        ("--ticks", "-1"),
-    ] {
-        asks(
-            &rt,
-            alloc,
-            &["tn", "serve", "--port", "7", option, number],
-            None,
-        );
-    }
-    asks(&rt, alloc, &["tn", "serve"], None);
-    asks(&rt, alloc, &["tn", "serve", "--port", "0"], None);
+    });
+    let line =
+        "tn serve --limit=64 --count 1000000 --ticks=1000 --line 4095 --local --verbose --port=2323";
+    asks(&rt, rt.alloc(), line, Some(asked));
+}
+
+fn connecting(width: u16, height: u16) -> Option<Asked> {
+    Some(Asked::Connect(Connecting {
+        port: 7,
+        width,
+        height,
+        line: Limit::standard(),
+    }))
 }
 
 #[test]
 fn words_ask_for_a_connection(rt: HostRuntime) {
     let alloc = rt.alloc();
-    let asked = Some(Asked::Connect(Connecting {
-        port: 7,
-        width: 80,
-        height: 24,
-        line: Limit::standard(),
-    }));
-    asks(&rt, alloc, &["tn", "connect", "--port", "7"], asked);
-    let asked = Some(Asked::Connect(Connecting {
-        port: 7,
-        width: 65_535,
-        height: 0,
-        line: Limit::standard(),
-    }));
-    let wide = [
-        "tn", "connect", "--port", "7", "--width", "65535", "--height", "0",
-    ];
-    asks(&rt, alloc, &wide, asked);
-    asks(&rt, alloc, &["tn", "connect"], None);
-    asks(&rt, alloc, &["tn", "connect", "--port", "x"], None);
-    asks(
-        &rt,
-        alloc,
-        &["tn", "connect", "--port", "7", "--width", "65536"],
-        None,
-    );
+    asks(&rt, alloc, "tn connect --port 7", connecting(80, 24));
+    let wide = "tn connect --port 7 --width 65535 --height 0";
+    asks(&rt, alloc, wide, connecting(65_535, 0));
+}
+
+/// Lines that ask for no run.
+const REFUSED: &[&str] = &[
+    "tn",
+    "tn frobnicate",
+    "tn local x",
+    "tn world x",
+    "tn serve",
+    "tn serve --port 0",
+    "tn serve --port 7 --port 0",
+    "tn serve --port 7 --port 65536",
+    "tn serve --port 7 --limit 0",
+    "tn serve --port 7 --limit 65",
+    "tn serve --port 7 --count 0",
+    "tn serve --port 7 --count 1000001",
+    "tn serve --port 7 --ticks 1001",
+    "tn serve --port 7 --line 254",
+    "tn serve --port 7 --line 4096",
+    "tn serve --port 7 --ticks -1",
+    "tn connect",
+    "tn connect --port x",
+    "tn connect --port 7 --width 65536",
+];
+
+#[test]
+fn other_words_are_refused(rt: HostRuntime) {
+    for line in REFUSED {
+        asks(&rt, rt.alloc(), line, None);
+    }
+}
+
+fn is_help(read: Result<Asked, WordsFault>) -> bool {
+    match read {
+        Err(WordsFault::Help(text)) => text.as_str().contains("Usage: tn replay"),
+        Err(WordsFault::Memory) => true,
+        Err(WordsFault::Usage) | Ok(_) => false,
+    }
 }
 
 #[test]
 fn words_ask_for_help(rt: HostRuntime) {
-    match read_words(rt.alloc(), &["tn", "replay", "--help"]) {
-        Err(WordsFault::Help(text)) => assert!(rt;
-            text.as_str().contains("Usage: tn replay"),
-            "{text}"
-        ),
-        Err(WordsFault::Memory) => {},
-        Err(WordsFault::Usage) | Ok(_) => assert!(rt; false, "no help"),
-    }
+    assert!(rt; is_help(read_words(rt.alloc(), &["tn", "replay", "--help"])));
 }
 
 /// Gives zeros for ever, so many at a time.
@@ -148,13 +148,13 @@ impl Read for Endless {
 
 /// Gives a key, and then fails; it tells how many of its calls failed.
 #[derive(Drop)]
-pub(super) struct Broken {
+struct Broken {
     gave: bool,
-    pub(super) tally: Tally,
+    tally: Tally,
 }
 
 impl Broken {
-    pub(super) fn new() -> Broken {
+    fn new() -> Broken {
         Broken {
             gave: false,
             tally: Tally::new(),
@@ -236,54 +236,72 @@ impl Drain for Narrow {
     }
 }
 
-#[test]
-fn too_much_input_prints_nothing(rt: HostRuntime) {
-    let alloc = rt.alloc();
-    for step in [1, 4_000] {
-        let mut output = Vec::new(alloc);
-        match run_local(alloc, &mut Endless(step), &mut output) {
-            Err(fault) => assert_eq!(rt; fault, CliFault::TooLong),
-            Ok(()) => assert!(rt; false),
-        }
-        assert!(rt; output.is_empty());
-        match run_replay(alloc, &mut Endless(step), &mut output) {
-            Err(fault) => assert_eq!(rt; fault, CliFault::TooLong),
-            Ok(()) => assert!(rt; false),
-        }
-        assert!(rt; output.is_empty());
-    }
+fn prints_nothing(rt: &impl Abort, ended: Result<(), CliFault>, why: CliFault, output: &[u8]) {
+    assert!(rt; ended == Err(why));
+    assert!(rt; output.is_empty());
+}
+
+fn reads_too_much(rt: &impl Abort, alloc: Global, step: usize) {
+    let mut output = Vec::new(alloc);
+    let ended = run_local(alloc, &mut Endless(step), &mut output);
+    prints_nothing(rt, ended, CliFault::TooLong, &output);
+    let ended = run_replay(alloc, &mut Endless(step), &mut output);
+    prints_nothing(rt, ended, CliFault::TooLong, &output);
 }
 
 #[test]
-fn a_failed_read_prints_nothing(rt: HostRuntime) {
-    let alloc = rt.alloc();
+fn too_much_input_prints_nothing(rt: HostRuntime) {
+    reads_too_much(&rt, rt.alloc(), 1);
+    reads_too_much(&rt, rt.alloc(), 4_000);
+}
+
+fn cannot_read(rt: &impl Abort, alloc: Global, locally: bool) {
     let mut output = Vec::new(alloc);
     let mut reader = Broken::new();
-    match run_replay(alloc, &mut reader, &mut output) {
-        Err(fault) => assert!(rt; fault == CliFault::Read || fault == CliFault::Memory),
-        Ok(()) => assert!(rt; false),
+    let ended = if locally {
+        run_local(alloc, &mut reader, &mut output)
+    } else {
+        run_replay(alloc, &mut reader, &mut output)
+    };
+    prints_nothing(rt, ended, CliFault::Read, &output);
+    assert!(rt; reader.tally.failed() == 1);
+}
+
+#[test]
+fn what_cannot_be_read_prints_nothing(rt: HostRuntime) {
+    cannot_read(&rt, rt.alloc(), true);
+    cannot_read(&rt, rt.alloc(), false);
+}
+
+/// What a line gives.
+const WHOLE: &[u8] = b"text 610a\n";
+
+// How a line is printed to this writer.
+fn print_line(alloc: Global, writer: &mut Narrow) -> Result<(), CliFault> {
+    run_local(alloc, &mut b"a\n".as_slice(), writer)
+}
+
+// There is no room for all of a line: a write fails, and what was written begins it.
+fn writes_a_front(rt: &impl Abort, alloc: Global, mut writer: Narrow) {
+    let ended = print_line(alloc, &mut writer);
+    let failed = ended == Err(CliFault::Write) && writer.tally.failed() == 1;
+    assert!(rt; failed || ended == Err(CliFault::Memory));
+    assert!(rt; WHOLE.starts_with(writer.taken.as_slice()));
+}
+
+fn writes_the_whole(rt: &impl Abort, alloc: Global) {
+    let mut writer = Narrow::new(alloc, 100, true);
+    if print_line(alloc, &mut writer).is_ok() {
+        assert!(rt; writer.taken.as_slice() == WHOLE);
     }
-    assert_eq!(rt; reader.tally.failed(), 1);
-    assert!(rt; output.is_empty());
 }
 
 #[test]
 fn a_failed_write_leaves_a_front(rt: HostRuntime) {
     let alloc = rt.alloc();
     for room in 0..8 {
-        for fails in [true, false] {
-            let mut writer = Narrow::new(alloc, room, fails);
-            let outcome = run_local(alloc, &mut b"a\n".as_slice(), &mut writer);
-            match outcome {
-                Err(CliFault::Write) => assert_eq!(rt; writer.tally.failed(), 1),
-                Err(fault) => assert_eq!(rt; fault, CliFault::Memory),
-                Ok(()) => assert!(rt; false),
-            }
-            assert!(rt; b"text 610a\n".starts_with(writer.taken.as_slice()));
-        }
+        writes_a_front(&rt, alloc, Narrow::new(alloc, room, true));
+        writes_a_front(&rt, alloc, Narrow::new(alloc, room, false));
     }
-    let mut writer = Narrow::new(alloc, 100, true);
-    if run_local(alloc, &mut b"a\n".as_slice(), &mut writer).is_ok() {
-        assert!(rt; writer.taken.as_slice() == b"text 610a\n".as_slice());
-    }
+    writes_the_whole(&rt, alloc);
 }

@@ -1,138 +1,116 @@
 //! Ends that stop or fail, and what is left then.
 
-use super::beside_terminals::agrees;
-use super::playing::{ALL, open, play, settle, settle_with};
-use super::programs::{Broken, Narrow};
-use std::alloc::{AllocError, Global};
+use super::playing::{ALL, agrees, open, play, play_all, rests, rests_with, types, waiting};
+use std::alloc::Global;
+use std::cmp::Ordering;
 use std::process::Abort;
-use std::test::Fail;
-use tn_cli::{CliFault, run_local};
 use tn_client::ClientFault;
-use tn_codes::Mask;
-use tn_discipline::{Entry, Limit, Sig, Text};
+use tn_discipline::{Entry, Limit, Sig};
+use tn_plain::payloads::mask;
 use tn_pty::PtyFault;
 use tn_server::{Editing, ServerFault};
 use tn_world::{Cause, Event, World, WorldFault};
 
-// A mask with a comma.
-fn comma() -> Mask {
-    let mut octets = [0; 32];
-    octets[5] = 8;
-    Mask(octets)
+const KEYS: [u8; 7] = [b'a', b',', 127, 127, b'b', 3, 13];
+
+/// How many events there are without one that stops an end.
+const EVENTS: usize = 23;
+
+// A line is typed in two parts, erased across both, closed and taken: the event at this place.
+fn event(place: usize) -> Event {
+    match place {
+        0 => Event::Mask(Some(mask(&[0, 0, 0, 0, 0, 8]))),
+        1 | 18 | 21 => Event::ToClient(ALL),
+        2 | 17 | 20 => Event::ToServer(ALL),
+        3..=16 => typed_or_read(place),
+        _ => Event::Take,
+    }
 }
 
-// A line is typed in two parts, erased across both, closed and taken; at one place an end may stop.
-fn with_a_stop(alloc: Global, place: usize, server: bool) -> Result<Vec<Event>, AllocError> {
-    let mut events = Vec::new(alloc);
-    events.push(Event::Mask(Some(comma())))?;
-    events.push(Event::ToClient(ALL))?;
-    events.push(Event::ToServer(ALL))?;
-    for key in [b'a', b',', 127, 127, b'b', 3, 13] {
-        events.push(Event::Key(key))?;
-        events.push(Event::ToServer(1))?;
+// The keys stand at odd places, and behind each a byte comes to the server.
+fn typed_or_read(place: usize) -> Event {
+    match KEYS.get((place / 2).saturating_sub(1)) {
+        Some(key) if place % 2 == 1 => Event::Key(*key),
+        _ => Event::ToServer(1),
     }
-    for _ in 0..2 {
-        events.push(Event::ToServer(ALL))?;
-        events.push(Event::ToClient(ALL))?;
-        events.push(Event::Take)?;
-    }
-    let stop = if server {
-        Event::ServerStops
-    } else {
-        Event::ClientStops
-    };
-    events.insert(place.min(events.len()), stop)?;
-    Ok(events)
 }
 
-// A settled world whose client edits.
-fn edited(alloc: Global) -> Result<World, WorldFault> {
+// The same events, but that the server or the client stops at one place.
+fn with_a_stop(at: usize, place: usize, server: bool) -> Event {
+    match at.cmp(&place) {
+        Ordering::Less => event(at),
+        Ordering::Equal if server => Event::ServerStops,
+        Ordering::Equal => Event::ClientStops,
+        Ordering::Greater => event(at.saturating_sub(1)),
+    }
+}
+
+fn stops(
+    rt: &impl Abort,
+    alloc: Global,
+    world: &mut World,
+    place: usize,
+    server: bool,
+) -> Result<(), WorldFault> {
+    assert!(rt; rests_with(world, Editing::Local)?);
+    for at in 0..=EVENTS {
+        play(world, with_a_stop(at, place, server))?;
+        agrees(rt, alloc, world, 254);
+    }
+    Ok(())
+}
+
+fn stops_at(rt: &impl Abort, alloc: Global, place: usize, server: bool) -> Result<(), WorldFault> {
     let mut world = open(alloc, Limit::standard())?;
-    settle(&mut world)?;
-    settle_with(&mut world, Event::Wish(Editing::Local))?;
-    Ok(world)
+    stops(rt, alloc, &mut world, place, server)
 }
 
 #[test]
-fn an_end_that_stops_leaves_the_first_entries(rt: HostRuntime) -> Result<(), Fail> {
-    let alloc = rt.alloc();
+fn an_end_that_stops_leaves_the_first_entries(rt: HostRuntime) -> Result<(), WorldFault> {
     for server in [true, false] {
-        for place in 0..24 {
-            let mut world = edited(alloc)?;
-            assert!(rt; world.mark());
-            let events = with_a_stop(alloc, place, server)?;
-            for event in events {
-                play(&mut world, &[event])?;
-                agrees(&rt, alloc, &world, 254);
-            }
+        for place in 0..=EVENTS {
+            stops_at(&rt, rt.alloc(), place, server)?;
         }
     }
     Ok(())
 }
 
-// The entries that were taken, and how many wait.
-fn made(world: &World) -> (usize, usize) {
-    let taken = world.taken().len();
-    for count in 0..2_048 {
-        if world.waiting(count).is_none() {
-            return (taken, count);
-        }
-    }
-    (taken, 2_048)
+// Whether the server refuses the last of these events for this, and so many entries are taken and wait then.
+fn refuses(world: &mut World, events: &[Event], fault: ServerFault, made: (usize, usize)) -> bool {
+    let at = events.len().saturating_sub(1);
+    let cause = Cause::Server(fault);
+    let refused = play_all(world, events) == Err(WorldFault { at, cause });
+    refused && (world.taken().len(), waiting(world)) == made
 }
 
-#[test]
-fn a_server_that_is_too_far_behind_keeps_what_it_has(rt: HostRuntime) -> Result<(), Fail> {
-    let mut world = open(rt.alloc(), Limit::standard())?;
-    settle(&mut world)?;
-    assert!(rt; world.mark());
-    for _ in 0..1_026 {
-        play(&mut world, &[Event::Key(13)])?;
-    }
-    let cause = Cause::Server(ServerFault::Pty(PtyFault::TooFarAhead));
-    assert_eq!(rt;
-        play(&mut world, &[Event::ToServer(ALL)]),
-        Err(WorldFault { at: 0, cause })
-    );
-    assert_eq!(rt; made(&world), (0, 1_024));
-    let cause = Cause::Server(ServerFault::Failed);
-    let refused = play(
-        &mut world,
-        &[Event::Take, Event::Key(b'a'), Event::ToServer(ALL)],
-    );
-    assert_eq!(rt; refused, Err(WorldFault { at: 2, cause }));
-    assert_eq!(rt; made(&world), (1, 1_023));
-    assert_eq!(rt; world.typed().len(), 1_027);
+// A world with as many entries as wait at most, and two more in flight.
+fn falls_behind(rt: &impl Abort, world: &mut World) -> Result<(), WorldFault> {
+    assert!(rt; rests(world)?);
+    types(world, &[13; 1_026])?;
+    is_too_far_behind(rt, world);
+    has_failed(rt, world);
+    Ok(())
+}
+
+fn is_too_far_behind(rt: &impl Abort, world: &mut World) {
+    let fault = ServerFault::Pty(PtyFault::TooFarAhead);
+    assert!(rt; refuses(world, &[Event::ToServer(ALL)], fault, (0, 1_024)));
+}
+
+fn has_failed(rt: &impl Abort, world: &mut World) {
+    let events = [Event::Take, Event::Key(b'a'), Event::ToServer(ALL)];
+    assert!(rt; refuses(world, &events, ServerFault::Failed, (1, 1_023)));
+    assert!(rt; world.typed().len() == 1_027);
     assert!(rt; !world.mark());
-    Ok(())
 }
 
-// Where the toolchain refuses an allocation, a piece may fail an end: what is left agrees all the same.
 #[test]
-fn an_end_that_fails_leaves_the_first_entries(rt: HostRuntime) {
-    let alloc = rt.alloc();
-    let Ok(mut world) = edited(alloc) else {
-        return;
-    };
-    if !world.mark() {
-        return;
-    }
-    let Ok(events) = with_a_stop(alloc, usize::MAX, true) else {
-        return;
-    };
-    for event in events {
-        match play(&mut world, &[event]) {
-            Ok(()) => {},
-            Err(WorldFault { at, cause }) => {
-                assert_eq!(rt; at, 0);
-                assert!(rt; is_of_memory(&cause), "{cause:?}");
-            },
-        }
-        begins(&rt, alloc, &world);
-    }
+fn a_server_that_is_too_far_behind_keeps_what_it_has(rt: HostRuntime) -> Result<(), WorldFault> {
+    let mut world = open(rt.alloc(), Limit::standard())?;
+    falls_behind(&rt, &mut world)
 }
 
-fn is_of_memory(cause: &Cause) -> bool {
+fn is_of_memory(cause: Cause) -> bool {
     matches!(
         cause,
         Cause::Memory
@@ -143,37 +121,35 @@ fn is_of_memory(cause: &Cause) -> bool {
     )
 }
 
-// What was made begins what the keys give: an interrupt, and a line of `b`.
-fn begins(rt: &impl Abort, alloc: Global, world: &World) {
-    let Ok(line) = Vec::from_slice(alloc, b"b\n") else {
-        return;
-    };
-    let line = Entry::Text(Text::from(line));
+// Whether what was made begins what the keys give: an interrupt, and a line of `b`.
+fn begins(world: &World) -> bool {
+    let count = waiting(world);
     match world.taken() {
-        [] => {},
-        [first] => assert_eq!(rt; *first, Entry::Signal(Sig::Int)),
-        [first, rest @ ..] => {
-            assert_eq!(rt; *first, Entry::Signal(Sig::Int));
-            assert_eq!(rt; rest.first(), Some(&line));
+        [] => count <= 2,
+        [Entry::Signal(Sig::Int)] => count <= 1,
+        [Entry::Signal(Sig::Int), Entry::Text(text)] => {
+            count == 0 && text.as_slice() == b"b\n".as_slice()
         },
+        _ => false,
     }
-    let (taken, waiting) = made(world);
-    assert!(rt; taken.saturating_add(waiting) <= 2);
 }
 
-#[test]
-fn local_keys_that_cannot_be_read_print_nothing(rt: HostRuntime) {
-    let alloc = rt.alloc();
-    let mut output = Vec::new(alloc);
-    let mut reader = Broken::new();
-    let ended = run_local(alloc, &mut reader, &mut output);
-    assert_eq!(rt; ended, Err(CliFault::Read));
-    assert_eq!(rt; reader.tally.failed(), 1);
-    assert!(rt; output.is_empty());
-    let mut writer = Narrow::new(alloc, 0, true);
-    match run_local(alloc, &mut b"a\n".as_slice(), &mut writer) {
-        Err(fault) => assert!(rt; fault == CliFault::Write || fault == CliFault::Memory),
-        Ok(()) => assert!(rt; false),
+fn fails(rt: &impl Abort, world: &mut World) {
+    if rests_with(world, Editing::Local) != Ok(true) {
+        return;
     }
-    assert!(rt; writer.taken.is_empty());
+    for at in 0..=EVENTS {
+        if let Err(fault) = play(world, with_a_stop(at, EVENTS, true)) {
+            assert!(rt; fault.at == 0 && is_of_memory(fault.cause), "{fault:?}");
+        }
+        assert!(rt; begins(world));
+    }
+}
+
+// Where the toolchain refuses an allocation, a piece may fail an end: what is left agrees all the same.
+#[test]
+fn an_end_that_fails_leaves_the_first_entries(rt: HostRuntime) {
+    if let Ok(mut world) = open(rt.alloc(), Limit::standard()) {
+        fails(&rt, &mut world);
+    }
 }
