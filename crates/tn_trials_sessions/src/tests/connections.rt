@@ -2,8 +2,10 @@
 
 use log::sink::Memory;
 use log::{Level, Logged};
+use std::alloc::Global;
 use std::io::{Read, Write};
 use std::net::{Ipv4Addr, TcpListener, TcpStream};
+use std::process::Abort;
 use std::test::Fail;
 use std::{io, thread};
 use tn_discipline::Limit;
@@ -12,22 +14,26 @@ use tn_roster::{Roster, RosterFault, note};
 use tn_session::Ended;
 use tn_words::{Connecting, Serving};
 
-#[test]
-fn a_roster_gives_each_session_a_number(rt: HostRuntime) -> Result<(), Fail> {
-    let alloc = rt.alloc();
-    for limit in [0, 65] {
-        match Roster::new(alloc, limit) {
-            Err(fault) => assert_eq!(rt; fault, RosterFault::BadLimit),
-            Ok(_) => assert!(rt; false),
-        }
-    }
-    let mut roster = Roster::new(alloc, 1)?;
-    assert_eq!(rt; roster.enter(), Ok(0));
-    assert_eq!(rt; roster.enter(), Err(RosterFault::Full));
-    assert_eq!(rt; roster.count(), 1);
+fn is_no_limit(alloc: Global, limit: usize) -> bool {
+    matches!(Roster::new(alloc, limit), Err(RosterFault::BadLimit))
+}
+
+// A roster of one session.
+fn gives_numbers(rt: &impl Abort, roster: &mut Roster) {
+    assert!(rt; roster.enter() == Ok(0));
+    assert!(rt; roster.enter() == Err(RosterFault::Full));
+    assert!(rt; roster.count() == 1);
     assert!(rt; roster.leave(0));
     assert!(rt; roster.enter().is_ok());
     assert!(rt; !roster.leave(7));
+}
+
+#[test]
+fn a_roster_gives_each_session_a_number(rt: HostRuntime) -> Result<(), Fail> {
+    assert!(rt; is_no_limit(rt.alloc(), 0));
+    assert!(rt; is_no_limit(rt.alloc(), 65));
+    let mut roster = Roster::new(rt.alloc(), 1)?;
+    gives_numbers(&rt, &mut roster);
     Ok(())
 }
 
@@ -39,10 +45,10 @@ fn what_became_of_a_connection_is_noted(rt: HostRuntime) {
     note(&logged, &Err(RosterFault::Full));
     let (_, memory) = logged.into_parts();
     let lines = memory.into_lines();
-    assert_eq!(rt; lines.len(), 2);
+    assert!(rt; lines.len() == 2);
     for (line, message) in lines.as_slice().iter().zip(["accepted 0", "full"]) {
-        assert!(rt; line.as_str().contains("INFO"), "{line}");
-        assert!(rt; line.as_str().ends_with(message), "{line}");
+        let text = line.as_str();
+        assert!(rt; text.contains("INFO") && text.ends_with(message), "{line}");
     }
 }
 
@@ -55,6 +61,15 @@ fn serving(limit: u16, count: u32) -> Serving {
         line: Limit::standard(),
         local: false,
         verbose: false,
+    }
+}
+
+fn connecting(port: u16) -> Connecting {
+    Connecting {
+        port,
+        width: 80,
+        height: 24,
+        line: Limit::standard(),
     }
 }
 
@@ -87,16 +102,10 @@ fn a_line_comes_back_over_a_connection(rt: HostRuntime) -> Result<(), Fail> {
         let report = serve_connection(rt, alloc, stream, &serving(1, 1));
         matches!(report, Ok(report) if report.ended == Ended::Done && report.entries == 2)
     })?;
-    let connecting = Connecting {
-        port,
-        width: 80,
-        height: 24,
-        line: Limit::standard(),
-    };
     let mut screen = Vec::new(alloc);
     let keys = OneByOne { keys: b"a\rexit\r" };
-    let connected = connect(rt, alloc, connecting, keys, &mut screen);
-    assert_eq!(rt; connected, Ok(()));
+    let connected = connect(rt, alloc, connecting(port), keys, &mut screen);
+    assert!(rt; connected.is_ok());
     assert!(rt; screen.as_slice().ends_with(b"bye\r\n"));
     assert!(rt; server.join(&rt));
     Ok(())

@@ -3,14 +3,16 @@
 use super::sessions::{Open, ended, reaction};
 use std::alloc::{AllocError, Global};
 use std::io::Read;
-use std::sync::Arc;
+use std::process::Abort;
 use std::sync::atomic::{AtomicBool, Ordering};
+use std::sync::{Arc, Wait};
 use std::test::Fail;
+use std::thread::Threads;
 use std::{io, thread};
 use tn_discipline::{Entry, Limit, Settings};
 use tn_jobs::{After, Job, JobId, Reaction};
 use tn_server::Editing;
-use tn_session::{Ended, Gate, Maker, Place, client_session, serve_session};
+use tn_session::{Ended, Gate, Maker, Place, Report, SessionFault, client_session, serve_session};
 
 /// How many turns a wait takes at most.
 const MOST_TURNS: u32 = 1_048_576;
@@ -124,37 +126,52 @@ impl Gate for Telling {
     }
 }
 
-#[test]
-fn a_session_runs_on_several_threads(rt: HostRuntime) -> Result<(), Fail> {
-    let alloc = rt.alloc();
-    let flags = Arc::new(
-        alloc,
-        Flags {
-            entry: AtomicBool::new(false),
-            written: AtomicBool::new(false),
-            stuck: AtomicBool::new(false),
-        },
-    )?;
+fn served<R: Threads + Wait + Copy + Send + 'static>(
+    rt: R,
+    alloc: Global,
+    reader: Slow,
+    maker: Two,
+    gate: Arc<Telling, Global>,
+) -> Result<Report, SessionFault> {
+    let mut out = Vec::new(alloc);
+    let (settings, limit, editing) = (Settings::standard(), Limit::standard(), Editing::Remote);
+    match serve_session(
+        rt, alloc, reader, &mut out, settings, limit, editing, maker, gate,
+    ) {
+        Ok((report, _ports)) => Ok(report),
+        Err(fault) => Err(fault),
+    }
+}
+
+fn meets<R: Threads + Wait + Copy + Send + 'static>(
+    rt: R,
+    alloc: Global,
+    flags: &Arc<Flags, Global>,
+) -> Result<Report, Fail> {
     let reader = Slow {
-        flags: Arc::try_clone(&flags)?,
+        flags: Arc::try_clone(flags)?,
         given: false,
     };
     let maker = Two {
-        flags: Arc::try_clone(&flags)?,
+        flags: Arc::try_clone(flags)?,
         left: 2,
     };
     let telling = Telling {
-        flags: Arc::try_clone(&flags)?,
+        flags: Arc::try_clone(flags)?,
     };
-    let gate = Arc::new(alloc, telling)?;
-    let mut out = Vec::new(alloc);
-    let settings = Settings::standard();
-    let limit = Limit::standard();
-    let editing = Editing::Remote;
-    let (report, _ports) = serve_session(
-        rt, alloc, reader, &mut out, settings, limit, editing, maker, gate,
-    )?;
-    assert_eq!(rt; report, ended(Ended::HangUp, 1, 1, 0));
+    Ok(served(rt, alloc, reader, maker, Arc::new(alloc, telling)?)?)
+}
+
+#[test]
+fn a_session_runs_on_several_threads(rt: HostRuntime) -> Result<(), Fail> {
+    let flags = Flags {
+        entry: AtomicBool::new(false),
+        written: AtomicBool::new(false),
+        stuck: AtomicBool::new(false),
+    };
+    let flags = Arc::new(rt.alloc(), flags)?;
+    let report = meets(rt, rt.alloc(), &flags)?;
+    assert!(rt; report == ended(Ended::HangUp, 1, 1, 0));
     assert!(rt; !flags.stuck.load(Ordering::SeqCst));
     Ok(())
 }
@@ -209,43 +226,52 @@ impl Read for Quiet {
     }
 }
 
-#[test]
-fn a_client_session_reads_keys_and_the_network_at_once(rt: HostRuntime) -> Result<(), Fail> {
-    let alloc = rt.alloc();
-    let meeting = Arc::new(
-        alloc,
-        Meeting {
-            keys: AtomicBool::new(false),
-            net: AtomicBool::new(false),
-            typed: AtomicBool::new(false),
-            stuck: AtomicBool::new(false),
-        },
-    )?;
-    let net = Quiet {
-        meeting: Arc::try_clone(&meeting)?,
-    };
-    let keys = Typist {
-        meeting: Arc::try_clone(&meeting)?,
-        left: 3,
-    };
-    let mut out = Vec::new(alloc);
+// A client session over these readers, and the screen is looked at by nobody.
+fn typed<R: Threads + Wait + Copy + Send + 'static>(
+    rt: R,
+    alloc: Global,
+    net: Quiet,
+    keys: Typist,
+    out: &mut Vec<u8>,
+) -> Result<Report, Fail> {
     let mut screen = Vec::new(alloc);
     let gate = Arc::new(alloc, Open)?;
     let limit = Limit::standard();
-    let (report, _ports) = client_session(
-        rt,
-        alloc,
-        net,
-        keys,
-        &mut out,
-        &mut screen,
-        80,
-        24,
-        limit,
-        gate,
-    )?;
-    assert_eq!(rt; report, ended(Ended::HangUp, 3, 0, 0));
-    assert_eq!(rt; out.as_slice(), b"aaa".as_slice());
+    match client_session(rt, alloc, net, keys, out, &mut screen, 80, 24, limit, gate) {
+        Ok((report, _ports)) => Ok(report),
+        Err(fault) => Err(Fail::from(fault)),
+    }
+}
+
+fn types<R: Abort + Threads + Wait + Copy + Send + 'static>(
+    rt: R,
+    alloc: Global,
+    meeting: &Arc<Meeting, Global>,
+) -> Result<(), Fail> {
+    let net = Quiet {
+        meeting: Arc::try_clone(meeting)?,
+    };
+    let keys = Typist {
+        meeting: Arc::try_clone(meeting)?,
+        left: 3,
+    };
+    let mut out = Vec::new(alloc);
+    let report = typed(rt, alloc, net, keys, &mut out)?;
+    assert!(rt; report == ended(Ended::HangUp, 3, 0, 0));
+    assert!(rt; out.as_slice() == b"aaa".as_slice());
+    Ok(())
+}
+
+#[test]
+fn a_client_session_reads_keys_and_the_network_at_once(rt: HostRuntime) -> Result<(), Fail> {
+    let meeting = Meeting {
+        keys: AtomicBool::new(false),
+        net: AtomicBool::new(false),
+        typed: AtomicBool::new(false),
+        stuck: AtomicBool::new(false),
+    };
+    let meeting = Arc::new(rt.alloc(), meeting)?;
+    types(rt, rt.alloc(), &meeting)?;
     assert!(rt; !meeting.stuck.load(Ordering::SeqCst));
     Ok(())
 }

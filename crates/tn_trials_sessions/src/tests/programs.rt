@@ -31,58 +31,54 @@ fn words_of(alloc: Global, word: &str) -> Result<Vec<String>, AllocError> {
     Ok(words)
 }
 
+// Whether a run ended with this status and told this, or nothing, or else that there was no memory.
+fn is_told(ended: u8, errors: &[u8], status: u8, told: &[u8]) -> bool {
+    if errors == b"tn: memory\n".as_slice() {
+        return ended == 1;
+    }
+    ended == status && (errors.is_empty() || errors == told)
+}
+
+/// A word, whether its output can be written, what is told, and the status.
+const WORDS: &[(&str, bool, &[u8], u8)] = &[
+    ("frobnicate", true, b"tn: usage\n", 2),
+    ("local", true, b"", 0),
+    ("local", false, b"tn: write\n", 1),
+    ("--help", false, b"tn: write\n", 1),
+];
+
 #[test]
 fn faults_are_told_in_a_line(rt: HostRuntime) {
     let alloc = rt.alloc();
-    for (word, open, told, status) in [
-        ("frobnicate", true, b"tn: usage\n".as_slice(), 2),
-        ("local", true, b"", 0),
-        ("local", false, b"tn: write\n", 1),
-        ("--help", false, b"tn: write\n", 1),
-    ] {
+    for (word, open, told, status) in WORDS {
         let Ok(words) = words_of(alloc, word) else {
             return;
         };
         let mut errors = Vec::new(alloc);
-        let mut writer = Paper { open };
-        let ended = run_words(
-            rt,
-            alloc,
-            Ok(words),
-            Cursor::new(*b"a\n"),
-            &mut writer,
-            &mut errors,
-        );
-        if errors.as_slice() == b"tn: memory\n".as_slice() {
-            assert_eq!(rt; ended, 1);
-        } else {
-            assert_eq!(rt; ended, status);
-            assert!(rt; errors.is_empty() || errors.as_slice() == told);
-        }
+        let mut writer = Paper { open: *open };
+        let keys = Cursor::new(*b"a\n");
+        let ended = run_words(rt, alloc, Ok(words), keys, &mut writer, &mut errors);
+        assert!(rt; is_told(ended, &errors, *status, told));
     }
 }
+
+/// A script, what is told of it, and the status.
+const SCRIPTS: &[(&[u8], &[u8], u8)] = &[
+    (b"mark\nbogus\n", b"tn: line 2: bad command\n", 2),
+    (b"\nset el 7f\n", b"tn: line 2: refused\n", 3),
+    (b"mark\n", b"", 0),
+];
 
 #[test]
 fn the_line_of_a_fault_is_told(rt: HostRuntime) {
     let alloc = rt.alloc();
-    for (script, told, status) in [
-        (
-            b"mark\nbogus\n".as_slice(),
-            b"tn: line 2: bad command\n".as_slice(),
-            2,
-        ),
-        (b"\nset el 7f\n", b"tn: line 2: refused\n", 3),
-        (b"mark\n", b"", 0),
-    ] {
+    for (script, told, status) in SCRIPTS {
         let Ok(words) = words_of(alloc, "world") else {
             return;
         };
         let mut output = Vec::new(alloc);
         let mut errors = Vec::new(alloc);
-        let ended = run_words(rt, alloc, Ok(words), script, &mut output, &mut errors);
-        if errors.as_slice() != b"tn: memory\n".as_slice() {
-            assert_eq!(rt; ended, status);
-            assert!(rt; errors.is_empty() || errors.as_slice() == told);
-        }
+        let ended = run_words(rt, alloc, Ok(words), *script, &mut output, &mut errors);
+        assert!(rt; is_told(ended, &errors, *status, told));
     }
 }

@@ -180,28 +180,47 @@ fn a_session_ends_where_its_input_does(rt: HostRuntime) {
     ends(rt, rt.alloc(), 0, Ended::HangUp);
 }
 
+// Whether a write failed, the one behind so many; or it is not known, where an allocation was refused.
+fn fails_to_write<R: Abort + Threads + Wait + Copy + Send + 'static>(
+    rt: R,
+    alloc: Global,
+    before: u32,
+) -> Option<bool> {
+    let mut writer = writer(alloc, before, before % 2 == 0);
+    let answer = served(rt, alloc, 0, &mut writer);
+    assert!(rt; WHOLE.starts_with(writer.taken.as_slice()));
+    match how_it_ended(&answer) {
+        Some(Ended::HangUp) => {
+            assert!(rt; writer.taken.as_slice() == WHOLE.as_slice() && writer.tally.failed() == 0);
+            Some(false)
+        },
+        Some(Ended::Fault(SessionFault::Write)) => {
+            assert!(rt; writer.tally.failed() == 1);
+            Some(true)
+        },
+        _ => {
+            assert!(rt; is_refused(&answer), "{answer:?}");
+            None
+        },
+    }
+}
+
+fn how_it_ended(answer: &Result<Report, SessionFault>) -> Option<Ended> {
+    match answer {
+        Ok(report) => Some(report.ended),
+        Err(_) => None,
+    }
+}
+
 #[test]
 fn a_session_tells_a_failed_write(rt: HostRuntime) {
-    let alloc = rt.alloc();
     let mut refused = 0u32;
     let mut failed = 0u32;
-    for (before, takes_none) in (0..16).zip([true, false].into_iter().cycle()) {
-        let mut writer = writer(alloc, before, takes_none);
-        let answer = served(rt, alloc, 0, &mut writer);
-        assert!(rt; WHOLE.starts_with(writer.taken.as_slice()));
-        match answer {
-            Ok(report) if report.ended == Ended::HangUp => {
-                assert!(rt; writer.taken.as_slice() == WHOLE.as_slice());
-                assert_eq!(rt; writer.tally.failed(), 0);
-            },
-            Ok(report) if report.ended == Ended::Fault(SessionFault::Write) => {
-                assert_eq!(rt; writer.tally.failed(), 1);
-                failed = failed.saturating_add(1);
-            },
-            other => {
-                assert!(rt; is_refused(&other), "{other:?}");
-                refused = refused.saturating_add(1);
-            },
+    for before in 0..16 {
+        match fails_to_write(rt, rt.alloc(), before) {
+            Some(true) => failed = failed.saturating_add(1),
+            Some(false) => {},
+            None => refused = refused.saturating_add(1),
         }
     }
     assert!(rt; refused <= 1);

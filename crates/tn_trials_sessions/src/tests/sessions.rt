@@ -81,25 +81,25 @@ impl Gate for Open {
     fn at(&self, _place: Place) {}
 }
 
-// What a session over this input writes after the opening words, and its report.
+// A session over this input, and how it ended.
 fn served<R: Threads + Wait + Copy + Send + 'static>(
     rt: R,
     alloc: Global,
     input: &'static [u8],
+    out: &mut Vec<u8>,
     editing: Editing,
     tostop: bool,
     jobs: u8,
-) -> Result<(Vec<u8>, Report), Fail> {
+) -> Result<Report, Fail> {
     let mut settings = Settings::standard();
     settings.flags.tostop = tostop;
-    let mut out = Vec::new(alloc);
     let limit = Limit::standard();
     let gate = Arc::new(alloc, Open)?;
     let maker = Jobs { left: jobs };
-    let (report, _ports) = serve_session(
-        rt, alloc, input, &mut out, settings, limit, editing, maker, gate,
-    )?;
-    Ok((out, report))
+    match serve_session(rt, alloc, input, out, settings, limit, editing, maker, gate) {
+        Ok((report, _ports)) => Ok(report),
+        Err(fault) => Err(Fail::from(fault)),
+    }
 }
 
 pub(crate) fn ended(ended: Ended, pieces: u64, entries: u64, stops: u64) -> Report {
@@ -111,36 +111,45 @@ pub(crate) fn ended(ended: Ended, pieces: u64, entries: u64, stops: u64) -> Repo
     }
 }
 
-// The session writes so much after its opening words, with one job, and ends so.
+// A session with one job writes so much after its opening words, and ends so.
 fn writes<R: Abort + Threads + Wait + Copy + Send + 'static>(
     rt: R,
     alloc: Global,
-    rows: &[(&'static [u8], &[u8], Report)],
+    input: &'static [u8],
+    editing: Editing,
+    wanted: &[u8],
+    report: Report,
 ) -> Result<(), Fail> {
-    for (input, wanted, report) in rows {
-        let (out, told) = served(rt, alloc, *input, Editing::Remote, false, 1)?;
-        assert_eq!(rt; out.get(OPENING..), Some(*wanted));
-        assert_eq!(rt; told, *report);
+    let mut out = Vec::new(alloc);
+    let told = served(rt, alloc, input, &mut out, editing, false, 1)?;
+    assert!(rt; out.get(OPENING..) == Some(wanted));
+    assert!(rt; told == report);
+    Ok(())
+}
+
+/// What is typed, what a session writes then, whether its job ended it, and how many jobs were stopped.
+const TYPED: &[(&[u8], &[u8], Ended, u64)] = &[
+    (b"a\r\0", b"a\r\n\xff\xf9", Ended::HangUp, 0),
+    (b"\x03", b"int\r\n\xff\xf9", Ended::HangUp, 0),
+    (b"\x1a", b"tstp\r\n\xff\xf9", Ended::HangUp, 1),
+    (b"exit\r\0", b"bye\r\n", Ended::Done, 0),
+];
+
+#[test]
+fn a_session_answers_what_is_typed(rt: HostRuntime) -> Result<(), Fail> {
+    for (input, wanted, how, stops) in TYPED {
+        let report = ended(*how, 1, 1, *stops);
+        writes(rt, rt.alloc(), *input, Editing::Remote, *wanted, report)?;
     }
     Ok(())
 }
 
 #[test]
-fn a_session_answers_what_is_typed(rt: HostRuntime) -> Result<(), Fail> {
-    let rows: [(&[u8], &[u8], Report); 4] = [
-        (b"a\r\0", b"a\r\n\xff\xf9", ended(Ended::HangUp, 1, 1, 0)),
-        (b"\x03", b"int\r\n\xff\xf9", ended(Ended::HangUp, 1, 1, 0)),
-        (b"\x1a", b"tstp\r\n\xff\xf9", ended(Ended::HangUp, 1, 1, 1)),
-        (b"exit\r\0", b"bye\r\n", ended(Ended::Done, 1, 1, 0)),
-    ];
-    writes(rt, rt.alloc(), &rows)
-}
-
-#[test]
 fn a_session_stops_what_writes_in_the_background(rt: HostRuntime) -> Result<(), Fail> {
-    let (out, report) = served(rt, rt.alloc(), b"", Editing::Remote, true, 2)?;
-    assert_eq!(rt; out.len(), OPENING);
-    assert_eq!(rt; report, ended(Ended::HangUp, 0, 0, 0));
+    let mut out = Vec::new(rt.alloc());
+    let report = served(rt, rt.alloc(), b"", &mut out, Editing::Remote, true, 2)?;
+    assert!(rt; out.len() == OPENING);
+    assert!(rt; report == ended(Ended::HangUp, 0, 0, 0));
     Ok(())
 }
 
@@ -155,35 +164,33 @@ const AT_CLIENT: &[u8; 14] = b"\xff\xfb\x22\xff\xfa\x22\x01\x07\xff\xf0a\x03\r\n
 
 #[test]
 fn a_session_reads_what_the_client_edited(rt: HostRuntime) -> Result<(), Fail> {
-    let (out, report) = served(rt, rt.alloc(), AT_CLIENT, Editing::Local, false, 1)?;
-    assert_eq!(rt; out.get(OPENING..), Some(EDITED.as_slice()));
-    assert_eq!(rt; report, ended(Ended::HangUp, 1, 1, 0));
-    Ok(())
+    let report = ended(Ended::HangUp, 1, 1, 0);
+    writes(rt, rt.alloc(), AT_CLIENT, Editing::Local, &EDITED, report)
+}
+
+// A client's session that hears nothing, and how it ended.
+fn typed<R: Threads + Wait + Copy + Send + 'static>(
+    rt: R,
+    alloc: Global,
+    out: &mut Vec<u8>,
+    screen: &mut Vec<u8>,
+) -> Result<Report, Fail> {
+    let limit = Limit::standard();
+    let gate = Arc::new(alloc, Open)?;
+    let (net, keys) = (Cursor::new([]), Cursor::new(*b"a\r"));
+    match client_session(rt, alloc, net, keys, out, screen, 80, 24, limit, gate) {
+        Ok((report, _ports)) => Ok(report),
+        Err(fault) => Err(Fail::from(fault)),
+    }
 }
 
 #[test]
 fn a_client_session_sends_and_echoes_keys(rt: HostRuntime) -> Result<(), Fail> {
-    let alloc = rt.alloc();
-    let mut out = Vec::new(alloc);
-    let mut screen = Vec::new(alloc);
-    let limit = Limit::standard();
-    let gate = Arc::new(alloc, Open)?;
-    let net = Cursor::new([]);
-    let keys = Cursor::new(*b"a\r");
-    let (report, _ports) = client_session(
-        rt,
-        alloc,
-        net,
-        keys,
-        &mut out,
-        &mut screen,
-        80,
-        24,
-        limit,
-        gate,
-    )?;
-    assert_eq!(rt; out.as_slice(), b"a\r\0".as_slice());
-    assert_eq!(rt; screen.as_slice(), b"a\r\n".as_slice());
-    assert_eq!(rt; report, ended(Ended::HangUp, 1, 0, 0));
+    let mut out = Vec::new(rt.alloc());
+    let mut screen = Vec::new(rt.alloc());
+    let report = typed(rt, rt.alloc(), &mut out, &mut screen)?;
+    assert!(rt; report == ended(Ended::HangUp, 1, 0, 0));
+    assert!(rt; out.as_slice() == b"a\r\0".as_slice());
+    assert!(rt; screen.as_slice() == b"a\r\n".as_slice());
     Ok(())
 }

@@ -1,6 +1,7 @@
 //! The terminal's machine, told its messages one by one.
 
 use std::alloc::Global;
+use std::process::Abort;
 use std::test::Fail;
 use tn_discipline::{Entry, Limit, Settings, Text};
 use tn_jobs::{After, JobId, Table};
@@ -14,20 +15,17 @@ const WRITTEN: [u8; 20] = [
 
 // A terminal with one job in the foreground, and what it says first.
 fn started(alloc: Global) -> Result<(Term, JobId, Vec<u8>), Fail> {
-    let mut out = Vec::new(alloc);
     let mut table = Table::new(alloc);
     let job = table.add()?;
     table.foreground(job)?;
-    let settings = Settings::standard();
-    let limit = Limit::standard();
-    let term = Term::start(alloc, settings, limit, Editing::Remote, table, &mut out)?;
-    Ok((term, job, out))
+    let (settings, limit) = (Settings::standard(), Limit::standard());
+    let mut sent = Vec::new(alloc);
+    let term = Term::start(alloc, settings, limit, Editing::Remote, table, &mut sent)?;
+    Ok((term, job, sent))
 }
 
 fn text(alloc: Global, bytes: &[u8]) -> Result<Text, Fail> {
-    let mut text = Vec::new(alloc);
-    text.extend_from_slice(bytes)?;
-    Ok(Text::from(text))
+    Ok(Text::from(Vec::from_slice(alloc, bytes)?))
 }
 
 // Tells the terminal one message, and keeps what it appends.
@@ -43,40 +41,61 @@ fn tell(
     Ok(outcome.put)
 }
 
-#[test]
-fn a_terminal_writes_a_line_back(rt: HostRuntime) -> Result<(), Fail> {
-    let alloc = rt.alloc();
-    let (mut term, job, mut sent) = started(alloc)?;
+fn reads_a_line(
+    rt: &impl Abort,
+    alloc: Global,
+    term: &mut Term,
+    sent: &mut Vec<u8>,
+) -> Result<(), Fail> {
+    tell(alloc, term, Message::Take, sent)?;
     let piece = Message::Piece(text(alloc, b"a\r\0")?);
-    tell(alloc, &mut term, Message::Take, &mut sent)?;
-    let put = tell(alloc, &mut term, piece, &mut sent)?;
-    let line = text(alloc, b"a\n")?;
-    assert_eq!(rt; put, Some(Some(Entry::Text(line))));
-    let said = Message::Said {
-        job,
-        text: text(alloc, b"a\n")?,
-        after: After::Stay,
-    };
-    tell(alloc, &mut term, said, &mut sent)?;
-    tell(alloc, &mut term, Message::Take, &mut sent)?;
-    let last = tell(alloc, &mut term, Message::HangUp, &mut sent)?;
-    assert_eq!(rt; last, Some(None));
-    assert_eq!(rt; sent.as_slice(), WRITTEN.as_slice());
+    let put = tell(alloc, term, piece, sent)?;
+    assert!(rt; put == Some(Some(Entry::Text(text(alloc, b"a\n")?))));
+    Ok(())
+}
+
+fn writes_it_back(
+    rt: &impl Abort,
+    alloc: Global,
+    term: &mut Term,
+    job: JobId,
+    sent: &mut Vec<u8>,
+) -> Result<(), Fail> {
+    let (text, after) = (text(alloc, b"a\n")?, After::Stay);
+    tell(alloc, term, Message::Said { job, text, after }, sent)?;
+    tell(alloc, term, Message::Take, sent)?;
+    let last = tell(alloc, term, Message::HangUp, sent)?;
+    assert!(rt; last == Some(None));
+    assert!(rt; sent.as_slice() == WRITTEN.as_slice());
     Ok(())
 }
 
 #[test]
-fn a_terminal_has_no_effect_after_a_failed_write(rt: HostRuntime) -> Result<(), Fail> {
-    let alloc = rt.alloc();
-    let (mut term, _job, mut sent) = started(alloc)?;
+fn a_terminal_writes_a_line_back(rt: HostRuntime) -> Result<(), Fail> {
+    let (mut term, job, mut sent) = started(rt.alloc())?;
+    reads_a_line(&rt, rt.alloc(), &mut term, &mut sent)?;
+    writes_it_back(&rt, rt.alloc(), &mut term, job, &mut sent)
+}
+
+fn has_no_effect(rt: &impl Abort, alloc: Global, term: &mut Term) -> Result<(), Fail> {
+    let mut sent = Vec::new(alloc);
     let piece = Message::Piece(text(alloc, b"a\r\0")?);
-    sent.clear();
-    tell(alloc, &mut term, Message::Take, &mut sent)?;
-    assert_eq!(rt; term.write_failed(), Some(None));
-    let put = tell(alloc, &mut term, piece, &mut sent)?;
-    assert!(rt; put.is_none());
-    assert!(rt; sent.is_empty());
-    assert_eq!(rt; term.progress().ended, Ended::Fault(SessionFault::Write));
-    assert_eq!(rt; term.progress().pieces, 0);
+    tell(alloc, term, Message::Take, &mut sent)?;
+    assert!(rt; term.write_failed() == Some(None));
+    let put = tell(alloc, term, piece, &mut sent)?;
+    assert!(rt; put.is_none() && sent.is_empty());
+    Ok(())
+}
+
+fn ends_by_it(rt: &impl Abort, term: &Term) {
+    assert!(rt; term.progress().ended == Ended::Fault(SessionFault::Write));
+    assert!(rt; term.progress().pieces == 0);
+}
+
+#[test]
+fn a_terminal_has_no_effect_after_a_failed_write(rt: HostRuntime) -> Result<(), Fail> {
+    let (mut term, _job, _sent) = started(rt.alloc())?;
+    has_no_effect(&rt, rt.alloc(), &mut term)?;
+    ends_by_it(&rt, &term);
     Ok(())
 }
