@@ -1,4 +1,5 @@
-use Rattle.std.proofs.Common.{◌≡◌, ◌≢◌, [], true, sym, ◌∙◌, subst}
+use Rattle.std.proofs.Common.{◌≡◌, ◌≢◌, [], true, sym, ◌∙◌, subst, arith}
+use Rattle.std.proofs.lemmas.Grind.{common_steps}
 use Rattle.tn_client.specs.Calls.{End}
 use Rattle.tn_client.specs.Replies.{edit_items}
 use Rattle.tn_client.specs.Steps.{sends_where}
@@ -23,3 +24,12 @@ returns-in-Err-clause-grows c =
     sym c.is_sent_ahead.ensures ∙ c.if-not-is_sent_ahead.false in
     subst (λ (x : End). edit_items x.forward r x.line ≢ []) c.self.view_is
     (sends_some c.self.inside.forward c.self.inside.line r c.in_ok-effect.effect 0 c.in_ok-effect.ensures.effect sends)
+
+pub returns-in_err-effect-clause-err_out : goal.returns-in_err-effect-clause-err_out
+returns-in_err-effect-clause-err_out c = grind (arith, common_steps)
+
+pub returns-in_err-effect-clause-grows : goal.returns-in_err-effect-clause-grows
+returns-in_err-effect-clause-grows c = grind (arith, common_steps)
+
+pub returns-in-Err-clause-err_out : goal.returns-in-Err-clause-err_out
+returns-in-Err-clause-err_out c = grind (arith, common_steps)

@@ -1,4 +1,5 @@
-use Rattle.std.proofs.Common.{ℕ, List, ◌++◌, refl}
+use Rattle.std.proofs.Common.{ℕ, List, ◌++◌, refl, arith}
+use Rattle.std.proofs.lemmas.Grind.{common_steps}
 use Rattle.tn_codes.specs.declared.codes.Verb.{Verb}
 use Rattle.std.proofs.lemmas.Result.{err_from_is_err_and}
 use Rattle.tn_linemode.specs.Modes.{edits}
@@ -58,3 +59,6 @@ returns-in_err-put_size_on-clause-grows c =
     let d = third old.options c.args.verb c.args.option (old.width, old.height) in
     rw (p.1, ← c.self.view_is) (back_some (first old.options old.mode old.line.held (Neg c.args.verb c.args.option)) (b ++ d)
     (back_some b d (rw (c.is_on.ensures, c.got-said.ensures.engine, ← c.self.view_is) at c.in_err-put_size_on.ensures.grows)))
+
+pub returns-clause-out : goal.returns-clause-out
+returns-clause-out c = grind (arith, common_steps)

@@ -1,4 +1,5 @@
 use Rattle.std.proofs.Common.{◌++◌, List, length, sym, ap, ◌∙◌, arith}
+use Rattle.std.proofs.lemmas.Grind.{common_steps}
 use Rattle.std.proofs.lemmas.Result.{err_from_is_err_and}
 use Rattle.tn_codes.specs.declared.triples.Triple.{Triple}
 use Rattle.tn_linemode.specs.Exchange.{server_answers, server_next, server_answer}
@@ -33,3 +34,6 @@ returns-in_err-announce-clause-some c =
     let p = err_from_is_err_and c.from_residual-in_err-announce.result c.from_residual-in_err-announce.ensures.1 in
     let some = asked_some c.as_slice.result.now (sym c.in_ok-is_asked.ensures.asked ∙ c.if-is_asked.true) in
     rw p.1 (rw c.as_slice.ensures at some)
+
+pub returns-clause-out : goal.returns-clause-out
+returns-clause-out c = grind (arith, common_steps)
