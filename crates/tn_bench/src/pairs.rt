@@ -46,7 +46,8 @@ impl Workload for Typing {
     }
 }
 
-/// The keys of a line of so many bytes, with the closing one, of which each third is ERASE where that is asked for.
+/// The keys of a line of so many bytes, with the closing one,
+/// of which each third is ERASE where that is asked for.
 pub(crate) fn line_of(alloc: Global, length: u32, erases: bool) -> Result<Vec<u8>, AllocError> {
     let mut keys = Vec::new(alloc);
     for place in 1..length {

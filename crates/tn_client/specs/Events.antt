@@ -9,8 +9,8 @@ pub data Event : Type 0 where
   resized : ℕ → ℕ → Event
   proposed : Func → Option ℕ → Event
 
--- What has happened since the end was started with a window of this width and height, and with lines of at most
--- so many bytes with the closing one; the latest at the right.
+-- What has happened since the end was started with a window of this width and height, and with lines of at
+-- most so many bytes with the closing one; the latest at the right.
 pub data History : Type 0 where
   begun : ℕ → ℕ → ℕ → History
   next : History → Event → History

@@ -38,8 +38,8 @@ role_under isig h key =
 abbrev pub isig_told : Bool → Bool → ℕ → Bool
 isig_told isig edit mask = if not edit && edits mask then traps mask else isig
 
--- The roles of the typed keys, by which a half line goes on whichever end edits it: with EDIT each by the mode and
--- the characters that it met, and without it under this ISIG.
+-- The roles of the typed keys, by which a half line goes on whichever end edits it: with EDIT each by the
+-- mode and the characters that it met, and without it under this ISIG.
 abbrev pub roles_under : Bool → History → List Role
 roles_under isig (begun width height limit) = []
 roles_under isig (next h (typed key)) = roles_under isig h ++ roles_from (role_under isig h key)
@@ -65,8 +65,8 @@ abbrev pub is_forward : Option Mask → ℕ → Bool
 is_forward None byte = false
 is_forward (Some mask) byte = has_character mask byte
 
--- a key of this role sends all that is held, where the line has this limit and count: it is an ordinary byte of
--- the forward mask, and admitted
+-- a key of this role sends all that is held, where the line has this limit and count: it is an ordinary byte
+-- of the forward mask, and admitted
 abbrev pub sends_ahead : Option Mask → ℕ → ℕ → Role → Bool
 sends_ahead forward limit count (role.Ordinary byte) =
     not (is_dropped limit count (role.Ordinary byte)) && is_forward forward byte
@@ -87,8 +87,8 @@ lengths_kept true true length lengths = lengths
 lengths_kept false true length lengths = length ∷ []
 lengths_kept edit false length lengths = []
 
--- The lengths that the half line has had since EDIT began, or since a key sent all of it, whichever is later; the
--- latest first.
+-- The lengths that the half line has had since EDIT began, or since a key sent all of it, whichever is later;
+-- the latest first.
 abbrev pub lengths_since_sent : History → List ℕ
 lengths_since_sent (begun width height limit) = []
 lengths_since_sent (next h (typed key)) =

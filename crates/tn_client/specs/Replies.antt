@@ -54,8 +54,8 @@ abbrev pub command_items : Option Command → List Item
 command_items None = []
 command_items (Some command) = Cmd command ∷ []
 
--- a key without EDIT is sent at once: a signal, which it is with TRAPSIG alone, as its command, and any other as
--- it is
+-- a key without EDIT is sent at once: a signal, which it is with TRAPSIG alone, as its command,
+-- and any other as it is
 abbrev pub raw_key_items : Role → ℕ → List Item
 raw_key_items (role.Signal sig) key = command_items (command_of (role.Signal sig))
 raw_key_items _ key = Byte key ∷ []

@@ -114,8 +114,8 @@ pub fn bounds_are_met()
         × (held_sent h (Sub option params) ≡ []) }
 {}
 
-/// For a stream of n bytes at most 4n + 4 bytes are sent, or held, besides those that the owner's own keys and
-/// calls add.
+/// For a stream of n bytes at most 4n + 4 bytes are sent, or held,
+/// besides those that the owner's own keys and calls add.
 pub fn sending_bounded()
     ensures { (h : History) (bytes : List ℕ) → IsRead bytes (items h) →
         bytes_due h ≤ 4 * length bytes + most_of_calls h + 4 }
@@ -123,8 +123,8 @@ pub fn sending_bounded()
     answers_name_their_function();
 }
 
-/// A piece that goes on with a subnegotiation that is dropped is not refused: it wants no memory, and completes
-/// no item.
+/// A piece that goes on with a subnegotiation that is dropped is not refused: it wants no memory, and
+/// completes no item.
 pub fn dropping_goes_on()
     ensures { (c : Course) (old : End) (piece before after seen now : List ℕ) → CourseLeadsTo c old →
         nvt.IsLetGo old.decoder piece → ¬ StopsWithin old piece before after seen now }

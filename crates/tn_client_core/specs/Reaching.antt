@@ -86,8 +86,9 @@ ShowsFront c next text all =
     (rest : List ℕ) × (text_shown next.history ≡ text_shown c.history ++ (text ++ rest))
     × (all ≡ true → rest ≡ [])
 
--- One message with its mark, from wherever the core may have been: these bytes were given for the network and these for the
--- screen, the first of those that the run sends and shows, and all of them unless something failed.
+-- One message with its mark, from wherever the core may have been: these bytes were given for the network and
+-- these for the screen, the first of those that the run sends and shows,
+-- and all of them unless something failed.
 pub record IsTurn (mark : Mark) (old : Core) (told : Told) (bytes text : List ℕ) (new : Core) : Type 0 where
   pub leads : (c : Run) → LeadsTo c old →
       (next : Run) × Turns c (told, mark) next × LeadsTo next new

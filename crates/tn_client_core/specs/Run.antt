@@ -12,8 +12,8 @@ use Rattle.tn_term.specs.declared.messages.Message.{Message}
 use Rattle.tn_term.specs.declared.messages.Message.TheVariants.{Piece}
 use Rattle.tn_wire.specs.Fronts.{IsRead}
 
--- All that has happened at the core: at its client end, with the network's pieces joined; the first part of that, whose
--- replies go to the network; and how far the session is.
+-- All that has happened at the core: at its client end, with the network's pieces joined; the first part of
+-- that, whose replies go to the network; and how far the session is.
 pub record Run : Type 0 where
   pub history : History
   pub sent : History

@@ -17,8 +17,9 @@ pub fn bytes_go_in_order()
         Runs (start width height limit) marked new → TakesInOrder (map (λ m. m.0) marked) new }
 {}
 
-/// A run ends by a fault only where the fault's cause was there: a message that reading failed, or that memory
-/// was wanting; a write to the network or the screen that failed; or a call of the end that was refused.
+/// A run ends by a fault only where the fault's cause was there: a message that reading failed, or that
+/// memory was wanting; a write to the network or the screen that failed;
+/// or a call of the end that was refused.
 pub fn faults_have_causes()
     ensures { (width height limit : ℕ) (marked : List (Told × Mark)) (new : Run) (fault : SessionFault) →
         Runs (start width height limit) marked new → new.progress.ended ≡ Fault fault →

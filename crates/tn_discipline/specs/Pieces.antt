@@ -4,7 +4,8 @@ use Rattle.std.specs.Prelude.{ℕ, Option, Some, None, List, [], ◌∷◌}
 use Rattle.tn_discipline.specs.declared.keys.Role.{Role}
 use Rattle.tn_discipline.specs.declared.keys.Role.TheVariants as role
 
--- the bytes that a key closes a line with: NL a line feed, EOL and EOL2 their own byte, EOF none. Other keys don't close
+-- the bytes that a key closes a line with: NL a line feed, EOL and EOL2 their own byte, EOF none.
+-- Other keys don't close
 abbrev pub closing_bytes : Role → Option (List ℕ)
 closing_bytes role.Nl = Some (10 ∷ [])
 closing_bytes (role.Eol byte) = Some (byte ∷ [])

@@ -31,7 +31,8 @@ is_foreground (Some Ended) = false
 abbrev pub has_foreground : Jobs → Bool
 has_foreground jobs = list_any is_foreground jobs
 
--- at most one job is in the foreground, sixteen at most are held, under numbers below sixteen, and none is Ended
+-- at most one job is in the foreground, sixteen at most are held, under numbers below sixteen,
+-- and none is Ended
 pub record IsTable (jobs : Jobs) : Type 0 where
   pub one_foreground : (a b : ℕ) → state_at jobs a ≡ Some Foreground → state_at jobs b ≡ Some Foreground
       → a ≡ b

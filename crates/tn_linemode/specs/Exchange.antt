@@ -1,5 +1,5 @@
--- The exchange of local characters (RFC 1184, section 2.4): what each end makes of the other's triples, and what it
--- answers. Where the RFC leaves a choice, it is this project's own.
+-- The exchange of local characters (RFC 1184, section 2.4): what each end makes of the other's triples, and
+-- what it answers. Where the RFC leaves a choice, it is this project's own.
 use Rattle.std.specs.Prelude.{◌≡◌, ◌≢◌, ℕ, ◌==◌, Bool, true, false, not, ◌&&◌, ◌||◌, Option, Some, None, is_none, option_to_list, List, [], ◌∷◌, ◌++◌, map, fold, if◌then◌else◌}
 use Rattle.std.specs.List.{list_any}
 use Rattle.tn_codes.specs.declared.triples.Triple.{Triple}

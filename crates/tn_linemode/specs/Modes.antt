@@ -1,5 +1,5 @@
--- MODE of LINEMODE (RFC 1184, section 2.2). Its mask has EDIT as bit 1, TRAPSIG as bit 2 and MODE_ACK as bit 4.
--- Of the others, SOFT_TAB and LIT_ECHO, neither end keeps any.
+-- MODE of LINEMODE (RFC 1184, section 2.2). Its mask has EDIT as bit 1, TRAPSIG as bit 2 and MODE_ACK as bit
+-- 4. Of the others, SOFT_TAB and LIT_ECHO, neither end keeps any.
 use Rattle.std.specs.Prelude.{ℕ, ◌<◌, ◌==◌, Bool, not, ◌||◌, Option, Some, None, bit_and, bit_or, if◌then◌else◌}
 
 -- EDIT and TRAPSIG alone

@@ -1,4 +1,5 @@
--- What one triple of a list of local characters says (RFC 1184, section 2.4): a function, a modifier and a character.
+-- What one triple of a list of local characters says (RFC 1184, section 2.4): a function,
+-- a modifier and a character.
 use Rattle.std.specs.Prelude.{◌≡◌, ℕ, ◌==◌, Bool, true, false, not, Option, Some, None, find, bit_and, bit_or, if◌then◌else◌}
 use Rattle.tn_codes.specs.Codes.{func_code}
 use Rattle.tn_codes.specs.declared.codes.Func.{Func}

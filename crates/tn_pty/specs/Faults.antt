@@ -13,8 +13,8 @@ pub record Accepts (old : Terminal) (r : Role) : Type 0 where
   pub opened : old.closed ≡ false
   pub room : gives_entry r ≡ true → length old.entries < most_waiting
 
--- A key of this role is refused, and has no effect but that the terminal is shut: it was shut already, or 1,024
--- entries wait, or no memory was found for a text.
+-- A key of this role is refused, and has no effect but that the terminal is shut: it was shut already, or
+-- 1,024 entries wait, or no memory was found for a text.
 abbrev pub Refuses : Terminal → Role → PtyFault → Terminal → Type 0
 Refuses old r Closed new = (old.closed ≡ true) × (new ≡ old)
 Refuses old r TooFarAhead new =

@@ -9,8 +9,9 @@ use Rattle.tn_server.specs.Replies.{data_of, items_said}
 use Rattle.tn_server.specs.Screen.{queue}
 use Rattle.tn_server.specs.Terms.{chars}
 
--- What an item is answered by at most. An option word: by a word (3 bytes), the whole table (30), a MODE (7) and
--- a word for ECHO (3). A subnegotiation: by answers that are no longer than it is, and by the whole table.
+-- What an item is answered by at most. An option word: by a word (3 bytes), the whole table (30), a MODE (7)
+-- and a word for ECHO (3). A subnegotiation: by answers that are no longer than it is,
+-- and by the whole table.
 abbrev pub most_said : Item → ℕ
 most_said (Neg verb option) = 43
 most_said (Sub option params) = length (spelling (Sub option params)) + 30
@@ -23,8 +24,8 @@ HasAllowedCharacters (next h (char_set func value)) =
     HasAllowedCharacters h × (char_fault (chars h) func value ≡ None)
 HasAllowedCharacters (next h _) = HasAllowedCharacters h
 
--- What a call of the owner adds at most to what is sent, or waits to be: GA; two bytes for each byte of output;
--- a MODE and a word for ECHO; a triple; a word for ECHO; a forward mask. To pull sends what waited.
+-- What a call of the owner adds at most to what is sent, or waits to be: GA; two bytes for each byte of
+-- output; a MODE and a word for ECHO; a triple; a word for ECHO; a forward mask. To pull sends what waited.
 abbrev pub most_of_call : Event → ℕ
 most_of_call (got item) = 0
 most_of_call took = 2

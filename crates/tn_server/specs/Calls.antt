@@ -46,7 +46,8 @@ pub record LeadsTo (h : History) (end : End) : Type 0 where
   pub size : (end.terminal.width, end.terminal.height) ≡ size h
   pub due : end.pulled ≡ due h
 
--- From wherever the end may stand, the event leads to where it stands now, and what was appended spells the replies.
+-- From wherever the end may stand, the event leads to where it stands now,
+-- and what was appended spells the replies.
 pub record Advances (old : End) (e : Event) (before after : List ℕ) (new : End) : Type 0 where
   pub said : List Item
   pub appended : after ≡ before ++ spells said
@@ -109,8 +110,8 @@ abbrev pub IsStopCause : History → List Item → DecoderState → List ℕ →
 IsStopCause h [] here back f = (f ≡ fault.Memory) × WantsMemory here back
 IsStopCause h (item ∷ left) here back f = IsCause h item f
 
--- A piece was refused: of the items of a front of it some were done, and what was appended spells the replies to them,
--- and a front of those to the next.
+-- A piece was refused: of the items of a front of it some were done, and what was appended spells the replies
+-- to them, and a front of those to the next.
 pub record StopsWithin (old : End) (piece : List ℕ) (fault : ServerFault) (before after : List ℕ)
     (new : End) : Type 0 where
   pub front : List ℕ

@@ -24,7 +24,8 @@ abbrev pub IsCall : Event → Type 0
 IsCall (got item) = ⊥
 IsCall _ = Unit {0}
 
--- The course leads to this history: each piece brings the items that it adds to those of the stream before it.
+-- The course leads to this history: each piece brings the items that it adds to those of
+-- the stream before it.
 abbrev pub ReadsAs : Course → History → Type 0
 ReadsAs (started canon) h = h ≡ begun canon
 ReadsAs (fed course piece) h =

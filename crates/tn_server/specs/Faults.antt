@@ -17,8 +17,8 @@ use Rattle.tn_server.specs.declared.faults.ServerFault.TheVariants.{Pty, Memory,
 abbrev pub SaysSomething : History → Event → Type 0
 SaysSomething h e = replies h e ≢ []
 
--- why an item is refused: too many entries wait for the one that it makes; memory is wanting for the text of a line, for
--- what is to be sent, or for a list
+-- why an item is refused: too many entries wait for the one that it makes; memory is wanting for the text of
+-- a line, for what is to be sent, or for a list
 abbrev pub IsCause : History → Item → ServerFault → Type 0
 IsCause h item (Pty pty.TooFarAhead) =
     (gives_entry (role_of_item h item) ≡ true) × (length (waiting h) ≡ most_waiting)

@@ -47,8 +47,8 @@ abbrev pub echo_items : Bool → Bool → Options → List Item
 echo_items true wanted o = asked_word_items (answer_to o Us 1 wanted)
 echo_items false wanted o = []
 
--- what the server says once the options and perhaps a wish are new, or the flag ECHO was set: the whole table, the mode,
--- its ECHO
+-- what the server says once the options and perhaps a wish are new, or the flag ECHO was set: the whole
+-- table, the mode, its ECHO
 abbrev pub items_by : Flags → Characters → Terms → Options → Option Editing → Bool → List Item
 items_by f c t o editing set =
     let wish = wish_after f t.wish editing in

@@ -28,8 +28,8 @@ use Rattle.tn_server.specs.Replies.{items_at, list_replies, new_table_items, ech
 use Rattle.tn_server.specs.Calls.{End}
 use Rattle.tn_server.specs.declared.terms.Negotiation.{Negotiation}
 
--- the masks and options of an end after LINEMODE changed, a wish was made or the flag ECHO was set, with the new options
--- before the server's word for ECHO
+-- the masks and options of an end after LINEMODE changed, a wish was made or the flag ECHO was set, with the
+-- new options before the server's word for ECHO
 abbrev pub modes_before : Bool → Modes → Modes
 modes_before true m = no_mode
 modes_before false m = m

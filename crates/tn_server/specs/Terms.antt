@@ -17,7 +17,8 @@ use Rattle.tn_server.specs.Events.{Event, got, wished, char_set, echo_set, Histo
 use Rattle.tn_server.specs.declared.wishes.Editing.{Editing}
 use Rattle.tn_server.specs.declared.wishes.Editing.TheVariants.{Remote, Local}
 
--- the client's LINEMODE, NAWS and SUPPRESS-GO-AHEAD are agreed to, and the server's own ECHO and SUPPRESS-GO-AHEAD
+-- the client's LINEMODE, NAWS and SUPPRESS-GO-AHEAD are agreed to, and the server's own ECHO and
+-- SUPPRESS-GO-AHEAD
 abbrev pub agreement : Agree
 agreement =
     record { us = true ∷ true ∷ false ∷ false ∷ []; them = false ∷ true ∷ true ∷ true ∷ [] }
@@ -120,7 +121,8 @@ is_echo_set _ = false
 abbrev pub changes : Options → Options → Bool
 changes old new = differ (linemode old) (linemode new)
 
--- the server asks for its ECHO anew after each change of LINEMODE, each wish that sends, and each change of the flag
+-- the server asks for its ECHO anew after each change of LINEMODE, each wish that sends,
+-- and each change of the flag
 abbrev pub asks_echo : Options → Options → Option ℕ → Bool → Bool
 asks_echo old new told set = changes old new || (is_some told || set)
 

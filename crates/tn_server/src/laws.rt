@@ -63,8 +63,8 @@ pub fn course_fed()
 /// make the server say.
 pub fn course_stopped()
     ensures { (c : Course) (old new : End) (piece before after : List ℕ) (fault : ServerFault)
-        (h whole : History) → CourseLeadsTo c old → StopsWithin old piece fault before after new → ReadsAs c h →
-        ReadsAs (fed c piece) whole → StopsBetween h whole fault before after new }
+        (h whole : History) → CourseLeadsTo c old → StopsWithin old piece fault before after new →
+        ReadsAs c h → ReadsAs (fed c piece) whole → StopsBetween h whole fault before after new }
 {}
 
 /// One call more.
@@ -101,8 +101,8 @@ pub fn replies_bounded()
     answers_name_their_function();
 }
 
-/// A list of local characters is answered once: to what a client answered the server says nothing, in whatever
-/// state.
+/// A list of local characters is answered once: to what a client answered the server says nothing,
+/// in whatever state.
 pub fn answers_are_not_answered()
     ensures { (h : History) (c : Characters) (ts : List Triple) →
         replies h (got (Sub 34 (parameters_of (Slc (client_answers c ts))))) ≡ [] }
@@ -118,8 +118,8 @@ pub fn characters_are_allowed()
     tables_stay_allowed();
 }
 
-/// For a stream of n bytes at most 9n + 31 bytes are sent, or wait to be, echo included, besides those that the
-/// owner's own calls add.
+/// For a stream of n bytes at most 9n + 31 bytes are sent, or wait to be, echo included, besides those that
+/// the owner's own calls add.
 pub fn sending_bounded()
     ensures { (h : History) (bytes : List ℕ) → HasAllowedCharacters h → IsRead bytes (items h) →
         bytes_due h ≤ 9 * length bytes + most_of_calls h + 31 }
@@ -129,8 +129,8 @@ pub fn sending_bounded()
     answers_name_their_function();
 }
 
-/// A piece that goes on with a subnegotiation that is dropped is not refused: it wants no memory, and completes
-/// no item.
+/// A piece that goes on with a subnegotiation that is dropped is not refused: it wants no memory, and
+/// completes no item.
 pub fn dropping_goes_on()
     ensures { (h : History) (old new : End) (piece before after : List ℕ) (fault : ServerFault) →
         LeadsTo h old → nvt.IsLetGo old.decoder piece → ¬ StopsWithin old piece fault before after new }

@@ -49,7 +49,8 @@ pub record IsReadyForTwo (m : Mailbox) : Type 0 where
   pub net_is : view m.net.pass ≡ sender Net []
   pub keys_is : view m.keys.pass ≡ sender Keys []
 
--- whatever the lists are: they are those of the new passes too, and what was handled begins an interleaving of what was sent
+-- whatever the lists are: they are those of the new passes too, and what was handled begins an interleaving
+-- of what was sent
 abbrev pub AreTwoSettled : View → View → View → View → View → View → Type 0
 AreTwoSettled pass net keys net' keys' core' =
     (h a d : List Mail) → pass ≡ core_view h → net ≡ sender Net a → keys ≡ sender Keys d
@@ -63,7 +64,8 @@ client_report p = record { ended = p.ended; pieces = p.pieces; entries = 0; stop
 abbrev pub IsFrontOf : Option (List ℕ) → List ℕ → Type 0
 IsFrontOf given bytes = (left : Option (List ℕ)) × Consumes given left bytes
 
--- Of what Keys and Net sent, in the order that these passes know, and of what the core handled, wrote and showed.
+-- Of what Keys and Net sent, in the order that these passes know, and of what the core handled,
+-- wrote and showed.
 pub record RunningClient (width height limit : ℕ) (keys_given net_given : Option (List ℕ))
     (keys_foretold net_foretold : Option Failures) (before after seen now : Option (List ℕ))
     (writer_before writer_after screen_before screen_after : Option Calls)

@@ -28,7 +28,8 @@ told_of mail = record { from = origin_of mail.from; message = mail.message }
 abbrev pub all_told : List Mail → List Told
 all_told mails = map told_of mails
 
--- one message with its mark: what was written and shown of what it sends and shows, and what the writer and the screen told
+-- one message with its mark: what was written and shown of what it sends and shows,
+-- and what the writer and the screen told
 pub record TurnsTold (old : Core) (told : Told) (before after seen now : Option (List ℕ))
     (writer_before writer_after screen_before screen_after : Option Calls) (new : Core) : Type 0 where
   pub mark : Mark
@@ -40,8 +41,8 @@ pub record TurnsTold (old : Core) (told : Told) (before after seen now : Option 
   pub tells_shown : Tells (no_show_failed mark) screen_before screen_after
   pub turn : IsTurn mark old told bytes text new
 
--- Some messages with their marks, from wherever the core may have been: these bytes were written and these shown, the first of
--- those that the run sends and shows, and all of them unless something failed.
+-- Some messages with their marks, from wherever the core may have been: these bytes were written and these
+-- shown, the first of those that the run sends and shows, and all of them unless something failed.
 pub record ToldAll (old : Core) (messages : List Told) (before after seen now : Option (List ℕ))
     (writer_before writer_after screen_before screen_after : Option Calls) (new : Core) : Type 0 where
   pub marked : List (Told × Mark)
@@ -58,7 +59,8 @@ pub record ToldAll (old : Core) (messages : List Told) (before after seen now : 
   pub over : all_whole marked ≡ false → new.progress.over ≡ true
   pub stays : old.progress.over ≡ true → new.progress.over ≡ true
 
--- what the core did: of the views before and after, and of what the writer to the network and the screen held and told
+-- what the core did: of the views before and after,
+-- and of what the writer to the network and the screen held and told
 pub record CoreHandles (old : Core) (v w : View) (before after seen now : Option (List ℕ))
     (writer_before writer_after screen_before screen_after : Option Calls) (new : Core) : Type 0 where
   pub handled : List Mail

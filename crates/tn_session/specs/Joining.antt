@@ -39,8 +39,8 @@ pub record IsReady (c : Channels) : Type 0 where
   pub hand_is : view c.hand ≡ putter []
   pub took_is : view c.take.pass ≡ taker []
 
--- whatever the lists are: they are those of the new passes too, what was handled begins an interleaving of what was sent,
--- and what was taken begins what was put
+-- whatever the lists are: they are those of the new passes too, what was handled begins an interleaving of
+-- what was sent, and what was taken begins what was put
 abbrev pub AreSettled : View → View → View → View → Hand → Hand → View → View → View → View → Hand → Hand
     → Type 0
 AreSettled pass net desk back hand took net' desk' back' term' put' took' =

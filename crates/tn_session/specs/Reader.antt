@@ -11,8 +11,8 @@ use Rattle.tn_streams.specs.Foretelling.{Failures}
 use Rattle.tn_term.specs.declared.messages.Message.{Message}
 use Rattle.tn_term.specs.declared.messages.Message.TheVariants.{Left}
 
--- After the pieces comes how the reading ended, for its cause, and then Left. A thread that may be stopped may leave right after
--- a piece.
+-- After the pieces comes how the reading ended, for its cause, and then Left. A thread that may be stopped
+-- may leave right after a piece.
 abbrev pub Closes : Bool → List (List ℕ) → Option (List ℕ) → Option Failures → List Message → Type 0
 Closes may_stop pieces left foretold close =
     ((last : Message) × (IsEnding last left × IsReadCause foretold (length pieces) last)

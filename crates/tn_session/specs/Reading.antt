@@ -34,7 +34,8 @@ pieces_of pieces = map (λ p. Piece p) pieces
 abbrev pub most_reads : ℕ
 most_reads = 4294967295
 
--- Why the thread says so after so many pieces: that reading failed, only where a read fails, or after as many reads as it makes.
+-- Why the thread says so after so many pieces: that reading failed, only where a read fails, or after as many
+-- reads as it makes.
 abbrev pub IsReadCause : Option Failures → ℕ → Message → Type 0
 IsReadCause foretold pieces ReadFailed = WillFail most_reads pieces foretold
 IsReadCause foretold pieces _ = ⊤
@@ -45,7 +46,8 @@ IsForetold old new (Bytes text) = HasCome 1 1 old new
 IsForetold old new Again = HasCome 1 0 old new
 IsForetold old new (Last last) = IsReadCause old 0 last
 
--- the pieces joined are the first of the bytes that the reader gives, and then comes how it ended, for its cause
+-- the pieces joined are the first of the bytes that the reader gives, and then comes how it ended,
+-- for its cause
 abbrev pub NetSends : Option (List ℕ) → Option Failures → View → Type 0
 NetSends given foretold v =
     (pieces : List (List ℕ)) × (left : Option (List ℕ)) × (last : Message)

@@ -50,8 +50,8 @@ use Rattle.tn_wire.specs.Fronts.{IsRead}
 abbrev pub report_of : Progress → Report
 report_of p = record { ended = p.ended; pieces = p.pieces; entries = p.entries; stops = p.stops }
 
--- why a session did not run to its report: memory is wanting, there is no first job or a thread could not be started, or a
--- channel has no other end
+-- why a session did not run to its report: memory is wanting, there is no first job or a thread could not be
+-- started, or a channel has no other end
 abbrev pub IsRefusal : SessionFault → Type 0
 IsRefusal fault.Memory = Unit {0}
 IsRefusal fault.Start = Unit {0}
@@ -70,8 +70,8 @@ pub record IsOpening (old : Term) (words : List ℕ) (before after : Option (Lis
   pub leads : (c : Run) → LeadsTo c old → LeadsTo (run_after_opening written c) new
   pub over : written ≡ false → new.progress.over ≡ true
 
--- One, two, three, four and six of what is said of a session: of what the three threads sent, in the order that these passes
--- know, of what the terminal handled, put and wrote, and of what the foreground job took.
+-- One, two, three, four and six of what is said of a session: of what the three threads sent, in the order
+-- that these passes know, of what the terminal handled, put and wrote, and of what the foreground job took.
 pub record Schedule {J : Type 0} (fresh : J → Type 0) (reacts : J → Entry → Reaction → J → Type 0)
     (steps : J → Reaction → J → Type 0)
     (first : JobId) (others : List ℕ) (canon : Canon) (editing : Editing) (jobs : Jobs)
@@ -121,10 +121,12 @@ IsRun fresh reacts steps first others term words given foretold old new told_old
     (canon : Canon) (editing : Editing) (jobs : Jobs) → LeadsTo (start canon editing jobs) term
     → words ≡ spells (items_said (opening canon editing))
     → Schedule fresh reacts steps first others canon editing jobs given foretold old new told_old told_new
-    report (view ports.net) (view ports.desk) (view ports.back) (view ports.term) (view ports.put) (view ports.took)
+    report (view ports.net) (view ports.desk) (view ports.back) (view ports.term)
+    (view ports.put) (view ports.took)
 
 -- the jobs were made, and the terminal is started with them
-pub record IsBegun {J : Type 0} (fresh : J → Type 0) (canon : Canon) (editing : Editing) (b : Begun J) : Type 0 where
+pub record IsBegun {J : Type 0} (fresh : J → Type 0) (canon : Canon) (editing : Editing) (b : Begun J)
+    : Type 0 where
   pub jobs : Jobs
   pub numbered : Numbered jobs b.posts.first (ids_of b.posts.line.items)
   pub line : IsLine fresh b.posts.line.items
@@ -141,16 +143,16 @@ RunsOn fresh reacts steps first others given foretold opened new told_opened tol
     → IsOpening began words old opened told_old told_opened term
     → IsRun fresh reacts steps first others began words given foretold old new told_old told_new report ports
 
--- The stream of the run is the first of the bytes that the reader gave, and all of them where a hang-up ended the session;
--- its items are read by the definitions of the stream.
+-- The stream of the run is the first of the bytes that the reader gave, and all of them where a hang-up ended
+-- the session; its items are read by the definitions of the stream.
 pub record HearsReader (given : Option (List ℕ)) (ended : Ended) (c : Run) : Type 0 where
   pub left : Option (List ℕ)
   pub consumed : Consumes given left c.stream
   pub all : ended ≡ HangUp → IsAtEnd left
   pub read : IsRead c.stream (items c.history)
 
--- where the reader's bytes are known: what was taken begins the entries that they give, whatever the schedule, and is all of
--- them where a hang-up ended the session
+-- where the reader's bytes are known: what was taken begins the entries that they give, whatever the
+-- schedule, and is all of them where a hang-up ended the session
 abbrev pub TakesEntries : Canon → Editing → Option (List ℕ) → Ended → List (Option Entry) → Type 0
 TakesEntries canon editing given ended taken =
     (bytes : List ℕ) (xs : List Item) → given ≡ Some bytes → IsRead bytes xs
@@ -171,15 +173,15 @@ pub record RunningSession {J : Type 0} (fresh : J → Type 0) (reacts : J → En
       told_old told_new report net desk back term put took
   -- two: what the run heard of the reader
   pub heard : HearsReader given report.ended schedule.run
-  -- five: what the foreground job took is a front of the run's entries, and all of them where a hang-up ended the session;
-  -- and so of those that the reader's bytes give
+  -- five: what the foreground job took is a front of the run's entries, and all of them where a hang-up ended
+  -- the session; and so of those that the reader's bytes give
   pub in_order : GivesFront schedule.taken schedule.run.history
   pub all_taken : report.ended ≡ HangUp → entries_put schedule.taken ≡ entries schedule.run.history
   pub by_bytes : TakesEntries canon editing given report.ended schedule.taken
   -- six: a fault is told only where its cause was there
   pub caused : (f : SessionFault) → report.ended ≡ Fault f
-      → IsFaultCause schedule.wrote_opening (run_after_opening schedule.wrote_opening (start canon editing jobs))
-      schedule.marked f
+      → IsFaultCause schedule.wrote_opening
+      (run_after_opening schedule.wrote_opening (start canon editing jobs)) schedule.marked f
   -- that reading failed, only where a read fails, or after as many as are made
   pub read_failed : report.ended ≡ Fault fault.Read → WillFail most_reads (length schedule.read.0) foretold
   -- and that a write failed, only where one did

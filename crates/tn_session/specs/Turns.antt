@@ -45,8 +45,8 @@ pub record TurnsMessage (old : Term) (message : Message) (before after : Option 
   pub puts : (l : List (Option Entry)) → v ≡ putter l
       → w ≡ putter (l ++ (option_to_list put ++ option_to_list last))
 
--- Some messages with their marks, from wherever the terminal may have been: these bytes were written, the first of those that
--- the run sends, and all of them unless something failed.
+-- Some messages with their marks, from wherever the terminal may have been: these bytes were written, the
+-- first of those that the run sends, and all of them unless something failed.
 pub record GoesOn (old : Term) (messages : List Message) (before after : Option (List ℕ))
     (told_before told_after : Option Calls) (puts : List (Option Entry)) (new : Term) : Type 0 where
   pub marked : List (Message × Mark)
@@ -74,7 +74,8 @@ lefts_of (x ∷ xs) = left_one x.message + lefts_of xs
 abbrev pub messages_of : List Mail → List Message
 messages_of mails = map (λ x. x.message) mails
 
--- what the terminal did: of the views before and after, and of the bytes that the writer held and what it told before and after
+-- what the terminal did: of the views before and after, and of the bytes that the writer held and what it
+-- told before and after
 pub record HandlesAll (old : Term) (v w : View) (before_hand after_hand : Hand)
     (before after : Option (List ℕ)) (told_before told_after : Option Calls) (new : Term) : Type 0 where
   pub handled : List Mail

@@ -42,8 +42,8 @@ pub trait Gate {
     fn at(&self, place: Place);
 }
 
-/// A writer that is told when no more comes from this end. Nothing is said of what that does, but that no call
-/// of the writer is counted for it.
+/// A writer that is told when no more comes from this end. Nothing is said of what that does, but that no
+/// call of the writer is counted for it.
 pub trait Finish: Drain {
     fn finish(&mut self)
         ensures contents { Keeps (Self.contents self.old) (Self.contents self.new) }

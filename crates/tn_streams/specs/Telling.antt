@@ -11,7 +11,8 @@ pub record Calls : Type 0 where
 
 -- one that a signal interrupted has not failed
 abbrev pub CountsError : Error → ℕ → ℕ → Type 0
-CountsError e old new = (error_kind e ≡ Interrupted → new ≡ old) × (error_kind e ≢ Interrupted → new ≡ old + 1)
+CountsError e old new = (error_kind e ≡ Interrupted → new ≡ old)
+    × (error_kind e ≢ Interrupted → new ≡ old + 1)
 
 abbrev pub CountsRead : Result ℕ Error → ℕ → ℕ → Type 0
 CountsRead (Ok n) old new = new ≡ old

@@ -5,8 +5,8 @@ use Rattle.tn_server.specs.Lines.{entries, waiting}
 use Rattle.tn_server.specs.Replies.{items_said}
 use Rattle.tn_term.specs.Run.{Run}
 
--- the same was sent and put, the same came, and the session and its jobs are at the same point; the parts in which texts
--- were written may differ
+-- the same was sent and put, the same came, and the session and its jobs are at the same point; the parts in
+-- which texts were written may differ
 pub record Agree (one two : Run) : Type 0 where
   pub said : items_said one.history ≡ items_said two.history
   pub puts : one.puts ≡ two.puts

@@ -52,7 +52,8 @@ AllKeepOn id (m ∷ messages) = KeepsOn id m × AllKeepOn id messages
 abbrev pub entries_by : Canon → Editing → List Item → List Entry
 entries_by canon editing xs = entries (gets (opening canon editing) xs)
 
--- The stream is the first bytes of the pieces, its items are read by the definitions of the stream, and the entries are theirs.
+-- The stream is the first bytes of the pieces, its items are read by the definitions of the stream, and the
+-- entries are theirs.
 pub record Hears (canon : Canon) (editing : Editing) (messages : List Message) (c : Run) : Type 0 where
   pub unheard : List ℕ
   pub stream_first : heard messages ≡ c.stream ++ unheard
@@ -65,8 +66,8 @@ AllBeforeEnd puts all =
     (given : List Entry) (more : List (Option Entry)) → puts ≡ map (λ e. Some e) given ++ None ∷ more
     → given ≡ all
 
--- Where a hang-up ended the run: nothing failed, the job of this number was not done, all pieces were heard, and all entries
--- were put before an end was.
+-- Where a hang-up ended the run: nothing failed, the job of this number was not done, all pieces were heard,
+-- and all entries were put before an end was.
 pub record HangsUp (id : ℕ) (messages : List Message) (c : Run) : Type 0 where
   pub kept_on : AllKeepOn id messages
   pub all_heard : c.stream ≡ heard messages

@@ -27,8 +27,8 @@ abbrev pub put_or_not : Bool → Message → Run → Run → Run
 put_or_not true m c whole = whole
 put_or_not false m c whole = unput m c whole
 
--- A message with its mark. None is written, and no call is made, once nothing has any effect. A call that was refused was so
--- for its cause.
+-- A message with its mark. None is written, and no call is made, once nothing has any effect. A call that was
+-- refused was so for its cause.
 abbrev pub Turns : Run → Message × Mark → Run → Type 0
 Turns c (m, mark.Whole) new = Handles c m new
 Turns c (m, mark.WriteFailed) new =

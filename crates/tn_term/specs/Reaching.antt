@@ -33,7 +33,8 @@ pub record LeadsTo (c : Run) (t : Term) : Type 0 where
   pub live : t.progress.over ≡ false → IsLive c t
   pub progress : t.progress ≡ c.progress
 
--- The history goes on by this path, from wherever the end may stand, and what was appended spells what it sends more.
+-- The history goes on by this path, from wherever the end may stand,
+-- and what was appended spells what it sends more.
 pub record FollowsPath (path : History → History) (old : End) (before after : List ℕ)
     (new : End) : Type 0 where
   pub said : List Item
@@ -46,8 +47,8 @@ pub record FollowsPath (path : History → History) (old : End) (before after : 
   pub items : (h : History) → items (path h) ≡ items h
   pub settings : (h : History) → opening_settings (path h) ≡ opening_settings h
 
--- The run changes like this, from wherever the terminal may be; what was appended spells what it sends more, and this was
--- put.
+-- The run changes like this, from wherever the terminal may be; what was appended spells what it sends more,
+-- and this was put.
 pub record AdvancesRun (change : Run → Run) (old : Term) (before after : List ℕ) (put : List (Option Entry))
     (new : Term) : Type 0 where
   pub said : List Item
@@ -127,8 +128,8 @@ pub record StopsWithin (old : Term) (message : Message) (given : Bool) (before a
 abbrev pub RefusesFor : Term → Message → ServerFault → Type 0
 RefusesFor old message f = (c : Run) → LeadsTo c old → IsRefusalCause c message f
 
--- One message with its mark, from wherever the terminal may have been: these bytes were given, the first of those that the
--- run sends, and all of them unless something failed.
+-- One message with its mark, from wherever the terminal may have been: these bytes were given, the first of
+-- those that the run sends, and all of them unless something failed.
 pub record IsTurn (mark : Mark) (old : Term) (message : Message) (bytes : List ℕ)
     (put last : Option (Option Entry)) (new : Term) : Type 0 where
   pub leads : (c : Run) → LeadsTo c old →

@@ -26,8 +26,8 @@ use Rattle.tn_term.specs.declared.messages.Message.{Message}
 use Rattle.tn_term.specs.declared.messages.Message.TheVariants.{Piece, HangUp, ReadFailed, Take, Said, Refused, Left}
 use Rattle.tn_term.specs.declared.progress.Progress.{Progress}
 
--- All that has happened at the terminal: at its server end, with the pieces joined; what was put for the foreground job,
--- where None is the end of its entries; the jobs; and how far the session is.
+-- All that has happened at the terminal: at its server end, with the pieces joined; what was put for the
+-- foreground job, where None is the end of its entries; the jobs; and how far the session is.
 pub record Run : Type 0 where
   pub history : History
   pub stream : List ℕ
@@ -141,7 +141,8 @@ abbrev pub halt_if : Bool → Run → Run
 halt_if true c = halt c
 halt_if false c = c
 
--- what a job's reaction does: first the job is moved, then its text is shown; the end of the foreground job ends all
+-- what a job's reaction does: first the job is moved, then its text is shown;
+-- the end of the foreground job ends all
 abbrev pub after_said : ℕ → List (List ℕ) → Option Verdict → Run → Run
 after_said id parts None c = flush c
 after_said id parts (Some v) c =

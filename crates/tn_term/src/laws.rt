@@ -56,9 +56,9 @@ pub fn runs_agree()
         Runs (run_after_opening opens (start canon editing jobs)) marked two → Agree one two }
 {}
 
-/// A run ends by a fault only where the fault's cause was there: a message that reading failed, or that memory
-/// was wanting; a write that failed; or a call of the end that was refused for its cause, too far behind only
-/// where as many entries waited as there may be.
+/// A run ends by a fault only where the fault's cause was there: a message that reading failed, or that
+/// memory was wanting; a write that failed; or a call of the end that was refused for its cause, too far
+/// behind only where as many entries waited as there may be.
 pub fn faults_have_causes()
     ensures { (opens : Bool) (canon : Canon) (editing : Editing) (jobs : Jobs)
         (marked : List (Message × Mark)) (new : Run) (fault : SessionFault) →

@@ -4,7 +4,8 @@ use Rattle.tn_nvt.specs.declared.items.Item.{Item}
 use Rattle.tn_nvt.specs.Stream.{Reading}
 use Rattle.tn_nvt.specs.Feeding.{DecoderState, LeadsTo}
 
--- These bytes are in flight to this decoder, and whole items: after some stream that it has read they are read as these.
+-- These bytes are in flight to this decoder, and whole items:
+-- after some stream that it has read they are read as these.
 pub record InFlight (decoder : DecoderState) (flight : List ℕ) (items : List Item) : Type 0 where
   pub stream : List ℕ
   pub had : List Item

@@ -1,6 +1,7 @@
--- The headline: from a settled moment at rest, after every quiet list of events, the entries that jobs took, followed by
--- those that wait, are a prefix of the entries that the typed keys give at a local terminal, and are all of them where
--- nothing is in flight and no end has failed. Read `Headline` at the end first, and then the words that it is made of.
+-- The headline: from a settled moment at rest, after every quiet list of events, the entries that jobs took,
+-- followed by those that wait, are a prefix of the entries that the typed keys give at a local terminal, and
+-- are all of them where nothing is in flight and no end has failed. Read `Headline` at the end first, and
+-- then the words that it is made of.
 use Rattle.std.specs.Prelude.{◌≡◌, ◌⊎◌, ℕ, Bool, true, false, List, [], ◌∷◌, ◌++◌}
 use Rattle.tn_discipline.specs.Canon.{Canon, typed_entries}
 use Rattle.tn_discipline.specs.declared.reads.Entry.{Entry}
@@ -81,8 +82,8 @@ pub record IsMark (canon : Canon) (w : World) : Type 0 where
   pub typed : w.typed ≡ []
   pub taken : w.taken ≡ []
 
--- QUIET LISTS OF EVENTS: no special character changes. LINEMODE and every flag but ECHO stay as they are after a mark,
--- whatever happens; a mode may change in the middle of a line.
+-- QUIET LISTS OF EVENTS: no special character changes. LINEMODE and every flag but ECHO stay as they are
+-- after a mark, whatever happens; a mode may change in the middle of a line.
 
 -- no special character is set or proposed
 abbrev pub IsQuietEvent : Event → Type 0
@@ -109,8 +110,8 @@ abbrev pub AreQuietEvents : List Event → Type 0
 AreQuietEvents [] = Unit {0}
 AreQuietEvents (e ∷ events) = IsQuietEvent e × AreQuietEvents events
 
--- This world came from a settled moment at rest, at which the server had these settings and this limit, by a quiet list
--- of events.
+-- This world came from a settled moment at rest, at which the server had these settings and this limit, by a
+-- quiet list of events.
 pub record FollowsMark (canon : Canon) (w : World) : Type 0 where
   pub start : World
   pub mark : IsMark canon start
@@ -136,8 +137,9 @@ local_entries canon typed = typed_entries canon typed
 abbrev pub IsPrefixOf : {A : Type 0} → List A → List A → Type 0
 IsPrefixOf {A} xs ys = (rest : List A) × (xs ++ rest ≡ ys)
 
--- What holds of a world that follows a mark, at which the server had these settings and this limit. An end that failed on the
--- way, for want of memory or because too many entries waited, takes nothing of the first from it.
+-- What holds of a world that follows a mark, at which the server had these settings and this limit. An end
+-- that failed on the way, for want of memory or because too many entries waited,
+-- takes nothing of the first from it.
 pub record Headline (canon : Canon) (w : World) : Type 0 where
   pub prefix : IsPrefixOf (entries_made w) (local_entries canon w.typed)
   pub complete : NoneFailed w → NothingInFlight w → entries_made w ≡ local_entries canon w.typed

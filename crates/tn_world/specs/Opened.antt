@@ -11,8 +11,8 @@ use Rattle.tn_world.specs.Worlds.{World}
 use Rattle.tn_world.specs.declared.faults.Cause.TheVariants as cause
 use Rattle.tn_world.specs.declared.faults.WorldFault.{WorldFault}
 
--- Both ends are where they start, with lines of the same limit, and have read nothing; the terminal takes keys, and the
--- opening words are in flight.
+-- Both ends are where they start, with lines of the same limit, and have read nothing; the terminal takes
+-- keys, and the opening words are in flight.
 pub record IsOpened (canon : Canon) (width height : ℕ) (w : World) : Type 0 where
   pub server : server_courses.CourseLeadsTo (server_courses.started canon) w.server
   pub client : client_courses.CourseLeadsTo (client_courses.started width height canon.limit) w.client

@@ -1,4 +1,5 @@
--- Output: all that the client's screen will have shown once the terminal's queue was sent and all in flight arrived.
+-- Output: all that the client's screen will have shown once the terminal's queue was sent
+-- and all in flight arrived.
 use Rattle.std.specs.Prelude.{◌≡◌, ℕ, false, List, [], ◌∷◌, ◌++◌}
 use Rattle.std.specs.List.{flat_map}
 use Rattle.tn_discipline.specs.declared.echo.Symbol.{Symbol}
@@ -51,7 +52,8 @@ OutputGrowsTo old (e ∷ events) new text last =
 abbrev pub OutputGrowsAll : World → List Event → World → List ℕ → Type 0
 OutputGrowsAll old events new text = (last : List ℕ) × OutputGrowsTo old events new text last
 
--- The event at this place is refused, and each of those before it does so; and so does this one, unless the client fails.
+-- The event at this place is refused, and each of those before it does so; and so does this one,
+-- unless the client fails.
 pub record OutputGrowsBefore (old : World) (events : List Event) (at : ℕ) (cause : Cause) (new : World)
     (text : List ℕ) : Type 0 where
   pub ends : StopsWithin old events at cause new

@@ -22,9 +22,10 @@ engines w there back =
       to_there = words_in back;
     }
 
--- Whatever happened since the world was opened: the server stands where some history leads; as long as an end has not
--- failed, it is where some pieces and calls lead, and what flies to it are whole items; both ends have lines of one limit.
--- While neither has failed, both engines are where some wishes and words lead (RFC 1143).
+-- Whatever happened since the world was opened: the server stands where some history leads; as long as an end
+-- has not failed, it is where some pieces and calls lead, and what flies to it are whole items; both ends
+-- have lines of one limit. While neither has failed,
+-- both engines are where some wishes and words lead (RFC 1143).
 pub record HasPast (w : World) : Type 0 where
   pub history : server_calls.History
   pub server : server.LeadsTo history w.server

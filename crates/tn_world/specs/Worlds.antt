@@ -152,7 +152,8 @@ RunsEvent old (Mask mask) new =
 RunsEvent old ServerStops new = new ≡ record old { server_stopped = true }
 RunsEvent old ClientStops new = new ≡ record old { client_stopped = true }
 
--- A delivery that the server refused: its bytes have left the flight. An end that failed before did nothing more.
+-- A delivery that the server refused: its bytes have left the flight.
+-- An end that failed before did nothing more.
 pub record ServerRefusesDelivery (old : World) (n : ℕ) (fault : ServerFault) (new : World) : Type 0 where
   pub goes_on : old.server_stopped ≡ false
   pub first : (old.server.failed ≡ true) → fault ≡ server_faults.Failed
@@ -193,8 +194,8 @@ pub record ClientRefusesCall (end : client.End) (e : client_calls.Event) (fault 
   pub grows : (fault ≡ client_faults.Memory) → (h : client_calls.History) → client.LeadsTo h end
       → client.SaysOrShows h e
 
--- the event calls an end, other than by a delivery, and the call is refused for this fault: entries are taken from a
--- server that was stopped, too
+-- the event calls an end, other than by a delivery, and the call is refused for this fault: entries are taken
+-- from a server that was stopped, too
 abbrev pub ServerRefusesEvent : World → Event → ServerFault → Type 0
 ServerRefusesEvent w (Pull n) fault =
     (w.server_stopped ≡ false) × ServerRefusesCall w.server (server_calls.pulled n) fault

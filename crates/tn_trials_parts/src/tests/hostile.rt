@@ -24,7 +24,8 @@ const AT_A_SERVER: &[(&str, &str)] = &[
         "true; true",
     ),
     // An option word is answered by forty-three bytes at most.
-    // Nothing costs a server more for its bytes: a word that turns LINEMODE on again, once it was told to edit.
+    // Nothing costs a server more for its bytes: a word that turns LINEMODE on again,
+    // once it was told to edit.
     (
         "wish local; feed fffd01; says fffc22 ; says fffb22 fffd22.\
          fffa220303020307021c08020409021a0a027f0b0215110000120000fff0.fffa220103fff0fffc01",

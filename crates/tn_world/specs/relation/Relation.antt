@@ -26,10 +26,11 @@ abbrev pub AreOrdinary : Characters → List ℕ → Type 0
 AreOrdinary chars [] = Unit {0}
 AreOrdinary chars (b ∷ bs) = (literal_role chars b ≡ role.Ordinary b) × AreOrdinary chars bs
 
--- Between the typed keys and the taken entries, the server `v` once it has read what is in flight to it, and the client:
--- the keys' entries are those taken and those that wait at `v`, and their half line is that of `v` followed by what the
--- client holds. Where the client edits, it knows how long the half line of `v` is; where it does not, it holds nothing,
--- and the count that ISIG names is that length, if Local is a mode that the server may ask for.
+-- Between the typed keys and the taken entries, the server `v` once it has read what is in flight to it, and
+-- the client: the keys' entries are those taken and those that wait at `v`, and their half line is that of
+-- `v` followed by what the client holds. Where the client edits, it knows how long the half line of `v` is;
+-- where it does not, it holds nothing, and the count that ISIG names is that length, if Local is a mode that
+-- the server may ask for.
 pub record Agrees (rules : Rules) (typed : List ℕ) (taken : List Entry) (v : Server)
     (c : Client) : Type 0 where
   pub half : List ℕ
@@ -77,8 +78,8 @@ pub record IsRelated (canon : Canon) (w : World) : Type 0 where
   pub client : ClientStays (rules_of canon linemode) w.client
   pub past : HasPast w
 
--- What is left of it where the client has failed, and says nothing more: the entries taken, followed by those that wait at the
--- server once it has read what is in flight to it, begin those of the typed keys.
+-- What is left of it where the client has failed, and says nothing more: the entries taken, followed by those
+-- that wait at the server once it has read what is in flight to it, begin those of the typed keys.
 pub record IsBehind (canon : Canon) (w : World) : Type 0 where
   pub linemode : Bool
   pub items : List Item
