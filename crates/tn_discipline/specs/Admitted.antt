@@ -1,5 +1,5 @@
 -- The keys that a line has room for (MAX_CANON; XBD 11.1.6). The limit is how many bytes a line has at most,
--- with its closing byte.
+-- with its closing byte; the count is how many bytes the half line has.
 use Rattle.std.specs.Prelude.{ℕ, ◌+◌, ◌-◌, Bool, false, ◌==◌, List, [], ◌∷◌, if◌then◌else◌}
 use Rattle.tn_discipline.specs.Limits.{most_counted}
 use Rattle.tn_discipline.specs.declared.keys.Role.{Role}

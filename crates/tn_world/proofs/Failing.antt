@@ -231,14 +231,14 @@ pub behind_breaks : (s : Canon) (old new : World) (n : ℕ) (fault : ClientFault
 behind_breaks s old new n fault none r h =
     let rules = rules_of s h.linemode in
     let x = r.breaks (memory_is old.client.failed fault r.is_fault none.1) in
-    let c = h.past.told none.1 in
+    let c = h.past.client_course none.1 in
     let at = c.1 in
     let bytes = client_courses.stream c.0 in
     let had = client_calls.items at.history in
     let got = x.done ++ x.left in
     let said = x.said ++ x.part in
     let f = front_at old.client.decoder x.here n old.to_client x.front x.back h.tied.messages got h.tied.back x.whole x.reads in
-    let calm = (all_parts (IsCalmToClient s.settings) got f.0 (subst (λ l. All (IsCalmToClient s.settings) l) f.1 h.tied.asked)).0 in
+    let calm = (all_parts (IsCalmToClient s.settings) got f.0 (subst (λ l. All (IsCalmToClient s.settings) l) f.1 h.tied.calm_back)).0 in
     let w = stops_done rules at.history old.client (take n old.to_client) old.to_server new.to_server old.shown new.shown bytes had at.stands at.reads h.client none.1 x calm in
     let fit = breaks_fit at.history old.client (take n old.to_client) old.to_server new.to_server old.shown new.shown bytes had at.stands at.reads x in
     let hushed = (all_parts IsCalmToServer said w.rest (subst (λ l. All IsCalmToServer l) w.whole w.writes.calm)).0 in

@@ -58,7 +58,7 @@ flight_fits d flight items f = (all_parts Fits f.had items (reading_fits (f.stre
 holds_types : (s : Canon) (old new : World) (key : ℕ) → NoneFailed old → HasPast new → TypesKey old key new → IsRelated s old → IsRelated s new
 holds_types s old new key none sound t h =
     let rules = rules_of s h.linemode in
-    let c = (h.past.told none.1).1 in
+    let c = (h.past.client_course none.1).1 in
     let k = client_steps.keys_done rules c.history old.client new.client key old.to_server new.to_server c.stands h.client h.tied.agrees.askable none.1 t.goes t.keeps t.sends in
     record {
       linemode = h.linemode;
@@ -77,7 +77,7 @@ holds_types s old new key none sound t h =
 holds_resizes : (s : Canon) (old new : World) (width height : ℕ) → NoneFailed old → HasPast new → CallsClient old (client_calls.resized width height) new → IsRelated s old → IsRelated s new
 holds_resizes s old new width height none sound t h =
     let rules = rules_of s h.linemode in
-    let c = (h.past.told none.1).1 in
+    let c = (h.past.client_course none.1).1 in
     record {
       linemode = h.linemode;
       tied = happens-tied rules (picture old) (picture new) ends.client_call (
@@ -161,10 +161,10 @@ holds_reaches s old new n none sound t h =
 holds_returns : (s : Canon) (old new : World) (n : ℕ) → NoneFailed old → HasPast new → DeliversToClient old n new → IsRelated s old → IsRelated s new
 holds_returns s old new n none sound t h =
     let rules = rules_of s h.linemode in
-    let c = (h.past.told none.1).1 in
+    let c = (h.past.client_course none.1).1 in
     let gains = t.feeds.reads in
     let d = cut_at old.client.decoder new.client.decoder n old.to_client h.tied.messages t.feeds.items h.tied.back gains in
-    let calm = (all_parts (IsCalmToClient s.settings) t.feeds.items d.left (subst (λ l. All (IsCalmToClient s.settings) l) d.all h.tied.asked)).0 in
+    let calm = (all_parts (IsCalmToClient s.settings) t.feeds.items d.left (subst (λ l. All (IsCalmToClient s.settings) l) d.all h.tied.calm_back)).0 in
     let k = client_steps.feeds_done rules c.history old.client new.client (take n old.to_client) old.to_server new.to_server old.shown new.shown c.stands h.client none.1 t.feeds calm in
     record {
       linemode = h.linemode;

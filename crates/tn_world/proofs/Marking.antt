@@ -123,7 +123,7 @@ mark_holds s w m =
         calm = All-nil IsCalmToServer;
         messages = [];
         back = subst (λ x. InFlight w.client.decoder w.to_client x) silent back.1;
-        asked = All-nil (IsCalmToClient s.settings);
+        calm_back = All-nil (IsCalmToClient s.settings);
         agrees = mark_agrees s lm w m;
       };
       server = record {

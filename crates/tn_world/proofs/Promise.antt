@@ -81,8 +81,8 @@ anew_sound w s =
     record {
       history = s.history;
       server = s.server;
-      asked = s.asked;
-      told = s.told;
+      server_course = s.server_course;
+      client_course = s.client_course;
       limit = s.limit;
       to_server = s.to_server;
       to_client = s.to_client;

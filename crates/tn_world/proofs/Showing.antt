@@ -173,7 +173,7 @@ shown_more shown got left waiting = ap (λ (x : List ℕ). shown ++ x) (append_a
 returns_grows : (old new : World) (n : ℕ) (text : List ℕ) → HasPast old → old.client.failed ≡ false → DeliversToClient old n new → IsOutput old text → OutputGrows old (ToClient n) new text
 returns_grows old new n text s runs r o =
     let f = r.feeds in
-    let at = (s.told runs).1 in
+    let at = (s.client_course runs).1 in
     let d = cut_at old.client.decoder new.client.decoder n old.to_client o.items f.items o.flight f.reads in
     let is_shown : new.shown ≡ old.shown ++ text_of f.items =
     f.displayed ∙ ap (λ (x : List ℕ). old.shown ++ x) (feeds_text at.history old.client new.client (take n old.to_client) old.to_server new.to_server old.shown new.shown at.stands f) in

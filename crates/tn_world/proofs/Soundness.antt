@@ -143,24 +143,24 @@ pub made : (w : World) (h : server_calls.History) → server.LeadsTo h w.server
     → (there : w.server.failed ≡ false → (items : List Item) × InFlight w.server.decoder w.to_server items)
     → (here : w.client.failed ≡ false → (items : List Item) × InFlight w.client.decoder w.to_client items)
     → ((a : w.server.failed ≡ false) (b : w.client.failed ≡ false) → LeadTo server_terms.agreement client_terms.agreement (engines w (there a).0 (here b).0)) → HasPast w
-made w h stands asked told limit there here words = record { history = h; server = stands; asked = asked; told = told; limit = limit; to_server = there; to_client = here; words = words }
+made w h stands of_server of_client limit there here words = record { history = h; server = stands; server_course = of_server; client_course = of_client; limit = limit; to_server = there; to_client = here; words = words }
 
 -- a call of the client
 module _ (old new : World) (e : client_calls.Event) (call : client_courses.IsCall e) (g : client.Advances old.client e new.client) (k : client.ReadsNothing old.client new.client) (sends : client.Sends old.client e old.to_server new.to_server) (runs : old.client.failed ≡ false) (s : HasPast old) where
   told_now : (c : client_courses.Course) × client_courses.CourseLeadsTo c new.client
-  told_now = let before = s.told runs in (client_courses.called before.0 e, client_on.called_at before.0 old.client new.client e before.1 call g k)
+  told_now = let before = s.client_course runs in (client_courses.called before.0 e, client_on.called_at before.0 old.client new.client e before.1 call g k)
 
   pub told_limit : new.client.line.limit ≡ old.client.line.limit
   told_limit =
-      let at = (s.told runs).1 in
+      let at = (s.client_course runs).1 in
       let after = g.stands at.history at.stands in
       let before = at.stands in
       after.limit ∙ sym before.limit
 
   pub told_sound : HasPast (record old { client = new.client; to_server = new.to_server })
   told_sound =
-      let at = (s.told runs).1 in
-      made (record old { client = new.client; to_server = new.to_server }) s.history s.server s.asked (λ b. told_now)
+      let at = (s.client_course runs).1 in
+      made (record old { client = new.client; to_server = new.to_server }) s.history s.server s.server_course (λ b. told_now)
       (λ b. told_limit ∙ s.limit runs)
       (λ a. let f = s.to_server a in (f.0 ++ sends.said, said_behind old.server.decoder old.to_server new.to_server f.0 sends.said sends.appended (sends_fit at.history old.client e old.to_server new.to_server at.stands sends) f.1))
       (λ b. let f = s.to_client runs in (f.0, subst (λ d. InFlight d old.to_client f.0) (sym k.decoder) f.1))
@@ -171,8 +171,8 @@ module _ (old new : World) (e : client_calls.Event) (call : client_courses.IsCal
 pub sound_as : (old new : World) → new.server ≡ old.server → new.client ≡ old.client → new.to_server ≡ old.to_server → new.to_client ≡ old.to_client → HasPast old → HasPast new
 sound_as old new a b c d s =
     made new s.history (subst (server.LeadsTo s.history) (sym a) s.server)
-    (λ r. let x = s.asked (sym (ap (λ e. e.failed) a) ∙ r) in (x.0, subst (server_courses.CourseLeadsTo x.0) (sym a) x.1))
-    (λ r. let x = s.told (sym (ap (λ e. e.failed) b) ∙ r) in (x.0, subst (client_courses.CourseLeadsTo x.0) (sym b) x.1))
+    (λ r. let x = s.server_course (sym (ap (λ e. e.failed) a) ∙ r) in (x.0, subst (server_courses.CourseLeadsTo x.0) (sym a) x.1))
+    (λ r. let x = s.client_course (sym (ap (λ e. e.failed) b) ∙ r) in (x.0, subst (client_courses.CourseLeadsTo x.0) (sym b) x.1))
     (λ r. ap (λ e. e.line.limit) b ∙ s.limit (sym (ap (λ e. e.failed) b) ∙ r) ∙ sym (ap (λ e. e.terminal.line.limit) a))
     (λ r. let f = s.to_server (sym (ap (λ e. e.failed) a) ∙ r) in (f.0, subst (λ x. InFlight new.server.decoder x f.0) (sym c) (subst (λ e. InFlight e.decoder old.to_server f.0) (sym a) f.1)))
     (λ r. let f = s.to_client (sym (ap (λ e. e.failed) b) ∙ r) in (f.0, subst (λ x. InFlight new.client.decoder x f.0) (sym d) (subst (λ e. InFlight e.decoder old.to_client f.0) (sym b) f.1)))
@@ -207,8 +207,8 @@ module _ (old new : World) (e : server_calls.Event) (call : server_courses.IsCal
   pub asked_sound : HasPast (record old { server = new.server; to_client = new.to_client })
   asked_sound =
       made (record old { server = new.server; to_client = new.to_client }) (server_calls.next s.history e) (g.stands s.history s.server)
-      (λ r. let x = s.asked (sym k.failed ∙ r) in (server_courses.called x.0 e, server_on.called_on x.0 old.server new.server e old.to_client new.to_client x.1 call g k))
-      s.told
+      (λ r. let x = s.server_course (sym k.failed ∙ r) in (server_courses.called x.0 e, server_on.called_on x.0 old.server new.server e old.to_client new.to_client x.1 call g k))
+      s.client_course
       (λ b. s.limit b ∙ sym asked_limit)
       (λ a. let f = s.to_server (sym k.failed ∙ a) in (f.0, subst (λ d. InFlight d old.to_server f.0) (sym k.decoder) f.1))
       (λ b. let f = s.to_client b in (f.0 ++ g.said, said_behind old.client.decoder old.to_client new.to_client f.0 g.said g.appended (goes_fit s.history old.server new.server e old.to_client new.to_client s.server g) f.1))
@@ -237,8 +237,8 @@ sound_reaches old new n t s =
     let runs : new.server.failed ≡ false → old.server.failed ≡ false = λ r. sym f.failed ∙ r in
     subst (λ w. HasPast w) (sym t.rest)
     (made (record old { server = new.server; to_server = drop n old.to_server; to_client = new.to_client }) (server_calls.gets s.history f.items) after
-    (λ r. let x = s.asked (runs r) in (server_courses.fed x.0 piece, server_on.fed_on x.0 old.server new.server piece old.to_client new.to_client x.1 f))
-    s.told
+    (λ r. let x = s.server_course (runs r) in (server_courses.fed x.0 piece, server_on.fed_on x.0 old.server new.server piece old.to_client new.to_client x.1 f))
+    s.client_course
     (λ b. s.limit b ∙ before.limit ∙ sym (limit-gets s.history f.items) ∙ sym after.limit)
     (λ a. let x = s.to_server (runs a) in let d = cut_at old.server.decoder new.server.decoder n old.to_server x.0 f.items x.1 f.reads in (d.left, d.flight))
     (λ b. let x = s.to_client b in (x.0 ++ f.said, said_behind old.client.decoder old.to_client new.to_client x.0 f.said f.appended (feeds_fit s.history old.server new.server piece old.to_client new.to_client s.server f) x.1))
@@ -261,13 +261,13 @@ sound_returns old new n t s =
     let f = t.feeds in
     let piece = take n old.to_client in
     let runs = call_goes_on old.client t.accepted in
-    let at = (s.told runs).1 in
+    let at = (s.client_course runs).1 in
     let before = at.stands in
     let after = f.stands at.history at.stands in
     subst (λ w. HasPast w) (sym t.rest)
     (made (record old { client = new.client; to_client = drop n old.to_client; to_server = new.to_server; shown = new.shown }) s.history s.server
-    s.asked
-    (λ r. let x = s.told runs in (client_courses.fed x.0 piece, client_on.fed_at x.0 old.client new.client piece old.to_server new.to_server old.shown new.shown x.1 f))
+    s.server_course
+    (λ r. let x = s.client_course runs in (client_courses.fed x.0 piece, client_on.fed_at x.0 old.client new.client piece old.to_server new.to_server old.shown new.shown x.1 f))
     (λ b. after.limit ∙ line_limit-gets at.history f.items ∙ sym before.limit ∙ s.limit runs)
     (λ a. let x = s.to_server a in (x.0 ++ f.said, said_behind old.server.decoder old.to_server new.to_server x.0 f.said f.appended (came_fit at.history old.client new.client piece old.to_server new.to_server old.shown new.shown at.stands f) x.1))
     (λ b. let x = s.to_client runs in let d = cut_at old.client.decoder new.client.decoder n old.to_client x.0 f.items x.1 f.reads in (d.left, d.flight))
@@ -334,7 +334,7 @@ halts_sound old end piece left later fault again none halts of failed s =
     let before = s.server in
     let after = at.1 in
     made (record old { server = end; to_server = left; to_client = later }) (server_calls.gets s.history at.0) at.1
-    (λ r. opposite end.failed _ failed r) s.told
+    (λ r. opposite end.failed _ failed r) s.client_course
     (λ b. s.limit b ∙ before.limit ∙ sym (limit-gets s.history at.0) ∙ sym after.limit)
     (λ r. opposite end.failed _ failed r)
     (λ b. let f = s.to_client b in (f.0 ++ more.said, said_behind old.client.decoder old.to_client later f.0 more.said more.appended more.fit f.1))
@@ -343,9 +343,9 @@ halts_sound old end piece left later fault again none halts of failed s =
 -- the client failed
 pub breaks_sound : (old : World) (end : client.End) (piece left later seen : List ℕ) → old.client.failed ≡ false → client.StopsWithin old.client piece old.to_server later old.shown seen → end.failed ≡ true → HasPast old → HasPast (record old { client = end; to_client = left; to_server = later; shown = seen })
 breaks_sound old end piece left later seen runs x failed s =
-    let at = s.told runs in
+    let at = s.client_course runs in
     let here = at.1 in
-    made (record old { client = end; to_client = left; to_server = later; shown = seen }) s.history s.server s.asked
+    made (record old { client = end; to_client = left; to_server = later; shown = seen }) s.history s.server s.server_course
     (λ r. opposite end.failed _ failed r) (λ r. opposite end.failed _ failed r)
     (λ a. let f = s.to_server a in (
       f.0 ++ (x.said ++ x.part),
@@ -358,7 +358,7 @@ breaks_sound old end piece left later seen runs x failed s =
 -- the client had failed before
 pub again_sound : (old : World) (left : List ℕ) → old.client.failed ≡ true → HasPast old → HasPast (record old { to_client = left })
 again_sound old left failed s =
-    made (record old { to_client = left }) s.history s.server s.asked s.told s.limit s.to_server (λ r. opposite old.client.failed _ failed r) (λ a b. opposite old.client.failed _ failed b)
+    made (record old { to_client = left }) s.history s.server s.server_course s.client_course s.limit s.to_server (λ r. opposite old.client.failed _ failed r) (λ a b. opposite old.client.failed _ failed b)
 
 -- A refusal changed nothing, or it was of a delivery.
 pub data Refusal (old : World) (e : Event) (new : World) : Type 0 where

@@ -77,20 +77,20 @@ writes-tied rules w t says said typed client messages later h back asked agrees 
       calm = All-append IsCalmToServer t.items said t.calm h.calm;
       messages = messages;
       back = back;
-      asked = asked;
+      calm_back = asked;
       agrees = subst (λ v. Agrees rules typed w.taken v client.core) (sym (sent rules w.server.core t.items said says h.says_so)) agrees;
     }
 
 key-tied : (rules : Rules) (w : World) (k : ℕ) (client : ClientEnd) (said : List Item) → ClientKeys rules w.client k said client → IsTied rules w → IsTied rules (record w { typed = w.typed ++ k ∷ []; client = client; to_server = w.to_server ++ spells said })
 key-tied rules w k client said h t =
-    writes-tied rules w t (client_after_key rules w.client.core.mask.edit w.client.core k).items said (w.typed ++ k ∷ []) client t.messages w.to_client h.writes (subst (λ d. InFlight d w.to_client t.messages) (sym h.decoder) t.back) t.asked
+    writes-tied rules w t (client_after_key rules w.client.core.mask.edit w.client.core k).items said (w.typed ++ k ∷ []) client t.messages w.to_client h.writes (subst (λ d. InFlight d w.to_client t.messages) (sym h.decoder) t.back) t.calm_back
     (subst (λ c. Agrees rules (w.typed ++ k ∷ []) w.taken (read_all rules.canon (read_all rules.canon w.server.core (server_items rules t.items)) (client_after_key rules w.client.core.mask.edit w.client.core k).items) c) (sym h.core)
     (key-agrees rules w.typed w.taken (read_all rules.canon w.server.core (server_items rules t.items)) w.client.core k w.client.core.mask.edit refl t.agrees))
 
 client-tied : (rules : Rules) (w : World) (n : ℕ) (client : ClientEnd) (said : List Item) → ClientFeeds rules w.client (take n w.to_client) said client → IsTied rules w → IsTied rules (record w { client = client; to_client = drop n w.to_client; to_server = w.to_server ++ spells said })
 client-tied rules w n client said h t =
     let d = cut_at w.client.decoder client.decoder n w.to_client t.messages h.got t.back h.reads in
-    let parts = all_parts (IsCalmToClient rules.canon.settings) h.got d.left (subst (λ l. All (IsCalmToClient rules.canon.settings) l) d.all t.asked) in
+    let parts = all_parts (IsCalmToClient rules.canon.settings) h.got d.left (subst (λ l. All (IsCalmToClient rules.canon.settings) l) d.all t.calm_back) in
     writes-tied rules w t (client_after_messages rules w.client.core (client_messages rules h.got)).items said w.typed client d.left (drop n w.to_client) h.writes d.flight parts.1
     (subst (λ c. Agrees rules w.typed w.taken (read_all rules.canon (read_all rules.canon w.server.core (server_items rules t.items)) (client_after_messages rules w.client.core (client_messages rules h.got)).items) c) (sym h.core)
     (all-agree rules w.typed w.taken (read_all rules.canon w.server.core (server_items rules t.items)) w.client.core h.got t.agrees parts.0))
@@ -98,7 +98,7 @@ client-tied rules w n client said h t =
 client-says : (rules : Rules) (w : World) (client : ClientEnd) (said : List Item) → ClientSays rules w.client said client → IsTied rules w → IsTied rules (record w { client = client; to_server = w.to_server ++ spells said })
 client-says rules w client said h t =
     subst (λ c. IsTied rules (record w { client = c; to_server = w.to_server ++ spells said })) (sym h.same)
-    (writes-tied rules w t [] said w.typed w.client t.messages w.to_client h.writes t.back t.asked t.agrees)
+    (writes-tied rules w t [] said w.typed w.client t.messages w.to_client h.writes t.back t.calm_back t.agrees)
 
 -- the flight to the client, once the server has written
 says-tied : (rules : Rules) (w : World) (said : List Item) → AreReplies rules said → IsTied rules w → IsTied rules (record w { to_client = w.to_client ++ spells said })
@@ -109,7 +109,7 @@ says-tied rules w said h t =
       calm = t.calm;
       messages = t.messages ++ said;
       back = behind w.client.decoder w.to_client t.messages said h.fit t.back;
-      asked = All-append (IsCalmToClient rules.canon.settings) t.messages said t.asked h.calm;
+      calm_back = All-append (IsCalmToClient rules.canon.settings) t.messages said t.calm_back h.calm;
       agrees = t.agrees;
     }
 
@@ -122,7 +122,7 @@ server-tied rules w n server said h t =
       calm = (all_parts IsCalmToServer h.got d.left (subst (λ l. All IsCalmToServer l) d.all t.calm)).1;
       messages = t.messages;
       back = t.back;
-      asked = t.asked;
+      calm_back = t.calm_back;
       agrees =
           subst (λ v. Agrees rules w.typed w.taken v w.client.core)
           (ap (λ x. read_all rules.canon w.server.core x) (ap (server_items rules) d.all ∙ map-append (server_item rules.linemode) h.got d.left)
@@ -145,7 +145,7 @@ took-tied rules w (x ∷ none) server h t =
       calm = t.calm;
       messages = t.messages;
       back = t.back;
-      asked = t.asked;
+      calm_back = t.calm_back;
       agrees = take-agrees rules w.typed w.taken w.server.core w.client.core (server_items rules t.items) x h.0 h.1 t.agrees;
     }))
 

@@ -54,7 +54,7 @@ far_behind old new n s r = go (by_test old.server.failed refl)
     go : old.server.failed ≡ false → length new.server.terminal.entries ≡ most_waiting
     go runs =
         let x = r.halts tt in
-        let c = s.asked runs in
+        let c = s.server_course runs in
         let at = c.1 in
         let h = server_calls.gets at.history x.done in
         let why = x.cause (has_read old.server.decoder (server_courses.stream c.0) (server_calls.items at.history) at.reads) at.history at.stands in

@@ -137,9 +137,9 @@ local_entries canon typed = typed_entries canon typed
 abbrev pub IsPrefixOf : {A : Type 0} → List A → List A → Type 0
 IsPrefixOf {A} xs ys = (rest : List A) × (xs ++ rest ≡ ys)
 
--- What holds of a world that follows a mark, at which the server had these settings and this limit. An end
--- that failed on the way, for want of memory or because too many entries waited,
--- takes nothing of the first from it.
+-- What holds of a world that follows a mark, at which the server had these settings and this limit: its two
+-- halves. The first holds whichever end failed on the way, for want of memory or because too many entries
+-- waited.
 pub record Headline (canon : Canon) (w : World) : Type 0 where
   pub prefix : IsPrefixOf (entries_made w) (local_entries canon w.typed)
   pub complete : NoneFailed w → NothingInFlight w → entries_made w ≡ local_entries canon w.typed

@@ -24,14 +24,14 @@ engines w there back =
 
 -- Whatever happened since the world was opened: the server stands where some history leads; as long as an end
 -- has not failed, it is where some pieces and calls lead, and what flies to it are whole items; both ends
--- have lines of one limit. While neither has failed,
--- both engines are where some wishes and words lead (RFC 1143).
+-- have lines of one limit. While neither has failed, both engines are where some wishes and words lead (RFC
+-- 1143).
 pub record HasPast (w : World) : Type 0 where
   pub history : server_calls.History
   pub server : server.LeadsTo history w.server
-  pub asked : w.server.failed ≡ false
+  pub server_course : w.server.failed ≡ false
       → (course : server_courses.Course) × server_courses.CourseLeadsTo course w.server
-  pub told : w.client.failed ≡ false
+  pub client_course : w.client.failed ≡ false
       → (course : client_courses.Course) × client_courses.CourseLeadsTo course w.client
   pub limit : w.client.failed ≡ false → w.client.line.limit ≡ w.server.terminal.line.limit
   pub to_server : w.server.failed ≡ false → (items : List Item) × InFlight w.server.decoder w.to_server items

@@ -52,7 +52,7 @@ pub record IsTied (rules : Rules) (w : ends.World) : Type 0 where
   pub calm : All IsCalmToServer items
   pub messages : List Item
   pub back : InFlight w.client.decoder w.to_client messages
-  pub asked : All (IsCalmToClient rules.canon.settings) messages
+  pub calm_back : All (IsCalmToClient rules.canon.settings) messages
   pub agrees : Agrees rules w.typed w.taken (read_all rules.canon w.server.core (server_items rules items))
       w.client.core
 
