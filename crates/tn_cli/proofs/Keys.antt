@@ -29,11 +29,11 @@ typed_more old new more gain same moves shown keys had =
     let advances = rw had.settings at moves in
     let roles = roles_of-append standard.settings keys more in
     let before = roles_of standard.settings keys in
-    let entries = subst (λ limit. entries_of limit (before ++ roles_of standard.settings more) ≡ entries_of limit before ++ gain) had.limit (advances.entries before had.leaves had.ahead) in
+    let entries = subst (λ limit. entries_of limit (before ++ roles_of standard.settings more) ≡ entries_of limit before ++ gain) had.limit (advances.entries before had.line had.ahead) in
     record {
       settings = same ∙ had.settings;
       limit = advances.limit ∙ had.limit;
-      leaves = rw roles (advances.half before had.leaves);
+      line = rw roles (advances.half before had.line);
       ahead = omega (arith, had.ahead, advances.ahead);
       printed =
           shown ∙ ap (λ (xs : List ℕ). xs ++ printed gain) had.printed

@@ -23,7 +23,7 @@ local_output keys = printed (typed_entries standard keys)
 pub record LeadsTo (keys : List ℕ) (typing : Typing) : Type 0 where
   pub settings : typing.roles ≡ standard.settings
   pub limit : typing.line.limit ≡ standard.limit
-  pub leaves : discipline.LeadsTo (roles_of standard.settings keys) typing.line
+  pub line : discipline.LeadsTo (roles_of standard.settings keys) typing.line
   pub ahead : typing.line.ahead ≡ 0
   pub printed : typing.printed.items ≡ local_output keys
 

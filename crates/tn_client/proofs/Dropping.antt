@@ -25,4 +25,4 @@ pub dropping_goes_on : (c : Course) (old : End) (piece before after seen now : L
 dropping_goes_on c old piece before after seen now at g s =
     let none = gives_nothing old.decoder s.here piece s.front s.back (s.done ++ s.left) s.whole g s.reads in
     never_wants old.decoder s.here piece s.front s.back (s.done ++ s.left) s.whole g s.reads
-    (wants (gets at.history s.done) s.left s.part s.here s.back (none_left s.done s.left none) (s.why at.history (stream c) (items at.history) at.stands at.reads))
+    (wants (gets at.history s.done) s.left s.part s.here s.back (none_left s.done s.left none) (s.cause at.history (stream c) (items at.history) at.leads at.reads))

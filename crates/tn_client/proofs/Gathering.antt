@@ -30,7 +30,7 @@ gets_none old before seen = record {
   displayed = sym (append-nil seen);
   sends = λ h s. sym (append-nil (items_said h));
   shows = λ h s. sym (append-nil (text_shown h));
-  stands = λ h s. s;
+  leads = λ h s. s;
 }
 
 -- an item
@@ -42,7 +42,7 @@ gets_one old new item before after seen now is appended displayed = record {
   displayed = displayed;
   sends = λ h s. ap (λ (xs : List Item). items_said h ++ xs) (replies_got h old item s);
   shows = λ h s. refl;
-  stands = λ h s. subst (LeadsTo (next h (got item))) (sym is) (stands_got h old item s);
+  leads = λ h s. subst (LeadsTo (next h (got item))) (sym is) (stands_got h old item s);
 }
 
 -- more items
@@ -54,17 +54,17 @@ gets_both old mid new xs ys before between after seen then now g k = record {
   displayed = k.displayed ∙ ap (λ (zs : List ℕ). zs ++ k.text) g.displayed ∙ append_assoc seen g.text k.text;
   sends = λ h s.
       ap items_said (gets-append h xs ys)
-      ∙ k.sends (gets h xs) (g.stands h s)
+      ∙ k.sends (gets h xs) (g.leads h s)
       ∙ ap (λ (zs : List Item). zs ++ k.said) (g.sends h s)
       ∙ append_assoc (items_said h) g.said k.said;
   shows = λ h s.
       ap text_shown (gets-append h xs ys)
-      ∙ k.shows (gets h xs) (g.stands h s)
+      ∙ k.shows (gets h xs) (g.leads h s)
       ∙ ap (λ (zs : List ℕ). zs ++ k.text) (g.shows h s)
       ∙ append_assoc (text_shown h) g.text k.text;
-  stands = λ h s.
+  leads = λ h s.
       let P : History → Type 0 = λ k. LeadsTo k new in
-      subst P (sym (gets-append h xs ys)) (k.stands (gets h xs) (g.stands h s));
+      subst P (sym (gets-append h xs ys)) (k.leads (gets h xs) (g.leads h s));
 }
 
 -- PLAIN BYTES: they change nothing but the screen
@@ -111,5 +111,5 @@ gets_plain old bytes before seen = record {
   displayed = refl;
   sends = λ h s. sent_plain h bytes ∙ sym (append-nil (items_said h));
   shows = λ h s. shown_plain h bytes;
-  stands = λ h s. stands_plain h old bytes s;
+  leads = λ h s. stands_plain h old bytes s;
 }

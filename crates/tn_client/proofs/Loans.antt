@@ -82,7 +82,7 @@ same_loan = kept_by_all TakesItems RefusesItems IsSameLoan (λ x. record { end =
 -- the decoder alone changed
 stands_decoder : (h : History) (old : End) (d : DecoderState) → LeadsTo h old → LeadsTo h (record old { decoder = d })
 stands_decoder h old d s =
-    record { options = s.options; mode = s.mode; forward = s.forward; table = s.table; leaves = s.leaves; ahead = s.ahead; limit = s.limit; trapped = s.trapped; plain = s.plain; size = s.size }
+    record { options = s.options; mode = s.mode; forward = s.forward; table = s.table; line = s.line; ahead = s.ahead; limit = s.limit; trapped = s.trapped; plain = s.plain; size = s.size }
 
 -- the end was lent without its decoder
 lends : (h : History) (old : End) (held : DecoderState) (a : Lent) → a.end.now ≡ record old { decoder = held } → LeadsTo h old → LeadsTo h a.end.now
@@ -102,7 +102,7 @@ feeds_of old new held d piece after now a b began hands is outs screens =
       displayed = screens ∙ g.displayed;
       sends = λ h s. g.sends h (lends h old held a began s);
       shows = λ h s. g.shows h (lends h old held a began s);
-      stands = λ h s. subst (LeadsTo (gets h items)) (sym is) (stands_decoder (gets h items) b.end.now d (g.stands h (lends h old held a began s)));
+      leads = λ h s. subst (LeadsTo (gets h items)) (sym is) (stands_decoder (gets h items) b.end.now d (g.leads h (lends h old held a began s)));
       reads = subst (λ (e : DecoderState). Advances old.decoder piece items e) (sym (ap (λ (e : End). e.decoder) is)) hands.adds;
       failed = ap (λ (e : End). e.failed) is ∙ k.failed ∙ ap (λ (e : End). e.failed) began;
     }
@@ -131,8 +131,8 @@ breaks_at old held piece after now a b began r outs screens =
       displayed = screens ∙ f.refused.displayed ∙ g.displayed;
       sends = λ h s. g.sends h (lends h old held a began s);
       shows = λ h s. g.shows h (lends h old held a began s);
-      why = λ h stream had s reads.
-          gives_up (gets h (all_of r.done)) r.left f.later (all_of r.unseen) f.item f.refused.part r.here r.back f.whole (f.refused.refused (gets h (all_of r.done)) (g.stands h (lends h old held a began s)));
+      cause = λ h stream had s reads.
+          gives_up (gets h (all_of r.done)) r.left f.later (all_of r.unseen) f.item f.refused.part r.here r.back f.whole (f.refused.refused (gets h (all_of r.done)) (g.leads h (lends h old held a began s)));
     }
 
 breaks_after : (old : End) (held : DecoderState) (piece after now : List ℕ) (a b : Lent) → a.end.now ≡ record old { decoder = held } → StopsForMemory TakesItems old.decoder piece a b → after ≡ b.out.now.items → now ≡ b.screen.now.items → StopsWithin old piece a.out.now.items after a.screen.now.items now
@@ -154,7 +154,7 @@ breaks_after old held piece after now a b began w outs screens =
       displayed = screens ∙ g.displayed;
       sends = λ h s. g.sends h (lends h old held a began s);
       shows = λ h s. g.shows h (lends h old held a began s);
-      why = λ h stream had s reads. (refl, w.wanted);
+      cause = λ h stream had s reads. (refl, w.wanted);
     }
 
 -- a decoder that has failed reads nothing
@@ -177,7 +177,7 @@ breaks_unread old piece a b after now dead same outs screens =
       displayed = screens ∙ ap (λ (x : Lent). x.screen.now.items) same ∙ sym (append-nil a.screen.now.items);
       sends = λ h s. sym (append-nil (items_said h));
       shows = λ h s. sym (append-nil (text_shown h));
-      why = λ h stream had s reads. absurd (never stream had reads);
+      cause = λ h stream had s reads. absurd (never stream had reads);
     }
 
 pub breaks_of : (r : Result (Unit {0}) NvtFault) (fault : NvtFault) → r ≡ Err fault → (old : End) (held : DecoderState) (piece after now : List ℕ) (a b : Lent) → a.end.now ≡ record old { decoder = held } → (IsErrOf r Refused → RefusesRest TakesItems RefusesItems old.decoder piece a b) → (IsErrOf r Memory → StopsForMemory TakesItems old.decoder piece a b) → (IsErrOf r Failed ↔ (old.decoder ≡ failed)) → (IsErrOf r Failed → b ≡ a) → after ≡ b.out.now.items → now ≡ b.screen.now.items → StopsWithin old piece a.out.now.items after a.screen.now.items now

@@ -37,16 +37,16 @@ role_is h old key s = same_role old.mode (mode h) old.table (chars h) key s.mode
 
 -- what is sent ahead stays in the half line
 sent_leaves : (sends : Bool) (roles : List Role) (l : HalfLine) → discipline.LeadsTo roles l → discipline.LeadsTo roles (line_sent sends l)
-sent_leaves true roles l leaves = released_keeps l roles leaves
-sent_leaves false roles l leaves = leaves
+sent_leaves true roles l leads = released_keeps l roles leads
+sent_leaves false roles l leads = leads
 
 typed_leaves : (h : History) (old : End) (key : ℕ) (b : Bool) → edits (mode h) ≡ b → LeadsTo h old → discipline.LeadsTo (edited_roles (next h (typed key))) (line_typed b old.forward old.line (role_now old key))
 typed_leaves h old key true e s =
     let l = old.line in
     let r = role_now old key in
     subst (λ (rs : List Role). discipline.LeadsTo rs (line_typed true old.forward l r)) (ap (λ (x : Role). edited_roles h ++ roles_from x) (role_is h old key s) ∙ sym (edited-typed h key e))
-    (sent_leaves (is_sent_now old.forward l r) (edited_roles h ++ roles_from r) (line_after l r) ((advances l r).half (edited_roles h) s.leaves))
-typed_leaves h old key false e s = subst (λ (rs : List Role). discipline.LeadsTo rs old.line) (unedited h e ∙ sym (unedited (next h (typed key)) e)) s.leaves
+    (sent_leaves (is_sent_now old.forward l r) (edited_roles h ++ roles_from r) (line_after l r) ((advances l r).half (edited_roles h) s.line))
+typed_leaves h old key false e s = subst (λ (rs : List Role). discipline.LeadsTo rs old.line) (unedited h e ∙ sym (unedited (next h (typed key)) e)) s.line
 
 -- the count of a half line that the server edits
 typed_count : (isig : Bool) (h : History) (old : End) (key count : ℕ) (b : Bool) → edits (mode h) ≡ b → LeadsTo h old → count ≡ count_under isig h → count_typed b isig old count key ≡ count_under isig (next h (typed key))
@@ -71,7 +71,7 @@ long_typed h old key e s =
     let r = role_now old key in
     let roles = edited_roles h ++ roles_from r in
     let leaves = advances old.line r in
-    sym (length_at roles (line_after old.line r) (leaves.half (edited_roles h) s.leaves))
+    sym (length_at roles (line_after old.line r) (leaves.half (edited_roles h) s.line))
     ∙ ap (λ (n : ℕ). length (half_of n roles)) (leaves.limit ∙ s.limit)
     ∙ ap (λ (x : Role). length (half_of (line_limit h) (edited_roles h ++ roles_from x))) (role_is h old key s)
     ∙ ap (λ (rs : List Role). length (half_of (line_limit h) rs)) (sym (edited-typed h key e))
@@ -80,7 +80,7 @@ long_typed h old key e s =
 sent_typed : (h : History) (old : End) (key : ℕ) → LeadsTo h old → is_sent_now old.forward old.line (role_now old key) ≡ is_sent_ahead h key
 sent_typed h old key s =
     let l = old.line in
-    ap (λ (n : ℕ). sends_ahead old.forward l.limit n (role_now old key)) (sym (count_at (edited_roles h) l s.leaves))
+    ap (λ (n : ℕ). sends_ahead old.forward l.limit n (role_now old key)) (sym (count_at (edited_roles h) l s.line))
     ∙ ap (λ (n : ℕ). sends_ahead old.forward n (count_of n (edited_roles h)) (role_now old key)) s.limit
     ∙ ap (λ (f : Option Mask). sends_ahead f (line_limit h) (count_of (line_limit h) (edited_roles h)) (role_now old key)) s.forward
     ∙ ap (λ (r : Role). sends_ahead (forward h) (line_limit h) (count_of (line_limit h) (edited_roles h)) r) (role_is h old key s)
@@ -113,7 +113,7 @@ stands_typed h old key s =
       mode = s.mode;
       forward = s.forward;
       table = s.table;
-      leaves = typed_leaves h old key (edits old.mode) (sym edit) s;
+      line = typed_leaves h old key (edits old.mode) (sym edit) s;
       ahead = typed_ahead h old key (edits old.mode) (sym edit) s;
       limit = typed_limit (edits old.mode) old.forward old.line (role_now old key) ∙ s.limit;
       trapped = typed_count true h old key old.trapped (edits old.mode) (sym edit) s s.trapped;
@@ -136,7 +136,7 @@ shows_typed h old key s =
     ∙ ap (λ (l : HalfLine). key_shown (is_echoed old.options) (edits old.mode) (key_settings old.mode old.table) (role_now old key) l key) (sym (line_is h old s))
 
 pub goes_typed : (old new : End) (key : ℕ) → new ≡ end_after_key old key → Advances old (typed key) new
-goes_typed old new key is = record { stands = λ h s. subst (LeadsTo (next h (typed key))) (sym is) (stands_typed h old key s) }
+goes_typed old new key is = record { leads = λ h s. subst (LeadsTo (next h (typed key))) (sym is) (stands_typed h old key s) }
 
 pub keeps_typed : (old new : End) (key : ℕ) → new ≡ end_after_key old key → ReadsNothing old new
 keeps_typed old new key is = record { decoder = ap (λ (e : End). e.decoder) is; failed = ap (λ (e : End). e.failed) is }
@@ -165,12 +165,12 @@ begun_count h old item mask is e f s =
     ∙ ap (λ (rs : List Role). length (half_of (line_limit h) rs)) (sym (edited-begins h item e f))
 
 left_leaves : (h : History) (old : End) (item : Item) (mask : ℕ) (before after : Bool) → mask ≡ mode (next h (got item)) → edits (mode h) ≡ before → edits (mode (next h (got item))) ≡ after → LeadsTo h old → discipline.LeadsTo (edited_roles (next h (got item))) (line_left before after (count_told mask old.trapped old.plain) old.line)
-left_leaves h old item mask true true is e f s = subst (λ (rs : List Role). discipline.LeadsTo rs old.line) (sym (edited-stays h item e f)) s.leaves
+left_leaves h old item mask true true is e f s = subst (λ (rs : List Role). discipline.LeadsTo rs old.line) (sym (edited-stays h item e f)) s.line
 left_leaves h old item mask true false is e f s = subst (λ (rs : List Role). discipline.LeadsTo rs (empty_line old.line.limit)) (sym (unedited (next h (got item)) f)) (leaves_none old.line.limit)
 left_leaves h old item mask false true is e f s =
     resumed_leads old.line.limit (count_told mask old.trapped old.plain) (edited_roles (next h (got item)))
     (ap (λ (n : ℕ). length (half_of n (edited_roles (next h (got item))))) s.limit ∙ sym (begun_count h old item mask is e f s))
-left_leaves h old item mask false false is e f s = subst (λ (rs : List Role). discipline.LeadsTo rs old.line) (unedited h e ∙ sym (unedited (next h (got item)) f)) s.leaves
+left_leaves h old item mask false false is e f s = subst (λ (rs : List Role). discipline.LeadsTo rs old.line) (unedited h e ∙ sym (unedited (next h (got item)) f)) s.line
 
 left_ahead : (h : History) (old : End) (item : Item) (mask : ℕ) (before after : Bool) → mask ≡ mode (next h (got item)) → edits (mode h) ≡ before → edits (mode (next h (got item))) ≡ after → LeadsTo h old → (line_left before after (count_told mask old.trapped old.plain) old.line).ahead ≡ ahead (next h (got item))
 left_ahead h old item mask true true is e f s = s.ahead ∙ sym (ahead-stays h item e f)
@@ -181,7 +181,7 @@ left_ahead h old item mask false false is e f s = s.ahead ∙ unedited-ahead h e
 left_count : (isig : Bool) (h : History) (old : End) (item : Item) (count : ℕ) (before after : Bool) → edits (mode h) ≡ before → edits (mode (next h (got item))) ≡ after → LeadsTo h old → count ≡ count_under isig h → count_left before after old.line count ≡ count_under isig (next h (got item))
 left_count isig h old item count true true e f s is = is ∙ count-none isig h e ∙ sym (count-none isig (next h (got item)) f)
 left_count isig h old item count true false e f s is =
-    sym (length_at (edited_roles h) old.line s.leaves)
+    sym (length_at (edited_roles h) old.line s.line)
     ∙ ap (λ (n : ℕ). length (half_of n (edited_roles h))) s.limit
     ∙ ap (λ (rs : List Role). length (half_of (line_limit h) rs)) (sym (under-ends isig h item e))
     ∙ sym (count-is isig (next h (got item)) f)
@@ -217,7 +217,7 @@ stands_got h old item s =
       mode = is_mode;
       forward = ap (λ (o : Options). forward_at o old.forward item) s.options ∙ ap (λ (f : Option Mask). forward_at (options h) f item) s.forward;
       table = same_chars _ _ _ _ item s.options s.table;
-      leaves = left_leaves h old item mask before after is_mode (sym edit) (sym later) s;
+      line = left_leaves h old item mask before after is_mode (sym edit) (sym later) s;
       ahead = left_ahead h old item mask before after is_mode (sym edit) (sym later) s;
       limit = left_limit before after (count_told mask old.trapped old.plain) old.line ∙ s.limit;
       trapped = left_count true h old item old.trapped before after (sym edit) (sym later) s s.trapped;
@@ -234,7 +234,7 @@ replies_got h old item s =
     ∙ ap (λ (l : HalfLine). item_replies old.options old.mode old.table (old.width, old.height) l item) (sym (line_is h old s))
 
 pub goes_got : (old new : End) (item : Item) → new ≡ end_after_item old item → Advances old (got item) new
-goes_got old new item is = record { stands = λ h s. subst (LeadsTo (next h (got item))) (sym is) (stands_got h old item s) }
+goes_got old new item is = record { leads = λ h s. subst (LeadsTo (next h (got item))) (sym is) (stands_got h old item s) }
 
 -- an item wants memory in every history
 grows_got : (h : History) (old : End) (item : Item) → LeadsTo h old → MayWantMemoryNow old item → MayWantMemory h item

@@ -41,7 +41,7 @@ pub record LeadsTo (h : History) (end : End) : Type 0 where
   pub mode : end.mode ≡ mode h
   pub forward : end.forward ≡ forward h
   pub table : end.table ≡ chars h
-  pub leaves : discipline.LeadsTo (edited_roles h) end.line
+  pub line : discipline.LeadsTo (edited_roles h) end.line
   pub ahead : end.line.ahead ≡ ahead h
   pub limit : end.line.limit ≡ line_limit h
   pub trapped : end.trapped ≡ count_under true h
@@ -55,7 +55,7 @@ pub record ReadsNothing (old new : End) : Type 0 where
 
 -- From wherever the end may stand, the event leads to where it stands now.
 pub record Advances (old : End) (e : Event) (new : End) : Type 0 where
-  pub stands : (h : History) → LeadsTo h old → LeadsTo (next h e) new
+  pub leads : (h : History) → LeadsTo h old → LeadsTo (next h e) new
 
 -- What was appended is what is said at the event.
 pub record Sends (old : End) (e : Event) (before after : List ℕ) : Type 0 where
@@ -104,7 +104,7 @@ pub record AdvancesAll (old : End) (items : List Item) (before after seen now : 
   pub displayed : now ≡ seen ++ text
   pub sends : (h : History) → LeadsTo h old → items_said (gets h items) ≡ items_said h ++ said
   pub shows : (h : History) → LeadsTo h old → text_shown (gets h items) ≡ text_shown h ++ text
-  pub stands : (h : History) → LeadsTo h old → LeadsTo (gets h items) new
+  pub leads : (h : History) → LeadsTo h old → LeadsTo (gets h items) new
 
 -- A piece of the stream, however that was cut before.
 pub record Feeds (old : End) (piece before after seen now : List ℕ) (new : End) : Type 0 where
@@ -115,7 +115,7 @@ pub record Feeds (old : End) (piece before after seen now : List ℕ) (new : End
   pub displayed : now ≡ seen ++ text
   pub sends : (h : History) → LeadsTo h old → items_said (gets h items) ≡ items_said h ++ said
   pub shows : (h : History) → LeadsTo h old → text_shown (gets h items) ≡ text_shown h ++ text
-  pub stands : (h : History) → LeadsTo h old → LeadsTo (gets h items) new
+  pub leads : (h : History) → LeadsTo h old → LeadsTo (gets h items) new
   pub reads : nvt.Advances old.decoder piece items new.decoder
   pub failed : new.failed ≡ old.failed
 
@@ -140,7 +140,7 @@ pub record StopsWithin (old : End) (piece before after seen now : List ℕ) : Ty
   pub displayed : now ≡ seen ++ text
   pub sends : (h : History) → LeadsTo h old → items_said (gets h done) ≡ items_said h ++ said
   pub shows : (h : History) → LeadsTo h old → text_shown (gets h done) ≡ text_shown h ++ text
-  pub why : (h : History) (stream : List ℕ) (had : List Item) → LeadsTo h old
+  pub cause : (h : History) (stream : List ℕ) (had : List Item) → LeadsTo h old
       → nvt.LeadsTo stream had old.decoder
       → IsStopCause (gets h done) left part here back
 

@@ -36,6 +36,6 @@ ReadsAs (called c e) h = (old : History) × ReadsAs c old × IsCall e × (h ≡ 
 -- the course leads to this end
 pub record CourseLeadsTo (c : Course) (end : End) : Type 0 where
   pub history : History
-  pub leads : ReadsAs c history
-  pub stands : LeadsTo history end
+  pub reads_as : ReadsAs c history
+  pub leads : LeadsTo history end
   pub reads : nvt.LeadsTo (stream c) (items history) end.decoder

@@ -76,7 +76,7 @@ impl ClientEnd {
         height: u16,
         limit: Limit,
     ) -> Result<ClientEnd, ClientFault>
-        ensures stands { IfOk result (λ end. LeadsTo (begun width height limit) end) }
+        ensures leads { IfOk result (λ end. LeadsTo (begun width height limit) end) }
         ensures reads { IfOk result (λ end. nvt.LeadsTo [] [] end.decoder) }
         ensures runs { IfOk result (λ end. end.failed ≡ false) }
         ensures fault { IfErr result (λ fault. fault ≡ ClientFault.Memory) }

@@ -64,7 +64,7 @@ typed_leads keys old new end x y u v on is t c at = rw is (record {
   live = λ _.
       let l = at.live on in
       record {
-        stands = t.stands c.history l.stands;
+        leads = t.leads c.history l.leads;
         read = read_on old.end.decoder end.decoder c.stream (items c.history) (items (types c.history keys)) t.keeps.decoder (items-types c.history keys) l.read;
         bytes = l.bytes;
         failed = t.keeps.failed ∙ l.failed;
@@ -85,8 +85,8 @@ does_keys keys old new end x y u v on is t = record {
         handled c (type_keys keys c) old told on at refl,
         typed_leads keys old new end x y u v on is t c at,
         refl,
-        t.sends c.history (at.live on).stands,
-        t.shows c.history (at.live on).stands,
+        t.sends c.history (at.live on).leads,
+        t.shows c.history (at.live on).leads,
       );
 }
 
@@ -99,7 +99,7 @@ stops_keys keys old new end x y u v on is (front, back, e, t) = record {
   leads = λ c at.
       let told : Told = record { from = Keys; message = Piece keys } in
       let h = c.history in
-      let s = (at.live on).stands in (
+      let s = (at.live on).leads in (
         type_keys keys c,
         handled c (type_keys keys c) old told on at refl,
         ap (λ (core : Core). core.progress) is ∙ ap after_piece at.progress,
@@ -123,7 +123,7 @@ does_feed piece old new end x y u v small on is f = record {
       let r = f.reads c.stream (items c.history) l.read in
       let leads : LeadsTo whole new = rw is (record {
         live = λ _. record {
-          stands = f.stands c.history l.stands;
+          leads = f.leads c.history l.leads;
           read = rw (items-gets c.history f.items) r;
           bytes = All-append (λ b. b < 256) c.stream piece l.bytes small;
           failed = f.failed ∙ l.failed;
@@ -135,8 +135,8 @@ does_feed piece old new end x y u v small on is f = record {
         handled c whole old told on at (f.items, (r.rest, r.reading), refl),
         leads,
         refl,
-        f.sends c.history l.stands,
-        f.shows c.history l.stands,
+        f.sends c.history l.leads,
+        f.shows c.history l.leads,
       );
 }
 
@@ -175,17 +175,17 @@ stops_feed piece old new end x y u v small on is f = record {
       let is_all : all.0 ≡ items h ++ xs = on_from.1 ∙ append_assoc (items h) (f.done ++ f.left) more ∙ ap (λ (ys : List Item). items h ++ ys) (append_assoc f.done f.left more) in
       let Q : List Item → Type 0 = λ ys. Reading (c.stream ++ piece) ys all.1 in
       let k = gets h f.done in
-      let r = first_said k f.left more f.part f.here f.back (f.why h c.stream (items h) l.stands l.read) in
+      let r = first_said k f.left more f.part f.here f.back (f.cause h c.stream (items h) l.leads l.read) in
       let s = shown-gets k (f.left ++ more) in
       let said : items_said (gets h xs) ≡ items_said h ++ ((f.said ++ f.part) ++ r.0) =
-      ap items_said (gets-append h f.done (f.left ++ more)) ∙ r.1 ∙ ap (λ (ys : List Item). ys ++ (f.part ++ r.0)) (f.sends h l.stands)
+      ap items_said (gets-append h f.done (f.left ++ more)) ∙ r.1 ∙ ap (λ (ys : List Item). ys ++ (f.part ++ r.0)) (f.sends h l.leads)
       ∙ append_assoc (items_said h) f.said (f.part ++ r.0) ∙ ap (λ (ys : List Item). items_said h ++ ys) (sym (append_assoc f.said f.part r.0)) in (
         feed piece xs c,
         handled c (feed piece xs c) old told on at (xs, (all.1, subst Q is_all all.2), refl),
         ap (λ (core : Core). core.progress) is ∙ ap after_piece at.progress,
         refl,
         (spells r.0, ap spells said ∙ spells-append (items_said h) ((f.said ++ f.part) ++ r.0) ∙ ap (λ (bs : List ℕ). spells (items_said h) ++ bs) (spells-append (f.said ++ f.part) r.0)),
-        (s.0, ap text_shown (gets-append h f.done (f.left ++ more)) ∙ s.1 ∙ ap (λ (bs : List ℕ). bs ++ s.0) (f.shows h l.stands) ∙ append_assoc (text_shown h) f.text s.0),
+        (s.0, ap text_shown (gets-append h f.done (f.left ++ more)) ∙ s.1 ∙ ap (λ (bs : List ℕ). bs ++ s.0) (f.shows h l.leads) ∙ append_assoc (text_shown h) f.text s.0),
       );
 }
 
@@ -252,7 +252,7 @@ does_step told old new x u plain on is = record {
       let l = at.live on in
       let leads : LeadsTo (turns step c) new = rw is (record {
         live = λ _. record {
-          stands = l.stands;
+          leads = l.leads;
           read = l.read;
           bytes = l.bytes;
           failed = l.failed;
@@ -273,7 +273,7 @@ does_step told old new x u plain on is = record {
 pub starts : (width height limit : ℕ) (end : End) (core : Core) → client.LeadsTo (begun width height limit) end → nvt.LeadsTo [] [] end.decoder → end.failed ≡ false → core ≡ record { end = end; progress = nothing_yet } → LeadsTo (start width height limit) core
 starts width height limit end core s r runs is = rw is (record {
   live = λ _. record {
-    stands = s;
+    leads = s;
     read = r;
     bytes = All-nil (λ b. b < 256);
     failed = runs;

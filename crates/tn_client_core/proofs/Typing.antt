@@ -61,7 +61,7 @@ types_none end x u = record {
   displayed = sym (append-nil u);
   sends = λ h s. sym (append-nil (items_said h));
   shows = λ h s. sym (append-nil (text_shown h));
-  stands = λ h s. s;
+  leads = λ h s. s;
   keeps = record { decoder = refl; failed = refl };
 }
 
@@ -72,12 +72,12 @@ types_more a b d keys key x y z u v w t goes sends shows keeps = record {
   appended = sends.appended ∙ ap (λ (bs : List ℕ). bs ++ spells sends.said) t.appended ∙ append_assoc x (spells t.said) (spells sends.said) ∙ ap (λ (bs : List ℕ). x ++ bs) (sym (spells-append t.said sends.said));
   displayed = shows.appended ∙ ap (λ (bs : List ℕ). bs ++ shows.text) t.displayed ∙ append_assoc u t.text shows.text;
   sends = λ h s.
-      ap items_said (types-push h keys key) ∙ ap (λ (xs : List Item). items_said (types h keys) ++ xs) (sends.replies (types h keys) (t.stands h s)) ∙ ap (λ (xs : List Item). xs ++ sends.said) (t.sends h s)
+      ap items_said (types-push h keys key) ∙ ap (λ (xs : List Item). items_said (types h keys) ++ xs) (sends.replies (types h keys) (t.leads h s)) ∙ ap (λ (xs : List Item). xs ++ sends.said) (t.sends h s)
       ∙ append_assoc (items_said h) t.said sends.said;
   shows = λ h s.
-      ap text_shown (types-push h keys key) ∙ ap (λ (bs : List ℕ). text_shown (types h keys) ++ bs) (shows.shows (types h keys) (t.stands h s)) ∙ ap (λ (bs : List ℕ). bs ++ shows.text) (t.shows h s)
+      ap text_shown (types-push h keys key) ∙ ap (λ (bs : List ℕ). text_shown (types h keys) ++ bs) (shows.shows (types h keys) (t.leads h s)) ∙ ap (λ (bs : List ℕ). bs ++ shows.text) (t.shows h s)
       ∙ append_assoc (text_shown h) t.text shows.text;
-  stands = λ h s. subst (λ (k : History). LeadsTo k d) (sym (types-push h keys key)) (goes.stands (types h keys) (t.stands h s));
+  leads = λ h s. subst (λ (k : History). LeadsTo k d) (sym (types-push h keys key)) (goes.leads (types h keys) (t.leads h s));
   keeps = record { decoder = keeps.decoder ∙ t.keeps.decoder; failed = keeps.failed ∙ t.keeps.failed };
 }
 
@@ -90,6 +90,6 @@ types_kept a b d keys x y z u v w end out screen t = record {
   displayed = screen ∙ t.displayed;
   sends = t.sends;
   shows = t.shows;
-  stands = λ h s. subst (λ (e : End). LeadsTo (types h keys) e) (sym end) (t.stands h s);
+  leads = λ h s. subst (λ (e : End). LeadsTo (types h keys) e) (sym end) (t.leads h s);
   keeps = record { decoder = ap (λ (e : End). e.decoder) end ∙ t.keeps.decoder; failed = ap (λ (e : End). e.failed) end ∙ t.keeps.failed };
 }

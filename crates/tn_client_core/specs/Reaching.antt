@@ -16,7 +16,7 @@ use Rattle.tn_nvt.specs.declared.items.Item.{Item}
 
 -- what holds while messages have their effect
 pub record IsLive (c : Run) (core : Core) : Type 0 where
-  pub stands : client.LeadsTo c.history core.end
+  pub leads : client.LeadsTo c.history core.end
   pub read : nvt.LeadsTo c.stream (items c.history) core.end.decoder
   pub bytes : All (λ b. b < 256) c.stream
   pub failed : core.end.failed ≡ false
@@ -35,7 +35,7 @@ pub record TypesAll (old : End) (keys before after seen now : List ℕ) (new : E
   pub displayed : now ≡ seen ++ text
   pub sends : (h : History) → client.LeadsTo h old → items_said (types h keys) ≡ items_said h ++ said
   pub shows : (h : History) → client.LeadsTo h old → text_shown (types h keys) ≡ text_shown h ++ text
-  pub stands : (h : History) → client.LeadsTo h old → client.LeadsTo (types h keys) new
+  pub leads : (h : History) → client.LeadsTo h old → client.LeadsTo (types h keys) new
   pub keeps : ReadsNothing old new
 
 -- a front of the keys was typed

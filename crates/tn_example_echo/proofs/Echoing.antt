@@ -21,5 +21,5 @@ pub echoes_line : (old taken written new : End) (h : History) (line : List ℕ) 
     → Advances taken (wrote line) c d written → Advances written (pulled n) e f new
     → ((k : History) → LeadsTo k written → n ≡ min 65536 (length (queue k))) → LeadsTo (echoed h line) new
 echoes_line old taken written new h line n a b c d e f leads takes writes pulls count =
-    let at_written = writes.stands _ (takes.stands h leads) in
-    rw (count _ at_written) at (pulls.stands _ at_written)
+    let at_written = writes.leads _ (takes.leads h leads) in
+    rw (count _ at_written) at (pulls.leads _ at_written)

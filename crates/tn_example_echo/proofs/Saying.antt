@@ -16,7 +16,7 @@ says_event old new e before after moves =
       appended = moves.appended;
       later = λ h leads. record {
         history = next h e;
-        leads = moves.stands h leads;
+        leads = moves.leads h leads;
         says = ap (λ (xs : List Item). items_said h ++ xs) (moves.replies h leads);
       };
     }
@@ -29,7 +29,7 @@ says_piece old new piece before after fed =
       appended = fed.appended;
       later = λ h leads. record {
         history = gets h fed.items;
-        leads = fed.stands h leads;
+        leads = fed.leads h leads;
         says = fed.sends h leads;
       };
     }

@@ -20,7 +20,7 @@ standard = record {
 -- these keys were typed at the line, and gave these entries
 pub record HasTyped (keys : List ℕ) (line : HalfLine) (entries : List Entry) : Type 0 where
   pub limit : line.limit ≡ standard.limit
-  pub leaves : LeadsTo (roles_of standard.settings keys) line
+  pub leads : LeadsTo (roles_of standard.settings keys) line
   pub ahead : line.ahead ≡ 0
   pub gave : entries ≡ typed_entries standard keys
 

@@ -20,7 +20,7 @@ begins canon end terminal table options wish modes pulled = record {
   terms = ap (λ (o : Options). record { options = o; wish = end.terms.wish }) options ∙ ap (λ (w : ℕ). record { options = opening_options; wish = w }) wish;
   modes = modes ∙ ap (λ (n : ℕ). record { asked = n; current = 0 }) (sym (nothing_asked (linemode opening_options)));
   limit = ap (λ t. t.line.limit) terminal;
-  leaves = rw (ap (λ t. t.line) terminal) (record { sent = []; count = refl; bytes = refl });
+  line = rw (ap (λ t. t.line) terminal) (record { sent = []; count = refl; bytes = refl });
   ahead = ap (λ t. t.line.ahead) terminal;
   read = [];
   count = refl;

@@ -34,13 +34,13 @@ goes_wrote old new bytes before is = record {
   said = [];
   appended = sym (append-nil before);
   replies = λ h s. refl;
-  stands = λ h s. record {
+  leads = λ h s. record {
     settings = ap (λ t. t.settings) is ∙ s.settings;
     table = s.table;
     terms = s.terms;
     modes = s.modes;
     limit = ap (λ t. t.line.limit) is ∙ s.limit;
-    leaves = rw (ap (λ t. t.line) is) s.leaves;
+    line = rw (ap (λ t. t.line) is) s.line;
     ahead = ap (λ t. t.line.ahead) is ∙ s.ahead;
     read = s.read;
     count = s.count;
@@ -79,7 +79,7 @@ goes_took old new r before first is = record {
   said = [];
   appended = sym (append-nil before);
   replies = λ h s. rw (some_left s.read new.entries r (taken_count h) (entries h) s.count (s.waits ∙ ap (λ (xs : List Entry). s.read ++ xs) first)) refl;
-  stands = λ h s.
+  leads = λ h s.
       let waits = s.waits ∙ ap (λ (xs : List Entry). s.read ++ xs) first in
       let left = some_left s.read new.entries r (taken_count h) (entries h) s.count waits in
       record {
@@ -88,7 +88,7 @@ goes_took old new r before first is = record {
         terms = s.terms;
         modes = s.modes;
         limit = ap (λ t. t.line.limit) is ∙ s.limit;
-        leaves = rw (ap (λ t. t.line) is) s.leaves;
+        line = rw (ap (λ t. t.line) is) s.line;
         ahead = ap (λ t. t.line.ahead) is ∙ s.ahead;
         read = s.read ++ r ∷ [];
         count = length-append s.read (r ∷ []) ∙ ap (λ (n : ℕ). n + 1) s.count ∙ sym (taken_if _ (taken_count h) left);
@@ -108,7 +108,7 @@ goes_idle old ga before after none is said = record {
   replies = λ h s.
       let o = ap (λ (t : Terms). t.options) s.terms in
       rw (none_left s.read (taken_count h) (entries h) s.count (s.waits ∙ ap (λ (xs : List Entry). s.read ++ xs) none ∙ append-nil s.read), ← o, ← s.due, ← is) refl;
-  stands = λ h s.
+  leads = λ h s.
       let left = none_left s.read (taken_count h) (entries h) s.count (s.waits ∙ ap (λ (xs : List Entry). s.read ++ xs) none ∙ append-nil s.read) in
       let o = ap (λ (t : Terms). t.options) s.terms in
       record {
@@ -117,7 +117,7 @@ goes_idle old ga before after none is said = record {
         terms = s.terms;
         modes = s.modes;
         limit = s.limit;
-        leaves = s.leaves;
+        line = s.line;
         ahead = s.ahead;
         read = s.read;
         count = s.count ∙ sym (not_taken_if _ (taken_count h) left);
@@ -149,7 +149,7 @@ stands_wished h old editing s =
           ∙ ap (λ (t : Terms). record { asked = asked_mask_of t.options t.wish; current = old.modes.current }) is_terms
           ∙ ap (λ (m : Modes). record { asked = asked_mask (next h (wished editing)); current = m.current }) s.modes;
       limit = s.limit;
-      leaves = s.leaves;
+      line = s.line;
       ahead = s.ahead;
       read = s.read;
       count = s.count;
@@ -171,7 +171,7 @@ goes_wished old new editing before after is said =
           ∙ ap (λ (c : Characters). items_by (flags h) c old.terms old.terms.options (Some editing) false) s.table
           ∙ ap (λ (t : Terms). items_by (flags h) (chars h) t t.options (Some editing) false) s.terms)
           ∙ wish_said old editing mask refl (sound h old s);
-      stands = λ h s.
+      leads = λ h s.
           subst (LeadsTo (next h (wished editing))) (wish_done old editing mask None old.terminal refl refl refl refl (sound h old s) ∙ sym is) (stands_wished h old editing s);
       closed = ap (λ (e : End). e.terminal.closed) is ∙ wished_closed old mask;
     }
@@ -208,7 +208,7 @@ goes_echo old o new on before after asks is said = record {
       ∙ ap (λ (t : Terms). items_by (with_echo (flags h) on) (chars h) t t.options None true) s.terms)
       ∙ echo_says (with_echo old.terminal.settings.flags on) old.table old.terms
       ∙ ap (λ (a : ℕ). echo_items true (wants_echo a (with_echo old.terminal.settings.flags on)) old.terms.options) (sym sounds.masks);
-  stands = λ h s.
+  leads = λ h s.
       let is_flags = ap (λ (x : Settings). x.flags) s.settings in
       let sounds = sound h old s in
       let f = with_echo old.terminal.settings.flags on in
@@ -230,7 +230,7 @@ goes_echo old o new on before after asks is said = record {
             ∙ ap (λ (t : Terms). record { asked = asked_mask_of t.options t.wish; current = old.modes.current }) is_terms
             ∙ ap (λ (m : Modes). record { asked = asked_mask (next h (echo_set on)); current = m.current }) s.modes;
         limit = ap (λ t. t.line.limit) is ∙ s.limit;
-        leaves = rw (ap (λ t. t.line) is) s.leaves;
+        line = rw (ap (λ t. t.line) is) s.line;
         ahead = ap (λ t. t.line.ahead) is ∙ s.ahead;
         read = s.read;
         count = s.count;
@@ -261,7 +261,7 @@ goes_pulled_none old before = record {
   said = [];
   appended = sym (append-nil before);
   replies = λ h s. refl;
-  stands = λ h s. record { settings = s.settings; table = s.table; terms = s.terms; modes = s.modes; limit = s.limit; leaves = s.leaves; ahead = s.ahead; read = s.read; count = s.count; waits = s.waits; queue = s.queue; size = s.size; due = s.due ∙ sym (or_false (due h)) };
+  leads = λ h s. record { settings = s.settings; table = s.table; terms = s.terms; modes = s.modes; limit = s.limit; line = s.line; ahead = s.ahead; read = s.read; count = s.count; waits = s.waits; queue = s.queue; size = s.size; due = s.due ∙ sym (or_false (due h)) };
   closed = refl;
 }
 
@@ -271,6 +271,6 @@ goes_mask old mask before after said = record {
   said = payload_items (forward_payload mask);
   appended = said;
   replies = λ h s. refl;
-  stands = λ h s. record { settings = s.settings; table = s.table; terms = s.terms; modes = s.modes; limit = s.limit; leaves = s.leaves; ahead = s.ahead; read = s.read; count = s.count; waits = s.waits; queue = s.queue; size = s.size; due = s.due };
+  leads = λ h s. record { settings = s.settings; table = s.table; terms = s.terms; modes = s.modes; limit = s.limit; line = s.line; ahead = s.ahead; read = s.read; count = s.count; waits = s.waits; queue = s.queue; size = s.size; due = s.due };
   closed = refl;
 }

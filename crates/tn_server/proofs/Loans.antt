@@ -58,7 +58,7 @@ lends : (h : History) (old : End) (held : DecoderState) (a : Lent) → a.end.now
 lends h old held a began s = subst (LeadsTo h) (sym began) (stands_decoder h old held s)
 
 stands_failed : (h : History) (old : End) (d : DecoderState) → LeadsTo h old → LeadsTo h (record old { decoder = d; failed = true })
-stands_failed h old d s = record { settings = s.settings; table = s.table; terms = s.terms; modes = s.modes; limit = s.limit; leaves = s.leaves; ahead = s.ahead; read = s.read; count = s.count; waits = s.waits; queue = s.queue; size = s.size; due = s.due }
+stands_failed h old d s = record { settings = s.settings; table = s.table; terms = s.terms; modes = s.modes; limit = s.limit; line = s.line; ahead = s.ahead; read = s.read; count = s.count; waits = s.waits; queue = s.queue; size = s.size; due = s.due }
 
 -- it comes back, and has failed
 comes_back : (h : History) (b : Lent) (d : DecoderState) (new : End) → new ≡ record b.end.now { decoder = d; failed = true } → LeadsTo h b.end.now → LeadsTo h new
@@ -75,7 +75,7 @@ feeds_of old new held d piece after a b began hands is outs =
       said = g.said;
       appended = outs ∙ g.appended;
       sends = λ h s. g.sends h (lends h old held a began s);
-      stands = λ h s. subst (LeadsTo (gets h items)) (sym is) (stands_decoder (gets h items) b.end.now d (g.stands h (lends h old held a began s)));
+      leads = λ h s. subst (LeadsTo (gets h items)) (sym is) (stands_decoder (gets h items) b.end.now d (g.leads h (lends h old held a began s)));
       failed = ap (λ (e : End). e.failed) is ∙ failed_all a b (calls_of hands.parts) hands.taken ∙ ap (λ (e : End). e.failed) began;
       closed = ap (λ (e : End). e.terminal.closed) is ∙ g.closed ∙ ap (λ (e : End). e.terminal.closed) began;
     }
@@ -93,7 +93,7 @@ halts_at old new held d piece after a b began r is outs =
     let done = all_of r.done ++ t.done in
     let unseen = all_of r.unseen in
     let g : AdvancesAll a.end.now done a.out.now.items t.between t.mid = gets_both _ _ _ (all_of r.done) t.done _ _ _ (gets_all a r.middle r.done r.taken) t.gets in
-    let stood : (h : History) → LeadsTo h old → LeadsTo (gets h done) t.mid = λ h s. g.stands h (lends h old held a began s) in
+    let stood : (h : History) → LeadsTo h old → LeadsTo (gets h done) t.mid = λ h s. g.leads h (lends h old held a began s) in
     record {
       front = bytes_of r.parts;
       back = r.back;
@@ -108,7 +108,7 @@ halts_at old new held d piece after a b began r is outs =
       sends = λ h s. g.sends h (lends h old held a began s);
       begins = λ h s. t.refuses.front (gets h done) (stood h s);
       cause = λ on h s. t.refuses.cause (gets h done) (stood h s);
-      stands = λ h s. comes_back (gets h done) b d new is (t.refuses.stands (gets h done) (stood h s));
+      leads = λ h s. comes_back (gets h done) b d new is (t.refuses.leads (gets h done) (stood h s));
     }
 
 halts_after : (old new : End) (held d : DecoderState) (piece after : List ℕ) (a b : Lent) → a.end.now ≡ record old { decoder = held } → StopsForMemory TakesItems old.decoder piece a b → new ≡ record b.end.now { decoder = d; failed = true } → after ≡ b.out.now.items → StopsWithin old piece Memory a.out.now.items after new
@@ -129,7 +129,7 @@ halts_after old new held d piece after a b began w is outs =
       sends = λ h s. g.sends h (lends h old held a began s);
       begins = λ h s. ([], refl);
       cause = λ on h s. (refl, w.wanted);
-      stands = λ h s. comes_back (gets h items) b d new is (g.stands h (lends h old held a began s));
+      leads = λ h s. comes_back (gets h items) b d new is (g.leads h (lends h old held a began s));
     }
 
 -- a decoder that has failed reads nothing
@@ -148,7 +148,7 @@ halts_unread old new held d piece after a b began dead same is outs = record {
   sends = λ h s. sym (append-nil (items_said h));
   begins = λ h s. ([], refl);
   cause = λ on h s. absurd (on dead);
-  stands = λ h s. comes_back h b d new is (subst (λ (x : Lent). LeadsTo h x.end.now) (sym same) (lends h old held a began s));
+  leads = λ h s. comes_back h b d new is (subst (λ (x : Lent). LeadsTo h x.end.now) (sym same) (lends h old held a began s));
 }
 
 pub halts_of : (r : Result (Unit {0}) NvtFault) (e : NvtFault) → r ≡ Err e → (old new : End) (held d : DecoderState) (piece after : List ℕ) (a b : Lent) → a.cause ≡ Memory → a.end.now ≡ record old { decoder = held } → (IsErrOf r nvt.Refused → RefusesRest TakesItems RefusesItems old.decoder piece a b) → (IsErrOf r nvt.Memory → StopsForMemory TakesItems old.decoder piece a b) → (IsErrOf r nvt.Failed ↔ (old.decoder ≡ failed)) → (IsErrOf r nvt.Failed → b ≡ a) → new ≡ record b.end.now { decoder = d; failed = true } → after ≡ b.out.now.items → StopsWithin old piece b.cause a.out.now.items after new

@@ -30,7 +30,7 @@ gets_none old before = record {
   said = [];
   appended = sym (append-nil before);
   sends = λ h s. sym (append-nil (items_said h));
-  stands = λ h s. s;
+  leads = λ h s. s;
   closed = refl;
 }
 
@@ -40,7 +40,7 @@ gets_one old new item before after e = record {
   said = e.said;
   appended = e.appended;
   sends = λ h s. ap (λ (xs : List Item). items_said h ++ xs) (e.replies h s);
-  stands = e.stands;
+  leads = e.leads;
   closed = e.closed;
 }
 
@@ -51,18 +51,18 @@ gets_both old mid new xs ys before between after g k = record {
   appended = spelled_on g.said k.said before between after g.appended k.appended;
   sends = λ h s.
       ap items_said (gets-append h xs ys)
-      ∙ k.sends (gets h xs) (g.stands h s)
+      ∙ k.sends (gets h xs) (g.leads h s)
       ∙ ap (λ (zs : List Item). zs ++ k.said) (g.sends h s)
       ∙ append_assoc (items_said h) g.said k.said;
-  stands = λ h s. rw (gets-append h xs ys) (k.stands (gets h xs) (g.stands h s));
+  leads = λ h s. rw (gets-append h xs ys) (k.leads (gets h xs) (g.leads h s));
   closed = k.closed ∙ g.closed;
 }
 
 pub stands_decoder : (h : History) (old : End) (d : DecoderState) → LeadsTo h old → LeadsTo h (record old { decoder = d })
-stands_decoder h old d s = record { settings = s.settings; table = s.table; terms = s.terms; modes = s.modes; limit = s.limit; leaves = s.leaves; ahead = s.ahead; read = s.read; count = s.count; waits = s.waits; queue = s.queue; size = s.size; due = s.due }
+stands_decoder h old d s = record { settings = s.settings; table = s.table; terms = s.terms; modes = s.modes; limit = s.limit; line = s.line; ahead = s.ahead; read = s.read; count = s.count; waits = s.waits; queue = s.queue; size = s.size; due = s.due }
 
 pub stands_shut : (h : History) (old : End) → LeadsTo h old → LeadsTo h (record old { terminal = shut_terminal old.terminal })
-stands_shut h old s = record { settings = s.settings; table = s.table; terms = s.terms; modes = s.modes; limit = s.limit; leaves = s.leaves; ahead = s.ahead; read = s.read; count = s.count; waits = s.waits; queue = s.queue; size = s.size; due = s.due }
+stands_shut h old s = record { settings = s.settings; table = s.table; terms = s.terms; modes = s.modes; limit = s.limit; line = s.line; ahead = s.ahead; read = s.read; count = s.count; waits = s.waits; queue = s.queue; size = s.size; due = s.due }
 
 -- a key or a command that was refused
 pub refuses_shut : (old new : End) (item : Item) (fault : ServerFault) → IsShut old new → ((h : History) → LeadsTo h old → IsCause h item fault) → (before : List ℕ) → RefusesItem old item fault before before new
@@ -71,7 +71,7 @@ refuses_shut old new item fault shut' cause before = record {
   appended = sym (append-nil before);
   front = λ h s. (replies h (got item), refl);
   cause = cause;
-  stands = λ h s. stays h s shut';
+  leads = λ h s. stays h s shut';
 }
   where
     stays : (h : History) → LeadsTo h old → IsShut old new → LeadsTo h new
@@ -85,7 +85,7 @@ refuses_cut old new item fault whole before after says c same cause = record {
   appended = c.appended;
   front = λ h s. (c.rest, replies_got h old item s ∙ says (sound h old s) ∙ c.whole_is);
   cause = cause;
-  stands = λ h s. subst (LeadsTo h) (sym same) s;
+  leads = λ h s. subst (LeadsTo h) (sym same) s;
 }
 
 pub refuses_sub : (old new : End) (option : ℕ) (params before after : List ℕ) → AppendsFront (says_sub old (payload_at old.terms.options (Sub option params))) before after → new ≡ old → MayWantMemory old (payload_at old.terms.options (Sub option params)) → RefusesItem old (Sub option params) Memory before after new

@@ -75,16 +75,16 @@ stands_got h old item s =
       terms = is_terms;
       modes = same_modes _ _ _ _ _ _ item is_options is_terms is_mode;
       limit = moves.limit ∙ s.limit;
-      leaves =
+      line =
           let P : Role → Type 0 = λ r. discipline.LeadsTo (roles h ++ roles_from r) (line_after old.terminal.line old_role) in
-          subst P is_role (moves.half (roles h) s.leaves);
+          subst P is_role (moves.half (roles h) s.line);
       ahead = omega (arith, moves.ahead, s.ahead);
       read = s.read;
       count = s.count;
       waits =
           ap (λ (n : ℕ). entries_of n (roles h ++ roles_from (role_of_item h item))) (sym s.limit)
           ∙ ap (λ (r : Role). entries_of old.terminal.line.limit (roles h ++ roles_from r)) (sym is_role)
-          ∙ moves.entries (roles h) s.leaves s.ahead
+          ∙ moves.entries (roles h) s.line s.ahead
           ∙ ap (λ (n : ℕ). entries_of n (roles h) ++ gain_of old.terminal.line old_role) s.limit
           ∙ ap (λ (xs : List Entry). xs ++ gain_of old.terminal.line old_role) s.waits
           ∙ append_assoc s.read old.terminal.entries (gain_of old.terminal.line old_role);

@@ -45,7 +45,7 @@ goes_from old new item before after said appended items_at is closed = record {
   said = said;
   appended = appended;
   replies = λ h s. replies_got h old item s ∙ items_at (sound h old s);
-  stands = λ h s. subst (LeadsTo (next h (got item))) (is (sound h old s)) (stands_got h old item s);
+  leads = λ h s. subst (LeadsTo (next h (got item))) (is (sound h old s)) (stands_got h old item s);
   closed = closed;
 }
 

@@ -37,7 +37,7 @@ pub record LeadsTo (h : History) (end : End) : Type 0 where
   pub terms : end.terms ≡ terms h
   pub modes : end.modes ≡ record { asked = asked_mask h; current = mode h }
   pub limit : end.terminal.line.limit ≡ limit h
-  pub leaves : discipline.LeadsTo (roles h) end.terminal.line
+  pub line : discipline.LeadsTo (roles h) end.terminal.line
   pub ahead : end.terminal.line.ahead ≡ 0
   pub read : List Entry
   pub count : length read ≡ taken_count h
@@ -52,7 +52,7 @@ pub record Advances (old : End) (e : Event) (before after : List ℕ) (new : End
   pub said : List Item
   pub appended : after ≡ before ++ spells said
   pub replies : (h : History) → LeadsTo h old → replies h e ≡ said
-  pub stands : (h : History) → LeadsTo h old → LeadsTo (next h e) new
+  pub leads : (h : History) → LeadsTo h old → LeadsTo (next h e) new
   pub closed : new.terminal.closed ≡ old.terminal.closed
 
 -- a call of the owner reads nothing and fails no end
@@ -67,14 +67,14 @@ pub record RefusesItem (old : End) (item : Item) (fault : ServerFault) (before a
   pub appended : after ≡ before ++ spells said
   pub front : (h : History) → LeadsTo h old → (rest : List Item) × (replies h (got item) ≡ said ++ rest)
   pub cause : (h : History) → LeadsTo h old → IsCause h item fault
-  pub stands : (h : History) → LeadsTo h old → LeadsTo h new
+  pub leads : (h : History) → LeadsTo h old → LeadsTo h new
 
 -- Some items came, one after another, and each was done.
 pub record AdvancesAll (old : End) (items : List Item) (before after : List ℕ) (new : End) : Type 0 where
   pub said : List Item
   pub appended : after ≡ before ++ spells said
   pub sends : (h : History) → LeadsTo h old → items_said (gets h items) ≡ items_said h ++ said
-  pub stands : (h : History) → LeadsTo h old → LeadsTo (gets h items) new
+  pub leads : (h : History) → LeadsTo h old → LeadsTo (gets h items) new
   pub closed : new.terminal.closed ≡ old.terminal.closed
 
 -- Some items came: those before one of them were done, and that one was refused.
@@ -96,7 +96,7 @@ pub record Feeds (old : End) (piece before after : List ℕ) (new : End) : Type 
   pub said : List Item
   pub appended : after ≡ before ++ spells said
   pub sends : (h : History) → LeadsTo h old → items_said (gets h items) ≡ items_said h ++ said
-  pub stands : (h : History) → LeadsTo h old → LeadsTo (gets h items) new
+  pub leads : (h : History) → LeadsTo h old → LeadsTo (gets h items) new
   pub failed : new.failed ≡ old.failed
   pub closed : new.terminal.closed ≡ old.terminal.closed
 
@@ -129,7 +129,7 @@ pub record StopsWithin (old : End) (piece : List ℕ) (fault : ServerFault) (bef
       → (rest : List Item) × (first_replies (gets h done) left ≡ part ++ rest)
   pub cause : old.decoder ≢ failed → (h : History) → LeadsTo h old
       → IsStopCause (gets h done) left here back fault
-  pub stands : (h : History) → LeadsTo h old → LeadsTo (gets h done) new
+  pub leads : (h : History) → LeadsTo h old → LeadsTo (gets h done) new
 
 -- why a call is refused whatever memory there is: the end has failed before
 abbrev pub call_fault : End → Option ServerFault

@@ -36,8 +36,8 @@ ReadsAs (called course call) h = (old : History) × ReadsAs course old × IsCall
 -- The end is where the course leads.
 pub record CourseLeadsTo (course : Course) (end : End) : Type 0 where
   pub history : History
-  pub leads : ReadsAs course history
-  pub stands : LeadsTo history end
+  pub reads_as : ReadsAs course history
+  pub leads : LeadsTo history end
   pub reads : nvt.LeadsTo (stream course) (items history) end.decoder
 
 -- a text is written in these parts, and after each all symbols that wait are pulled

@@ -19,7 +19,7 @@ pub record StopsBetween (h whole : History) (fault : ServerFault) (before after 
   pub done : List Item
   pub left : List Item
   pub goes_on : whole ≡ gets (gets h done) left
-  pub stands : LeadsTo (gets h done) new
+  pub leads : LeadsTo (gets h done) new
   pub said : List Item
   pub unsaid : List Item
   pub appended : after ≡ before ++ spells said

@@ -77,7 +77,7 @@ impl ServerEnd {
         limit: Limit,
         out: &mut Vec<u8>,
     ) -> Result<ServerEnd, ServerFault>
-        ensures stands { IfOk result (λ end.
+        ensures leads { IfOk result (λ end.
             LeadsTo (begun (record { settings = settings; limit = limit })) end) }
         ensures reads { IfOk result (λ end. nvt.LeadsTo [] [] end.decoder) }
         ensures runs { IfOk result (λ end. end.failed ≡ false) }

@@ -191,9 +191,9 @@ halts_break old new end piece x y f on is small h = record {
       let more : List Item = past.0 in
       let xs : List Item = h.done ++ (h.left ++ more) in
       let k = gets c.history h.done in
-      let r = first_said k h.left more h.part (h.begins c.history l.stands) in
+      let r = first_said k h.left more h.part (h.begins c.history l.leads) in
       let said : items_said (gets c.history xs) ≡ items_said c.history ++ ((h.said ++ h.part) ++ r.0) =
-      ap items_said (gets-append c.history h.done (h.left ++ more)) ∙ r.1 ∙ ap (λ (ys : List Item). ys ++ (h.part ++ r.0)) (h.sends c.history l.stands)
+      ap items_said (gets-append c.history h.done (h.left ++ more)) ∙ r.1 ∙ ap (λ (ys : List Item). ys ++ (h.part ++ r.0)) (h.sends c.history l.leads)
       ∙ append_assoc (items_said c.history) h.said (h.part ++ r.0) ∙ ap (λ (ys : List Item). items_said c.history ++ ys) (sym (append_assoc h.said h.part r.0)) in (
         xs,
         past.1,

@@ -40,7 +40,7 @@ does_all path turn step put old new end before after on is f = record {
     live = λ _.
         let l = at.live on in
         rw is (record {
-          stands = f.stands c.history l.stands;
+          leads = f.leads c.history l.leads;
           read = read_on old.end.decoder end.decoder c.stream _ _ f.decoder (f.items c.history) l.read;
           bytes = l.bytes;
           failed = f.failed ∙ l.failed;
@@ -50,7 +50,7 @@ does_all path turn step put old new end before after on is f = record {
         });
     progress = ap (λ (t : Term). t.progress) is ∙ ap step at.progress;
   };
-  sends = λ c at. f.sends c.history (at.live on).stands;
+  sends = λ c at. f.sends c.history (at.live on).leads;
   puts = λ c at. refl;
 }
 
@@ -89,7 +89,7 @@ does_nothing t x = record {
 -- an entry goes to Desk
 pub does_answer : (old new : Term) (end : End) (e : Entry) (x y : List ℕ) → old.progress.over ≡ false → new ≡ record old { end = end; progress = after_answer old.progress } → Advances old.end took x y end → ReadsNothing old.end end → ((h : History) → server.LeadsTo h old.end → waiting h ≡ e ∷ waiting (next h took)) → AdvancesRun ask old x y (Some e ∷ []) new
 does_answer old new end e x y on is goes keeps entry =
-    does_same _ ask old new x y (Some e ∷ []) (λ c at. ap (answer (record c { history = next c.history took })) (entry c.history (at.live on).stands)) (does_all (λ h. next h took) (λ j. j) after_answer (Some e ∷ []) old new end x y on is (follows_took old.end end x y goes keeps))
+    does_same _ ask old new x y (Some e ∷ []) (λ c at. ap (answer (record c { history = next c.history took })) (entry c.history (at.live on).leads)) (does_all (λ h. next h took) (λ j. j) after_answer (Some e ∷ []) old new end x y on is (follows_took old.end end x y goes keeps))
 
 -- no entry waits
 pub does_wait : (old new : Term) (end : End) (put : List (Option Entry)) (x y : List ℕ) → old.progress.over ≡ false → new ≡ record old { end = end; progress = after_no_entry old.progress } → put ≡ end_if old.progress.at_end → Advances old.end took x y end → ReadsNothing old.end end → ((h : History) → server.LeadsTo h old.end → waiting h ≡ []) → AdvancesRun ask old x y put new
@@ -98,7 +98,7 @@ does_wait old new end put x y on is puts goes keeps entry =
   where
     same : (c : Run) → LeadsTo c old → ask c ≡ record { history = next c.history took; stream = c.stream; puts = c.puts ++ put; jobs = c.jobs; progress = after_no_entry c.progress }
     same c at =
-        ap (answer (record c { history = next c.history took })) (entry c.history (at.live on).stands)
+        ap (answer (record c { history = next c.history took })) (entry c.history (at.live on).leads)
         ∙ ap (λ (ps : List (Option Entry)). record { history = next c.history took; stream = c.stream; puts = c.puts ++ ps; jobs = c.jobs; progress = after_no_entry c.progress }) (ap (λ (p : Progress). end_if p.at_end) (sym at.progress) ∙ sym puts)
 
 -- a piece came
@@ -113,7 +113,7 @@ feeds old new end piece x y small on is f = record {
       live = λ _.
           let l = at.live on in
           rw is (record {
-            stands = f.stands c.history l.stands;
+            leads = f.leads c.history l.leads;
             read = rw (items-gets c.history f.items) (f.reads c.stream (items c.history) l.read);
             bytes = All-append (λ b. b < 256) c.stream piece l.bytes small;
             failed = f.failed ∙ l.failed;
@@ -123,7 +123,7 @@ feeds old new end piece x y small on is f = record {
           });
       progress = ap (λ (t : Term). t.progress) is ∙ ap after_piece at.progress;
     };
-    sends = λ c at. f.sends c.history (at.live on).stands;
+    sends = λ c at. f.sends c.history (at.live on).leads;
     puts = λ c at. sym (append-nil c.puts);
   };
 }
@@ -199,7 +199,7 @@ pub starts : (canon : Canon) (editing : Editing) (jobs : Jobs) (begun_end wished
 starts canon editing jobs begun_end wished_end end term x y z s r runs opens goes keeps f is =
     rw is (record {
       live = λ _. record {
-        stands = f.stands (next (begun canon) (wished editing)) (goes.stands (begun canon) s);
+        leads = f.leads (next (begun canon) (wished editing)) (goes.leads (begun canon) s);
         read = read_on begun_end.decoder end.decoder [] [] [] (f.decoder ∙ keeps.decoder) refl r;
         bytes = All-nil (λ b. b < 256);
         failed = f.failed ∙ keeps.failed ∙ runs;
@@ -218,4 +218,4 @@ start_sends canon editing begun_end wished_end end x₀ x y z e₀ e s goes f =
     goes.appended ∙ ap (λ (bs : List ℕ). bs ++ spells goes.said) first ∙ sym (spells-append opening_words goes.said)
     ∙ ap (λ (xs : List Item). spells (opening_words ++ xs)) (sym (goes.replies h s)) in
     f.appended ∙ ap (λ (bs : List ℕ). bs ++ spells f.said) second ∙ sym (spells-append (items_said (next h (wished editing))) f.said)
-    ∙ ap spells (sym (f.sends (next h (wished editing)) (goes.stands h s)))
+    ∙ ap spells (sym (f.sends (next h (wished editing)) (goes.leads h s)))

@@ -30,7 +30,7 @@ item_refused : (old : Term) (end : End) (piece x y : List ℕ) (g : PtyFault) �
 item_refused old end piece x y g on small h c at =
     let l = at.live on in
     let past = read_past old end piece x y (server.Pty g) on small h c at in
-    at_item c piece g h.done h.left past.0 h.here h.back past.1 (h.cause (has_read old.end.decoder c.stream (items c.history) l.read) c.history l.stands)
+    at_item c piece g h.done h.left past.0 h.here h.back past.1 (h.cause (has_read old.end.decoder c.stream (items c.history) l.read) c.history l.leads)
 
 pub feed_cause : (old : Term) (end : End) (piece x y : List ℕ) (f : ServerFault) → old.progress.over ≡ false → All (λ b. b < 256) piece → (IsOfItem f → StopsWithin old.end piece f x y end) → (f ≡ server.Failed → old.end.failed ≡ true) → (f ≡ server.Pty pty.Closed → old.end.terminal.closed ≡ true) → IsOfPiece f → RefusesFor old (Piece piece) f
 feed_cause old end piece x y (server.Pty pty.TooFarAhead) on small halts failed shut none = λ c at. item_refused old end piece x y pty.TooFarAhead on small (halts tt) c at

@@ -20,7 +20,7 @@ use Rattle.tn_term.specs.declared.terminal.Term.{Term}
 
 -- what holds while messages have their effect
 pub record IsLive (c : Run) (t : Term) : Type 0 where
-  pub stands : server.LeadsTo c.history t.end
+  pub leads : server.LeadsTo c.history t.end
   pub read : nvt.LeadsTo c.stream (items c.history) t.end.decoder
   pub bytes : All (λ b. b < 256) c.stream
   pub failed : t.end.failed ≡ false
@@ -40,7 +40,7 @@ pub record FollowsPath (path : History → History) (old : End) (before after : 
   pub said : List Item
   pub appended : after ≡ before ++ spells said
   pub sends : (h : History) → server.LeadsTo h old → items_said (path h) ≡ items_said h ++ said
-  pub stands : (h : History) → server.LeadsTo h old → server.LeadsTo (path h) new
+  pub leads : (h : History) → server.LeadsTo h old → server.LeadsTo (path h) new
   pub decoder : new.decoder ≡ old.decoder
   pub failed : new.failed ≡ old.failed
   pub closed : new.terminal.closed ≡ old.terminal.closed

@@ -98,8 +98,8 @@ opened_words here there a b =
 pub open_sound : (canon : Canon) (width height : ℕ) (w : World) → server.LeadsTo (server_calls.begun canon) w.server → LeadsTo [] [] w.server.decoder → client.LeadsTo (client_calls.begun width height canon.limit) w.client → LeadsTo [] [] w.client.decoder → w.to_server ≡ [] → w.to_client ≡ spells opening → HasPast w
 open_sound canon width height w stands reads begins began nothing said =
     made w (server_calls.begun canon) stands
-    (λ r. (server_courses.started canon, record { history = server_calls.begun canon; leads = refl; stands = stands; reads = reads }))
-    (λ r. (client_courses.started width height canon.limit, record { history = client_calls.begun width height canon.limit; leads = refl; stands = begins; reads = began }))
+    (λ r. (server_courses.started canon, record { history = server_calls.begun canon; reads_as = refl; leads = stands; reads = reads }))
+    (λ r. (client_courses.started width height canon.limit, record { history = client_calls.begun width height canon.limit; reads_as = refl; leads = begins; reads = began }))
     (λ r. begins.limit ∙ sym stands.limit)
     (λ r. ([], subst (λ x. InFlight w.server.decoder x []) (sym nothing) (start w.server.decoder reads)))
     (λ r. (opening, said_behind w.client.decoder [] w.to_client [] opening said (sent-fit (server_calls.begun canon)) (start w.client.decoder began)))
@@ -109,8 +109,8 @@ open_sound canon width height w stands reads begins began nothing said =
 pub opened_world : (canon : Canon) (width height : ℕ) (end : server.End) (other : client.End) (there here typed shown echoed : List ℕ) (taken : List Entry) → server.LeadsTo (server_calls.begun canon) end → LeadsTo [] [] end.decoder → end.failed ≡ false → end.terminal.closed ≡ false → client.LeadsTo (client_calls.begun width height canon.limit) other → LeadsTo [] [] other.decoder → other.failed ≡ false → there ≡ [] → here ≡ spells opening → typed ≡ [] → taken ≡ [] → shown ≡ [] → echoed ≡ [] → IsOpened canon width height (record { server = end; client = other; server_stopped = false; client_stopped = false; to_server = there; to_client = here; typed = typed; taken = taken; shown = shown; echoed = echoed })
 opened_world canon width height end other there here typed shown echoed taken stands reads runs opens begins began goes a b c d e f =
     record {
-      server = record { history = server_calls.begun canon; leads = refl; stands = stands; reads = reads };
-      client = record { history = client_calls.begun width height canon.limit; leads = refl; stands = begins; reads = began };
+      server = record { history = server_calls.begun canon; reads_as = refl; leads = stands; reads = reads };
+      client = record { history = client_calls.begun width height canon.limit; reads_as = refl; leads = begins; reads = began };
       takes_keys = opens;
       server_runs = runs;
       client_runs = goes;

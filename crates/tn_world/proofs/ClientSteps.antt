@@ -311,7 +311,7 @@ keys_done rules h old new key before after s stays askable runs goes keeps g =
     ap (λ (c : Client). client_after_key rules c.mask.edit c key) here in
     record {
       decoder = keeps.decoder;
-      core = core_at (next h (typed key)) new (goes.stands h s) (keeps.failed ∙ runs) ∙ k.core ∙ ap (λ (x : Sent). x.client) (sym same);
+      core = core_at (next h (typed key)) new (goes.leads h s) (keeps.failed ∙ runs) ∙ k.core ∙ ap (λ (x : Sent). x.client) (sym same);
       writes =
           subst (λ (x : Sent). SaysItems rules x.items g.said) (sym same)
           (subst (λ (xs : List Item). SaysItems rules done.items xs) (g.replies h s) k.writes);
@@ -321,7 +321,7 @@ keys_done rules h old new key before after s stays askable runs goes keeps g =
 pub keys_stay : (rules : Rules) (h : History) (old new : End) (key : ℕ) → LeadsTo h old → ClientStays rules old → Advances old (typed key) new → ClientStays rules new
 keys_stay rules h old new key s stays goes =
     let k = kept_at rules h old s stays in
-    stays_at rules (next h (typed key)) new (goes.stands h s) (record { on = k.on; characters = k.characters; limit = k.limit })
+    stays_at rules (next h (typed key)) new (goes.leads h s) (record { on = k.on; characters = k.characters; limit = k.limit })
 
 -- AN ITEM
 ending-same : (b : Bool) (bs : List ℕ) → end_of_edit_items b b bs ≡ []
@@ -590,7 +590,7 @@ feeds_done rules h old new piece before after server_item now s stays runs f cal
     let here = core_at h old s runs in
     let same : client_after_messages rules (client_core old) (client_messages rules f.items) ≡ client_after_messages rules (core_of h) (client_messages rules f.items) =
     ap (λ (c : Client). client_after_messages rules c (client_messages rules f.items)) here in (
-      core_at (gets h f.items) new (f.stands h s) (f.failed ∙ runs) ∙ all.core ∙ ap (λ (x : Sent). x.client) (sym same),
+      core_at (gets h f.items) new (f.leads h s) (f.failed ∙ runs) ∙ all.core ∙ ap (λ (x : Sent). x.client) (sym same),
       subst (λ (x : Sent). SaysItems rules x.items f.said) (sym same)
           (subst (λ (xs : List Item). SaysItems rules (client_after_messages rules (core_of h) (client_messages rules f.items)).items xs)
           (append_cancel_left (items_said h) all.said f.said (sym all.sends ∙ f.sends h s)) all.writes),
@@ -599,7 +599,7 @@ feeds_done rules h old new piece before after server_item now s stays runs f cal
 -- and leave LINEMODE and the characters as they are
 pub feeds_stay : (rules : Rules) (h : History) (old new : End) (piece before after server_item now : List ℕ) → LeadsTo h old → ClientStays rules old → (f : Feeds old piece before after server_item now new) → All (IsCalmToClient rules.canon.settings) f.items → ClientStays rules new
 feeds_stay rules h old new piece before after server_item now s stays f calm =
-    stays_at rules (gets h f.items) new (f.stands h s) (items-came rules h f.items (kept_at rules h old s stays) calm).kept
+    stays_at rules (gets h f.items) new (f.leads h s) (items-came rules h f.items (kept_at rules h old s stays) calm).kept
 
 -- A PIECE THAT WAS REFUSED
 -- What these items say to any server begins with this.
@@ -614,7 +614,7 @@ pub stops_done : (rules : Rules) (h : History) (old : End) (piece before after s
 stops_done rules h old piece before after seen now bytes had s read stays runs x calm =
     let items = x.done ++ x.left in
     let all = items-came rules h items (kept_at rules h old s stays) calm in
-    let u = front_said (gets h x.done) x.left [] x.part x.here x.back (x.why h bytes had s read) in
+    let u = front_said (gets h x.done) x.left [] x.part x.here x.back (x.cause h bytes had s read) in
     let here : items_said (gets h items) ≡ items_said h ++ ((x.said ++ x.part) ++ u.0) =
     ap items_said (gets-append h x.done x.left ∙ ap (gets (gets h x.done)) (sym (append-nil x.left)))
     ∙ u.1 ∙ ap (λ (xs : List Item). xs ++ (x.part ++ u.0)) (x.sends h s)
@@ -632,7 +632,7 @@ pub resized_done : (rules : Rules) (h : History) (old new : End) (width height :
 resized_done rules h old new width height before after s runs goes keeps g = record {
   same =
       ap (λ d. record { decoder = d; core = client_core new }) keeps.decoder
-      ∙ ap (λ (c : Client). record { decoder = old.decoder; core = c }) (core_at (next h (resized width height)) new (goes.stands h s) (keeps.failed ∙ runs) ∙ sym (core_at h old s runs));
+      ∙ ap (λ (c : Client). record { decoder = old.decoder; core = c }) (core_at (next h (resized width height)) new (goes.leads h s) (keeps.failed ∙ runs) ∙ sym (core_at h old s runs));
   writes =
       subst (λ (xs : List Item). SaysItems rules [] xs) (g.replies h s)
       (writes-if rules (tells_size (options h) && not (is_same_size (size h) (width, height))) (size_items (width, height)) (size-writes rules (width, height)));
@@ -641,4 +641,4 @@ resized_done rules h old new width height before after s runs goes keeps g = rec
 pub resized_stays : (rules : Rules) (h : History) (old new : End) (width height : ℕ) → LeadsTo h old → ClientStays rules old → Advances old (resized width height) new → ClientStays rules new
 resized_stays rules h old new width height s stays goes =
     let k = kept_at rules h old s stays in
-    stays_at rules (next h (resized width height)) new (goes.stands h s) (record { on = k.on; characters = k.characters; limit = k.limit })
+    stays_at rules (next h (resized width height)) new (goes.leads h s) (record { on = k.on; characters = k.characters; limit = k.limit })

@@ -208,7 +208,7 @@ halted s old new n fault runs r h x =
     let calm = (all_parts IsCalmToServer x.done (x.left ++ f.0) (subst (λ l. All IsCalmToServer l) all h.calm)).0 in
     let here = read_all s v (server_items rules x.done) in
     let there = read_all s here (server_items rules (x.left ++ f.0)) in
-    let waits : new.server.terminal.entries ≡ here.waiting = stops_waiting rules h.past.history old.server new.server x.done h.past.server h.server runs (x.stands h.past.history h.past.server) fit calm in
+    let waits : new.server.terminal.entries ≡ here.waiting = stops_waiting rules h.past.history old.server new.server x.done h.past.server h.server runs (x.leads h.past.history h.past.server) fit calm in
     let begins : IsPrefixOf (old.taken ++ there.waiting) (local_entries s old.typed) =
     subst (λ (u : Server). IsPrefixOf (old.taken ++ u.waiting) (local_entries s old.typed)) (read_two s rules v h.items x.done (x.left ++ f.0) all) h.begins in
     subst (λ (w : World). IsPrefixOf (w.taken ++ new.server.terminal.entries) (local_entries s w.typed)) (sym r.rest)
@@ -239,8 +239,8 @@ behind_breaks s old new n fault none r h =
     let said = x.said ++ x.part in
     let f = front_at old.client.decoder x.here n old.to_client x.front x.back h.tied.messages got h.tied.back x.whole x.reads in
     let calm = (all_parts (IsCalmToClient s.settings) got f.0 (subst (λ l. All (IsCalmToClient s.settings) l) f.1 h.tied.calm_back)).0 in
-    let w = stops_done rules at.history old.client (take n old.to_client) old.to_server new.to_server old.shown new.shown bytes had at.stands at.reads h.client none.1 x calm in
-    let fit = breaks_fit at.history old.client (take n old.to_client) old.to_server new.to_server old.shown new.shown bytes had at.stands at.reads x in
+    let w = stops_done rules at.history old.client (take n old.to_client) old.to_server new.to_server old.shown new.shown bytes had at.leads at.reads h.client none.1 x calm in
+    let fit = breaks_fit at.history old.client (take n old.to_client) old.to_server new.to_server old.shown new.shown bytes had at.leads at.reads x in
     let hushed = (all_parts IsCalmToServer said w.rest (subst (λ l. All IsCalmToServer l) w.whole w.writes.calm)).0 in
     let v = read_all s (server_core old.server) (server_items rules h.tied.items) in
     let says = (client_after_messages rules (client_core old.client) (client_messages rules got)).items in

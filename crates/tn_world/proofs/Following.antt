@@ -59,7 +59,7 @@ holds_types : (s : Canon) (old new : World) (key : ℕ) → NoneFailed old → H
 holds_types s old new key none sound t h =
     let rules = rules_of s h.linemode in
     let c = (h.past.client_course none.1).1 in
-    let k = client_steps.keys_done rules c.history old.client new.client key old.to_server new.to_server c.stands h.client h.tied.agrees.askable none.1 t.goes t.keeps t.sends in
+    let k = client_steps.keys_done rules c.history old.client new.client key old.to_server new.to_server c.leads h.client h.tied.agrees.askable none.1 t.goes t.keeps t.sends in
     record {
       linemode = h.linemode;
       tied = happens-tied rules (picture old) (picture new) (ends.key key) (
@@ -69,7 +69,7 @@ holds_types s old new key none sound t h =
         ap picture t.rest ∙ ap (λ x. record (picture old) { typed = old.typed ++ key ∷ []; client = client_picture new.client; to_server = x }) t.sends.appended,
       ) h.tied;
       server = subst (λ (w : World). ServerStays rules w.server) (sym t.rest) h.server;
-      client = client_steps.keys_stay rules c.history old.client new.client key c.stands h.client t.goes;
+      client = client_steps.keys_stay rules c.history old.client new.client key c.leads h.client t.goes;
       past = sound;
     }
 
@@ -83,11 +83,11 @@ holds_resizes s old new width height none sound t h =
       tied = happens-tied rules (picture old) (picture new) ends.client_call (
         client_picture new.client,
         t.sends.said,
-        client_steps.resized_done rules c.history old.client new.client width height old.to_server new.to_server c.stands none.1 t.goes t.keeps t.sends,
+        client_steps.resized_done rules c.history old.client new.client width height old.to_server new.to_server c.leads none.1 t.goes t.keeps t.sends,
         ap picture t.rest ∙ ap (λ x. record (picture old) { client = client_picture new.client; to_server = x }) t.sends.appended,
       ) h.tied;
       server = subst (λ (w : World). ServerStays rules w.server) (sym t.rest) h.server;
-      client = client_steps.resized_stays rules c.history old.client new.client width height c.stands h.client t.goes;
+      client = client_steps.resized_stays rules c.history old.client new.client width height c.leads h.client t.goes;
       past = sound;
     }
 
@@ -165,7 +165,7 @@ holds_returns s old new n none sound t h =
     let gains = t.feeds.reads in
     let d = cut_at old.client.decoder new.client.decoder n old.to_client h.tied.messages t.feeds.items h.tied.back gains in
     let calm = (all_parts (IsCalmToClient s.settings) t.feeds.items d.left (subst (λ l. All (IsCalmToClient s.settings) l) d.all h.tied.calm_back)).0 in
-    let k = client_steps.feeds_done rules c.history old.client new.client (take n old.to_client) old.to_server new.to_server old.shown new.shown c.stands h.client none.1 t.feeds calm in
+    let k = client_steps.feeds_done rules c.history old.client new.client (take n old.to_client) old.to_server new.to_server old.shown new.shown c.leads h.client none.1 t.feeds calm in
     record {
       linemode = h.linemode;
       tied = happens-tied rules (picture old) (picture new) (ends.to_client n) (
@@ -175,7 +175,7 @@ holds_returns s old new n none sound t h =
         ap picture t.rest ∙ ap (λ x. record (picture old) { client = client_picture new.client; to_client = drop n old.to_client; to_server = x }) t.feeds.appended,
       ) h.tied;
       server = subst (λ (w : World). ServerStays rules w.server) (sym t.rest) h.server;
-      client = client_steps.feeds_stay rules c.history old.client new.client (take n old.to_client) old.to_server new.to_server old.shown new.shown c.stands h.client t.feeds calm;
+      client = client_steps.feeds_stay rules c.history old.client new.client (take n old.to_client) old.to_server new.to_server old.shown new.shown c.leads h.client t.feeds calm;
       past = sound;
     }
 

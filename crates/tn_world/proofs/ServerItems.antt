@@ -189,18 +189,18 @@ gets_grow h (item ∷ items) =
 pub feeds_queue : (h : History) (old new : End) (piece before after : List ℕ) → LeadsTo h old → Feeds old piece before after new → (more : List Symbol) × (new.terminal.queue ≡ old.terminal.queue ++ more)
 feeds_queue h old new piece before after s f =
     let later = gets_grow h f.items in
-    let stands = f.stands h s in
+    let stands = f.leads h s in
     (later.0, stands.queue ∙ later.1 ∙ ap (λ (q : List Symbol). q ++ later.0) (sym s.queue))
 
 -- the same for a call
 pub goes_queue : (h : History) (old new : End) (e : Event) (before after : List ℕ) → IsUnpulled e → LeadsTo h old → Advances old e before after new → (more : List Symbol) × (new.terminal.queue ≡ old.terminal.queue ++ more)
 goes_queue h old new e before after is s g =
     let later = queue_grows h e is in
-    let stands = g.stands h s in
+    let stands = g.leads h s in
     (later.0, stands.queue ∙ later.1 ∙ ap (λ (q : List Symbol). q ++ later.0) (sym s.queue))
 
 pub halts_queue : (h : History) (old new : End) (piece before after : List ℕ) (fault : ServerFault) → LeadsTo h old → StopsWithin old piece fault before after new → (more : List Symbol) × (new.terminal.queue ≡ old.terminal.queue ++ more)
 halts_queue h old new piece before after fault s x =
     let later = gets_grow h x.done in
-    let stands = x.stands h s in
+    let stands = x.leads h s in
     (later.0, stands.queue ∙ later.1 ∙ ap (λ (q : List Symbol). q ++ later.0) (sym s.queue))

@@ -404,14 +404,14 @@ goes_on rules h (item ∷ items) k f c =
 pub feeds_core : (rules : Rules) (h : History) (old new : End) (piece before after : List ℕ) → LeadsTo h old → ServerStays rules old → old.failed ≡ false → (f : Feeds old piece before after new) → All Fits f.items → All IsCalmToServer f.items → server_core new ≡ read_all rules.canon (server_core old) (server_items rules f.items)
 feeds_core rules h old new piece before after s stays works f fit calm =
     let later = goes_on rules h f.items (kept_at rules h old s stays) fit calm in
-    core_at (gets h f.items) new (f.stands h s)
+    core_at (gets h f.items) new (f.leads h s)
     ∙ ap (core_of (gets h f.items)) (f.failed ∙ works)
     ∙ later.core
     ∙ ap (λ (v : Server). read_all rules.canon v (server_items rules f.items)) (sym (core_at h old s ∙ ap (core_of h) works))
 
 pub feeds_stays : (rules : Rules) (h : History) (old new : End) (piece before after : List ℕ) → LeadsTo h old → ServerStays rules old → old.failed ≡ false → (f : Feeds old piece before after new) → All Fits f.items → All IsCalmToServer f.items → ServerStays rules new
 feeds_stays rules h old new piece before after s stays works f fit calm =
-    stays_at rules (gets h f.items) new (f.stands h s) (goes_on rules h f.items (kept_at rules h old s stays) fit calm).kept
+    stays_at rules (gets h f.items) new (f.leads h s) (goes_on rules h f.items (kept_at rules h old s stays) fit calm).kept
 
 pub feeds_replies : (rules : Rules) (h : History) (old new : End) (piece before after : List ℕ) → LeadsTo h old → ServerStays rules old → old.failed ≡ false → (f : Feeds old piece before after new) → All Fits f.items → All IsCalmToServer f.items → AreReplies rules f.said
 feeds_replies rules h old new piece before after s stays works f fit calm =
@@ -567,11 +567,11 @@ says_replies rules h old new e before after is s stays g =
 
 pub says_stays : (rules : Rules) (h : History) (old new : End) (e : Event) (before after : List ℕ) → IsCall e → LeadsTo h old → ServerStays rules old → Advances old e before after new → ServerStays rules new
 says_stays rules h old new e before after is s stays g =
-    stays_at rules (next h e) new (g.stands h s) (kept_call rules h e is (kept_at rules h old s stays))
+    stays_at rules (next h e) new (g.leads h s) (kept_call rules h e is (kept_at rules h old s stays))
 
 pub says_core : (h : History) (old new : End) (e : Event) (before after : List ℕ) → KeepsEntries e → LeadsTo h old → Advances old e before after new → ReadsNothing old new → server_core new ≡ server_core old
 says_core h old new e before after is s g k =
-    core_at (next h e) new (g.stands h s)
+    core_at (next h e) new (g.leads h s)
     ∙ ap (core_of (next h e)) k.failed
     ∙ core_call h e old.failed is
     ∙ sym (core_at h old s)
@@ -588,7 +588,7 @@ GivesEntry h entry = MatchOption entry (waiting h ≡ []) (λ e. waiting h ≡ e
 took_picture : (h : History) (old new : End) (before after : List ℕ) → LeadsTo h old → Advances old took before after new → ReadsNothing old new → server_picture new ≡ record { decoder = old.decoder; core = core_of (next h took) old.failed }
 took_picture h old new before after s g k =
     ap (λ d. record { decoder = d; core = server_core new }) k.decoder
-    ∙ ap (λ (v : Server). record { decoder = old.decoder; core = v }) (core_at (next h took) new (g.stands h s) ∙ ap (core_of (next h took)) k.failed)
+    ∙ ap (λ (v : Server). record { decoder = old.decoder; core = v }) (core_at (next h took) new (g.leads h s) ∙ ap (core_of (next h took)) k.failed)
 
 pub took_core : (h : History) (old new : End) (before after : List ℕ) (entry : Option Entry) → LeadsTo h old → Advances old took before after new → ReadsNothing old new → GivesEntry h entry → TakesFirst (server_picture old) (option_to_list entry) (server_picture new)
 took_core h old new before after None s g k gives = (

@@ -146,7 +146,7 @@ pulls_grows old new n text s p o =
     let h = s.history in
     let g = p.asks.goes in
     let is_text : text_of g.said ≡ screen (take p.count (queue h)) = ap text_of (sym (g.replies h s.server)) ∙ data_text (take p.count (queue h)) in
-    let stands = g.stands h s.server in
+    let stands = g.leads h s.server in
     record {
       symbols = [];
       took = refl;
@@ -176,7 +176,7 @@ returns_grows old new n text s runs r o =
     let at = (s.client_course runs).1 in
     let d = cut_at old.client.decoder new.client.decoder n old.to_client o.items f.items o.flight f.reads in
     let is_shown : new.shown ≡ old.shown ++ text_of f.items =
-    f.displayed ∙ ap (λ (x : List ℕ). old.shown ++ x) (feeds_text at.history old.client new.client (take n old.to_client) old.to_server new.to_server old.shown new.shown at.stands f) in
+    f.displayed ∙ ap (λ (x : List ℕ). old.shown ++ x) (feeds_text at.history old.client new.client (take n old.to_client) old.to_server new.to_server old.shown new.shown at.leads f) in
     let queued : new.server.terminal.queue ≡ old.server.terminal.queue = ap (λ (w : World). w.server.terminal.queue) r.rest in
     record {
       symbols = [];

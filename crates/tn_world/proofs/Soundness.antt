@@ -86,7 +86,7 @@ pub breaks_fit : (h : client_calls.History) (old : client.End) (piece before aft
 breaks_fit h old piece before after seen now stream had s r x =
     All-append Fits x.said x.part
     (later_fit (client_says.items_said (client_calls.gets h x.done)) (client_says.items_said h) x.said (x.sends h s) (client_fits.sent-fits (client_calls.gets h x.done)))
-    (gave_fit (client_calls.gets h x.done) x.left x.part x.here x.back (x.why h stream had s r))
+    (gave_fit (client_calls.gets h x.done) x.left x.part x.here x.back (x.cause h stream had s r))
 
 -- WHO IS ASKED GOES ON
 pub call_goes_on : (end : client.End) → client.call_fault end ≡ None → end.failed ≡ false
@@ -153,8 +153,8 @@ module _ (old new : World) (e : client_calls.Event) (call : client_courses.IsCal
   pub told_limit : new.client.line.limit ≡ old.client.line.limit
   told_limit =
       let at = (s.client_course runs).1 in
-      let after = g.stands at.history at.stands in
-      let before = at.stands in
+      let after = g.leads at.history at.leads in
+      let before = at.leads in
       after.limit ∙ sym before.limit
 
   pub told_sound : HasPast (record old { client = new.client; to_server = new.to_server })
@@ -162,10 +162,10 @@ module _ (old new : World) (e : client_calls.Event) (call : client_courses.IsCal
       let at = (s.client_course runs).1 in
       made (record old { client = new.client; to_server = new.to_server }) s.history s.server s.server_course (λ b. told_now)
       (λ b. told_limit ∙ s.limit runs)
-      (λ a. let f = s.to_server a in (f.0 ++ sends.said, said_behind old.server.decoder old.to_server new.to_server f.0 sends.said sends.appended (sends_fit at.history old.client e old.to_server new.to_server at.stands sends) f.1))
+      (λ a. let f = s.to_server a in (f.0 ++ sends.said, said_behind old.server.decoder old.to_server new.to_server f.0 sends.said sends.appended (sends_fit at.history old.client e old.to_server new.to_server at.leads sends) f.1))
       (λ b. let f = s.to_client runs in (f.0, subst (λ d. InFlight d old.to_client f.0) (sym k.decoder) f.1))
       (λ a b. wordless old.server.terms.options old.client.options new.client.options (s.to_server a).0 sends.said (words_in (s.to_client runs).0)
-      (client_words.advances_keeps at.history old.client new.client e call at.stands g) (client_words.sends_none at.history old.client e old.to_server new.to_server call at.stands sends) (s.words a runs))
+      (client_words.advances_keeps at.history old.client new.client e call at.leads g) (client_words.sends_none at.history old.client e old.to_server new.to_server call at.leads sends) (s.words a runs))
 
 -- what no part of the invariant looks at
 pub sound_as : (old new : World) → new.server ≡ old.server → new.client ≡ old.client → new.to_server ≡ old.to_server → new.to_client ≡ old.to_client → HasPast old → HasPast new
@@ -200,13 +200,13 @@ sound_tells old new e call t s =
 module _ (old new : World) (e : server_calls.Event) (call : server_courses.IsCall e) (g : server.Advances old.server e old.to_client new.to_client new.server) (k : server.ReadsNothing old.server new.server) (s : HasPast old) where
   asked_limit : new.server.terminal.line.limit ≡ old.server.terminal.line.limit
   asked_limit =
-      let after = g.stands s.history s.server in
+      let after = g.leads s.history s.server in
       let before = s.server in
       after.limit ∙ sym before.limit
 
   pub asked_sound : HasPast (record old { server = new.server; to_client = new.to_client })
   asked_sound =
-      made (record old { server = new.server; to_client = new.to_client }) (server_calls.next s.history e) (g.stands s.history s.server)
+      made (record old { server = new.server; to_client = new.to_client }) (server_calls.next s.history e) (g.leads s.history s.server)
       (λ r. let x = s.server_course (sym k.failed ∙ r) in (server_courses.called x.0 e, server_on.called_on x.0 old.server new.server e old.to_client new.to_client x.1 call g k))
       s.client_course
       (λ b. s.limit b ∙ sym asked_limit)
@@ -232,7 +232,7 @@ pub sound_reaches : (old new : World) (n : ℕ) → DeliversToServer old n new �
 sound_reaches old new n t s =
     let f = t.feeds in
     let piece = take n old.to_server in
-    let after = f.stands s.history s.server in
+    let after = f.leads s.history s.server in
     let before = s.server in
     let runs : new.server.failed ≡ false → old.server.failed ≡ false = λ r. sym f.failed ∙ r in
     subst (λ w. HasPast w) (sym t.rest)
@@ -262,14 +262,14 @@ sound_returns old new n t s =
     let piece = take n old.to_client in
     let runs = call_goes_on old.client t.accepted in
     let at = (s.client_course runs).1 in
-    let before = at.stands in
-    let after = f.stands at.history at.stands in
+    let before = at.leads in
+    let after = f.leads at.history at.leads in
     subst (λ w. HasPast w) (sym t.rest)
     (made (record old { client = new.client; to_client = drop n old.to_client; to_server = new.to_server; shown = new.shown }) s.history s.server
     s.server_course
     (λ r. let x = s.client_course runs in (client_courses.fed x.0 piece, client_on.fed_at x.0 old.client new.client piece old.to_server new.to_server old.shown new.shown x.1 f))
     (λ b. after.limit ∙ line_limit-gets at.history f.items ∙ sym before.limit ∙ s.limit runs)
-    (λ a. let x = s.to_server a in (x.0 ++ f.said, said_behind old.server.decoder old.to_server new.to_server x.0 f.said f.appended (came_fit at.history old.client new.client piece old.to_server new.to_server old.shown new.shown at.stands f) x.1))
+    (λ a. let x = s.to_server a in (x.0 ++ f.said, said_behind old.server.decoder old.to_server new.to_server x.0 f.said f.appended (came_fit at.history old.client new.client piece old.to_server new.to_server old.shown new.shown at.leads f) x.1))
     (λ b. let x = s.to_client runs in let d = cut_at old.client.decoder new.client.decoder n old.to_client x.0 f.items x.1 f.reads in (d.left, d.flight))
     (λ a b.
     let x = (s.to_server a).0 in
@@ -277,7 +277,7 @@ sound_returns old new n t s =
     let d = cut_at old.client.decoder new.client.decoder n old.to_client y.0 f.items y.1 f.reads in
     said_there old.server.terms.options new.client.options x f.said (words_in d.left)
     (leads_on old.server.terms.options old.client.options old.server.terms.options new.client.options (words_in x) (words_in f.items ++ words_in d.left) (words_in x ++ words_in f.said) (words_in d.left)
-    (client_words.feeds_moves at.history old.client new.client piece old.to_server new.to_server old.shown new.shown old.server.terms.options (words_in x) (words_in d.left) at.stands f)
+    (client_words.feeds_moves at.history old.client new.client piece old.to_server new.to_server old.shown new.shown old.server.terms.options (words_in x) (words_in d.left) at.leads f)
     (split_back old.server.terms.options old.client.options (words_in x) y.0 f.items d.left d.all (s.words a runs)))))
 
 unless : (stopped : Bool) (old new : World) (happens : Type 0) → (happens → HasPast old → HasPast new) → UnlessStopped stopped old new happens → HasPast old → HasPast new
@@ -307,8 +307,8 @@ sound_does old new ClientStops d s = subst (λ w. HasPast w) (sym d) (sound_as o
 -- REFUSALS
 -- the server stood where the items that were done lead, or failed before
 pub stood : (old : server.End) (new : server.End) (piece before after : List ℕ) (fault : ServerFault) (h : server_calls.History) → server.LeadsTo h old → (fault ≡ server_faults.Failed → new ≡ old) → (IsOfItem fault → server.StopsWithin old piece fault before after new) → IsOfPiece fault → (items : List Item) × server.LeadsTo (server_calls.gets h items) new
-stood old new piece before after (server_faults.Pty f) h s again halts of = let x = halts tt in (x.done, x.stands h s)
-stood old new piece before after server_faults.Memory h s again halts of = let x = halts tt in (x.done, x.stands h s)
+stood old new piece before after (server_faults.Pty f) h s again halts of = let x = halts tt in (x.done, x.leads h s)
+stood old new piece before after server_faults.Memory h s again halts of = let x = halts tt in (x.done, x.leads h s)
 stood old new piece before after server_faults.Failed h s again halts of = ([], subst (server.LeadsTo h) (sym (again refl)) s)
 stood old new piece before after (server_faults.Char f) h s again halts of = absurd of
 stood old new piece before after server_faults.NotOn h s again halts of = absurd of
@@ -350,7 +350,7 @@ breaks_sound old end piece left later seen runs x failed s =
     (λ a. let f = s.to_server a in (
       f.0 ++ (x.said ++ x.part),
       said_behind old.server.decoder old.to_server later f.0 (x.said ++ x.part) x.appended
-          (breaks_fit here.history old.client piece old.to_server later old.shown seen (client_courses.stream at.0) (client_calls.items here.history) here.stands here.reads x) f.1,
+          (breaks_fit here.history old.client piece old.to_server later old.shown seen (client_courses.stream at.0) (client_calls.items here.history) here.leads here.reads x) f.1,
     ))
     (λ r. opposite end.failed _ failed r)
     (λ a b. opposite end.failed _ failed b)

@@ -57,8 +57,8 @@ far_behind old new n s r = go (by_test old.server.failed refl)
         let c = s.server_course runs in
         let at = c.1 in
         let h = server_calls.gets at.history x.done in
-        let why = x.cause (has_read old.server.decoder (server_courses.stream c.0) (server_calls.items at.history) at.reads) at.history at.stands in
-        ap length (sym (waits_are h new.server (x.stands at.history at.stands))) ∙ many_wait h x.left x.here x.back why
+        let why = x.cause (has_read old.server.decoder (server_courses.stream c.0) (server_calls.items at.history) at.reads) at.history at.leads in
+        ap length (sym (waits_are h new.server (x.leads at.history at.leads))) ∙ many_wait h x.left x.here x.back why
 
 far_at : (old new : World) (e : Event) → HasPast old → Refuses old e (cause.Server far) new → length new.server.terminal.entries ≡ most_waiting
 far_at old new (ToServer n) s r = far_behind old new n s r

@@ -43,36 +43,36 @@ one_history (called c e) h k a b = a.3 ∙ ap (λ (x : History). next x e) (one_
 -- one piece more
 leads_fed : (c : Course) (old new : End) (piece before after seen now : List ℕ) → (a : CourseLeadsTo c old) → (f : Feeds old piece before after seen now new) → ReadsAs (fed c piece) (gets a.history f.items)
 leads_fed c old new piece before after seen now a f =
-    let read = f.reads (stream c) (items a.history) a.reads in (a.history, f.items, a.leads, (read.rest, read.reading), refl)
+    let read = f.reads (stream c) (items a.history) a.reads in (a.history, f.items, a.reads_as, (read.rest, read.reading), refl)
 
 pub fed_at : (c : Course) (old new : End) (piece before after seen now : List ℕ) → CourseLeadsTo c old → Feeds old piece before after seen now new → CourseLeadsTo (fed c piece) new
 fed_at c old new piece before after seen now a f =
     let read = f.reads (stream c) (items a.history) a.reads in
     record {
       history = gets a.history f.items;
-      leads = leads_fed c old new piece before after seen now a f;
-      stands = f.stands a.history a.stands;
+      reads_as = leads_fed c old new piece before after seen now a f;
+      leads = f.leads a.history a.leads;
       reads = subst (λ (xs : List Item). nvt.LeadsTo (stream c ++ piece) xs new.decoder) (sym (items-gets a.history f.items)) read;
     }
 
 pub fed_said : (c : Course) (old new : End) (piece before after seen now : List ℕ) (h k : History) → CourseLeadsTo c old → (f : Feeds old piece before after seen now new) → ReadsAs c h → ReadsAs (fed c piece) k → items_said k ≡ items_said h ++ f.said
 fed_said c old new piece before after seen now h k a f l m =
     let there = leads_fed c old new piece before after seen now a f in
-    ap items_said (one_history (fed c piece) k (gets a.history f.items) m there) ∙ f.sends a.history a.stands
-    ∙ ap (λ (x : History). items_said x ++ f.said) (one_history c a.history h a.leads l)
+    ap items_said (one_history (fed c piece) k (gets a.history f.items) m there) ∙ f.sends a.history a.leads
+    ∙ ap (λ (x : History). items_said x ++ f.said) (one_history c a.history h a.reads_as l)
 
 pub fed_shown : (c : Course) (old new : End) (piece before after seen now : List ℕ) (h k : History) → CourseLeadsTo c old → (f : Feeds old piece before after seen now new) → ReadsAs c h → ReadsAs (fed c piece) k → text_shown k ≡ text_shown h ++ f.text
 fed_shown c old new piece before after seen now h k a f l m =
     let there = leads_fed c old new piece before after seen now a f in
-    ap text_shown (one_history (fed c piece) k (gets a.history f.items) m there) ∙ f.shows a.history a.stands
-    ∙ ap (λ (x : History). text_shown x ++ f.text) (one_history c a.history h a.leads l)
+    ap text_shown (one_history (fed c piece) k (gets a.history f.items) m there) ∙ f.shows a.history a.leads
+    ∙ ap (λ (x : History). text_shown x ++ f.text) (one_history c a.history h a.reads_as l)
 
 -- one call more
 pub called_at : (c : Course) (old new : End) (e : Event) → CourseLeadsTo c old → IsCall e → Advances old e new → ReadsNothing old new → CourseLeadsTo (called c e) new
 called_at c old new e a call goes keeps = record {
   history = next a.history e;
-  leads = (a.history, a.leads, call, refl);
-  stands = goes.stands a.history a.stands;
+  reads_as = (a.history, a.reads_as, call, refl);
+  leads = goes.leads a.history a.leads;
   reads =
       let P : DecoderState → Type 0 = λ d. nvt.LeadsTo (stream c) (items (next a.history e)) d in
       subst P (sym keeps.decoder) (subst (λ (xs : List Item). nvt.LeadsTo (stream c) xs old.decoder) (sym (items-call a.history e call)) a.reads);
@@ -117,7 +117,7 @@ never h [] part here e g = g.1
 never h (x ∷ xs) part here e g = cons_some x xs e
 
 pub never_refused : (c : Course) (old : End) (before after seen now : List ℕ) → CourseLeadsTo c old → StopsWithin old [] before after seen now → ⊥
-never_refused c old before after seen now a b = go b.front b.back b.whole b.reads b.why
+never_refused c old before after seen now a b = go b.front b.back b.whole b.reads b.cause
   where
     go : (front back : List ℕ) → [] ≡ front ++ back
         → ((bytes : List ℕ) (had : List Item) → nvt.LeadsTo bytes had old.decoder → nvt.LeadsTo (bytes ++ front) (had ++ (b.done ++ b.left)) b.here)
@@ -127,6 +127,6 @@ never_refused c old before after seen now a b = go b.front b.back b.whole b.read
         let then : nvt.LeadsTo (stream c) (had ++ (b.done ++ b.left)) b.here =
         subst (λ (bytes : List ℕ). nvt.LeadsTo bytes (had ++ (b.done ++ b.left)) b.here) (append-nil (stream c)) (reads (stream c) had a.reads) in
         let same = (one_standing old.decoder b.here (stream c) had (had ++ (b.done ++ b.left)) a.reads then).1 in
-        never (gets a.history b.done) b.left b.part b.here (none_left had b.done b.left same) (why a.history (stream c) had a.stands a.reads)
+        never (gets a.history b.done) b.left b.part b.here (none_left had b.done b.left same) (why a.history (stream c) had a.leads a.reads)
     go [] (x ∷ xs) e reads why = cons_some x xs (sym e)
     go (x ∷ xs) back e reads why = cons_some x (xs ++ back) (sym e)

@@ -23,7 +23,7 @@ leaves-line : (h : History) → discipline.LeadsTo (edited_roles h) (line h)
 leaves-line h = record { sent = take (ahead h) (half_line h); count = length-take-le (ahead h) (half_line h) (ahead-within h); bytes = parts-whole h }
 
 stands_there : (h : History) → LeadsTo h (end_at h)
-stands_there h = record { options = refl; mode = refl; forward = refl; table = refl; leaves = leaves-line h; ahead = refl; limit = refl; trapped = refl; plain = refl; size = refl }
+stands_there h = record { options = refl; mode = refl; forward = refl; table = refl; line = leaves-line h; ahead = refl; limit = refl; trapped = refl; plain = refl; size = refl }
 
 line-next : (h : History) (key : ℕ) → line (next h (typed key)) ≡ line_typed (edits (mode h)) (forward h) (line h) (role_at h key)
 line-next h key = sym (line_is (next h (typed key)) (end_after_key (end_at h) key) (stands_typed h (end_at h) key (stands_there h)))

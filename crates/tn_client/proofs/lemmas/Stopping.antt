@@ -28,7 +28,7 @@ front_said h (item ∷ left) more part here back why =
 
 pub stopped : (c : Course) (old : End) (piece before after seen now : List ℕ) (h whole : History) → CourseLeadsTo c old → StopsWithin old piece before after seen now → ReadsAs c h → ReadsAs (fed c piece) whole → StopsBetween h whole before after seen now
 stopped c old piece before after seen now h whole a s leads also =
-    subst (λ (x : History). StopsBetween x whole before after seen now) (one_history c a.history h a.leads leads) (go (one_history c also.0 a.history also.2 a.leads))
+    subst (λ (x : History). StopsBetween x whole before after seen now) (one_history c a.history h a.reads_as leads) (go (one_history c also.0 a.history also.2 a.reads_as))
   where
     go : also.0 ≡ a.history → StopsBetween a.history whole before after seen now
     go same =
@@ -40,7 +40,7 @@ stopped c old piece before after seen now h whole a s leads also =
         (subst (λ (x : History). IsRead (stream c ++ piece) (items x ++ also.1)) same also.3) in
         let t = part_in_two (stream c) s.front s.back had also.1 (a.reads.rest, a.reads.reading) (had ++ (s.done ++ s.left), here.rest, here.reading) all in
         let first : t.first ≡ s.done ++ s.left = same_more (stream c ++ s.front) had had t.first (s.done ++ s.left) refl t.front (here.rest, here.reading) in
-        let u = front_said (gets k s.done) s.left t.second s.part s.here s.back (s.why k (stream c) had a.stands a.reads) in
+        let u = front_said (gets k s.done) s.left t.second s.part s.here s.back (s.cause k (stream c) had a.leads a.reads) in
         let v = shown-gets (gets k s.done) (s.left ++ t.second) in
         let on : whole ≡ gets (gets k s.done) (s.left ++ t.second) =
         also.4 ∙ ap (λ (x : History). gets x also.1) same
@@ -51,13 +51,13 @@ stopped c old piece before after seen now h whole a s leads also =
           unsaid = u.0;
           appended = s.appended;
           sends =
-              ap items_said on ∙ u.1 ∙ ap (λ (xs : List Item). xs ++ (s.part ++ u.0)) (s.sends k a.stands)
+              ap items_said on ∙ u.1 ∙ ap (λ (xs : List Item). xs ++ (s.part ++ u.0)) (s.sends k a.leads)
               ∙ append_assoc (items_said k) s.said (s.part ++ u.0)
               ∙ ap (λ (xs : List Item). items_said k ++ xs) (sym (append_assoc s.said s.part u.0));
           text = s.text;
           unshown = v.0;
           displayed = s.displayed;
           shows =
-              ap text_shown on ∙ v.1 ∙ ap (λ (xs : List ℕ). xs ++ v.0) (s.shows k a.stands)
+              ap text_shown on ∙ v.1 ∙ ap (λ (xs : List ℕ). xs ++ v.0) (s.shows k a.leads)
               ∙ append_assoc (text_shown k) s.text v.0;
         }

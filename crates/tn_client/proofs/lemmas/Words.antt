@@ -167,10 +167,10 @@ pub feeds_moves : (h : History) (old new : End) (piece before after seen now : L
 feeds_moves h old new piece before after seen now here ws vs s f =
     let all = gets_moves h f.items here ws vs in
     let same : all.0 ≡ f.said = append_cancel_left (items_said h) all.0 f.said (sym all.1 ∙ f.sends h s) in
-    rw (s.options, (f.stands h s).options, sym same) all.2
+    rw (s.options, (f.leads h s).options, sym same) all.2
 
 pub sends_none : (h : History) (old : End) (e : Event) (before after : List ℕ) → IsCall e → LeadsTo h old → (g : Sends old e before after) → words_in g.said ≡ []
 sends_none h old e before after call s g = ap words_in (sym (g.replies h s)) ∙ call_none h e call
 
 pub advances_keeps : (h : History) (old new : End) (e : Event) → IsCall e → LeadsTo h old → Advances old e new → new.options ≡ old.options
-advances_keeps h old new e call s g = (g.stands h s).options ∙ call_keeps h e call ∙ sym s.options
+advances_keeps h old new e call s g = (g.leads h s).options ∙ call_keeps h e call ∙ sym s.options

@@ -31,30 +31,30 @@ one_history (fed c piece) h k a b =
 one_history (called c e) h k a b = a.3 ∙ ap (λ (x : History). next x e) (one_history c a.0 b.0 a.1 b.1) ∙ sym b.3
 
 pub begins : (canon : Canon) (end : End) → LeadsTo (begun canon) end → nvt.LeadsTo [] [] end.decoder → CourseLeadsTo (started canon) end
-begins canon end stands reads = record { history = begun canon; leads = refl; stands = stands; reads = reads }
+begins canon end stands reads = record { history = begun canon; reads_as = refl; leads = stands; reads = reads }
 
 pub fed_on : (c : Course) (old new : End) (piece before after : List ℕ) → CourseLeadsTo c old → Feeds old piece before after new → CourseLeadsTo (fed c piece) new
 fed_on c old new piece before after a f =
     let read = f.reads (stream c) (items a.history) a.reads in
     record {
       history = gets a.history f.items;
-      leads = (a.history, f.items, a.leads, (read.rest, read.reading), refl);
-      stands = f.stands a.history a.stands;
+      reads_as = (a.history, f.items, a.reads_as, (read.rest, read.reading), refl);
+      leads = f.leads a.history a.leads;
       reads = subst (λ (xs : List Item). nvt.LeadsTo (stream c ++ piece) xs new.decoder) (sym (items-gets a.history f.items)) read;
     }
 
 pub fed_says : (c : Course) (old new : End) (piece before after : List ℕ) (h k : History) → CourseLeadsTo c old → (f : Feeds old piece before after new) → ReadsAs c h → ReadsAs (fed c piece) k → items_said k ≡ items_said h ++ f.said
 fed_says c old new piece before after h k a f leads also =
     let read = f.reads (stream c) (items a.history) a.reads in
-    ap items_said (one_history (fed c piece) k (gets a.history f.items) also (a.history, f.items, a.leads, (read.rest, read.reading), refl))
-    ∙ f.sends a.history a.stands
-    ∙ ap (λ (x : History). items_said x ++ f.said) (one_history c a.history h a.leads leads)
+    ap items_said (one_history (fed c piece) k (gets a.history f.items) also (a.history, f.items, a.reads_as, (read.rest, read.reading), refl))
+    ∙ f.sends a.history a.leads
+    ∙ ap (λ (x : History). items_said x ++ f.said) (one_history c a.history h a.reads_as leads)
 
 pub called_on : (c : Course) (old new : End) (e : Event) (before after : List ℕ) → CourseLeadsTo c old → IsCall e → Advances old e before after new → ReadsNothing old new → CourseLeadsTo (called c e) new
 called_on c old new e before after a call g keeps = record {
   history = next a.history e;
-  leads = (a.history, a.leads, call, refl);
-  stands = g.stands a.history a.stands;
+  reads_as = (a.history, a.reads_as, call, refl);
+  leads = g.leads a.history a.leads;
   reads = subst (λ d. nvt.LeadsTo (stream c) (items (next a.history e)) d) (sym keeps.decoder) (subst (λ (xs : List Item). nvt.LeadsTo (stream c) xs old.decoder) (sym (calls_read e call)) a.reads);
 }
   where

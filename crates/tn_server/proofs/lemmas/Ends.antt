@@ -10,7 +10,7 @@ use Rattle.tn_server.specs.Calls.{End, LeadsTo}
 
 -- where nothing is ahead, the half line is what is held
 pub line_is : (h : History) (end : End) → LeadsTo h end → end.terminal.line ≡ line h
-line_is h end s = go s.leaves.sent (s.leaves.count ∙ s.ahead) s.leaves.bytes
+line_is h end s = go s.line.sent (s.line.count ∙ s.ahead) s.line.bytes
   where
     l : HalfLine
     l = end.terminal.line

@@ -47,7 +47,7 @@ many_wait h (item ∷ left) here back why = why.1
 
 pub stopped : (c : Course) (old new : End) (piece before after : List ℕ) (fault : ServerFault) (h whole : History) → CourseLeadsTo c old → StopsWithin old piece fault before after new → ReadsAs c h → ReadsAs (fed c piece) whole → StopsBetween h whole fault before after new
 stopped c old new piece before after fault h whole a s leads also =
-    subst (λ (x : History). StopsBetween x whole fault before after new) (one_history c a.history h a.leads leads) (go (one_history c also.0 a.history also.2 a.leads))
+    subst (λ (x : History). StopsBetween x whole fault before after new) (one_history c a.history h a.reads_as leads) (go (one_history c also.0 a.history also.2 a.reads_as))
   where
     go : also.0 ≡ a.history → StopsBetween a.history whole fault before after new
     go same =
@@ -59,7 +59,7 @@ stopped c old new piece before after fault h whole a s leads also =
         (subst (λ (x : History). IsRead (stream c ++ piece) (items x ++ also.1)) same also.3) in
         let t = part_in_two (stream c) s.front s.back had also.1 (a.reads.rest, a.reads.reading) (had ++ (s.done ++ s.left), here.rest, here.reading) all in
         let first : t.first ≡ s.done ++ s.left = same_more (stream c ++ s.front) had had t.first (s.done ++ s.left) refl t.front (here.rest, here.reading) in
-        let b = s.begins k a.stands in
+        let b = s.begins k a.leads in
         let u = front_said (gets k s.done) s.left t.second s.part b.0 b.1 in
         let on : whole ≡ gets (gets k s.done) (s.left ++ t.second) =
         also.4 ∙ ap (λ (x : History). gets x also.1) same
@@ -69,15 +69,15 @@ stopped c old new piece before after fault h whole a s leads also =
           done = s.done;
           left = s.left ++ t.second;
           goes_on = on;
-          stands = s.stands k a.stands;
+          leads = s.leads k a.leads;
           said = s.said ++ s.part;
           unsaid = u.0;
           appended = s.appended;
           sends =
-              ap items_said on ∙ u.1 ∙ ap (λ (xs : List Item). xs ++ (s.part ++ u.0)) (s.sends k a.stands)
+              ap items_said on ∙ u.1 ∙ ap (λ (xs : List Item). xs ++ (s.part ++ u.0)) (s.sends k a.leads)
               ∙ append_assoc (items_said k) s.said (s.part ++ u.0)
               ∙ ap (λ (xs : List Item). items_said k ++ xs) (sym (append_assoc s.said s.part u.0));
           too_far = λ is.
               many_wait (gets k s.done) s.left s.here s.back
-              (subst (λ (f : ServerFault). IsStopCause (gets k s.done) s.left s.here s.back f) is (s.cause (has_read old.decoder (stream c) had a.reads) k a.stands));
+              (subst (λ (f : ServerFault). IsStopCause (gets k s.done) s.left s.here s.back f) is (s.cause (has_read old.decoder (stream c) had a.reads) k a.leads));
         }

@@ -181,11 +181,11 @@ feeds_moves h old new piece before after there ws vs s f =
     let all = gets_moves h f.items there ws vs in
     let same : all.0 ≡ f.said = append_cancel_left (items_said h) all.0 f.said (sym all.1 ∙ f.sends h s) in
     let was = ap (λ (t : Terms). t.options) s.terms in
-    let is = ap (λ (t : Terms). t.options) (f.stands h s).terms in
+    let is = ap (λ (t : Terms). t.options) (f.leads h s).terms in
     rw (was, is, sym same) all.2
 
 pub advances_moves : (h : History) (old new : End) (e : Event) (before after : List ℕ) (there : Options) (ws vs : List (Verb × ℕ)) → IsCall e → LeadsTo h old → (g : Advances old e before after new) → Moves (pair old.terms.options there ws vs) (pair new.terms.options there ws (vs ++ words_in g.said))
 advances_moves h old new e before after there ws vs call s g =
     let was = ap (λ (t : Terms). t.options) s.terms in
-    let is = ap (λ (t : Terms). t.options) (g.stands h s).terms in
+    let is = ap (λ (t : Terms). t.options) (g.leads h s).terms in
     rw (was, is, sym (g.replies h s)) (call_moves h e there ws vs call)

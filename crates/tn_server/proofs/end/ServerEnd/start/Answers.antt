@@ -2,6 +2,6 @@ use Rattle.std.proofs.Common.{refl}
 use Rattle.tn_server.proofs.Beginning.{begins}
 use Rattle.tn_server.proofs.end.ServerEnd.start.Goals as goal
 
-pub returns-clause-stands : goal.returns-clause-stands
-returns-clause-stands c =
+pub returns-clause-leads : goal.returns-clause-leads
+returns-clause-leads c =
     begins (record { settings = c.args.settings; limit = c.args.limit }) _ c.in-Ok.ensures c.new-table.ensures c.new-3.ensures.options c.new-3.ensures.wish c.new-3.ensures.modes refl

@@ -14,7 +14,7 @@ returns-in-Some-clause-entry c = λ h s.
     waits_are h c.args.self.now s
     ∙ ap (λ (e : End). e.terminal.entries) (sym c.self.view_is)
     ∙ c.in-Some.ensures.some
-    ∙ ap (λ (xs : List Entry). c.in-Some.entry ∷ xs) (sym (waits_are _ _ (goes.stands h s)))
+    ∙ ap (λ (xs : List Entry). c.in-Some.entry ∷ xs) (sym (waits_are _ _ (goes.leads h s)))
 
 pub returns-then-not-owes_ga-clause-ok : goal.returns-then-not-owes_ga-clause-ok
 returns-then-not-owes_ga-clause-ok c =
