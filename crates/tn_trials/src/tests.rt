@@ -8,4 +8,5 @@ mod midline;
 mod playing;
 mod programs;
 mod refusals;
+mod running;
 mod worlds;

@@ -1,0 +1,9 @@
+//! Running sessions: over memory, with gates that hold their threads, and over connections of this machine.
+
+mod connections;
+mod cores;
+mod gates;
+mod programs;
+mod refusals;
+mod sessions;
+mod terminals;
