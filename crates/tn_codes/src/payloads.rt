@@ -39,11 +39,11 @@ pub enum Payload {
 /// Why parameters were not read.
 #[derive(Clone, Copy, Debug, Error, PartialEq, Eq)]
 pub enum PayloadFault {
-    #[error("no option with payloads that are read")]
+    #[error("no payload is known for this option")]
     UnknownOption,
-    #[error("an unknown kind of LINEMODE subnegotiation")]
+    #[error("unknown LINEMODE subnegotiation")]
     UnknownSub,
-    #[error("too few parameters, or too many")]
+    #[error("wrong number of parameters")]
     BadLength,
     #[error("out of memory")]
     Memory,

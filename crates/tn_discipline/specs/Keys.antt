@@ -9,7 +9,7 @@ use Rattle.tn_discipline.specs.declared.reads.Sig.TheVariants.{Int, Quit, Tstp}
 use Rattle.tn_discipline.specs.declared.keys.Role.{Role}
 use Rattle.tn_discipline.specs.declared.keys.Role.TheVariants.{Ignored, Nl, Eol, Eol2, Eof, Signal, Erase, Kill, Ordinary}
 
--- the flags of a terminal that nobody has changed
+-- the flags of a new terminal
 abbrev pub standard_flags : Flags
 standard_flags =
     record {

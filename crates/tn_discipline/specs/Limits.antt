@@ -1,7 +1,7 @@
 -- How many bytes a line of a terminal has at most, with its closing byte (MAX_CANON; XBD 11.1.6).
 use Rattle.std.specs.Prelude.{ℕ, ◌-◌, Bool, ◌&&◌, nat_le}
 
--- what every terminal has (_POSIX_MAX_CANON), and one that nobody has changed
+-- what every terminal has (_POSIX_MAX_CANON), and a new one
 abbrev pub standard_limit : ℕ
 standard_limit = 255
 

@@ -121,7 +121,7 @@ impl Model for Chars {
 }
 
 impl Chars {
-    /// The characters of a terminal that nobody has changed: the bytes 3, 28, 4, 26, 127 and 21, and no
+    /// The characters of a new terminal: the bytes 3, 28, 4, 26, 127 and 21, and no
     /// EOL or EOL2. POSIX.1-2017, XBD 11.1.9 names no values.
     pub fn standard() -> Self
         ensures value { result ≡ standard_characters }

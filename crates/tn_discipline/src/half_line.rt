@@ -1,4 +1,4 @@
-ghost use Rattle.std.specs.Prelude.{◌≡◌, ◌==◌, ◌<◌, ◌+◌, ◌-◌, [], ◌∷◌, ◌++◌, length, take, min, IfOk, OnOk, OnErr};
+ghost use Rattle.std.specs.Prelude.{◌≡◌, ◌==◌, ◌<◌, ◌+◌, ◌-◌, [], ◌∷◌, ◌++◌, length, take, min, IfOk, OnOk, OnErr, vec_len, vec_capacity};
 ghost use Rattle.tn_discipline.specs.Keys.{roles_of, role_of_key, literal_role, roles_from};
 ghost use Rattle.tn_discipline.specs.Limits.{most_counted};
 ghost use Rattle.tn_discipline.specs.Runs.{line_after_all, ordinary_roles};
@@ -151,7 +151,7 @@ impl Line {
         self.act(role)
     }
 
-    /// Types ordinary bytes, one after another, and answers how many were kept: as many as fit, and the
+    /// Types ordinary bytes, one after another, and returns how many were kept: as many as fit, and the
     /// others are dropped. No memory is wanted.
     pub fn keep_run(&mut self, bytes: &[u8]) -> usize
         ensures advances { Advances self.old (ordinary_roles bytes.now) [] self.new }
@@ -175,7 +175,7 @@ impl Line {
         self.erase_byte()
     }
 
-    /// Takes back the whole half line, as KILL does (POSIX.1-2017, XBD 11.1.9), and answers `Killed` with
+    /// Takes back the whole half line, as KILL does (POSIX.1-2017, XBD 11.1.9), and returns `Killed` with
     /// how many bytes of it were handed on: 0 to 4,094, and 0 on an empty line too.
     pub fn kill(&mut self) -> Effect
         ensures advances { Advances self.old (role.Kill ∷ []) [] self.new }
@@ -203,8 +203,8 @@ impl Line {
         self.play(Role::Eof)
     }
 
-    /// Hands on the bytes that are held: they are appended to `out`, and from now on they are ahead. After
-    /// a refusal all is as it was.
+    /// Hands on the bytes that are held: they are appended to `out`, and from now on they are ahead. It is
+    /// refused only where `out` has no room for them, and all is as it was then.
     pub fn release(&mut self, out: &mut Vec<u8>) -> Result<(), AllocError>
         // No key is typed: whatever keys led to this half line lead to the one that is there now.
         ensures half { OnOk result (KeepsHalf self.old self.new) }
@@ -214,6 +214,7 @@ impl Line {
         ensures err { OnErr result (self.new ≡ self.old) }
         ensures err_out { OnErr result (out.new.items ≡ out.old.items) }
         ensures some { OnErr result (0 < length self.old.held) }
+        ensures full { OnErr result (vec_capacity out.old < vec_len out.old + length self.old.held) }
     {
         out.extend_from_slice(self.held.as_slice())?;
         self.hand_on();

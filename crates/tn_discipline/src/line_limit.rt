@@ -3,7 +3,7 @@ ghost use Rattle.tn_discipline.specs.Limits.{standard_limit, is_limit};
 
 use std::marker::Model;
 
-/// The limit of a terminal that nobody has changed, which every terminal has at least.
+/// The limit of a new terminal, and the least that a terminal may have.
 const STANDARD_BYTES: u16 = 255;
 
 const GREATEST_BYTES: u16 = 4095;

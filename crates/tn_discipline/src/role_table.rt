@@ -61,7 +61,7 @@ impl Roles {
         self.table[key as usize]
     }
 
-    /// How many keys at the front join the line as they are: each of them is ordinary, and mapped to
+    /// How many leading keys join the line as they are: each of them is ordinary, and mapped to
     /// itself. The key after them is another, or there is none.
     pub fn ordinary_front(&self, keys: &[u8]) -> usize
         ensures within { result ≤ length keys.now }

@@ -28,7 +28,7 @@ pub struct Settings {
 }
 
 impl Settings {
-    /// The settings of a terminal that nobody has changed: of the flags (POSIX.1-2017, XBD 11.2) ICRNL,
+    /// The settings of a new terminal: of the flags (POSIX.1-2017, XBD 11.2) ICRNL,
     /// ISIG, ECHO, ECHOE, ECHOK, OPOST and ONLCR are set, and the characters are `Chars::standard`.
     pub fn standard() -> Self
         ensures flags { result.flags ≡ standard_flags }

@@ -39,14 +39,19 @@ pub record IsTable (jobs : Jobs) : Type 0 where
   pub at_most_sixteen : length jobs ≤ 16
   pub none_ended : (id : ℕ) → state_at jobs id ≢ Some Ended
 
--- a number below the end that no job has
-pub record IsFreeBelow (jobs : Jobs) (id : ℕ) : Type 0 where
+-- each number below this one is held
+abbrev pub IsHeldBelow : Jobs → ℕ → Type 0
+IsHeldBelow jobs id = (lower : ℕ) → lower < id → IsSome (state_at jobs lower)
+
+-- the lowest number below the end that no job has
+pub record IsFirstFree (jobs : Jobs) (id : ℕ) : Type 0 where
   pub below : id < length jobs
   pub free : state_at jobs id ≡ None
+  pub lowest : IsHeldBelow jobs id
 
 -- each number below the end is held
 abbrev pub HasNoGap : Jobs → Type 0
-HasNoGap jobs = (id : ℕ) → id < length jobs → IsSome (state_at jobs id)
+HasNoGap jobs = IsHeldBelow jobs (length jobs)
 
 -- this is the number of the foreground job, or there is none
 abbrev pub NamesForeground : Jobs → Option ℕ → Type 0

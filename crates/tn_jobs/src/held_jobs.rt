@@ -3,7 +3,7 @@
 ghost use Rattle.std.specs.Prelude.{◌≡◌, ◌≢◌, ◌+◌, ◌<◌, [], Some, None, true, false, IsSome};
 ghost use Rattle.std.specs.Prelude.{IfOk, OnOk, IfErr, OnErr, IsErrOf, MatchOption};
 ghost use Rattle.std.specs.Result.{result_err};
-ghost use Rattle.tn_jobs.specs.Jobs.{state_at, with_state, held_count, IsTable, HasNoGap, IsFreeBelow, Adds};
+ghost use Rattle.tn_jobs.specs.Jobs.{state_at, with_state, held_count, IsTable, IsHeldBelow, HasNoGap, IsFirstFree, Adds};
 ghost use Rattle.tn_jobs.specs.Jobs.{is_foreground, has_foreground, foreground_after, add_fault};
 ghost use Rattle.tn_jobs.specs.Jobs.{foreground_fault, background_fault, stopped_fault, done_fault};
 
@@ -22,11 +22,11 @@ pub struct JobId(pub usize);
 /// Why a table did not do as it was told.
 #[derive(Clone, Copy, Debug, PartialEq, Eq, Error)]
 pub enum JobFault {
-    #[error("there is no job of this number")]
+    #[error("no such job")]
     NoSuchJob,
-    #[error("the job can't change from its state to this one")]
+    #[error("the job cannot change to this state")]
     WrongState,
-    #[error("as many jobs as there may be are held already")]
+    #[error("job limit reached")]
     Full,
     #[error("out of memory")]
     Memory,
@@ -68,6 +68,7 @@ impl Table {
     pub fn add(&mut self) -> Result<JobId, JobFault>
         ensures adds { IfOk result (λ id. Adds self.old self.new id.0) }
         ensures number { IfOk result (λ id. id.0 < 16) }
+        ensures lowest { IfOk result (λ id. IsHeldBelow self.old id.0) }
         ensures room { OnOk result (held_count self.old < 16) }
         ensures fault { IfErr result (λ fault. fault ≡ add_fault self.old) }
         ensures memory { IsErrOf result JobFault.Memory → HasNoGap self.old }
@@ -195,7 +196,7 @@ fn foreground_after(foreground: Option<usize>, id: usize, state: Option<JobState
 
 // The lowest number below the end that is free.
 fn free_number(jobs: &[Option<JobState>]) -> Option<usize>
-    ensures { MatchOption result (HasNoGap jobs.now) (λ id. IsFreeBelow jobs.now id) }
+    ensures { MatchOption result (HasNoGap jobs.now) (λ id. IsFirstFree jobs.now id) }
 {
     jobs.iter().position(|job| job.is_none())
 }

@@ -149,7 +149,7 @@ pub asks_for_none : (c : Characters) (ts : List Triple) → server_is_asked (cli
 asks_for_none c ts = asks_not (client_answers c ts) (client_answers-final c ts)
 
 -- A SERVER THAT HEARS ITS OWN ANSWERS
--- a triple that a table has already is passed over
+-- a triple that a table has already is skipped
 abbrev IsSilent : Characters → Triple → Type 0
 IsSilent c t = (server_answer c t ≡ None) × (server_next c t ≡ c)
 

@@ -13,7 +13,7 @@ pub trait Reacts {
     /// The table after one triple.
     ghost next: { Self → Triple → Self };
 
-    /// What it answers to it.
+    /// The answer to a triple.
     ghost answer: { Self → Triple → Option Triple };
 
     fn react(&mut self, triple: Triple) -> Option<Triple>

@@ -32,7 +32,7 @@ impl ClientMode {
         }
     }
 
-    /// Takes a mask from the server, which acknowledges nothing, and answers the mask to send back
+    /// Takes a mask from the server, which acknowledges nothing, and returns the mask to send back
     /// where the mode changed.
     pub fn got(&mut self, mask: u8) -> Option<u8>
         ensures mode { self.new ≡ client_mask_after self.old mask }

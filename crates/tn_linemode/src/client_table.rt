@@ -74,7 +74,7 @@ impl ClientTable {
         Ok(triple_of(func, value))
     }
 
-    // Takes a character, and answers what changed.
+    // Takes a character, and returns what changed.
     fn told(&mut self, func: Func, value: Option<u8>) -> Option<Triple>
         requires { IsOffer func value }
         ensures table { self.new ≡ client_takes self.old (Saying.Character func value) }

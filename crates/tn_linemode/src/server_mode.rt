@@ -35,7 +35,7 @@ impl ServerMode {
         }
     }
 
-    /// Asks for a mask, where it was not asked last; answers the mask to send. It has no effect on
+    /// Asks for a mask, where it was not asked last; returns the mask to send. It has no effect on
     /// `current` until the client acknowledges it.
     pub fn wish(&mut self, mask: u8) -> Option<u8>
         ensures mode { self.new ≡ modes_after_wish self.old mask }

@@ -66,7 +66,7 @@ impl ServerTable {
         triples.extend_from_slice(&table)
     }
 
-    /// Takes a list of triples from the client, and appends the answers to it. Answers whether the
+    /// Takes a list of triples from the client, and appends the answers to it. Returns whether the
     /// whole table is to be sent after them. Memory is wanted where the vector has no room for the
     /// answers, and so never for none; after a refusal nothing has changed. A function beyond the
     /// eighteen of RFC 1184 is answered as unsupported, but at the level NOSUPPORT, which asks for

@@ -1,4 +1,4 @@
--- A list cut at an index: the rest of a piece, a front of that, and its first byte.
+-- A list cut at an index: the rest of a piece, a prefix of that, and its first byte.
 use Rattle.std.proofs.Common.{◌≡◌, ℕ, suc, ◌-◌, ◌+◌, ◌≤◌, All, List, ◌++◌, take, drop, get_or, length, sym, ap, ◌∙◌, arith, ◌∷◌, ◌<◌, length-drop, length-take-le, take-append-drop, drop-drop, drop-cons}
 use Rattle.std.proofs.lemmas.List.{take_all, get_or-drop}
 use Rattle.std.proofs.Math.Seq.{take-add}

@@ -20,7 +20,7 @@ run_after_cr b bs h k p =
 none_below : 0 < 0 → ⊥
 none_below h = omega arith
 
--- the same of a front of the rest
+-- the same of a prefix of the rest
 pub front_after_cr : (rest : List ℕ) (n : ℕ) → 0 < n → 0 < length rest → get_or rest 0 0 ≢ 10 → get_or rest 0 0 ≢ 0 → All IsPlain (take n rest) → StepAdvances AfterCr (take n rest) (Byte 13 ∷ map Byte (take n rest)) Outside
 front_after_cr [] n some full h k p = absurd (none_below full)
 front_after_cr (b ∷ bs) zero some full h k p = absurd (none_below some)

@@ -180,7 +180,7 @@ module _ {S : Type 0} (takes gives_up : S → List Item → S → Type 0) where
     wanted = kept next byte k;
   }
 
-  -- no byte of a subnegotiation that is let go wanted memory
+  -- no byte of a subnegotiation that is discarded needed memory
   pub wants_nothing : (old : DecoderState) (piece : List ℕ) (a b : S) → IsLetGo old piece → StopsForMemory takes old piece a b → ⊥
   wants_nothing old piece a b lets_go w =
       wants_none old piece [] (all_of (calls_of w.parts)) 0 lets_go
@@ -188,7 +188,7 @@ module _ {S : Type 0} (takes gives_up : S → List Item → S → Type 0) where
 
   -- AT AN INDEX OF THE PIECE
 
-  -- a front of what is left, and the others
+  -- a prefix of what is left, and the others
   pub at_front : (here middle : Progress) (xs : List ℕ) (i n : ℕ) (a b : S) → HandedFront here (take i xs) (drop i xs) a b middle
       → HandedFront here (take i xs) (take n (take (length xs - i) (drop i xs)) ++ drop n (take (length xs - i) (drop i xs))) a b middle
   at_front here middle xs i n a b h = subst (λ x. HandedFront here (take i xs) x a b middle) (parts_is xs i n) h

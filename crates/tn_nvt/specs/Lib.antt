@@ -4,3 +4,4 @@ pub mod Feeding
 pub mod Sinks
 pub mod Machine
 pub mod Runs
+pub mod Room

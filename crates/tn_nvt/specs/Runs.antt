@@ -22,7 +22,7 @@ pending place.Failed = []
 abbrev pub singles : List Item → List (List Item)
 singles items = map (λ item. item ∷ []) items
 
--- of these calls the sink took the first, gave up at one, and never saw the others
+-- of these calls the sink took the first, refused one, and never saw the others
 pub record RefusesEach {S : Type 0} (takes gives_up : S → List Item → S → Type 0) (old : S)
     (calls : List (List Item)) (new : S) : Type 0 where
   pub done : List (List Item)
@@ -41,7 +41,7 @@ pub record HandsByte {S : Type 0} (takes : S → List Item → S → Type 0) (he
   pub taken : TakesEach takes before (singles items) after
   pub advances : StepAdvances here (byte ∷ []) items next
 
--- it gave up at one of them
+-- it refused one of them
 pub record HandsPart {S : Type 0} (takes gives_up : S → List Item → S → Type 0) (here : Progress)
     (byte : ℕ) (before after : S) : Type 0 where
   pub items : List Item

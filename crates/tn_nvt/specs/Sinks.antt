@@ -78,7 +78,7 @@ pub record FeedsTo {S : Type 0} (takes : S → List Item → S → Type 0) (old 
   pub taken : TakesEach takes before (calls_of parts) after
   pub adds : Advances old piece (all_of (calls_of parts)) new
 
--- The sink took the first calls for a front of the piece, gave up at one, and never saw the others.
+-- The sink took the first calls for a prefix of the piece, refused one, and never saw the others.
 pub record StopsAtSink {S : Type 0} (takes gives_up : S → List Item → S → Type 0) (old : DecoderState)
     (piece : List ℕ) (before after : S) : Type 0 where
   pub parts : List Part
@@ -95,7 +95,7 @@ pub record StopsAtSink {S : Type 0} (takes gives_up : S → List Item → S → 
   pub taken : TakesEach takes before done middle
   pub given_up : gives_up middle left after
 
--- The sink took what a front of the piece adds, and the byte after it, a parameter, wanted memory.
+-- The sink took what a prefix of the piece adds, and the byte after it, a parameter, needed memory.
 pub record StopsForMemory {S : Type 0} (takes : S → List Item → S → Type 0) (old : DecoderState)
     (piece : List ℕ)
     (before after : S) : Type 0 where

@@ -20,9 +20,9 @@ use thiserror::Error;
 pub enum NvtFault {
     #[error("out of memory")]
     Memory,
-    #[error("the decoder has failed before")]
+    #[error("the decoder has failed")]
     Failed,
-    #[error("the sink takes no more")]
+    #[error("the sink is full")]
     Refused,
 }
 
@@ -81,7 +81,7 @@ impl Decoder {
         ensures ok { OnOk result (Feeds self.old piece.now out.old.items out.new.items self.new) }
 
         // Memory is wanted for an item in `out` and for a parameter alone, and so for no byte of a
-        // subnegotiation that is let go.
+        // subnegotiation that is discarded.
         ensures memory { let room = vec_capacity out.new - vec_len out.new in
             IsErrOf result NvtFault.Memory →
             StopsWithin self.old piece.now out.old.items out.new.items room }

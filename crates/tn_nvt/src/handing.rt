@@ -19,7 +19,7 @@ use crate::places::{Body, Came, Given, Place};
 use crate::sinks::{Refused, Sink};
 use memchr::memchr2;
 
-// How many bytes at the front are neither CR nor IAC.
+// How many leading bytes are neither CR nor IAC.
 fn plain_front(bytes: &[u8]) -> usize
     ensures within { result ≤ length bytes.now }
     ensures plain { All IsPlain (take result bytes.now) }
@@ -32,7 +32,7 @@ fn plain_front(bytes: &[u8]) -> usize
 }
 
 impl Place {
-    /// How many bytes at the front are a run here.
+    /// How many leading bytes are a run here.
     pub(crate) fn run_len(self, rest: &[u8]) -> usize
         requires { 0 < length rest.now }
         ensures within { result ≤ length rest.now }

@@ -32,7 +32,7 @@ pub trait Sink {
         ensures ok { OnOk result (takes self.old (item ∷ []) self.new) }
         ensures err { OnErr result (gives_up self.old (item ∷ []) self.new) };
 
-    /// Takes a subnegotiation, whose parameters are lent: what is not taken of them is let go. By
+    /// Takes a subnegotiation, whose parameters are lent: what is not taken of them is discarded. By
     /// itself it makes the item of them, with no copy, and calls `item`.
     fn sub(&mut self, option: u8, params: &mut Params) -> Result<(), Refused>
         ensures ok { OnOk result (takes self.old (Sub option params.old ∷ []) self.new) }

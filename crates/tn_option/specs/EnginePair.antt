@@ -55,6 +55,27 @@ abbrev pub engine_steps : List EngineStep → EnginePair → EnginePair
 engine_steps [] e = e
 engine_steps (first ∷ rest) e = engine_steps rest (engine_step first e)
 
+-- A TALK of a server and a client once its opening words are said: the one wishes for its own ECHO alone (RFC
+-- 857), and the other for nothing
+pub data Talk : Type 0 where
+  wishes_echo : Bool → Talk
+  -- the next word comes to the server, and to the client
+  server_hears : Talk
+  client_hears : Talk
+
+abbrev pub step_of : Talk → EngineStep
+step_of (wishes_echo on) = ask_here Us 1 on
+step_of server_hears = got_here
+step_of client_hears = got_there
+
+abbrev pub talk_steps : List Talk → EnginePair → EnginePair
+talk_steps [] e = e
+talk_steps (first ∷ rest) e = talk_steps rest (engine_step (step_of first) e)
+
+-- a talk leads from one pair to the other
+abbrev pub TalkTo : EnginePair → EnginePair → Type 0
+TalkTo old new = (list : List Talk) × (talk_steps list old ≡ new)
+
 abbrev pub pair_of : Agree → Agree → EnginePair
 pair_of here there =
     record { here = new_options here; there = new_options there; to_here = []; to_there = [] }

@@ -9,8 +9,8 @@
 //! pair.pull(99, &mut symbols)?; // Byte(97), Newline
 //! ```
 //!
-//! It is no kernel pseudoterminal: it has no file, no process group and no signals, and waits for
-//! nobody.
+//! It is no kernel pseudoterminal: it has no file, no process group and no signals, and never
+//! blocks.
 #![tactic(auto)]
 
 pub use pty::{Pair, PtyFault};

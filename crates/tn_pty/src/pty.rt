@@ -43,13 +43,13 @@ const YES: [Option<Symbol>; 6] = [
 #[derive(Clone, Copy, Debug, PartialEq, Eq, Error)]
 pub enum PtyFault {
     /// The key would make an entry while 1,024 wait.
-    #[error("the slave is too far behind")]
+    #[error("too many entries are waiting")]
     TooFarAhead,
     /// No memory was found for a text.
     #[error("out of memory")]
     Memory,
     /// The pair was closed before the key came.
-    #[error("the pair takes no more keys")]
+    #[error("the pair is closed to input")]
     Closed,
 }
 
@@ -196,7 +196,7 @@ impl Pair {
         }
     }
 
-    /// The master moves the first symbols into `out`, at most `max`, and answers how many they are: from 0
+    /// The master moves the first symbols into `out`, at most `max`, and returns how many they are: from 0
     /// to 4,096. Memory is wanted where `out` has no room for them, and so never for none; after a
     /// refusal nothing has moved.
     pub fn pull(&mut self, max: usize, out: &mut Vec<Symbol>) -> Result<usize, AllocError>
@@ -260,6 +260,14 @@ impl Pair {
         self.entries.get(index)
     }
 
+    /// How many entries wait.
+    pub fn waiting_count(&self) -> usize
+        ensures value { result ≡ length self.now.entries }
+        ensures within { result ≤ 1024 }
+    {
+        self.entries.len()
+    }
+
     /// The first signal among the entries that wait.
     pub fn signal_waiting(&self) -> Option<Sig>
         ensures { result ≡ first_signal self.now.entries }
@@ -318,7 +326,7 @@ impl Pair {
         self.roles.set(settings);
     }
 
-    // Types the keys, a front of them at a time.
+    // Types the keys, a prefix of them at a time.
     fn type_each(&mut self, keys: &[u8], echo: bool) -> Result<(), PtyFault>
         ensures pair { OnOk result (self.new ≡ typed_after_all echo self.old keys.now) }
         ensures accepted { OnOk result (AcceptsAll echo self.old keys.now) }
@@ -334,7 +342,7 @@ impl Pair {
         Ok(())
     }
 
-    // Types the bytes at the front that join the line as they are, or else the first key; answers how many
+    // Types the leading bytes that join the line as they are, or else the first key; returns how many
     // were typed.
     fn type_front(&mut self, keys: &[u8], echo: bool) -> Result<usize, PtyFault>
         requires { 0 < length keys.now }

@@ -1,3 +1,4 @@
 pub mod Telling
 pub mod Counting
 pub mod Foretelling
+pub mod Prefixes

@@ -5,7 +5,7 @@ use Rattle.tn_nvt.specs.Feeding.{DecoderState, KeepsParameter}
 use Rattle.tn_nvt.specs.Stream.{Reading}
 use Rattle.tn_nvt.specs.declared.items.Item.{Item}
 
--- a front of these items was appended
+-- a prefix of these items was appended
 pub record AppendsFront (whole : List Item) (before after : List ℕ) : Type 0 where
   pub part : List Item
   pub rest : List Item
@@ -16,7 +16,7 @@ pub record AppendsFront (whole : List Item) (before after : List ℕ) : Type 0 w
 abbrev pub IsRead : List ℕ → List Item → Type 0
 IsRead bytes xs = (rest : List ℕ) × Reading bytes xs rest
 
--- the decoder wants memory for the next byte of the stream, a parameter
+-- the decoder needs memory for the next byte of the stream, a parameter
 abbrev pub WantsMemory : DecoderState → List ℕ → Type 0
 WantsMemory here [] = ⊥
 WantsMemory here (byte ∷ bytes) = KeepsParameter here byte

@@ -2,7 +2,7 @@
 //! what a subnegotiation says where its option is on.
 //!
 //! ```
-//! put_mode(alloc, Some(3), &mut out)?; // ff fa 22 01 03 ff f0
+//! put_mode(Some(3), &mut out)?; // ff fa 22 01 03 ff f0
 //! ```
 //!
 //! It has no end of its own and keeps nothing: what is said when is each end's.
@@ -11,5 +11,6 @@
 pub use reading::read_under;
 pub use sending::{put_list, put_mode, put_payload, put_triple, put_word};
 
+mod parameters;
 mod reading;
 mod sending;

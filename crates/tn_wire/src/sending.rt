@@ -1,14 +1,15 @@
 //! What an end sends: option words and payloads, each whole or not at all.
 
-ghost use Rattle.std.specs.Prelude.{◌≡◌, ◌≢◌, ◌≤◌, [], ◌∷◌, ◌++◌, length, OnOk, OnErr};
+ghost use Rattle.std.specs.Prelude.{◌≡◌, ◌≢◌, ◌≤◌, [], ◌∷◌, ◌++◌, length, vec_capacity, OnOk, OnErr};
 ghost use Rattle.tn_codes.specs.Payloads.{option_of, IsShort};
+ghost use Rattle.tn_codes.specs.declared.payloads.Payload.TheVariants as payload;
+ghost use Rattle.tn_nvt.specs.Room.{LacksRoom};
 ghost use Rattle.tn_nvt.specs.Spelling.{spells};
 ghost use Rattle.tn_wire.specs.Words.{word_items, payload_items, mode_items, list_items};
 
-use std::alloc::{AllocError, Global};
-use tn_codes::{
-    Few, Payload, Triple, Triples, Verb, few_parameters, triple_parameters, write_payload,
-};
+use crate::parameters::{list_parameters, mask_parameters, trimmed_len};
+use std::alloc::AllocError;
+use tn_codes::{Few, Mask, Payload, Triple, Verb, few_parameters, triple_parameters};
 use tn_nvt::{put_neg, put_sub};
 use tn_option::{LINEMODE, NAWS};
 
@@ -17,6 +18,8 @@ pub fn put_word(said: Option<(Verb, u8)>, out: &mut Vec<u8>) -> Result<(), Alloc
     ensures ok { OnOk result (out.new.items ≡ out.old.items ++ spells (word_items said)) }
     ensures err { OnErr result (out.new.items ≡ out.old.items) }
     ensures some { OnErr result (word_items said ≢ []) }
+    ensures full { OnErr result (LacksRoom out.old (length (spells (word_items said)))) }
+    ensures capacity { vec_capacity out.old ≤ vec_capacity out.new }
 {
     match said {
         Some((verb, option)) => put_neg(verb, option, out),
@@ -25,21 +28,49 @@ pub fn put_word(said: Option<(Verb, u8)>, out: &mut Vec<u8>) -> Result<(), Alloc
 }
 
 /// Appends a payload as a subnegotiation of its option.
-pub fn put_payload(alloc: Global, payload: &Payload, out: &mut Vec<u8>) -> Result<(), AllocError>
+pub fn put_payload(payload: &Payload, out: &mut Vec<u8>) -> Result<(), AllocError>
     requires { IsShort payload.now }
     ensures ok { OnOk result (out.new.items ≡ out.old.items ++ spells (payload_items payload.now)) }
     ensures err { OnErr result (out.new.items ≡ out.old.items) }
+    ensures full { OnErr result (LacksRoom out.old (length (spells (payload_items payload.now)))) }
+    ensures capacity { vec_capacity out.old ≤ vec_capacity out.new }
 {
-    let option = option_of(payload);
-    match few_parameters(payload) {
-        Some(Few::Two(parameters)) => put_sub(option, &parameters, out),
-        Some(Few::Four(parameters)) => put_sub(option, &parameters, out),
-        None => {
-            let mut parameters = Vec::new(alloc);
-            write_payload(payload, &mut parameters)?;
-            put_sub(option, &parameters, out)
+    match payload {
+        Payload::ForwardOn(mask) => put_mask(mask, out),
+        Payload::Slc(triples) => put_triples(triples.as_slice(), out),
+        _ => match few_parameters(payload) {
+            Some(Few::Two(parameters)) => put_sub(option_of(payload), &parameters, out),
+            Some(Few::Four(parameters)) => put_sub(option_of(payload), &parameters, out),
+            None => Ok(()),
         },
     }
+}
+
+// Appends a forward mask.
+fn put_mask(mask: &Mask, out: &mut Vec<u8>) -> Result<(), AllocError>
+    ensures ok { OnOk result
+        (out.new.items ≡ out.old.items ++ spells (payload_items (payload.ForwardOn mask.now))) }
+    ensures err { OnErr result (out.new.items ≡ out.old.items) }
+    ensures full { OnErr result
+        (LacksRoom out.old (length (spells (payload_items (payload.ForwardOn mask.now))))) }
+    ensures capacity { vec_capacity out.old ≤ vec_capacity out.new }
+{
+    let parameters = mask_parameters(mask);
+    put_sub(LINEMODE, &parameters[..trimmed_len(&mask.0) + 2], out)
+}
+
+// Appends a list of local characters.
+fn put_triples(triples: &[Triple], out: &mut Vec<u8>) -> Result<(), AllocError>
+    requires { length triples.now ≤ 170 }
+    ensures ok { OnOk result
+        (out.new.items ≡ out.old.items ++ spells (payload_items (payload.Slc triples.now))) }
+    ensures err { OnErr result (out.new.items ≡ out.old.items) }
+    ensures full { OnErr result
+        (LacksRoom out.old (length (spells (payload_items (payload.Slc triples.now))))) }
+    ensures capacity { vec_capacity out.old ≤ vec_capacity out.new }
+{
+    let parameters = list_parameters(triples);
+    put_sub(LINEMODE, &parameters[..3 * triples.len() + 1], out)
 }
 
 // The option whose subnegotiation carries it.
@@ -56,34 +87,39 @@ fn option_of(payload: &Payload) -> u8
 }
 
 /// Appends a MODE with this mask, where one is to be sent.
-pub fn put_mode(alloc: Global, mask: Option<u8>, out: &mut Vec<u8>) -> Result<(), AllocError>
+pub fn put_mode(mask: Option<u8>, out: &mut Vec<u8>) -> Result<(), AllocError>
     ensures ok { OnOk result (out.new.items ≡ out.old.items ++ spells (mode_items mask)) }
     ensures err { OnErr result (out.new.items ≡ out.old.items) }
     ensures some { OnErr result (mode_items mask ≢ []) }
+    ensures full { OnErr result (LacksRoom out.old (length (spells (mode_items mask)))) }
+    ensures capacity { vec_capacity out.old ≤ vec_capacity out.new }
 {
     match mask {
-        Some(mask) => put_payload(alloc, &Payload::Mode(mask), out),
+        Some(mask) => put_payload(&Payload::Mode(mask), out),
         None => Ok(()),
     }
 }
 
 /// Appends a list of local characters, unless it is empty.
-pub fn put_list(alloc: Global, triples: Vec<Triple>, out: &mut Vec<u8>) -> Result<(), AllocError>
-    requires { length triples.items ≤ 170 }
-    ensures ok { OnOk result (out.new.items ≡ out.old.items ++ spells (list_items triples.items)) }
+pub fn put_list(triples: &[Triple], out: &mut Vec<u8>) -> Result<(), AllocError>
+    requires { length triples.now ≤ 170 }
+    ensures ok { OnOk result (out.new.items ≡ out.old.items ++ spells (list_items triples.now)) }
     ensures err { OnErr result (out.new.items ≡ out.old.items) }
-    ensures some { OnErr result (triples.items ≢ []) }
+    ensures some { OnErr result (triples.now ≢ []) }
+    ensures full { OnErr result (LacksRoom out.old (length (spells (list_items triples.now)))) }
+    ensures capacity { vec_capacity out.old ≤ vec_capacity out.new }
 {
     if triples.is_empty() {
         return Ok(());
     }
-    put_payload(alloc, &Payload::Slc(Triples::from(triples)), out)
+    put_triples(triples, out)
 }
 
 /// Appends a list of one triple.
 pub fn put_triple(triple: Triple, out: &mut Vec<u8>) -> Result<(), AllocError>
     ensures ok { OnOk result (out.new.items ≡ out.old.items ++ spells (list_items (triple ∷ []))) }
     ensures err { OnErr result (out.new.items ≡ out.old.items) }
+    ensures full { OnErr result (LacksRoom out.old (length (spells (list_items (triple ∷ []))))) }
 {
     put_sub(LINEMODE, &triple_parameters(triple), out)
 }

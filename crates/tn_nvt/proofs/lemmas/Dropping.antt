@@ -1,4 +1,4 @@
--- A subnegotiation that is let go: a front of a piece of it adds no item, and the byte after that wants no memory.
+-- A subnegotiation that is discarded: a prefix of a piece of it adds no item, and the byte after that wants no memory.
 use Rattle.std.proofs.Common.{◌≡◌, ℕ, List, [], ◌∷◌, ◌++◌, refl, subst, inr}
 use Rattle.tn_nvt.specs.declared.items.Item.{Item}
 use Rattle.tn_nvt.specs.Feeding.{DecoderState, Advances, KeepsParameter, IsLetGo}

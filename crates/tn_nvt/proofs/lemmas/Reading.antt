@@ -44,7 +44,7 @@ reads_none = record {
   read = refl;
 }
 
--- the front of a stream that is whole items has a reading, and its items are a front of theirs
+-- the front of a stream that is whole items has a reading, and its items are a prefix of theirs
 pub record ReadsFront (front more : List ℕ) (items : List Item) : Type 0 where
   pub got : List Item
   pub rest : List ℕ

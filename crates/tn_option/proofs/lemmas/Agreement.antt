@@ -1,6 +1,6 @@
 -- Two ends and the words between them, from their beginning, step by step.
 use Rattle.std.proofs.Common.{◌≡◌, ℕ, Some, List, [], ◌∷◌, ◌++◌, refl, ◌∙◌, ap, subst}
-use Rattle.tn_option.specs.EnginePair.{EnginePair, EngineStep, engine_step, engine_steps, pair_of, LeadTo, EnginesAgree}
+use Rattle.tn_option.specs.EnginePair.{EnginePair, EngineStep, engine_step, engine_steps, Talk, step_of, talk_steps, TalkTo, pair_of, LeadTo, EnginesAgree}
 use Rattle.tn_option.specs.Options.{known_option}
 use Rattle.tn_option.specs.declared.known.Known.{Known}
 use Rattle.tn_option.specs.declared.negotiation.Agree.{Agree}
@@ -37,15 +37,25 @@ pub LeadTo-agree : (a b : Agree) (e : EnginePair) (side : Side) (code : ℕ) (op
     → EnginesAgree e side code
 LeadTo-agree a b e side code option known_as p = subst (λ (x : EnginePair). EnginesAgree x side code) p.is (engines-agree a b p.list side code option known_as)
 
--- SOME STEPS from one pair to another
+-- A TALK from one pair to another
 abbrev pub Moves : EnginePair → EnginePair → Type 0
-Moves old new = (list : List EngineStep) × (engine_steps list old ≡ new)
+Moves old new = TalkTo old new
+
+talk_steps-more : (list more : List Talk) (e : EnginePair)
+    → talk_steps (list ++ more) e ≡ talk_steps more (talk_steps list e)
+talk_steps-more [] more e = refl
+talk_steps-more (first ∷ rest) more e = talk_steps-more rest more (engine_step (step_of first) e)
 
 pub same-Moves : (e : EnginePair) → Moves e e
 same-Moves e = ([], refl)
 
 pub then-Moves : (a b c : EnginePair) → Moves a b → Moves b c → Moves a c
-then-Moves a b c m n = (m.0 ++ n.0, engine_steps-more m.0 n.0 a ∙ ap (engine_steps n.0) m.1 ∙ n.1)
+then-Moves a b c m n = (m.0 ++ n.0, talk_steps-more m.0 n.0 a ∙ ap (talk_steps n.0) m.1 ∙ n.1)
+
+talk-LeadTo : (a b : Agree) (list : List Talk) (e : EnginePair) → LeadTo a b e → LeadTo a b (talk_steps list e)
+talk-LeadTo a b [] e p = p
+talk-LeadTo a b (first ∷ rest) e p =
+    talk-LeadTo a b rest (engine_step (step_of first) e) (step-LeadTo a b (step_of first) e p)
 
 pub moves-LeadTo : (a b : Agree) (old new : EnginePair) → Moves old new → LeadTo a b old → LeadTo a b new
-moves-LeadTo a b old new m p = subst (LeadTo a b) m.1 (steps-LeadTo a b m.0 old p)
+moves-LeadTo a b old new m p = subst (LeadTo a b) m.1 (talk-LeadTo a b m.0 old p)

@@ -1,4 +1,4 @@
--- A front of what was to be said was said, and lists that are not empty.
+-- A prefix of what was to be said was said, and lists that are not empty.
 use Rattle.std.proofs.Common.{◌≡◌, ◌≢◌, ℕ, List, [], ◌∷◌, ◌++◌, refl, sym, ap, ◌∙◌, append_assoc}
 use Rattle.std.proofs.lemmas.Grind.{flat_map-append}
 use Rattle.tn_nvt.specs.Spelling.{spelling, spells}

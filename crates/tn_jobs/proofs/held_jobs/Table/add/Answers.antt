@@ -1,5 +1,5 @@
 use Rattle.std.proofs.Common.{◌<◌, length, arith}
-use Rattle.tn_jobs.specs.Jobs.{held_count, HasNoGap, IsFreeBelow}
+use Rattle.tn_jobs.specs.Jobs.{held_count, HasNoGap, IsFirstFree}
 use Rattle.tn_jobs.proofs.JobLemmas.{held_below, held_all, sound_more, names_more, full_is}
 use Rattle.tn_jobs.proofs.held_jobs.Table.add.Goals as goal
 use Rattle.tn_jobs.proofs.held_jobs.Table.add.Goals.{in-Ok, in-Err}
@@ -7,7 +7,7 @@ use Rattle.tn_jobs.proofs.held_jobs.Table.add.Goals.{in-Ok, in-Err}
 pub returns-in-Some-clause-room : goal.returns-in-Some-clause-room
 returns-in-Some-clause-room c =
     let jobs = c.self.inside.jobs.items in
-    let free : IsFreeBelow jobs c.in-Some.id = rw c.deref.ensures.value at c.in-Some.ensures in
+    let free : IsFirstFree jobs c.in-Some.id = rw c.deref.ensures.value at c.in-Some.ensures in
     rw (← c.self.view_is) (omega (arith, held_below jobs c.in-Some.id free.below free.free, c.self.invariant.0.at_most_sixteen))
 
 pub returns-then-id-ge-MOST_JOBS-clause-fault : goal.returns-then-id-ge-MOST_JOBS-clause-fault

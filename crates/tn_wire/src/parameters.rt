@@ -1,0 +1,62 @@
+//! The parameters of a forward mask and of a list of local characters (RFC 1184). They stand in an array,
+//! so that no memory is taken for them.
+
+ghost use Rattle.std.specs.Prelude.{◌≡◌, ◌≤◌, ◌+◌, ◌*◌, ◌∷◌, length, take, flat_map};
+ghost use Rattle.tn_codes.specs.Codes.{verb_code};
+ghost use Rattle.tn_codes.specs.Masks.{trimmed_octets};
+ghost use Rattle.tn_codes.specs.Payloads.{forwardmask, slc, octets_of};
+ghost use Rattle.tn_codes.specs.declared.codes.Verb.TheVariants.{DoIt};
+
+use tn_codes::{Mask, Triple, Verb};
+
+/// The kinds of LINEMODE subnegotiation whose parameters vary in number (RFC 1184, section 2).
+const FORWARDMASK: u8 = 2;
+
+const SLC: u8 = 3;
+
+/// DO, FORWARDMASK and the octets of a mask.
+const MASK_PARAMETERS: usize = 34;
+
+/// SLC and 170 triples, which a subnegotiation has at most.
+const LIST_PARAMETERS: usize = 511;
+
+/// The parameters of a forward mask, the zeros at its end included.
+pub(crate) fn mask_parameters(mask: &Mask) -> [u8; MASK_PARAMETERS]
+    ensures { result ≡ verb_code DoIt ∷ forwardmask ∷ mask.now.0 }
+{
+    let mut parameters = [0; MASK_PARAMETERS];
+    parameters[0] = Verb::DoIt.code();
+    parameters[1] = FORWARDMASK;
+    parameters[2..].copy_from_slice(&mask.0);
+    parameters
+}
+
+/// How many octets there are without the zeros at their end.
+pub(crate) fn trimmed_len(octets: &[u8; 32]) -> usize
+    ensures octets { take result octets.now ≡ trimmed_octets octets.now }
+    ensures within { result ≤ 32 }
+{
+    let mut len = 0;
+    for (i, octet) in octets.iter().enumerate() {
+        if *octet != 0 {
+            len = i + 1;
+        }
+    }
+    len
+}
+
+/// The parameters of a list, and what the array has besides.
+pub(crate) fn list_parameters(triples: &[Triple]) -> [u8; LIST_PARAMETERS]
+    requires { length triples.now ≤ 170 }
+    ensures { take (3 * length triples.now + 1) result ≡ slc ∷ flat_map octets_of triples.now }
+{
+    let mut parameters = [0; LIST_PARAMETERS];
+    parameters[0] = SLC;
+    for (i, triple) in triples.iter().enumerate() {
+        let at = 3 * i + 1;
+        parameters[at] = triple.func;
+        parameters[at + 1] = triple.flags;
+        parameters[at + 2] = triple.value;
+    }
+    parameters
+}
