@@ -1,15 +1,16 @@
 -- Where an event leads, from a history to the end.
-use Rattle.std.proofs.Common.{◌≡◌, ◌≢◌, ◌⊎◌, inl, inr, ℕ, Bool, true, false, ◌&&◌, min, Option, List, [], ◌++◌, length, refl, sym, ap, ◌∙◌, if◌then◌else◌, arith, subst}
+use Rattle.std.proofs.Common.{◌≡◌, ◌≢◌, ◌⊎◌, inl, inr, ℕ, Bool, true, false, min, Option, List, [], ◌++◌, length, Vec, refl, sym, ap, ◌∙◌, if◌then◌else◌, subst}
 use Rattle.tn_codes.specs.declared.masks.Mask.{Mask}
 use Rattle.tn_discipline.specs.Admitted.{count_after, count_of}
 use Rattle.tn_discipline.specs.Characters.{Characters}
 use Rattle.tn_discipline.specs.Entries.{half_of}
 use Rattle.tn_discipline.specs.Keys.{role_of_key, roles_from}
-use Rattle.tn_discipline.specs.HalfLine.{HalfLine, empty_line, line_length, line_after}
+use Rattle.tn_discipline.specs.HalfLine.{HalfLine, empty_line, line_length, line_after, GivesText}
 use Rattle.tn_discipline.specs.Advancing as discipline
 use Rattle.tn_discipline.specs.declared.keys.Role.{Role}
 use Rattle.tn_discipline.proofs.lemmas.Lines.{advances, released_keeps, resumed_leads, after_least, length_at, count_at, count_more}
 use Rattle.tn_linemode.specs.Modes.{edits, traps}
+use Rattle.tn_nvt.specs.Room.{LacksRoom}
 use Rattle.tn_nvt.specs.Spelling.{spells}
 use Rattle.tn_nvt.specs.declared.items.Item.{Item}
 use Rattle.tn_option.specs.Options.{Options}
@@ -18,8 +19,8 @@ use Rattle.tn_client.specs.Terms.{options, mode, forward, chars, size, options_a
 use Rattle.tn_client.specs.Lines.{settings_by, key_settings, role_of_typed, role_at, roles_under, edited_roles, line_limit, half_line, sends_ahead, is_sent_ahead, ahead, count_under, line}
 use Rattle.tn_client.specs.Replies.{replies, key_items, item_replies}
 use Rattle.tn_client.specs.Screen.{shows, key_shown}
-use Rattle.tn_client.specs.Calls.{End, LeadsTo, ReadsNothing, Advances, Sends, Shows, SaysOrShows, ReadsList, MayWantMemory, RefusesItem}
-use Rattle.tn_client.specs.Steps.{role_now, is_sent_now, line_sent, line_typed, count_typed, end_after_key, says_key, shows_key, line_left, count_left, count_told, end_after_item, says_got, MayWantMemoryNow}
+use Rattle.tn_client.specs.Calls.{End, LeadsTo, ReadsNothing, Advances, Sends, LacksMemoryFor, Shows, SaysOrShows, ReadsList, MayWantMemory, RefusesItem}
+use Rattle.tn_client.specs.Steps.{role_now, is_sent_now, line_sent, line_typed, count_typed, end_after_key, says_key, shows_key, LacksMemoryNow, line_left, count_left, count_told, end_after_item, says_got, MayWantMemoryNow}
 use Rattle.tn_wire.specs.Fronts.{AppendsFront}
 use Rattle.tn_client.proofs.lemmas.Histories.{unedited, unedited-ahead, edited-typed, edited-stays, edited-begins, under-typed, under-ends, under-stays, count-none, count-is, ahead-typed, ahead-stays, ahead-begins}
 use Rattle.tn_client.proofs.lemmas.Ends.{line_is}
@@ -147,10 +148,20 @@ sends_typed old key before after is = record { said = says_key old key; appended
 pub shows_key_typed : (old : End) (key : ℕ) (before after : List ℕ) → after ≡ before ++ shows_key old key → Shows old (typed key) before after
 shows_key_typed old key before after is = record { text = shows_key old key; appended = is; shows = λ h s. shows_typed h old key s }
 
--- a key that says nothing shows something, where it wants memory
+-- a key that says nothing shows something, where it needs memory
 pub grows_typed : (old : End) (key : ℕ) → (says_key old key ≢ []) ⊎ (shows_key old key ≢ []) → (h : History) → LeadsTo h old → SaysOrShows h (typed key)
 grows_typed old key (inl some) h s = inl (λ e. some (sym (replies_typed h old key s) ∙ e))
 grows_typed old key (inr some) h s = inr (λ e. some (sym (shows_typed h old key s) ∙ e))
+
+-- and what wants memory by what the end knows wants it by the history
+pub lacks_typed : {Y Z : Type 0} (old : End) (key : ℕ) (out : Vec ℕ Y) (screen : Vec ℕ Z) → LacksMemoryNow old key out screen → LacksMemoryFor old key out screen
+lacks_typed old key out screen (inl lacks) h s = inl (subst (λ (said : List Item). LacksRoom out (length (spells said))) (sym (replies_typed h old key s)) lacks)
+lacks_typed old key out screen (inr (inl lacks)) h s = inr (inl (subst (λ (text : List ℕ). LacksRoom screen (length text)) (sym (shows_typed h old key s)) lacks))
+lacks_typed old key out screen (inr (inr text)) h s =
+    inr (inr (
+      sym (ap edits s.mode) ∙ text.0,
+      subst (λ (l : HalfLine). GivesText l (role_at h key)) (line_is h old s) (subst (λ (r : Role). GivesText old.line r) (role_is h old key s) text.1),
+    ))
 
 -- AN ITEM
 -- how many bytes are ahead where EDIT begins
@@ -236,7 +247,7 @@ replies_got h old item s =
 pub goes_got : (old new : End) (item : Item) → new ≡ end_after_item old item → Advances old (got item) new
 goes_got old new item is = record { leads = λ h s. subst (LeadsTo (next h (got item))) (sym is) (stands_got h old item s) }
 
--- an item wants memory in every history
+-- an item needs memory in every history
 grows_got : (h : History) (old : End) (item : Item) → LeadsTo h old → MayWantMemoryNow old item → MayWantMemory h item
 grows_got h old item s (inl says) = inl (λ e. says (sym (replies_got h old item s) ∙ e))
 grows_got h old item s (inr (inl shows')) = inr (inl shows')

@@ -1,10 +1,12 @@
 -- Where a history leads a client end, and what a call adds to it, whatever the history was.
-use Rattle.std.specs.Prelude.{◌≡◌, ◌≢◌, ◌⊎◌, ℕ, Bool, true, false, Option, Some, None, option_map, if◌then◌else◌, List, [], ◌∷◌, ◌++◌}
+use Rattle.std.specs.Prelude.{◌≡◌, ◌≢◌, ◌⊎◌, ℕ, Bool, true, false, Option, Some, None, option_map, if◌then◌else◌, List, [], ◌∷◌, ◌++◌, length, Vec}
 use Rattle.tn_codes.specs.declared.codes.Func.{Func}
 use Rattle.tn_codes.specs.declared.masks.Mask.{Mask}
 use Rattle.tn_discipline.specs.Characters.{Characters, char_fault}
-use Rattle.tn_discipline.specs.HalfLine.{HalfLine}
+use Rattle.tn_discipline.specs.HalfLine.{HalfLine, GivesText}
 use Rattle.tn_discipline.specs.Advancing as discipline
+use Rattle.tn_linemode.specs.Modes.{edits}
+use Rattle.tn_nvt.specs.Room.{LacksRoom}
 use Rattle.tn_nvt.specs.Spelling.{spells}
 use Rattle.tn_nvt.specs.Feeding.{DecoderState}
 use Rattle.tn_nvt.specs.Feeding as nvt
@@ -12,9 +14,9 @@ use Rattle.tn_nvt.specs.declared.items.Item.{Item}
 use Rattle.tn_option.specs.Options.{Options}
 use Rattle.tn_wire.specs.Fronts.{WantsMemory}
 use Rattle.tn_wire.specs.Words.{IsList}
-use Rattle.tn_client.specs.Events.{History, Event, got, next, gets}
+use Rattle.tn_client.specs.Events.{History, Event, typed, got, next, gets}
 use Rattle.tn_client.specs.Terms.{options, mode, forward, chars, size, linemode, payload_at}
-use Rattle.tn_client.specs.Lines.{line_limit, edited_roles, ahead, count_under}
+use Rattle.tn_client.specs.Lines.{role_at, line_limit, edited_roles, ahead, count_under, line}
 use Rattle.tn_client.specs.Replies.{replies, items_said}
 use Rattle.tn_client.specs.Screen.{shows, text_shown}
 use Rattle.tn_client.specs.declared.faults.ClientFault.{ClientFault}
@@ -63,6 +65,22 @@ pub record Sends (old : End) (e : Event) (before after : List ℕ) : Type 0 wher
   pub appended : after ≡ before ++ spells said
   pub replies : (h : History) → LeadsTo h old → replies h e ≡ said
 
+-- what the client says at the event does not fit what is allocated
+abbrev pub LacksRoomFor : {Z : Type 0} → End → Event → Vec ℕ Z → Type 0
+LacksRoomFor old e out = (h : History) → LeadsTo h old → LacksRoom out (length (spells (replies h e)))
+
+-- the key closes a line that is edited here, and gives its text, which takes memory of its own
+abbrev pub GivesTextHere : History → ℕ → Type 0
+GivesTextHere h key = (edits (mode h) ≡ true) × GivesText (line h) (role_at h key)
+
+-- what the client says at a key does not fit what is allocated, or what it shows there does not, or the key
+-- gives a text
+abbrev pub LacksMemoryFor : {Y Z : Type 0} → End → ℕ → Vec ℕ Y → Vec ℕ Z → Type 0
+LacksMemoryFor old key out screen =
+    (h : History) → LeadsTo h old
+    → LacksRoom out (length (spells (replies h (typed key))))
+    ⊎ (LacksRoom screen (length (shows h (typed key))) ⊎ GivesTextHere h key)
+
 -- What was appended is what is shown at the event.
 pub record Shows (old : End) (e : Event) (before after : List ℕ) : Type 0 where
   pub text : List ℕ
@@ -77,17 +95,17 @@ SaysOrShows h e = (replies h e ≢ []) ⊎ (shows h e ≢ [])
 abbrev pub ReadsList : Options → Item → Type 0
 ReadsList o item = IsList (payload_at o item)
 
--- an item wants memory: to say or to show something, or to read a list
+-- an item needs memory: to say or to show something, or to read a list
 abbrev pub MayWantMemory : History → Item → Type 0
 MayWantMemory h item = (replies h (got item) ≢ []) ⊎ ((shows h (got item) ≢ []) ⊎ ReadsList (options h) item)
 
--- The item is one that wants memory, and this is a front of what it makes the end say.
+-- The item is one that needs memory, and this is a prefix of what it makes the end say.
 pub record IsRefused (h : History) (item : Item) (part : List Item) : Type 0 where
   pub rest : List Item
   pub whole : replies h (got item) ≡ part ++ rest
   pub grows : MayWantMemory h item
 
--- The item was refused for want of memory, when a front of what it makes the end say was said, and nothing
+-- The item was refused for lack of memory, when a prefix of what it makes the end say was said, and nothing
 -- was shown.
 pub record RefusesItem (old : End) (item : Item) (before after seen now : List ℕ) : Type 0 where
   pub part : List Item
@@ -119,12 +137,12 @@ pub record Feeds (old : End) (piece before after seen now : List ℕ) (new : End
   pub reads : nvt.Advances old.decoder piece items new.decoder
   pub failed : new.failed ≡ old.failed
 
--- The first of the items that are left was refused; where none is left, the decoder wanted memory.
+-- The first of the items that are left was refused; where none is left, the decoder needed memory.
 abbrev pub IsStopCause : History → List Item → List Item → DecoderState → List ℕ → Type 0
 IsStopCause h (item ∷ later) part here back = IsRefused h item part
 IsStopCause h [] part here back = (part ≡ []) × WantsMemory here back
 
--- A front of a piece was read, and of its items some were done.
+-- A prefix of a piece was read, and of its items some were done.
 pub record StopsWithin (old : End) (piece before after seen now : List ℕ) : Type 0 where
   pub front : List ℕ
   pub back : List ℕ
@@ -155,7 +173,7 @@ propose_fault end func value =
     if linemode end.options then option_map fault.Char (char_fault end.table func value)
     else Some fault.NotOn)
 
--- a call that is not refused for such a cause is refused for want of memory alone
+-- a call that is not refused for such a cause is refused only when out of memory
 abbrev pub IsFault : Option ClientFault → ClientFault → Type 0
 IsFault (Some cause) f = f ≡ cause
 IsFault None f = f ≡ fault.Memory

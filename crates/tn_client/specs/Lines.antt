@@ -76,7 +76,7 @@ abbrev pub is_sent_ahead : History → ℕ → Bool
 is_sent_ahead h key =
     sends_ahead (forward h) (line_limit h) (count_of (line_limit h) (edited_roles h)) (role_at h key)
 
--- these lengths and one more: they begin anew where all was sent
+-- these lengths and one more: they are reset where all was sent
 abbrev pub lengths_with : Bool → ℕ → List ℕ → List ℕ
 lengths_with true length lengths = length ∷ []
 lengths_with false length lengths = length ∷ lengths

@@ -1,15 +1,17 @@
 -- One event at a client end, as a step from what the end knows now. `Calls` ties these steps to histories.
-use Rattle.std.specs.Prelude.{◌≡◌, ◌≢◌, ◌⊎◌, ℕ, Bool, true, false, Option, List, [], ◌++◌, length, take, if◌then◌else◌}
+use Rattle.std.specs.Prelude.{◌≡◌, ◌≢◌, ◌⊎◌, ℕ, Bool, true, false, Option, List, [], ◌++◌, length, take, Vec, if◌then◌else◌}
 use Rattle.tn_codes.specs.declared.masks.Mask.{Mask}
 use Rattle.tn_codes.specs.declared.payloads.Payload.{Payload}
 use Rattle.tn_discipline.specs.Admitted.{count_after}
 use Rattle.tn_discipline.specs.Keys.{role_of_key, roles_from}
-use Rattle.tn_discipline.specs.HalfLine.{HalfLine, empty_line, line_length, line_released, line_resumed, line_after}
+use Rattle.tn_discipline.specs.HalfLine.{HalfLine, empty_line, line_length, line_released, line_resumed, line_after, GivesText}
 use Rattle.tn_discipline.specs.declared.half_line.Effect.{Effect}
 use Rattle.tn_discipline.specs.declared.half_line.Effect.TheVariants as effect
 use Rattle.tn_discipline.specs.declared.keys.Role.{Role}
 use Rattle.tn_discipline.specs.declared.keys.Role.TheVariants as role
 use Rattle.tn_linemode.specs.Modes.{edits, traps}
+use Rattle.tn_nvt.specs.Room.{LacksRoom}
+use Rattle.tn_nvt.specs.Spelling.{spells}
 use Rattle.tn_nvt.specs.declared.items.Item.{Item}
 use Rattle.tn_client.specs.Terms.{options_after, mode_at, mode_by, forward_by, forward_at, chars_by, payload_at, is_echoed, tells_size}
 use Rattle.tn_client.specs.Lines.{settings_by, key_settings, role_of_typed, is_forward, sends_ahead}
@@ -68,6 +70,13 @@ abbrev pub shows_key : End → ℕ → List ℕ
 shows_key old key =
     let terminal = key_settings old.mode old.table in
     key_shown (is_echoed old.options) (edits old.mode) terminal (role_now old key) old.line key
+
+-- what it says does not fit what is allocated, or what it shows does not, or it gives a text
+abbrev pub LacksMemoryNow : {Y Z : Type 0} → End → ℕ → Vec ℕ Y → Vec ℕ Z → Type 0
+LacksMemoryNow old key out screen =
+    LacksRoom out (length (spells (says_key old key)))
+    ⊎ (LacksRoom screen (length (shows_key old key))
+    ⊎ ((edits old.mode ≡ true) × GivesText old.line (role_now old key)))
 
 -- the line where the mask changes: EDIT ends with nothing held, and begins with so many bytes ahead
 abbrev pub line_left : Bool → Bool → ℕ → HalfLine → HalfLine
@@ -147,7 +156,7 @@ end_after_resize old width height = record old { width = width; height = height 
 abbrev pub says_resize : End → ℕ → ℕ → List Item
 says_resize old width height = resize_items (tells_size old.options) (old.width, old.height) (width, height)
 
--- an item wants memory, by what the end knows now
+-- an item needs memory, by what the end knows now
 abbrev pub MayWantMemoryNow : End → Item → Type 0
 MayWantMemoryNow old item = (says_got old item ≢ []) ⊎ ((item_shown item ≢ []) ⊎ ReadsList old.options item)
 

@@ -6,8 +6,8 @@ use Rattle.tn_client.specs.Events.{History}
 use Rattle.tn_client.specs.Replies.{items_said}
 use Rattle.tn_client.specs.Screen.{text_shown}
 
--- The whole piece would have led from one history to the other. What was appended spells a front of what all
--- its items make the client say, and what was shown is a front of what they all show.
+-- The whole piece would have led from one history to the other. What was appended spells a prefix of what all
+-- its items make the client say, and what was shown is a prefix of what they all show.
 pub record StopsBetween (h whole : History) (before after seen now : List ℕ) : Type 0 where
   pub said : List Item
   pub unsaid : List Item

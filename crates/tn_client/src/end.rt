@@ -2,6 +2,7 @@
 
 ghost use Rattle.std.specs.Prelude.{◌≡◌, ◌≢◌, ◌++◌, ◌∷◌, ℕ, List, true, false, None, [], length, take, IfOk, IfErr, OnOk, OnErr, IsErrOf};
 ghost use Rattle.tn_linemode.specs.Triples.{triple_of};
+ghost use Rattle.tn_nvt.specs.Room.{LacksRoom};
 ghost use Rattle.tn_nvt.specs.Spelling.{spells};
 ghost use Rattle.tn_nvt.specs.Feeding as nvt;
 ghost use Rattle.tn_option.specs.Options.{state_of};
@@ -9,7 +10,7 @@ ghost use Rattle.tn_client.specs.Events.{History, begun, next, typed, resized, p
 ghost use Rattle.tn_client.specs.Terms.{options, mode, chars};
 ghost use Rattle.tn_client.specs.Lines.{held_bytes, ahead, count_under};
 ghost use Rattle.tn_client.specs.Replies.{replies, size_items};
-ghost use Rattle.tn_client.specs.Calls.{LeadsTo, Advances, Sends, Shows, ReadsNothing, SaysOrShows, Feeds, StopsWithin, call_fault, propose_fault, IsFault};
+ghost use Rattle.tn_client.specs.Calls.{LeadsTo, Advances, Sends, Shows, ReadsNothing, SaysOrShows, Feeds, StopsWithin, LacksRoomFor, LacksMemoryFor, call_fault, propose_fault, IsFault};
 ghost use Rattle.tn_client.specs.Steps.{end_after_resize, says_resize};
 
 use crate::faults::ClientFault;
@@ -123,6 +124,8 @@ impl ClientEnd {
         ensures err_screen { OnErr result (screen.new.items ≡ screen.old.items) }
         ensures grows { IsErrOf result ClientFault.Memory →
             (h : History) → LeadsTo h self.old → SaysOrShows h (typed key) }
+        ensures full { IsErrOf result ClientFault.Memory →
+            LacksMemoryFor self.old key out.old screen.old }
     {
         if self.failed {
             return Err(ClientFault::Failed);
@@ -191,6 +194,8 @@ impl ClientEnd {
         ensures err_out { OnErr result (out.new.items ≡ out.old.items) }
         ensures grows { IsErrOf result ClientFault.Memory →
             (h : History) → LeadsTo h self.old → replies h (resized width height) ≢ [] }
+        ensures full { IsErrOf result ClientFault.Memory →
+            LacksRoomFor self.old (resized width height) out.old }
     {
         if self.failed {
             return Err(ClientFault::Failed);
@@ -208,6 +213,8 @@ impl ClientEnd {
         ensures err { OnErr result (self.new ≡ self.old) }
         ensures err_out { OnErr result (out.new.items ≡ out.old.items) }
         ensures grows { OnErr result (says_resize self.old width height ≢ []) }
+        ensures full { OnErr result
+            (LacksRoom out.old (length (spells (says_resize self.old width height)))) }
     {
         let is_new = width != self.width || height != self.height;
         if self.options.is_on(Side::Us, NAWS) && is_new {
@@ -230,8 +237,9 @@ impl ClientEnd {
     ) -> Result<(), AllocError>
         ensures ok { OnOk result (out.new.items ≡ out.old.items ++ spells (size_items (width, height))) }
         ensures err { OnErr result (out.new.items ≡ out.old.items) }
+        ensures full { OnErr result (LacksRoom out.old (length (spells (size_items (width, height))))) }
     {
-        put_payload(self.alloc, &Payload::Naws { width, height }, out)
+        put_payload(&Payload::Naws { width, height }, out)
     }
 
     /// Proposes a special character to the server, or none by `None`. Nothing changes here until the
@@ -250,6 +258,8 @@ impl ClientEnd {
         ensures fault { IfErr result (IsFault (propose_fault self.old func value)) }
         ensures err { OnErr result (self.new ≡ self.old) }
         ensures err_out { OnErr result (out.new.items ≡ out.old.items) }
+        ensures full { IsErrOf result ClientFault.Memory →
+            LacksRoomFor self.old (proposed func value) out.old }
     {
         if self.failed {
             return Err(ClientFault::Failed);
@@ -316,7 +326,7 @@ impl ClientEnd {
         self.options.q_state(side, option)
     }
 
-    /// Whether a call of `feed` was refused for want of memory.
+    /// Whether a call of `feed` was refused because it ran out of memory.
     pub fn failed(&self) -> bool
         ensures { result ≡ self.now.failed }
     {

@@ -6,11 +6,11 @@ use tn_discipline::CharFault;
 /// Why a call of a client end was refused.
 #[derive(Clone, Copy, Debug, PartialEq, Eq, Error)]
 pub enum ClientFault {
-    /// Memory was wanting; from `feed` the end has failed.
+    /// Out of memory. Where `feed` returns it, the end has failed.
     #[error("out of memory")]
     Memory,
     /// A call of `feed` was refused before.
-    #[error("the end has failed before")]
+    #[error("the end has failed")]
     Failed,
     /// LINEMODE is not on.
     #[error("LINEMODE is not on")]

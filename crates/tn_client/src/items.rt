@@ -204,7 +204,7 @@ impl ClientEnd {
         let mut mode = self.mode;
         let answer = mode.got(mask);
         self.put_held(mode, out)?;
-        put_mode(self.alloc, answer, out)?;
+        put_mode(answer, out)?;
         self.set_mode(mode);
         Ok(())
     }
@@ -221,7 +221,7 @@ impl ClientEnd {
         ensures out { OnOk result (out.new.items ≡ out.old.items ++ spells (payload_items answer.now)) }
         ensures err { OnErr result (out.new.items ≡ out.old.items) }
     {
-        put_payload(self.alloc, answer, out)?;
+        put_payload(answer, out)?;
         self.forward = forward;
         Ok(())
     }
@@ -239,7 +239,7 @@ impl ClientEnd {
         let mut table = self.table;
         let mut answers = Vec::new(self.alloc);
         table.got(triples.as_slice(), &mut answers)?;
-        put_list(self.alloc, answers, out)?;
+        put_list(&answers, out)?;
         self.table = table;
         Ok(())
     }

@@ -1,19 +1,20 @@
 //! What a client end does with a key.
 
-ghost use Rattle.std.specs.Prelude.{◌≡◌, ◌≢◌, ◌⊎◌, ◌<◌, ◌++◌, ℕ, [], true, false, IfOk, OnOk, OnErr};
+ghost use Rattle.std.specs.Prelude.{◌≡◌, ◌≢◌, ◌⊎◌, ◌<◌, ◌≤◌, ◌++◌, ℕ, [], true, false, length, IfOk, OnOk, OnErr};
+ghost use Rattle.tn_nvt.specs.Room.{LacksRoom};
 ghost use Rattle.tn_nvt.specs.Spelling.{spells};
 ghost use Rattle.tn_client.specs.Lines.{settings_by, key_settings};
 ghost use Rattle.tn_client.specs.Terms.{is_echoed};
 ghost use Rattle.tn_client.specs.Replies.{byte_items, raw_key_items, edit_items, key_items};
 ghost use Rattle.tn_client.specs.Screen.{passed_shown, edited_shown, echoed_edited};
 ghost use Rattle.tn_discipline.specs.Characters.{Characters};
-ghost use Rattle.tn_discipline.specs.HalfLine.{line_released, effect_of};
+ghost use Rattle.tn_discipline.specs.HalfLine.{line_released, effect_of, GivesText};
 ghost use Rattle.tn_discipline.specs.Admitted.{count_after};
 ghost use Rattle.tn_discipline.specs.Keys.{roles_from};
-ghost use Rattle.tn_client.specs.Steps.{role_now, end_after_count, line_typed, sends_where, end_after_key, says_key, shows_key, Begins};
+ghost use Rattle.tn_client.specs.Steps.{role_now, end_after_count, line_typed, sends_where, end_after_key, says_key, shows_key, LacksMemoryNow, Begins};
 
 use crate::end::ClientEnd;
-use crate::screen::{echo_raw, make_room, show_all};
+use crate::screen::{echo_raw, show_all};
 use crate::sending::{put_bytes, put_edited, put_raw};
 use std::alloc::AllocError;
 use tn_discipline::{Effect, Limit, Line, Role, Settings, echo_of_role, role_of};
@@ -35,17 +36,18 @@ fn count_after(limit: Limit, count: u16, role: Role) -> u16
     }
 }
 
-// Whether a key of this role shows something of the line, where it is echoed.
-fn is_shown(role: Role, line: &Line) -> bool
-    ensures shown { result ≡ true →
-        (m : ℕ) (c : Characters) → echoed_edited (key_settings m c) role line.now ≢ [] }
-    ensures unshown { result ≡ false →
-        (m : ℕ) (c : Characters) → echoed_edited (key_settings m c) role line.now ≡ [] }
+// How many bytes a key of this role shows of the line, where it is echoed.
+fn shown_len(role: Role, line: &Line) -> usize
+    ensures value { (m : ℕ) (c : Characters) →
+        result ≡ length (echoed_edited (key_settings m c) role line.now) }
+    ensures few { result ≤ 3 }
 {
     match role {
-        Role::Ordinary(_) | Role::Nl | Role::Eol(_) | Role::Eol2(_) | Role::Kill => true,
-        Role::Erase => !line.held().is_empty() || line.ahead() > 0,
-        Role::Eof | Role::Signal(_) | Role::Ignored => false,
+        Role::Ordinary(_) | Role::Eol(_) | Role::Eol2(_) => 1,
+        Role::Nl | Role::Kill => 2,
+        Role::Erase if line.held().is_empty() && line.ahead() == 0 => 0,
+        Role::Erase => 3,
+        Role::Eof | Role::Signal(_) | Role::Ignored => 0,
     }
 }
 
@@ -74,18 +76,17 @@ impl ClientEnd {
         self.options.is_on(Side::Them, ECHO)
     }
 
-    // Whether a key of this role shows something here.
-    fn echoes(&self, role: Role) -> bool
-        ensures shown { let terminal = key_settings self.now.mode self.now.table in
-            result ≡ true → edited_shown (is_echoed self.now.options) terminal role self.now.line ≢ [] }
-        ensures unshown { let terminal = key_settings self.now.mode self.now.table in
-            result ≡ false → edited_shown (is_echoed self.now.options) terminal role self.now.line ≡ [] }
-        ensures here { result ≡ true → is_echoed self.now.options ≡ false }
+    // How many bytes a key of this role shows here.
+    fn echo_len(&self, role: Role) -> usize
+        ensures value { let terminal = key_settings self.now.mode self.now.table in
+            let text = edited_shown (is_echoed self.now.options) terminal role self.now.line in
+            result ≡ length text }
+        ensures here { 0 < result → is_echoed self.now.options ≡ false }
     {
         if self.is_echoed() {
-            return false;
+            return 0;
         }
-        is_shown(role, &self.line)
+        shown_len(role, &self.line)
     }
 
     /// Types a key. After a refusal what was sent and shown begins as it did.
@@ -102,6 +103,7 @@ impl ClientEnd {
         ensures err_out { OnErr result (Begins out.old.items out.new.items) }
         ensures err_screen { OnErr result (screen.new.items ≡ screen.old.items) }
         ensures grows { OnErr result ((says_key self.old key ≢ []) ⊎ (shows_key self.old key ≢ [])) }
+        ensures full { OnErr result (LacksMemoryNow self.old key out.old screen.old) }
     {
         if self.mode.current().edit() {
             self.edit(key, out, screen)
@@ -121,6 +123,9 @@ impl ClientEnd {
         ensures err_out { OnErr result (Begins out.old.items out.new.items) }
         ensures err_screen { OnErr result (screen.new.items ≡ screen.old.items) }
         ensures grows { raw_key_items (role_now self.old key) key ≢ [] }
+        ensures full { let said = raw_key_items (role_now self.old key) key in
+            let text = passed_shown (is_echoed self.old.options) key in
+            OnErr result (LacksRoom out.old (length (spells said)) ⊎ LacksRoom screen.old (length text)) }
     {
         put_raw(role_of(&self.settings(), key), key, out)?;
         self.echo_passed(key, screen)?;
@@ -133,6 +138,8 @@ impl ClientEnd {
         ensures ok { OnOk result
             (screen.new.items ≡ screen.old.items ++ passed_shown (is_echoed self.now.options) key) }
         ensures err { OnErr result (screen.new.items ≡ screen.old.items) }
+        ensures full { OnErr result
+            (LacksRoom screen.old (length (passed_shown (is_echoed self.now.options) key))) }
     {
         if self.is_echoed() {
             return Ok(());
@@ -169,13 +176,19 @@ impl ClientEnd {
             let role = role_now self.old key in
             let text = edited_shown (is_echoed self.old.options) terminal role self.old.line in
             OnErr result ((key_items true self.old.forward role self.old.line key ≢ []) ⊎ (text ≢ [])) }
+        ensures full { let terminal = key_settings self.old.mode self.old.table in
+            let role = role_now self.old key in
+            let said = key_items true self.old.forward role self.old.line key in
+            let text = edited_shown (is_echoed self.old.options) terminal role self.old.line in
+            OnErr result (LacksRoom out.old (length (spells said))
+            ⊎ (LacksRoom screen.old (length text) ⊎ GivesText self.old.line role)) }
     {
         let settings = self.settings();
         let role = role_of(&settings, key);
-        let echo = self.echoes(role);
-        make_room(echo, screen)?;
+        let echo = self.echo_len(role);
+        screen.reserve(echo)?;
         let effect = self.type_edited(role, out)?;
-        if echo {
+        if echo > 0 {
             show_all(&echo_of_role(&effect, role, &settings.flags), screen);
         }
         Ok(())
@@ -191,6 +204,8 @@ impl ClientEnd {
         ensures err { OnErr result (self.new ≡ self.old) }
         ensures err_out { OnErr result (Begins out.old.items out.new.items) }
         ensures grows { OnErr result (edit_items self.old.forward role self.old.line ≢ []) }
+        ensures full { let said = edit_items self.old.forward role self.old.line in
+            OnErr result (LacksRoom out.old (length (spells said)) ⊎ GivesText self.old.line role) }
     {
         put_edited(role, &self.line, out)?;
         let effect = self.line.play(role)?;
@@ -223,6 +238,7 @@ impl ClientEnd {
         ensures out { OnOk result (out.new.items ≡ out.old.items ++ spells (byte_items self.old.line.held)) }
         ensures err { OnErr result (self.new ≡ self.old) }
         ensures err_out { OnErr result (Begins out.old.items out.new.items) }
+        ensures full { OnErr result (LacksRoom out.old (length (spells (byte_items self.old.line.held)))) }
     {
         put_bytes(self.line.held(), out)?;
         self.line.hand_on();

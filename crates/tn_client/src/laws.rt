@@ -1,6 +1,7 @@
 //! Laws of the definitions alone.
 
 ghost use Rattle.std.specs.Prelude.{◌≡◌, ◌↔◌, ◌<◌, ◌≤◌, ◌+◌, ◌*◌, ◌++◌, ℕ, Bool, true, List, All, false, None, [], length, take};
+ghost use Rattle.tn_discipline.specs.Limits.{most_counted};
 ghost use Rattle.tn_linemode.specs.Modes.{edits};
 ghost use Rattle.tn_nvt.specs.Feeding as nvt;
 ghost use Rattle.tn_nvt.specs.Spelling.{spelling, spells};
@@ -11,7 +12,7 @@ ghost use Rattle.tn_client.specs.Events.{Event, got, History, begun, items, keys
 ghost use Rattle.tn_client.specs.Bounds.{held_sent, most_answered, most_of_calls, bytes_due};
 ghost use Rattle.tn_wire.specs.Fronts.{IsRead};
 ghost use Rattle.tn_client.specs.Terms.{options, mode, forward, linemode};
-ghost use Rattle.tn_client.specs.Lines.{ahead, held_bytes, half_line, count_under};
+ghost use Rattle.tn_client.specs.Lines.{line_limit, ahead, held_bytes, half_line, count_under};
 ghost use Rattle.tn_client.specs.Replies.{replies, items_said};
 ghost use Rattle.tn_client.specs.Screen.{text_shown};
 ghost use Rattle.tn_client.specs.Calls.{End, LeadsTo, Advances, ReadsNothing, Feeds, StopsWithin};
@@ -27,10 +28,16 @@ pub fn items_come()
     ensures keys { (h : History) (more : List Item) → keys (gets h more) ≡ keys h }
 {}
 
-/// What was sent ahead is a front of the half line, and the client holds the rest.
+/// What was sent ahead is a prefix of the half line, and the client holds the rest.
 pub fn ahead_is_a_front()
     ensures within { (h : History) → ahead h ≤ length (half_line h) }
     ensures parts { (h : History) → half_line h ≡ take (ahead h) (half_line h) ++ held_bytes h }
+{}
+
+/// The half line has at most as many bytes as a line counts before its closing byte, whichever end edits it.
+pub fn half_lines_fit()
+    ensures here { (h : History) → length (half_line h) ≤ most_counted (line_limit h) }
+    ensures there { (isig : Bool) (h : History) → count_under isig h ≤ most_counted (line_limit h) }
 {}
 
 /// Without EDIT no half line is here, and with it none is counted; without LINEMODE there are no mode and
@@ -123,7 +130,7 @@ pub fn sending_bounded()
     answers_name_their_function();
 }
 
-/// A piece that goes on with a subnegotiation that is dropped is not refused: it wants no memory, and
+/// A piece that goes on with a subnegotiation that is dropped is not refused: it needs no memory, and
 /// completes no item.
 pub fn dropping_goes_on()
     ensures { (c : Course) (old : End) (piece before after seen now : List ℕ) → CourseLeadsTo c old →

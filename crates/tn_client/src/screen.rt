@@ -1,14 +1,12 @@
 //! What a client end shows, as bytes of its screen.
 
-ghost use Rattle.std.specs.Prelude.{◌≡◌, ◌+◌, ◌*◌, ◌≤◌, ◌++◌, ◌∷◌, [], true, length, vec_len, vec_capacity, OnOk, OnErr};
+ghost use Rattle.std.specs.Prelude.{◌≡◌, ◌+◌, ◌≤◌, ◌++◌, ◌∷◌, [], length, vec_len, vec_capacity, OnOk, OnErr};
 ghost use Rattle.std.specs.List.{flat_map};
+ghost use Rattle.tn_nvt.specs.Room.{LacksRoom};
 ghost use Rattle.tn_client.specs.Screen.{on_screen, new_line, echoed_raw};
 
 use std::alloc::AllocError;
 use tn_discipline::Symbol;
-
-/// How many bytes the echo of a key takes at most.
-const ECHO_BYTES: usize = 6;
 
 const NEW_LINE: [u8; 2] = [b'\r', b'\n'];
 
@@ -16,6 +14,7 @@ const NEW_LINE: [u8; 2] = [b'\r', b'\n'];
 pub(crate) fn show_new_line(screen: &mut Vec<u8>) -> Result<(), AllocError>
     ensures ok { OnOk result (screen.new.items ≡ screen.old.items ++ new_line) }
     ensures err { OnErr result (screen.new.items ≡ screen.old.items) }
+    ensures full { OnErr result (LacksRoom screen.old (length new_line)) }
 {
     screen.extend_from_slice(&NEW_LINE)
 }
@@ -24,6 +23,7 @@ pub(crate) fn show_new_line(screen: &mut Vec<u8>) -> Result<(), AllocError>
 pub(crate) fn show_byte(byte: u8, screen: &mut Vec<u8>) -> Result<(), AllocError>
     ensures ok { OnOk result (screen.new.items ≡ screen.old.items ++ byte ∷ []) }
     ensures err { OnErr result (screen.new.items ≡ screen.old.items) }
+    ensures full { OnErr result (LacksRoom screen.old 1) }
 {
     screen.extend_from_slice(&[byte])
 }
@@ -32,6 +32,7 @@ pub(crate) fn show_byte(byte: u8, screen: &mut Vec<u8>) -> Result<(), AllocError
 pub(crate) fn echo_raw(key: u8, screen: &mut Vec<u8>) -> Result<(), AllocError>
     ensures ok { OnOk result (screen.new.items ≡ screen.old.items ++ echoed_raw key) }
     ensures err { OnErr result (screen.new.items ≡ screen.old.items) }
+    ensures full { OnErr result (LacksRoom screen.old (length (echoed_raw key))) }
 {
     if key == b'\n' || key == b'\r' {
         return show_new_line(screen);
@@ -39,21 +40,9 @@ pub(crate) fn echo_raw(key: u8, screen: &mut Vec<u8>) -> Result<(), AllocError>
     show_byte(key, screen)
 }
 
-/// Makes room for the echo of a key, where there is one.
-pub(crate) fn make_room(echo: bool, screen: &mut Vec<u8>) -> Result<(), AllocError>
-    ensures items { screen.new.items ≡ screen.old.items }
-    ensures ok { OnOk result (echo ≡ true → vec_len screen.new + 6 ≤ vec_capacity screen.new) }
-    ensures grows { OnErr result (echo ≡ true) }
-{
-    if !echo {
-        return Ok(());
-    }
-    screen.reserve(ECHO_BYTES)
-}
-
 /// Shows what there is among these symbols, where there is room.
 pub(crate) fn show_all(symbols: &[Option<Symbol>], screen: &mut Vec<u8>)
-    requires { vec_len screen.old + 2 * length symbols.now ≤ vec_capacity screen.old }
+    requires { vec_len screen.old + length (flat_map on_screen symbols.now) ≤ vec_capacity screen.old }
     ensures { screen.new.items ≡ screen.old.items ++ flat_map on_screen symbols.now }
 {
     for symbol in symbols {
@@ -62,9 +51,9 @@ pub(crate) fn show_all(symbols: &[Option<Symbol>], screen: &mut Vec<u8>)
 }
 
 fn show(symbol: Option<Symbol>, screen: &mut Vec<u8>)
-    requires { vec_len screen.old + 2 ≤ vec_capacity screen.old }
+    requires { vec_len screen.old + length (on_screen symbol) ≤ vec_capacity screen.old }
     ensures items { screen.new.items ≡ screen.old.items ++ on_screen symbol }
-    ensures len { vec_len screen.new ≤ vec_len screen.old + 2 }
+    ensures len { vec_len screen.new ≡ vec_len screen.old + length (on_screen symbol) }
     ensures capacity { vec_capacity screen.new ≡ vec_capacity screen.old }
 {
     match symbol {

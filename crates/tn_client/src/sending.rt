@@ -1,6 +1,7 @@
 //! What a client end sends.
 
-ghost use Rattle.std.specs.Prelude.{◌≡◌, ◌≢◌, ◌<◌, ◌++◌, [], Some, length, flat_map, OnOk, OnErr};
+ghost use Rattle.std.specs.Prelude.{◌≡◌, ◌≢◌, ◌<◌, ◌≤◌, ◌++◌, [], Some, length, flat_map, vec_capacity, OnOk, OnErr};
+ghost use Rattle.tn_nvt.specs.Room.{LacksRoom};
 ghost use Rattle.tn_nvt.specs.Spelling.{spells, spelling};
 ghost use Rattle.tn_nvt.specs.declared.items.Item.TheVariants as item;
 ghost use Rattle.tn_client.specs.Replies.{byte_items, func_of, command_for, command_of, command_items, raw_key_items, edited_key_items};
@@ -55,6 +56,8 @@ fn put_command(role: Role, out: &mut Vec<u8>) -> Result<(), AllocError>
     ensures ok { OnOk result (out.new.items ≡ out.old.items ++ spells (command_items (command_of role))) }
     ensures err { OnErr result (out.new.items ≡ out.old.items) }
     ensures grows { OnErr result (command_items (command_of role) ≢ []) }
+    ensures full { OnErr result (LacksRoom out.old (length (spells (command_items (command_of role))))) }
+    ensures capacity { vec_capacity out.old ≤ vec_capacity out.new }
 {
     match command_of(role) {
         Some(command) => put_cmd(command, out),
@@ -67,6 +70,7 @@ pub(crate) fn put_raw(role: Role, key: u8, out: &mut Vec<u8>) -> Result<(), Allo
     ensures ok { OnOk result (out.new.items ≡ out.old.items ++ spells (raw_key_items role key)) }
     ensures err { OnErr result (out.new.items ≡ out.old.items) }
     ensures grows { OnErr result (raw_key_items role key ≢ []) }
+    ensures full { OnErr result (LacksRoom out.old (length (spells (raw_key_items role key)))) }
 {
     if matches!(role, Role::Signal(_)) {
         return put_command(role, out);
@@ -80,6 +84,9 @@ fn put_each(bytes: &[u8], out: &mut Vec<u8>) -> Result<(), AllocError>
         (out.new.items ≡ out.old.items ++ flat_map (λ byte. spelling (item.Byte byte)) bytes.now) }
     ensures err { OnErr result (Begins out.old.items out.new.items) }
     ensures grows { OnErr result (0 < length bytes.now) }
+    ensures full { let spelled = flat_map (λ byte. spelling (item.Byte byte)) bytes.now in
+        OnErr result (LacksRoom out.old (length spelled)) }
+    ensures capacity { vec_capacity out.old ≤ vec_capacity out.new }
 {
     for byte in bytes {
         put_byte(*byte, out)?;
@@ -92,6 +99,8 @@ pub(crate) fn put_bytes(bytes: &[u8], out: &mut Vec<u8>) -> Result<(), AllocErro
     ensures ok { OnOk result (out.new.items ≡ out.old.items ++ spells (byte_items bytes.now)) }
     ensures err { OnErr result (out.new.items ≡ out.old.items) }
     ensures grows { OnErr result (byte_items bytes.now ≢ []) }
+    ensures full { OnErr result (LacksRoom out.old (length (spells (byte_items bytes.now)))) }
+    ensures capacity { vec_capacity out.old ≤ vec_capacity out.new }
 {
     let sent = out.len();
     match put_each(bytes, out) {
@@ -109,6 +118,8 @@ pub(crate) fn put_edited(role: Role, line: &Line, out: &mut Vec<u8>) -> Result<(
     ensures ok { OnOk result (out.new.items ≡ out.old.items ++ spells (edited_key_items role line.now)) }
     ensures err { OnErr result (Begins out.old.items out.new.items) }
     ensures grows { OnErr result (edited_key_items role line.now ≢ []) }
+    ensures full { OnErr result (LacksRoom out.old (length (spells (edited_key_items role line.now)))) }
+    ensures capacity { vec_capacity out.old ≤ vec_capacity out.new }
 {
     match role {
         Role::Nl => {

@@ -1,4 +1,4 @@
--- A piece of a subnegotiation that is let go is not refused.
+-- A piece of a subnegotiation that is discarded is not refused.
 use Rattle.std.proofs.Common.{◌≡◌, ◌≢◌, ℕ, List, [], ◌∷◌, ◌++◌, sym, ◌∙◌}
 use Rattle.tn_nvt.specs.Feeding.{DecoderState, KeepsParameter, overlong, failed, IsLetGo}
 use Rattle.tn_nvt.specs.Feeding as nvt

@@ -14,3 +14,5 @@ pub mod Causes
 pub mod Bounding
 pub mod Dropping
 pub mod Answered
+pub mod OtherClients
+pub mod Overflowing

@@ -1,10 +1,11 @@
 -- Where a history leads a server end, and what a call adds to it, whatever the history was.
-use Rattle.std.specs.Prelude.{◌≡◌, ◌≢◌, ℕ, Bool, List, [], ◌∷◌, ◌++◌, length, Option, Some, None, option_map, if◌then◌else◌}
+use Rattle.std.specs.Prelude.{◌≡◌, ◌≢◌, ℕ, Bool, List, [], ◌∷◌, ◌++◌, length, Option, Some, None, option_map, Vec, if◌then◌else◌}
 use Rattle.tn_codes.specs.declared.codes.Func.{Func}
 use Rattle.tn_discipline.specs.Characters.{Characters, char_fault}
 use Rattle.tn_discipline.specs.Advancing as discipline
 use Rattle.tn_discipline.specs.declared.reads.Entry.{Entry}
 use Rattle.tn_linemode.specs.Modes.{Modes}
+use Rattle.tn_nvt.specs.Room.{LacksRoom}
 use Rattle.tn_nvt.specs.Spelling.{spells}
 use Rattle.tn_nvt.specs.Feeding.{DecoderState, failed}
 use Rattle.tn_nvt.specs.Feeding as nvt
@@ -55,12 +56,16 @@ pub record Advances (old : End) (e : Event) (before after : List ℕ) (new : End
   pub leads : (h : History) → LeadsTo h old → LeadsTo (next h e) new
   pub closed : new.terminal.closed ≡ old.terminal.closed
 
+-- what the event makes the end send does not fit what is allocated
+abbrev pub LacksRoomFor : {Z : Type 0} → End → Event → Vec ℕ Z → Type 0
+LacksRoomFor old e out = (h : History) → LeadsTo h old → LacksRoom out (length (spells (replies h e)))
+
 -- a call of the owner reads nothing and fails no end
 pub record ReadsNothing (old new : End) : Type 0 where
   pub decoder : new.decoder ≡ old.decoder
   pub failed : new.failed ≡ old.failed
 
--- An item was refused: the end stands where it stood, and what was appended spells a front of the replies.
+-- An item was refused: the end stands where it stood, and what was appended spells a prefix of the replies.
 pub record RefusesItem (old : End) (item : Item) (fault : ServerFault) (before after : List ℕ)
     (new : End) : Type 0 where
   pub said : List Item
@@ -105,13 +110,13 @@ abbrev pub first_replies : History → List Item → List Item
 first_replies h [] = []
 first_replies h (item ∷ left) = replies h (got item)
 
--- why a piece was refused there: the first of these items was, or the decoder wanted memory at the next byte
+-- why a piece was refused there: the first of these items was, or the decoder needed memory at the next byte
 abbrev pub IsStopCause : History → List Item → DecoderState → List ℕ → ServerFault → Type 0
 IsStopCause h [] here back f = (f ≡ fault.Memory) × WantsMemory here back
 IsStopCause h (item ∷ left) here back f = IsCause h item f
 
--- A piece was refused: of the items of a front of it some were done, and what was appended spells the replies
--- to them, and a front of those to the next.
+-- A piece was refused: of the items of a prefix of it some were done, and what was appended spells the
+-- replies to them, and a prefix of those to the next.
 pub record StopsWithin (old : End) (piece : List ℕ) (fault : ServerFault) (before after : List ℕ)
     (new : End) : Type 0 where
   pub front : List ℕ

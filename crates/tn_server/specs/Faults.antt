@@ -17,7 +17,7 @@ use Rattle.tn_server.specs.declared.faults.ServerFault.TheVariants.{Pty, Memory,
 abbrev pub SaysSomething : History → Event → Type 0
 SaysSomething h e = replies h e ≢ []
 
--- why an item is refused: too many entries wait for the one that it makes; memory is wanting for the text of
+-- why an item is refused: too many entries wait for the one that it makes; memory runs out for the text of
 -- a line, for what is to be sent, or for a list
 abbrev pub IsCause : History → Item → ServerFault → Type 0
 IsCause h item (Pty pty.TooFarAhead) =
@@ -29,7 +29,7 @@ IsCause h item Failed = ⊥
 IsCause h item (Char fault) = ⊥
 IsCause h item NotOn = ⊥
 
--- an item is refused by the pair or for want of memory
+-- an item is refused by the pair or for lack of memory
 abbrev pub IsOfItem : ServerFault → Type 0
 IsOfItem (Pty fault) = Unit {0}
 IsOfItem Memory = Unit {0}
@@ -43,7 +43,7 @@ IsOfPiece (Char fault) = ⊥
 IsOfPiece NotOn = ⊥
 IsOfPiece f = Unit {0}
 
--- a call that is not refused for such a cause is refused for want of memory alone
+-- a call that is not refused for such a cause is refused only when out of memory
 abbrev pub IsFault : Option ServerFault → ServerFault → Type 0
 IsFault (Some cause) f = f ≡ cause
 IsFault None f = f ≡ Memory

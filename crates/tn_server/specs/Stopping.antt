@@ -12,7 +12,7 @@ use Rattle.tn_server.specs.declared.faults.ServerFault.{ServerFault}
 use Rattle.tn_server.specs.declared.faults.ServerFault.TheVariants.{Pty}
 
 -- The whole piece would have led from one history to the other. The end is where the first of the piece's
--- items lead, so that entries, half line and mode are theirs; what was appended spells a front of what all
+-- items lead, so that entries, half line and mode are theirs; what was appended spells a prefix of what all
 -- its items make the server say. It got too far behind only where as many entries waited as there may be.
 pub record StopsBetween (h whole : History) (fault : ServerFault) (before after : List ℕ)
     (new : End) : Type 0 where

@@ -121,7 +121,7 @@ is_echo_set _ = false
 abbrev pub changes : Options → Options → Bool
 changes old new = differ (linemode old) (linemode new)
 
--- the server asks for its ECHO anew after each change of LINEMODE, each wish that sends,
+-- the server asks for its ECHO again after each change of LINEMODE, each wish that sends,
 -- and each change of the flag
 abbrev pub asks_echo : Options → Options → Option ℕ → Bool → Bool
 asks_echo old new told set = changes old new || (is_some told || set)

@@ -1,7 +1,8 @@
 //! The server end: the calls that its owner makes.
 
-ghost use Rattle.std.specs.Prelude.{◌≡◌, ◌≢◌, ◌↔◌, ◌⊎◌, ◌&&◌, not, ℕ, List, true, false, Some, None, Err, [], ◌++◌, ◌∷◌, length, min, IfOk, IfErr, OnOk, OnErr, IsErrOf, MatchOption, option_copied, slice_get};
+ghost use Rattle.std.specs.Prelude.{◌≡◌, ◌≢◌, ◌↔◌, ◌⊎◌, ◌&&◌, not, ℕ, List, true, false, Some, None, Err, [], ◌++◌, ◌∷◌, ◌*◌, length, min, IfOk, IfErr, OnOk, OnErr, IsErrOf, MatchOption, option_copied, slice_get};
 ghost use Rattle.tn_discipline.specs.Characters.{char_fault};
+ghost use Rattle.tn_nvt.specs.Room.{LacksRoom};
 ghost use Rattle.tn_nvt.specs.Spelling.{spells};
 ghost use Rattle.tn_nvt.specs.Feeding as nvt;
 ghost use Rattle.tn_option.specs.Options.{state_of, is_yes};
@@ -15,7 +16,7 @@ ghost use Rattle.tn_server.specs.Screen.{queue, size, sends_ga, none_waits, due}
 ghost use Rattle.tn_server.specs.Terms.{mode, asked_mask, chars, options, sends_mode};
 ghost use Rattle.tn_server.specs.Replies.{opening};
 ghost use Rattle.tn_server.specs.Faults.{IsOfItem, IsOfPiece, IsFault, SaysSomething};
-ghost use Rattle.tn_server.specs.Calls.{LeadsTo, Advances, ReadsNothing, Feeds, StopsWithin, call_fault, char_fault_at, mask_fault};
+ghost use Rattle.tn_server.specs.Calls.{LeadsTo, Advances, ReadsNothing, Feeds, StopsWithin, LacksRoomFor, call_fault, char_fault_at, mask_fault};
 
 use crate::faults::ServerFault;
 use crate::screen::{SYMBOL_BYTES, spell_front};
@@ -160,6 +161,7 @@ impl ServerEnd {
         ensures err_appends { OnErr result (out.new.items ≡ out.old.items) }
         ensures fault { IfErr result (λ fault. fault ≡ ServerFault.Memory) }
         ensures grows { OnErr result ((h : History) → LeadsTo h self.old → SaysSomething h took) }
+        ensures full { OnErr result (LacksRoomFor self.old took out.old) }
     {
         if let Some(entry) = self.pair.take() {
             return Ok(Some(entry));
@@ -183,12 +185,16 @@ impl ServerEnd {
         !self.terms.options.is_on(Side::Us, SUPPRESS_GO_AHEAD) && self.pulled
     }
 
-    /// Appends the first symbols of the screen in their spelling, at most `max` of them, and answers
+    /// Appends the first symbols of the screen in their spelling, at most `max` of them, and returns
     /// how many symbols.
     pub fn pull(&mut self, max: usize, out: &mut Vec<u8>) -> Result<usize, ServerFault>
         ensures ok { IfOk result (λ n. Advances self.old (pulled n) out.old.items out.new.items self.new) }
         ensures keeps { OnOk result (ReadsNothing self.old self.new) }
         ensures grows { OnErr result ((h : History) → LeadsTo h self.old → SaysSomething h (pulled max)) }
+
+        // Two bytes are reserved for each symbol, which is as long as one may be.
+        ensures full { OnErr result ((h : History) → LeadsTo h self.old →
+            LacksRoom out.old (2 * min max (length (queue h)))) }
         ensures count { IfOk result (λ n. (h : History) → LeadsTo h self.old →
             n ≡ min max (length (queue h))) }
         ensures err { OnErr result (self.new ≡ self.old) }
@@ -216,6 +222,7 @@ impl ServerEnd {
         ensures keeps { OnOk result (ReadsNothing self.old self.new) }
         ensures grows { IsErrOf result ServerFault.Memory → (h : History) → LeadsTo h self.old →
             SaysSomething h (wished editing) }
+        ensures full { IsErrOf result ServerFault.Memory → LacksRoomFor self.old (wished editing) out.old }
         ensures sent { IfOk result (λ sent. (h : History) → LeadsTo h self.old →
             sent ≡ sends_mode h editing) }
         ensures accepted { OnOk result (call_fault self.old ≡ None) }
@@ -249,6 +256,8 @@ impl ServerEnd {
         ensures keeps { OnOk result (ReadsNothing self.old self.new) }
         ensures grows { IsErrOf result ServerFault.Memory → (h : History) → LeadsTo h self.old →
             SaysSomething h (char_set func value) }
+        ensures full { IsErrOf result ServerFault.Memory →
+            LacksRoomFor self.old (char_set func value) out.old }
         ensures accepted { OnOk result (char_fault_at self.old func value ≡ None) }
         ensures fault { IfErr result (IsFault (char_fault_at self.old func value)) }
         ensures err { OnErr result (self.new ≡ self.old) }
@@ -280,6 +289,7 @@ impl ServerEnd {
         ensures keeps { OnOk result (ReadsNothing self.old self.new) }
         ensures grows { IsErrOf result ServerFault.Memory → (h : History) → LeadsTo h self.old →
             SaysSomething h (echo_set on) }
+        ensures full { IsErrOf result ServerFault.Memory → LacksRoomFor self.old (echo_set on) out.old }
         ensures accepted { OnOk result (call_fault self.old ≡ None) }
         ensures err { OnErr result (self.new ≡ self.old) }
         ensures err_appends { OnErr result (out.new.items ≡ out.old.items) }
@@ -308,6 +318,7 @@ impl ServerEnd {
         ensures keeps { OnOk result (ReadsNothing self.old self.new) }
         ensures grows { IsErrOf result ServerFault.Memory → (h : History) → LeadsTo h self.old →
             SaysSomething h (mask_set mask) }
+        ensures full { IsErrOf result ServerFault.Memory → LacksRoomFor self.old (mask_set mask) out.old }
         ensures accepted { OnOk result (mask_fault self.old ≡ None) }
         ensures fault { IfErr result (IsFault (mask_fault self.old)) }
         ensures err { OnErr result (self.new ≡ self.old) }
@@ -319,7 +330,7 @@ impl ServerEnd {
         if !self.terms.has_linemode() {
             return Err(ServerFault::NotOn);
         }
-        match put_mask(self.alloc, mask, out) {
+        match put_mask(mask, out) {
             Ok(()) => Ok(()),
             Err(_) => Err(ServerFault::Memory),
         }

@@ -14,11 +14,11 @@ pub enum ServerFault {
     /// The pair behind the end refused a key or a command. The end has failed.
     #[error("pseudoterminal: {0}")]
     Pty(PtyFault),
-    /// Memory was wanting; from `feed` the end has failed.
+    /// Out of memory. Where `feed` returns it, the end has failed.
     #[error("out of memory")]
     Memory,
     /// A call of `feed` was refused before.
-    #[error("the end has failed before")]
+    #[error("the end has failed")]
     Failed,
     /// A special character was not changed.
     #[error("special character: {0}")]

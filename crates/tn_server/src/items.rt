@@ -2,6 +2,7 @@
 
 ghost use Rattle.std.specs.Prelude.{◌≡◌, ◌≢◌, ◌≤◌, ◌++◌, ℕ, List, true, Some, [], length, map, IfOk, IfErr, OnOk, OnErr, IsErrOf};
 ghost use Rattle.tn_codes.specs.declared.payloads.Payload.TheVariants as payload;
+ghost use Rattle.tn_nvt.specs.Room.{LacksRoom};
 ghost use Rattle.tn_nvt.specs.Spelling.{spells};
 ghost use Rattle.tn_nvt.specs.declared.items.Item.TheVariants as item;
 ghost use Rattle.tn_pty.specs.Typing.{command_role};
@@ -154,6 +155,8 @@ impl ServerEnd {
             out.old.items out.new.items) }
         ensures some { OnErr result
             (says_wished self.old (mask_for self.old.terminal.settings.flags editing) ≢ []) }
+        ensures full { let said = says_wished self.old (mask_for self.old.terminal.settings.flags editing) in
+            OnErr result (LacksRoom out.old (length (spells said))) }
         ensures err { OnErr result (self.new ≡ self.old) }
     {
         let flags = self.pair.settings().flags;
@@ -208,7 +211,7 @@ impl ServerEnd {
         let mut table = self.table;
         let mut answers = Vec::new(self.alloc);
         let is_asked = table.got(triples.as_slice(), &mut answers)?;
-        put_list(self.alloc, answers, out)?;
+        put_list(&answers, out)?;
         if is_asked {
             announce(self.alloc, &table, out)?;
         }

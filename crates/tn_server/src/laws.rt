@@ -1,29 +1,36 @@
 //! Laws of the definitions alone.
 
-ghost use Rattle.std.specs.Prelude.{◌≡◌, ◌↔◌, ◌<◌, ◌≤◌, ◌+◌, ◌*◌, ◌++◌, ℕ, List, All, [], length, map};
+ghost use Rattle.std.specs.Prelude.{◌≡◌, ◌↔◌, ◌<◌, ◌≤◌, ◌+◌, ◌*◌, ◌∷◌, ◌++◌, ℕ, true, List, All, [], length, map};
 ghost use Rattle.std.specs.List.{flat_map};
-ghost use Rattle.tn_discipline.specs.Canon.{Canon};
+ghost use Rattle.tn_discipline.specs.Canon.{Canon, typed_entries, typed_half};
+ghost use Rattle.tn_discipline.specs.Entries.{entries_of, half_of};
+ghost use Rattle.tn_discipline.specs.Limits.{most_counted};
+ghost use Rattle.tn_discipline.specs.declared.reads.Entry.TheVariants.{Text};
 ghost use Rattle.tn_codes.specs.Payloads.{parameters_of};
 ghost use Rattle.tn_codes.specs.declared.payloads.Payload.TheVariants.{Slc};
 ghost use Rattle.tn_codes.specs.declared.triples.Triple.{Triple};
 ghost use Rattle.tn_discipline.specs.Characters.{AreAllowed, Characters};
 ghost use Rattle.tn_linemode.specs.Exchange.{client_answers};
+ghost use Rattle.tn_linemode.specs.Modes.{edits};
 ghost use Rattle.tn_nvt.specs.declared.items.Item.TheVariants.{Sub};
 ghost use Rattle.tn_nvt.specs.Spelling.{Fits, spells};
 ghost use Rattle.tn_nvt.specs.Feeding as nvt;
 ghost use Rattle.tn_nvt.specs.declared.items.Item.{Item};
-ghost use Rattle.tn_pty.specs.Terminal.{output_symbols};
+ghost use Rattle.tn_pty.specs.Terminal.{output_symbols, queue_symbols, most_waiting};
 ghost use Rattle.tn_server.specs.Course.{Course, started, fed, called, stream, in_parts, IsCall, ReadsAs, CourseLeadsTo};
-ghost use Rattle.tn_server.specs.Events.{Event, got, History, begun, items, gets, opening_settings};
+ghost use Rattle.tn_server.specs.Events.{Event, got, History, begun, items, gets, opening_settings, limit};
+ghost use Rattle.tn_server.specs.Lines.{entries, half, waiting};
+ghost use Rattle.tn_server.specs.OtherClients.{StaysRemote, opening_canon, roles_of_items, keys_of, IsNoCommand, line_items, AreOrdinary};
 ghost use Rattle.tn_server.specs.Bounds.{most_said, HasAllowedCharacters, most_of_calls, bytes_due};
 ghost use Rattle.tn_wire.specs.Fronts.{IsRead};
 ghost use Rattle.tn_server.specs.Replies.{data_of, replies, items_said};
 ghost use Rattle.tn_server.specs.Screen.{queue};
 ghost use Rattle.tn_server.specs.Calls.{End, LeadsTo, Advances, ReadsNothing, Feeds, StopsWithin};
 ghost use Rattle.tn_server.specs.Stopping.{StopsBetween};
-ghost use Rattle.tn_server.specs.Terms.{settings, chars};
+ghost use Rattle.tn_server.specs.Terms.{settings, chars, mode};
 ghost use Rattle.tn_server.specs.declared.faults.ServerFault.{ServerFault};
 
+use crate::end::ServerEnd;
 use tn_discipline::laws::accepted_characters;
 use tn_linemode::laws::{answers_name_their_function, exchanges_end, tables_stay_allowed};
 
@@ -91,6 +98,20 @@ pub fn texts_are_whole()
         queue (in_parts h parts) ≡ [] }
 {}
 
+/// Whatever came and whatever was called, at most 4,096 symbols wait to be pulled, and the half line has at
+/// most as many bytes as a line counts before its closing byte.
+pub fn nothing_overflows()
+    ensures symbols { (h : History) → length (queue h) ≤ queue_symbols }
+    ensures half { (h : History) → length (half h) ≤ most_counted (limit h) }
+{}
+
+/// Whatever history led to an end, at most 1,024 entries wait at it.
+pub fn entries_are_bounded(end: &ServerEnd)
+    ensures { (h : History) → LeadsTo h end.now → length (waiting h) ≤ most_waiting }
+{
+    let _count = end.pair.waiting_count();
+}
+
 /// What an item is answered by at most: an option word by 43 bytes, a subnegotiation by 30 bytes more than it
 /// has itself, and any other by none.
 pub fn replies_bounded()
@@ -129,9 +150,32 @@ pub fn sending_bounded()
     answers_name_their_function();
 }
 
-/// A piece that goes on with a subnegotiation that is dropped is not refused: it wants no memory, and
+/// A piece that goes on with a subnegotiation that is dropped is not refused: it needs no memory, and
 /// completes no item.
 pub fn dropping_goes_on()
     ensures { (h : History) (old new : End) (piece before after : List ℕ) (fault : ServerFault) →
         LeadsTo h old → nvt.IsLetGo old.decoder piece → ¬ StopsWithin old piece fault before after new }
+{}
+
+/// A client that edits nothing, as those of PuTTY, busybox and libtelnet: whatever else it says, the entries
+/// are the local entries of its data bytes, its commands having the roles that they have.
+pub fn remote_clients()
+    ensures entries { (h : History) → StaysRemote h →
+        entries h ≡ entries_of (limit h) (roles_of_items (opening_settings h) (items h)) }
+    ensures half { (h : History) → StaysRemote h →
+        half h ≡ half_of (limit h) (roles_of_items (opening_settings h) (items h)) }
+    ensures typed_entries { (h : History) → StaysRemote h → All IsNoCommand (items h) →
+        entries h ≡ typed_entries (opening_canon h) (keys_of (items h)) }
+    ensures typed_half { (h : History) → StaysRemote h → All IsNoCommand (items h) →
+        half h ≡ typed_half (opening_canon h) (keys_of (items h)) }
+{}
+
+/// A client that edits, whoever made it: a line that it sends whole is read as that line.
+pub fn whole_lines()
+    ensures entries { (h : History) (bytes : List ℕ) → edits (mode h) ≡ true → half h ≡ [] →
+        AreOrdinary (chars h) bytes → length bytes ≤ most_counted (limit h) →
+        entries (gets h (line_items bytes)) ≡ entries h ++ Text (bytes ++ 10 ∷ []) ∷ [] }
+    ensures half { (h : History) (bytes : List ℕ) → edits (mode h) ≡ true → half h ≡ [] →
+        AreOrdinary (chars h) bytes → length bytes ≤ most_counted (limit h) →
+        half (gets h (line_items bytes)) ≡ [] }
 {}

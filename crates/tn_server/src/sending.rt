@@ -1,11 +1,12 @@
 //! What a server end says of its special characters and forward masks.
 
-ghost use Rattle.std.specs.Prelude.{◌≡◌, ◌++◌, true, OnOk, OnErr};
+ghost use Rattle.std.specs.Prelude.{◌≡◌, ◌++◌, true, length, OnOk, OnErr};
+ghost use Rattle.tn_nvt.specs.Room.{LacksRoom};
 ghost use Rattle.tn_nvt.specs.Spelling.{spells};
 ghost use Rattle.tn_server.specs.Replies.{triple_items, forward_payload};
 ghost use Rattle.tn_wire.specs.Words.{payload_items};
 
-use std::alloc::{AllocError, Global};
+use std::alloc::AllocError;
 use tn_codes::{Func, Mask, Payload};
 use tn_linemode::triple_of;
 use tn_wire::{put_payload, put_triple};
@@ -20,6 +21,7 @@ pub(crate) fn put_char(
     ensures ok { OnOk result (out.new.items ≡ out.old.items ++ spells (triple_items is_told func value)) }
     ensures err { OnErr result (out.new.items ≡ out.old.items) }
     ensures some { OnErr result (is_told ≡ true) }
+    ensures full { OnErr result (LacksRoom out.old (length (spells (triple_items is_told func value)))) }
 {
     if !is_told {
         return Ok(());
@@ -28,17 +30,15 @@ pub(crate) fn put_char(
 }
 
 /// Appends a forward mask, or that there is none any more.
-pub(crate) fn put_mask(
-    alloc: Global,
-    mask: Option<Mask>,
-    out: &mut Vec<u8>,
-) -> Result<(), AllocError>
+pub(crate) fn put_mask(mask: Option<Mask>, out: &mut Vec<u8>) -> Result<(), AllocError>
     ensures ok { OnOk result (out.new.items ≡
         out.old.items ++ spells (payload_items (forward_payload mask))) }
     ensures err { OnErr result (out.new.items ≡ out.old.items) }
+    ensures full { OnErr result
+        (LacksRoom out.old (length (spells (payload_items (forward_payload mask))))) }
 {
     match mask {
-        Some(mask) => put_payload(alloc, &Payload::ForwardOn(mask), out),
-        None => put_payload(alloc, &Payload::ForwardOff, out),
+        Some(mask) => put_payload(&Payload::ForwardOn(mask), out),
+        None => put_payload(&Payload::ForwardOff, out),
     }
 }

@@ -1,7 +1,8 @@
 //! What a server end has agreed on with its client.
 
-ghost use Rattle.std.specs.Prelude.{◌≡◌, ◌≢◌, [], ◌++◌, true, is_some, IfOk, OnOk, OnErr};
+ghost use Rattle.std.specs.Prelude.{◌≡◌, ◌≢◌, ◌≤◌, ◌⊎◌, [], ◌++◌, true, is_some, length, vec_capacity, IfOk, OnOk, OnErr};
 ghost use Rattle.tn_linemode.specs.Modes.{no_mode};
+ghost use Rattle.tn_nvt.specs.Room.{LacksRoom};
 ghost use Rattle.tn_nvt.specs.Spelling.{spells};
 ghost use Rattle.tn_server.specs.Terms.{opening_options, linemode, echoes, options_with_echo, wants_echo};
 ghost use Rattle.tn_server.specs.Replies.{new_table_items, echo_items};
@@ -86,6 +87,8 @@ impl Negotiation {
         ensures err { OnErr result (out.new.items ≡ out.old.items) }
         ensures some { OnErr result
             (echo_items is_due (wants_echo self.old.modes.asked flags.now) self.old.options ≢ []) }
+        ensures full { let wanted = wants_echo self.old.modes.asked flags.now in OnErr result
+            (LacksRoom out.old (length (spells (echo_items is_due wanted self.old.options)))) }
     {
         if !is_due {
             return Ok(());
@@ -119,11 +122,16 @@ impl Negotiation {
             (AppendsFront (negotiation_items was_on is_set flags.now table.now self.old) out.old.items
             out.new.items) }
         ensures some { OnErr result (negotiation_items was_on is_set flags.now table.now self.old ≢ []) }
+
+        // Where the table is told, its triples are listed first, which takes memory of its own.
+        ensures full { let said = negotiation_items was_on is_set flags.now table.now self.old in
+            OnErr result (LacksRoom out.old (length (spells said))
+            ⊎ (new_table_items was_on (linemode self.old.options) table.now ≢ [])) }
     {
         let is_on = self.has_linemode();
         put_table(alloc, was_on, is_on, table, out)?;
         let told = self.ask_mode(was_on);
-        put_mode(alloc, told, out)?;
+        put_mode(told, out)?;
         let is_due = is_on != was_on || (told.is_some() || is_set);
         self.ask_echo(is_due, flags, out)?;
         Ok(told.is_some())
@@ -142,6 +150,7 @@ fn put_table(
         out.old.items ++ spells (new_table_items was_on is_on table.now)) }
     ensures err { OnErr result (out.new.items ≡ out.old.items) }
     ensures some { OnErr result (new_table_items was_on is_on table.now ≢ []) }
+    ensures capacity { vec_capacity out.old ≤ vec_capacity out.new }
 {
     if was_on || !is_on {
         return Ok(());
@@ -157,10 +166,11 @@ pub(crate) fn announce(
 ) -> Result<(), AllocError>
     ensures ok { OnOk result (out.new.items ≡ out.old.items ++ spells (list_items (announcement table.now))) }
     ensures err { OnErr result (out.new.items ≡ out.old.items) }
+    ensures capacity { vec_capacity out.old ≤ vec_capacity out.new }
 {
     let mut triples = Vec::new(alloc);
     table.announce(&mut triples)?;
-    put_list(alloc, triples, out)
+    put_list(&triples, out)
 }
 
 fn opening_options() -> Engine

@@ -13,7 +13,7 @@ use Rattle.tn_client.specs.Stopping.{StopsBetween}
 use Rattle.tn_client.proofs.lemmas.Courses.{one_history}
 use Rattle.tn_client.proofs.lemmas.Histories.{gets-append, sent-gets, shown-gets}
 
--- a front of the first reply is a front of all that the items make the client say
+-- a prefix of the first reply is a prefix of all that the items make the client say
 pub front_said : (h : History) (left more part : List Item) (here : DecoderState) (back : List ℕ) → IsStopCause h left part here back → (unsaid : List Item) × (items_said (gets h (left ++ more)) ≡ items_said h ++ (part ++ unsaid))
 front_said h [] more part here back why =
     let m = sent-gets h more in

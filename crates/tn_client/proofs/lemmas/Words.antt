@@ -16,7 +16,7 @@ use Rattle.tn_linemode.specs.Modes.{edits, mode_answer}
 use Rattle.tn_linemode.specs.Triples.{triple_of}
 use Rattle.tn_nvt.specs.declared.items.Item.{Item}
 use Rattle.tn_nvt.specs.declared.items.Item.TheVariants.{Byte, Newline, Cmd, Neg, Sub}
-use Rattle.tn_option.specs.EnginePair.{EnginePair, engine_steps, got_there}
+use Rattle.tn_option.specs.EnginePair.{EnginePair, talk_steps, client_hears}
 use Rattle.tn_option.specs.Options.{Options, options_after_word, reply_to}
 use Rattle.tn_option.proofs.lemmas.Agreement.{Moves, then-Moves}
 use Rattle.tn_wire.specs.OptionWords.{words_in}
@@ -105,7 +105,7 @@ ending_none false after bytes = refl
 -- AN ITEM: an option word is answered
 answer_moves : (here o : Options) (m : ℕ) (c : Characters) (z : ℕ × ℕ) (item : Item) (ws vs : List (Verb × ℕ)) → Moves (pair here o ws (words_in (item ∷ []) ++ vs)) (pair here (options_after o item) (ws ++ words_in (answer_items o m c z item)) vs)
 answer_moves here o m c z (Neg verb option) ws vs = (
-  got_there ∷ [],
+  client_hears ∷ [],
   ap (λ (x : List (Verb × ℕ)). pair here (options_after_word o verb option) (ws ++ x) vs)
       (sym (none_last (word_items (reply_to o verb option)) (new_size_items (tells_size o) (tells_size (options_after o (Neg verb option))) z) (if_none (tells_size (options_after o (Neg verb option)) && not (tells_size o)) (size_items z) (size_none z)) ∙ words_in-word (reply_to o verb option))),
 )
@@ -143,7 +143,7 @@ gets_moves h (item ∷ items) here ws vs =
       later.1 ∙ append_assoc (items_said h) said later.0,
       (
         all.0,
-        ap (λ (x : List (Verb × ℕ)). engine_steps all.0 (pair here (options h) ws x)) (cons_words item items vs)
+        ap (λ (x : List (Verb × ℕ)). talk_steps all.0 (pair here (options h) ws x)) (cons_words item items vs)
             ∙ all.1
             ∙ ap (λ (x : List (Verb × ℕ)). pair here (options (gets h (item ∷ items))) x vs) (append_assoc ws (words_in said) (words_in later.0) ∙ ap (λ (x : List (Verb × ℕ)). ws ++ x) (sym (words_in-append said later.0))),
       ),

@@ -18,7 +18,7 @@ use Rattle.tn_server.specs.declared.faults.ServerFault.TheVariants.{Pty}
 use Rattle.tn_server.proofs.lemmas.Courses.{one_history}
 use Rattle.tn_server.proofs.lemmas.Histories.{gets-append, sent-gets}
 
--- a front of the first reply is a front of all that the items make the server say
+-- a prefix of the first reply is a prefix of all that the items make the server say
 front_said : (h : History) (left more part rest : List Item) → first_replies h left ≡ part ++ rest → (unsaid : List Item) × (items_said (gets h (left ++ more)) ≡ items_said h ++ (part ++ unsaid))
 front_said h [] more part rest e =
     let m = sent-gets h more in

@@ -16,7 +16,7 @@ use Rattle.tn_linemode.specs.Exchange.{announcement, server_answers, server_is_a
 use Rattle.tn_linemode.specs.Triples.{triple_of}
 use Rattle.tn_nvt.specs.declared.items.Item.{Item}
 use Rattle.tn_nvt.specs.declared.items.Item.TheVariants.{Byte, Newline, Cmd, Neg, Sub}
-use Rattle.tn_option.specs.EnginePair.{EnginePair, engine_steps, asked_word, ask_here, got_here, pair_of}
+use Rattle.tn_option.specs.EnginePair.{EnginePair, talk_steps, wishes_echo, server_hears, asked_word, ask_here, LeadTo}
 use Rattle.tn_option.specs.Options.{Options, new_options, options_after_word, options_after_wish, reply_to, answer_to}
 use Rattle.tn_option.specs.QMethod.{cell}
 use Rattle.tn_option.specs.declared.negotiation.Agree.{Agree}
@@ -72,18 +72,18 @@ ga_none true = refl
 ga_none false = refl
 
 -- THE SERVER'S WORD FOR ECHO is a wish
-asked_in : (r : Result (Option (Verb × ℕ)) AskFault) → words_in (asked_word_items r) ≡ option_to_list (asked_word r)
+pub asked_in : (r : Result (Option (Verb × ℕ)) AskFault) → words_in (asked_word_items r) ≡ option_to_list (asked_word r)
 asked_in (Ok said) = words_in-word said
 asked_in (Err fault) = refl
 
 echo_moves : (due wanted : Bool) (o there : Options) (ws vs : List (Verb × ℕ)) → Moves (pair o there ws vs) (pair (options_with_echo due wanted o) there ws (vs ++ words_in (echo_items due wanted o)))
 echo_moves true wanted o there ws vs = (
-  ask_here Us 1 wanted ∷ [],
+  wishes_echo wanted ∷ [],
   ap (λ (x : List (Verb × ℕ)). pair (options_after_wish o Us 1 wanted) there ws (vs ++ x)) (sym (asked_in (answer_to o Us 1 wanted))),
 )
 echo_moves false wanted o there ws vs = ([], ap (λ (x : List (Verb × ℕ)). pair o there ws x) (sym (append-nil vs)))
 
-by_words : (f : Flags) (c : Characters) (t : Terms) (o : Options) (ed : Option Editing) (set : Bool)
+pub by_words : (f : Flags) (c : Characters) (t : Terms) (o : Options) (ed : Option Editing) (set : Bool)
     → words_in (items_by f c t o ed set)
     ≡ words_in (echo_items (asks_echo t.options o (mask_told t o (wish_after f t.wish ed)) set) (wants_echo (asked_mask_of o (wish_after f t.wish ed)) f) o)
 by_words f c t o ed set =
@@ -104,7 +104,7 @@ by_moves f c t o there ed set ws vs =
 -- AN ITEM: an option word is answered, and then the rest is said
 reply_moves : (o there : Options) (item : Item) (ws vs : List (Verb × ℕ)) → Moves (pair o there (words_in (item ∷ []) ++ ws) vs) (pair (options_after o (got item)) there ws (vs ++ words_in (reply_items o (got item))))
 reply_moves o there (Neg verb option) ws vs = (
-  got_here ∷ [],
+  server_hears ∷ [],
   ap (λ (x : List (Verb × ℕ)). pair (options_after_word o verb option) there ws (vs ++ x)) (sym (words_in-word (reply_to o verb option))),
 )
 reply_moves o there (Byte b) ws vs = ([], ap (λ (x : List (Verb × ℕ)). pair o there ws x) (sym (append-nil vs)))
@@ -112,7 +112,7 @@ reply_moves o there Newline ws vs = ([], ap (λ (x : List (Verb × ℕ)). pair o
 reply_moves o there (Cmd command) ws vs = ([], ap (λ (x : List (Verb × ℕ)). pair o there ws x) (sym (append-nil vs)))
 reply_moves o there (Sub option params) ws vs = ([], ap (λ (x : List (Verb × ℕ)). pair o there ws x) (sym (append-nil vs)))
 
-got_words : (h : History) (item : Item) → words_in (replies h (got item)) ≡ words_in (reply_items (options h) (got item)) ++ words_in (items_by (flags h) (chars h) (terms h) (options_after (options h) (got item)) (wish_at (options h) (got item)) false)
+pub got_words : (h : History) (item : Item) → words_in (replies h (got item)) ≡ words_in (reply_items (options h) (got item)) ++ words_in (items_by (flags h) (chars h) (terms h) (options_after (options h) (got item)) (wish_at (options h) (got item)) false)
 got_words h item =
     none_last (items_at (flags h) (chars h) (terms h) (got item)) _ (list_none (chars h) (payload_at (options h) item))
     ∙ words_in-append (reply_items (options h) (got item)) _
@@ -145,7 +145,7 @@ gets_moves h (item ∷ items) there ws vs =
       later.1 ∙ append_assoc (items_said h) said later.0,
       (
         all.0,
-        ap (λ (x : List (Verb × ℕ)). engine_steps all.0 (pair (options h) there x vs)) (cons_words item items ws)
+        ap (λ (x : List (Verb × ℕ)). talk_steps all.0 (pair (options h) there x vs)) (cons_words item items ws)
             ∙ all.1
             ∙ ap (λ (x : List (Verb × ℕ)). pair (options (gets h (item ∷ items))) there ws x) (append_assoc vs (words_in said) (words_in later.0) ∙ ap (λ (x : List (Verb × ℕ)). vs ++ x) (sym (words_in-append said later.0))),
       ),
@@ -171,9 +171,9 @@ call_moves h (echo_set on) there ws vs is = by_moves (flags (next h (echo_set on
 call_moves h (mask_set mask) there ws vs is = quiet_call (options h) there (replies h (mask_set mask)) ws vs (mask_none mask)
 
 -- THE OPENING WORDS are five wishes
-pub opening_moves : (there : Agree) → Moves (pair_of agreement there) (pair opening_options (new_options there) [] (words_in opening))
+pub opening_leads : (there : Agree) → LeadTo agreement there (pair opening_options (new_options there) [] (words_in opening))
 unfolding new_options options_after_wish answer_to cell
-opening_moves there = (ask_here Them 34 true ∷ ask_here Them 31 true ∷ ask_here Us 3 true ∷ ask_here Them 3 true ∷ ask_here Us 1 true ∷ [], refl)
+opening_leads there = record { list = ask_here Them 34 true ∷ ask_here Them 31 true ∷ ask_here Us 3 true ∷ ask_here Them 3 true ∷ ask_here Us 1 true ∷ []; is = refl }
 
 -- AN END, after a piece and after a call
 pub feeds_moves : (h : History) (old new : End) (piece before after : List ℕ) (there : Options) (ws vs : List (Verb × ℕ)) → LeadsTo h old → (f : Feeds old piece before after new) → Moves (pair old.terms.options there (words_in f.items ++ ws) vs) (pair new.terms.options there ws (vs ++ words_in f.said))

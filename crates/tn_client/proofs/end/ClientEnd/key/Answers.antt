@@ -1,4 +1,4 @@
-use Rattle.tn_client.proofs.Standings.{goes_typed, keeps_typed, sends_typed, shows_key_typed, grows_typed}
+use Rattle.tn_client.proofs.Standings.{goes_typed, keeps_typed, sends_typed, shows_key_typed, grows_typed, lacks_typed}
 use Rattle.tn_client.proofs.end.ClientEnd.key.Goals as goal
 
 pub returns-in-Ok-clause-goes : goal.returns-in-Ok-clause-goes
@@ -16,3 +16,6 @@ returns-in-Ok-clause-shows c =
 
 pub returns-in-Err-clause-grows : goal.returns-in-Err-clause-grows
 returns-in-Err-clause-grows c = λ _. grows_typed c.args.self.now c.args.key c.in-Err.ensures.grows
+
+pub returns-in-Err-clause-full : goal.returns-in-Err-clause-full
+returns-in-Err-clause-full c = λ _. lacks_typed c.args.self.now c.args.key c.args.out.now c.args.screen.now c.in-Err.ensures.full

@@ -24,5 +24,5 @@ unfolding client_answers
 returns-in_err-put_list-clause-grows c =
     let p = err_from_is_err_and c.from_residual-in_err-put_list.result c.from_residual-in_err-put_list.ensures.1 in
     let all = c.in_ok-got.ensures.answers ∙ ap (λ (xs : List Triple). xs ++ client_answers c.self.inside.table c.as_slice.result.now) c.new-answers.ensures.items in
-    let some = answered_some client_next client_answer c.self.inside.table c.as_slice.result.now _ all c.in_err-put_list.ensures.some in
+    let some = answered_some client_next client_answer c.self.inside.table c.as_slice.result.now _ (c.deref.ensures.value ∙ all) c.in_err-put_list.ensures.some in
     rw p.1 (rw c.as_slice.ensures at some)

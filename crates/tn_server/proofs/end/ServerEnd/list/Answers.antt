@@ -26,7 +26,7 @@ unfolding server_answers
 returns-in_err-put_list-clause-some c =
     let p = err_from_is_err_and c.from_residual-in_err-put_list.result c.from_residual-in_err-put_list.ensures.1 in
     let all = c.in_ok-is_asked.ensures.answers ∙ ap (λ (xs : List Triple). xs ++ server_answers c.self.inside.table c.as_slice.result.now) c.new-answers.ensures.items in
-    let some = answered_some server_next server_answer c.self.inside.table c.as_slice.result.now _ all c.in_err-put_list.ensures.some in
+    let some = answered_some server_next server_answer c.self.inside.table c.as_slice.result.now _ (c.deref.ensures.value ∙ all) c.in_err-put_list.ensures.some in
     rw p.1 (rw c.as_slice.ensures at some)
 
 pub returns-in_err-announce-clause-some : goal.returns-in_err-announce-clause-some

@@ -1,0 +1,32 @@
+-- What waits at a server end is bounded.
+use Rattle.std.proofs.Common.{◌≡◌, ◌≤◌, ◌+◌, nat_le, Bool, true, false, List, ◌++◌, length, map, take, refl, ap, arith, length-append, length-drop, if◌then◌else◌}
+use Rattle.std.proofs.lemmas.Bool.{leb-true}
+use Rattle.std.proofs.lemmas.List.{length-take, length-map}
+use Rattle.tn_discipline.specs.declared.echo.Symbol.{Symbol}
+use Rattle.tn_linemode.specs.Modes.{edits}
+use Rattle.tn_pty.specs.Terminal.{queue_symbols, most_waiting, fitting_count, output_symbol}
+use Rattle.tn_server.specs.Events.{History, begun, next, got, wrote, pulled}
+use Rattle.tn_server.specs.Lines.{line, waiting}
+use Rattle.tn_server.specs.Screen.{queue, shows}
+use Rattle.tn_server.specs.Terms.{settings, mode, options, echoes}
+use Rattle.tn_server.specs.Calls.{End, LeadsTo}
+use Rattle.tn_server.proofs.lemmas.Ends.{waits_are}
+
+fits_with : (b : Bool) (symbols more : List Symbol) → nat_le (length symbols + length more) queue_symbols ≡ b → length symbols ≤ queue_symbols → length (if b then symbols ++ more else symbols) ≤ queue_symbols
+fits_with true symbols more fits few = omega (arith, leb-true (length symbols + length more) queue_symbols fits, length-append symbols more)
+fits_with false symbols more fits few = few
+
+pub queue_fits : (h : History) → length (queue h) ≤ queue_symbols
+queue_fits (begun canon) = omega arith
+queue_fits (next h (got item)) =
+    let more = shows (settings h) (edits (mode h)) (echoes (options h)) (line h) item in
+    fits_with (nat_le (length (queue h) + length more) queue_symbols) (queue h) more refl (queue_fits h)
+queue_fits (next h (wrote bytes)) =
+    let n = fitting_count (queue h) bytes in
+    let shown = take n bytes in
+    omega (arith, queue_fits h, length-append (queue h) (map (output_symbol (settings h).flags) shown), length-map shown (output_symbol (settings h).flags), length-take n bytes)
+queue_fits (next h (pulled n)) = omega (arith, queue_fits h, length-drop n (queue h))
+queue_fits (next h _) = queue_fits h
+
+pub waiting_fits : (h : History) (end : End) → LeadsTo h end → length end.terminal.entries ≤ most_waiting → length (waiting h) ≤ most_waiting
+waiting_fits h end leads few = omega (arith, few, ap length (waits_are h end leads))

@@ -1,0 +1,70 @@
+-- What a server makes of clients of other makers: of one that edits nothing, as PuTTY, busybox and libtelnet,
+-- and of a line that was edited before and is sent whole.
+use Rattle.std.specs.Prelude.{◌≡◌, ℕ, true, false, Option, Some, List, [], ◌∷◌, ◌++◌, map}
+use Rattle.std.specs.List.{flat_map}
+use Rattle.tn_codes.specs.PayloadOf.{payload_of}
+use Rattle.tn_codes.specs.declared.payloads.Payload.{Payload}
+use Rattle.tn_codes.specs.declared.payloads.Payload.TheVariants.{Mode, Slc}
+use Rattle.tn_discipline.specs.Canon.{Canon}
+use Rattle.tn_discipline.specs.Characters.{Characters}
+use Rattle.tn_discipline.specs.Keys.{literal_role, roles_from}
+use Rattle.tn_discipline.specs.declared.keys.Role.{Role}
+use Rattle.tn_discipline.specs.declared.keys.Role.TheVariants.{Ordinary}
+use Rattle.tn_discipline.specs.declared.termios.Settings.{Settings}
+use Rattle.tn_linemode.specs.Exchange.{server_after}
+use Rattle.tn_linemode.specs.Modes.{edits, is_acknowledged}
+use Rattle.tn_nvt.specs.declared.items.Item.{Item}
+use Rattle.tn_nvt.specs.declared.items.Item.TheVariants.{Byte, Newline, Cmd, Sub}
+use Rattle.tn_server.specs.Events.{Event, got, char_set, History, begun, next, opening_settings, limit}
+use Rattle.tn_server.specs.Lines.{role_at}
+
+-- A CLIENT THAT EDITS NOTHING
+
+-- RFC 1184, section 2.2: no mask with EDIT is acknowledged
+abbrev pub AcknowledgesNoEdit : Option Payload → Type 0
+AcknowledgesNoEdit (Some (Mode mask)) = is_acknowledged mask ≡ true → edits mask ≡ false
+AcknowledgesNoEdit _ = Unit {0}
+
+-- RFC 1184, section 2.4: a list of local characters changes none of these
+abbrev pub KeepsCharacters : Characters → Option Payload → Type 0
+KeepsCharacters chars (Some (Slc triples)) = server_after chars triples ≡ chars
+KeepsCharacters chars _ = Unit {0}
+
+abbrev pub IsRemoteEvent : Characters → Event → Type 0
+IsRemoteEvent chars (got (Sub option params)) =
+    AcknowledgesNoEdit (payload_of option params) × KeepsCharacters chars (payload_of option params)
+IsRemoteEvent chars (char_set func value) = ⊥
+IsRemoteEvent chars _ = Unit {0}
+
+-- No item acknowledges EDIT, and nobody changes a special character.
+abbrev pub StaysRemote : History → Type 0
+StaysRemote (begun canon) = Unit {0}
+StaysRemote (next h e) = StaysRemote h × IsRemoteEvent (opening_settings h).chars e
+
+-- the terminal that the end was started over
+abbrev pub opening_canon : History → Canon
+opening_canon h = record { settings = opening_settings h; limit = limit h }
+
+-- the roles of these items there: a data byte is a key, a new line the key 10, and a command has its own role
+abbrev pub roles_of_items : Settings → List Item → List Role
+roles_of_items s items = flat_map (λ item. roles_from (role_at s false item)) items
+
+-- the data bytes alone, as keys
+abbrev pub keys_of : List Item → List ℕ
+keys_of [] = []
+keys_of (Byte byte ∷ items) = byte ∷ keys_of items
+keys_of (Newline ∷ items) = 10 ∷ keys_of items
+keys_of (_ ∷ items) = keys_of items
+
+abbrev pub IsNoCommand : Item → Type 0
+IsNoCommand (Cmd command) = ⊥
+IsNoCommand _ = Unit {0}
+
+-- A LINE THAT IS SENT WHOLE: its bytes, and a new line, which is CR LF on the wire (RFC 854)
+abbrev pub line_items : List ℕ → List Item
+line_items bytes = map Byte bytes ++ Newline ∷ []
+
+-- none of these bytes is a closing character
+abbrev pub AreOrdinary : Characters → List ℕ → Type 0
+AreOrdinary chars [] = Unit {0}
+AreOrdinary chars (byte ∷ bytes) = (literal_role chars byte ≡ Ordinary byte) × AreOrdinary chars bytes
