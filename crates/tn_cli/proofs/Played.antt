@@ -1,9 +1,12 @@
 -- Lines that are done one after another.
-use Rattle.std.proofs.Common.{◌≡◌, ℕ, suc, ◌+◌, ◌<◌, List, [], ◌∷◌, ◌++◌, length, take, drop, get_or, refl, sym, ap, ◌∙◌, subst, subst₂, Some, append_assoc, append-nil, add-one, arith, take-append-drop, drop-cons, length-take, map, Bor}
+use Rattle.std.proofs.Common.{◌≡◌, ◌⊎◌, inl, inr, ℕ, zero, suc, ◌+◌, ◌*◌, ◌<◌, ◌≤◌, List, [], ◌∷◌, ◌++◌, length, take, drop, get_or, refl, sym, ap, ◌∙◌, subst, subst₂, Some, append_assoc, append-nil, add-one, arith, take-append-drop, drop-cons, length-take, map, Bor}
 use Rattle.std.proofs.lemmas.List.{take_more, map-append, take-map, get_or-map, length-map}
 use Rattle.tn_world.specs.Headline.{NothingInFlight}
+use Rattle.tn_world.specs.Settling as world_settling
+use Rattle.tn_world.specs.Settling.{RunsRounds}
 use Rattle.tn_world.specs.Worlds.{World}
-use Rattle.tn_cli.specs.Playing.{Delivers, RunsRounds, RunsLine, RunsLines, LeadsTo, StopsWithin, EndsWith, IsBad, RefusesLine, AppendsPrint, Prints}
+use Rattle.tn_world.specs.declared.faults.Cause.{Cause}
+use Rattle.tn_cli.specs.Playing.{RefusesToSettle, RunsLine, RunsLines, LeadsTo, StopsWithin, EndsWith, IsBad, RefusesLine, AppendsPrint, Prints}
 use Rattle.tn_cli.specs.declared.fault.CliFault.TheVariants as fault
 
 plays_more : (old mid new : World) (lines : List (List ℕ)) (line text head : List ℕ) → RunsLines old lines text mid → RunsLine mid line head new → RunsLines old (lines ++ line ∷ []) (text ++ head) new
@@ -55,6 +58,45 @@ lent_refused world lines i d before now after within (text, played, added) (refu
     let stop = lent_stop_at lines i d text world within played in
     (text, (stop.0, subst₂ RefusesLine (sym stop.2) (sym stop.1) refused), same ∙ added)
 
--- one round more
-pub round_more : (n : ℕ) (old mid new : World) → RunsRounds n old mid → ¬ NothingInFlight mid → Delivers mid new → RunsRounds (n + 1) old new
-round_more n old mid new rounds flies delivers = rw add-one (mid, rounds, flies, delivers)
+-- some rounds more
+record Rounds (n m : ℕ) (old new : World) : Type 0 where
+  pub count : ℕ
+  pub is_count : count ≡ n + m
+  pub rounds : RunsRounds count old new
+
+more_rounds : (n m : ℕ) (old mid new : World) → RunsRounds n old mid → RunsRounds m mid new → Rounds n m old new
+more_rounds n zero old mid new before is = record { count = n; is_count = omega arith; rounds = subst (λ (w : World). RunsRounds n old w) (sym is) before }
+more_rounds n (suc m) old mid new before r =
+    let rest = more_rounds n m old mid r.0 before r.1 in
+    record { count = suc rest.count; is_count = let e = rest.is_count in omega arith; rounds = (r.0, rest.rounds, r.2, r.3) }
+
+-- so many rounds were run, twice as often as the world settled where something is in flight
+pub record SettledBefore (settlings : ℕ) (old new : World) : Type 0 where
+  pub count : ℕ
+  pub rounds : RunsRounds count old new
+  pub most : count ≤ 2 * settlings
+  pub ended : NothingInFlight new ⊎ (count ≡ 2 * settlings)
+
+all_run : (n : ℕ) (w : World) (count : ℕ) → ¬ NothingInFlight w → (NothingInFlight w ⊎ (count ≡ n)) → count ≡ n
+all_run n w count flies (inl none) = absurd (flies none)
+all_run n w count flies (inr is) = is
+
+pub settles_again : (n : ℕ) (old mid new : World) → SettledBefore n old mid → ¬ NothingInFlight mid → world_settling.Settles mid new → SettledBefore (n + 1) old new
+settles_again n old mid new before flies s =
+    let all = more_rounds before.count s.count old mid new before.rounds s.rounds in
+    let is : before.count ≡ 2 * n = all_run (2 * n) mid before.count flies before.ended in
+    let more : all.count ≡ before.count + s.count = all.is_count in
+    let few : s.count ≤ 2 = s.most in
+    record { count = all.count; rounds = all.rounds; most = omega arith; ended = by_end s.ended more is }
+  where
+    by_end : {count : ℕ} {a b : ℕ} → (NothingInFlight new ⊎ (b ≡ 2)) → count ≡ a + b → a ≡ 2 * n → NothingInFlight new ⊎ (count ≡ 2 * (n + 1))
+    by_end (inl none) e is = inl none
+    by_end (inr two) e is = inr (omega arith)
+
+pub settling_refused : (n : ℕ) (old mid new : World) (at : ℕ) (cause : Cause) → n < 32 → SettledBefore n old mid → ¬ NothingInFlight mid → world_settling.StopsSettling mid at cause new → RefusesToSettle old
+settling_refused n old mid new at cause within before flies s =
+    let all = more_rounds before.count s.count old mid s.mid before.rounds s.rounds in
+    let is : before.count ≡ 2 * n = all_run (2 * n) mid before.count flies before.ended in
+    let more : all.count ≡ before.count + s.count = all.is_count in
+    let less : s.count + 1 ≤ 2 = s.less in
+    record { count = all.count; mid = s.mid; rounds = all.rounds; less = omega arith; flies = s.flies; place = s.place; cause = cause; new = new; refuses = s.refuses }

@@ -1,10 +1,11 @@
 -- What a world's script does and prints.
-use Rattle.std.specs.Prelude.{◌≡◌, ◌≢◌, ◌⊎◌, ℕ, zero, suc, ◌+◌, ◌≤◌, Option, Some, None, option_to_list, List, [], ◌∷◌, ◌++◌, map, length, codes}
+use Rattle.std.specs.Prelude.{◌≡◌, ◌≢◌, ◌⊎◌, ℕ, ◌+◌, ◌≤◌, Option, Some, None, option_to_list, List, [], ◌∷◌, ◌++◌, map, length, codes}
 use Rattle.std.specs.Io.KnownBytes.{Appends}
 use Rattle.hex.specs.Hex.{encode_lower}
 use Rattle.tn_discipline.specs.declared.reads.Entry.{Entry}
 use Rattle.tn_world.specs.Headline.{NothingInFlight, IsSettled}
 use Rattle.tn_world.specs.Opened.{IsOpened, with_new_lists}
+use Rattle.tn_world.specs.Settling.{RunsRounds, RefusesRound}
 use Rattle.tn_world.specs.Worlds.{World, Runs}
 use Rattle.tn_world.specs.Worlds as world_words
 use Rattle.tn_world.specs.declared.events.Event.{Event}
@@ -37,24 +38,6 @@ abbrev pub RefusesEvents : World → List Event → Type 0
 RefusesEvents w events =
     (at : ℕ) × (cause : Cause) × (new : World) × world_words.StopsWithin w events at cause new
 
--- All that is in flight to the client arrives, and then all that is in flight to the server.
-pub record Delivers (old new : World) : Type 0 where
-  pub mid : World
-  pub returned : Runs old (event.ToClient (length old.to_client) ∷ []) mid
-  pub reached : Runs mid (event.ToServer (length mid.to_server) ∷ []) new
-
--- such a round is refused
-abbrev pub RefusesRound : World → Type 0
-RefusesRound w =
-    let returning = event.ToClient (length w.to_client) ∷ [] in
-    RefusesEvents w returning
-    ⊎ ((mid : World) × Runs w returning mid × RefusesEvents mid (event.ToServer (length mid.to_server) ∷ []))
-
--- so many rounds, something being in flight before each
-abbrev pub RunsRounds : ℕ → World → World → Type 0
-RunsRounds zero old new = new ≡ old
-RunsRounds (suc n) old new = (mid : World) × RunsRounds n old mid × (¬ NothingInFlight mid) × Delivers mid new
-
 -- Rounds until nothing is in flight, and at most 64.
 pub record Settles (old new : World) : Type 0 where
   pub count : ℕ
@@ -62,14 +45,17 @@ pub record Settles (old new : World) : Type 0 where
   pub most : count ≤ 64
   pub ended : NothingInFlight new ⊎ (count ≡ 64)
 
--- A round after fewer than 64 is refused.
+-- A delivery of a round after fewer than 64 is refused.
 pub record RefusesToSettle (old : World) : Type 0 where
   pub count : ℕ
   pub mid : World
   pub rounds : RunsRounds count old mid
   pub less : count + 1 ≤ 64
   pub flies : ¬ NothingInFlight mid
-  pub refuses : RefusesRound mid
+  pub place : ℕ
+  pub cause : Cause
+  pub new : World
+  pub refuses : RefusesRound mid place cause new
 
 -- The job asks for an entry: the one that it got, or none, is printed.
 pub record TakesOne (old : World) (text : List ℕ) (new : World) : Type 0 where
@@ -78,7 +64,7 @@ pub record TakesOne (old : World) (text : List ℕ) (new : World) : Type 0 where
   pub gained : new.taken ≡ old.taken ++ option_to_list entry
   pub printed : text ≡ printed_read entry
 
--- At rest the lists of typed keys and taken entries begin anew.
+-- At rest the lists of typed keys and taken entries are reset.
 abbrev pub PrintsMark : World → List ℕ → World → Type 0
 PrintsMark old text new =
     (IsSettled old × (text ≡ codes "mark true\n") × (new ≡ with_new_lists old))
@@ -108,7 +94,7 @@ RefusesCommand w Mark = ⊥
 RefusesCommand w Flight = ⊥
 RefusesCommand w Shown = ⊥
 
--- a line is done: an empty one is passed over
+-- a line is done: an empty one is skipped
 abbrev pub RunsLine : World → List ℕ → List ℕ → World → Type 0
 RunsLine old [] text new = (text ≡ []) × (new ≡ old)
 RunsLine old (b ∷ bs) text new =
@@ -179,6 +165,6 @@ AppendsPrint is old new = (text : List ℕ) × is text × (new ≡ old ++ text)
 abbrev pub AppendsText : (List ℕ → Type 0) → Option (List ℕ) → Option (List ℕ) → Type 0
 AppendsText is old new = (text : List ℕ) × is text × Appends old new text
 
--- a front of such a text was appended
+-- a prefix of such a text was appended
 abbrev pub AppendsFrontOfText : (List ℕ → Type 0) → Option (List ℕ) → Option (List ℕ) → Type 0
 AppendsFrontOfText is old new = (text : List ℕ) × is text × AppendsFront old new text

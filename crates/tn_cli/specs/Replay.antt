@@ -9,7 +9,7 @@ use Rattle.tn_cli.specs.Streams.{AppendsFront}
 use Rattle.tn_cli.specs.Typing.{Types, local_output}
 use Rattle.tn_cli.specs.declared.typing.Typing.{Typing}
 
--- a data byte is a key, and a new line the key of a line feed; all else is passed over
+-- a data byte is a key, and a new line the key of a line feed; all else is skipped
 abbrev pub key_of : Item → Option ℕ
 key_of (Byte byte) = Some byte
 key_of Newline = Some 10
@@ -40,6 +40,6 @@ pub record IsReplayOf (stream output : List ℕ) : Type 0 where
 abbrev pub Replays : List ℕ → Option (List ℕ) → Option (List ℕ) → Type 0
 Replays stream old new = (output : List ℕ) × IsReplayOf stream output × Appends old new output
 
--- a front of the output was appended
+-- a prefix of the output was appended
 abbrev pub ReplaysFront : List ℕ → Option (List ℕ) → Option (List ℕ) → Type 0
 ReplaysFront stream old new = (output : List ℕ) × IsReplayOf stream output × AppendsFront old new output

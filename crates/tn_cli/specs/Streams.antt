@@ -19,6 +19,6 @@ abbrev pub KeepsPiece : ℕ → List ℕ → List ℕ → List ℕ → Type 0
 KeepsPiece count piece old new =
     ((length old ≡ count) × (new ≡ old ++ piece)) ⊎ (length new < count + length piece)
 
--- a front of the output was appended
+-- a prefix of the output was appended
 abbrev pub AppendsFront : Option (List ℕ) → Option (List ℕ) → List ℕ → Type 0
 AppendsFront old new output = (count : ℕ) × Appends old new (take count output)

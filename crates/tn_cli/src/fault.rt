@@ -20,7 +20,7 @@ pub enum CliFault {
     /// The world refused an event of the command in the line of this number.
     #[error("line {0}: refused")]
     World(usize),
-    /// A write of the output failed, or took none of the bytes that it was handed.
+    /// A write of the output failed, or took none of its bytes.
     #[error("write")]
     Write,
     #[error("memory")]

@@ -13,8 +13,8 @@ use std::alloc::{AllocError, Global};
 use std::slice;
 use tn_world::{Event, ToWhom, World};
 
-/// How often all that is in flight is delivered.
-const MOST_ROUNDS: u32 = 64;
+/// How often a world settles, in two rounds of deliveries each.
+const MOST_SETTLINGS: u32 = 32;
 
 /// Why a line was not done.
 #[derive(Clone, Copy)]
@@ -35,7 +35,7 @@ impl From<AllocError> for Stop {
     }
 }
 
-/// Does a line, and appends what it prints. An empty line is passed over.
+/// Does a line, and appends what it prints. An empty line is skipped.
 pub(crate) fn play_line(
     alloc: Global,
     world: &mut World,
@@ -119,36 +119,28 @@ fn run(world: &mut World, events: &[Event]) -> Result<(), Stop>
     }
 }
 
-// Delivers all that is in flight, until nothing is.
+// Delivers all that is in flight, until nothing is. Once is enough, unless an end was stopped.
 fn settle(world: &mut World) -> Result<(), Stop>
     ensures ok { OnOk result (play.Settles world.old world.new) }
     ensures err { OnErr result (play.RefusesToSettle world.old) }
     ensures refused { IfErr result (λ stop. stop ≡ Refused) }
 {
-    for _round in 0..MOST_ROUNDS {
-        if is_quiet(world) {
+    for _settling in 0..MOST_SETTLINGS {
+        if is_flight_empty(world) {
             return Ok(());
         }
-        deliver(world)?;
+        match world.settle() {
+            Ok(()) => {},
+            Err(_) => return Err(Stop::Refused),
+        }
     }
     Ok(())
 }
 
-fn is_quiet(world: &World) -> bool
+fn is_flight_empty(world: &World) -> bool
     ensures { IsTrue result ↔ NothingInFlight world.now }
 {
     world.in_flight(ToWhom::Server).is_empty() && world.in_flight(ToWhom::Client).is_empty()
-}
-
-fn deliver(world: &mut World) -> Result<(), Stop>
-    ensures ok { OnOk result (play.Delivers world.old world.new) }
-    ensures err { OnErr result (play.RefusesRound world.old) }
-    ensures refused { IfErr result (λ stop. stop ≡ Refused) }
-{
-    let returning = world.in_flight(ToWhom::Client).len();
-    run_event(world, Event::ToClient(returning))?;
-    let going = world.in_flight(ToWhom::Server).len();
-    run_event(world, Event::ToServer(going))
 }
 
 fn take(alloc: Global, world: &mut World, out: &mut Vec<u8>) -> Result<(), Stop>

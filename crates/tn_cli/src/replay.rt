@@ -13,7 +13,7 @@ use tn_streams::{Drain, Source};
 
 /// Reads a client's whole byte stream, types its data bytes and new lines as keys at one line with
 /// standard settings, and writes the entries that they give, one a line. Commands, option words and
-/// subnegotiations are passed over. Nothing is written before the input has ended.
+/// subnegotiations are skipped. Nothing is written before the input has ended.
 pub fn run_replay<R: Source, W: Drain>(
     alloc: Global,
     reader: &mut R,

@@ -18,7 +18,7 @@ const MOST_READS: u32 = 2_097_152;
 /// How many bytes one read asks for.
 const PIECE_BYTES: usize = 4_096;
 
-/// Reads to the end of the input. Whether it is too long is told also where memory is wanting.
+/// Reads to the end of the input. Whether it is too long is reported even when out of memory.
 pub(crate) fn read_whole<R: Source>(alloc: Global, reader: &mut R) -> Result<Vec<u8>, CliFault>
     ensures whole { IfOk result (λ input.
         Consumes (R.remaining reader.old) (R.remaining reader.new) input.items) }
@@ -53,7 +53,7 @@ pub(crate) fn read_whole<R: Source>(alloc: Global, reader: &mut R) -> Result<Vec
     Err(CliFault::Read)
 }
 
-// Keeps a piece of an input of which so many bytes were read before. Once memory was wanting, fewer
+// Keeps a piece of an input of which so many bytes were read before. Once memory ran out, fewer
 // are kept than were read, and no piece after that is.
 fn keep(input: &mut Vec<u8>, count: usize, piece: &[u8])
     requires within { vec_len input.now ≤ count }
@@ -80,7 +80,7 @@ fn if_whole(input: Vec<u8>, count: usize) -> Result<Vec<u8>, CliFault>
     }
 }
 
-/// Writes all of the output. After a fault a front of it was written.
+/// Writes all of the output. After a fault a prefix of it was written.
 pub(crate) fn write_whole<W: Drain>(writer: &mut W, output: &[u8]) -> Result<(), CliFault>
     ensures ok { OnOk result (Appends (W.contents writer.old) (W.contents writer.new) output.now) }
     ensures err { OnErr result (AppendsFront (W.contents writer.old) (W.contents writer.new) output.now) }

@@ -52,7 +52,7 @@ impl Typing {
         Ok(())
     }
 
-    // Types the bytes at the front that join the line as they are, or else the first key; answers how many
+    // Types the leading bytes that join the line as they are, or else the first key; returns how many
     // were typed.
     fn front(&mut self, keys: &[u8]) -> Result<usize, AllocError>
         requires { 0 < length keys.now }

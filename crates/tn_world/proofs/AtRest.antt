@@ -6,13 +6,14 @@ use Rattle.tn_option.specs.Options.{known_option}
 use Rattle.tn_option.specs.declared.known.Known.{Known}
 use Rattle.tn_option.specs.declared.known.Known.TheVariants.{Echo, SuppressGoAhead, Naws, Linemode}
 use Rattle.tn_option.specs.declared.q_method.Side.{Side}
-use Rattle.tn_option.proofs.lemmas.Agreement.{LeadTo-agree}
+use Rattle.tn_option.proofs.lemmas.Agreement.{LeadTo-agree, moves-LeadTo}
+use Rattle.tn_server.proofs.lemmas.Words.{opening_leads}
 use Rattle.tn_server.specs.Terms as server_terms
 use Rattle.tn_client.specs.Terms as client_terms
 use Rattle.tn_world.specs.Agreement.{AgreeOn, OptionsAgree}
 use Rattle.tn_world.specs.Flight.{InFlight}
 use Rattle.tn_world.specs.Headline.{NoneFailed, NothingInFlight}
-use Rattle.tn_world.specs.Past.{HasPast, engines}
+use Rattle.tn_world.specs.Past.{HasPast, engines, opening_pair}
 use Rattle.tn_world.specs.Worlds.{World}
 use Rattle.tn_world.proofs.Cut.{no_items}
 
@@ -25,7 +26,7 @@ agree_at_rest w s none nothing =
     let a = server_terms.agreement in
     let b = client_terms.agreement in
     let l : LeadTo a b (engines w [] []) =
-    subst (λ (there : List Item). LeadTo a b (engines w there [])) silent (subst (λ (back : List Item). LeadTo a b (engines w x.0 back)) quiet (s.words none.0 none.1)) in
+    subst (λ (there : List Item). LeadTo a b (engines w there [])) silent (subst (λ (back : List Item). LeadTo a b (engines w x.0 back)) quiet (moves-LeadTo a b opening_pair (engines w x.0 y.0) (s.words none.0 none.1) (opening_leads b))) in
     let on : (side : Side) (code : ℕ) (option : Known) → known_option code ≡ Some option → AgreeOn w side code =
     λ side code option is. LeadTo-agree a b (engines w [] []) side code option is l refl refl in
     record {

@@ -1,16 +1,16 @@
 -- The invariant of a world after each event, in the words of the calls that it makes.
 use Rattle.std.proofs.Common.{◌≡◌, ◌≢◌, inl, ℕ, Bool, true, false, if◌then◌else◌, Some, None, List, [], take, drop, refl, sym, ap, ◌∙◌, subst}
 use Rattle.std.specs.Prelude.{Result, Ok, Err, OnOk, OnErr}
+use Rattle.std.proofs.lemmas.List.Elements.{All-nil}
 use Rattle.tn_discipline.specs.Canon.{Canon}
 use Rattle.tn_discipline.specs.declared.reads.Entry.{Entry}
 use Rattle.tn_nvt.specs.Spelling.{spells}
 use Rattle.tn_nvt.specs.Feeding.{LeadsTo}
 use Rattle.tn_option.specs.Options.{Options, new_options}
-use Rattle.tn_option.proofs.lemmas.Agreement.{fresh-LeadTo, moves-LeadTo}
+use Rattle.tn_option.proofs.lemmas.Agreement.{same-Moves}
 use Rattle.tn_wire.specs.OptionWords.{words_in}
 use Rattle.tn_server.specs.Course as server_courses
-use Rattle.tn_server.specs.Terms.{Terms, agreement, opening_options}
-use Rattle.tn_server.proofs.lemmas.Words.{opening_moves}
+use Rattle.tn_server.specs.Terms.{Terms, opening_options}
 use Rattle.tn_client.specs.Terms as client_terms
 use Rattle.tn_server.specs.Events as server_calls
 use Rattle.tn_server.specs.Replies.{opening}
@@ -22,7 +22,7 @@ use Rattle.tn_client.specs.Calls as client
 use Rattle.tn_client.specs.Replies as client_says
 use Rattle.tn_client.specs.declared.faults.ClientFault.{ClientFault}
 use Rattle.tn_client.specs.declared.faults.ClientFault.TheVariants as client_faults
-use Rattle.tn_world.specs.Past.{HasPast}
+use Rattle.tn_world.specs.Past.{HasPast, opening_pair, WishesNothing}
 use Rattle.tn_world.specs.Flight.{InFlight}
 use Rattle.tn_world.specs.Opened.{IsOpened}
 use Rattle.tn_world.specs.Worlds.{World, client_fault, ClientRefusesEvent}
@@ -92,18 +92,20 @@ opened_words : (here there : Options) → here ≡ opening_options → there ≡
 opened_words here there a b =
     subst (λ (o : Options). Lead o there [] (words_in opening)) (sym a)
     (subst (λ (o : Options). Lead opening_options o [] (words_in opening)) (sym b)
-    (moves-LeadTo agreement client_terms.agreement _ _ (opening_moves client_terms.agreement) (fresh-LeadTo agreement client_terms.agreement)))
+    (same-Moves opening_pair))
 
 -- just opened: both ends are where they start
-pub open_sound : (canon : Canon) (width height : ℕ) (w : World) → server.LeadsTo (server_calls.begun canon) w.server → LeadsTo [] [] w.server.decoder → client.LeadsTo (client_calls.begun width height canon.limit) w.client → LeadsTo [] [] w.client.decoder → w.to_server ≡ [] → w.to_client ≡ spells opening → HasPast w
-open_sound canon width height w stands reads begins began nothing said =
+pub open_sound : (canon : Canon) (width height : ℕ) (w : World) → server.LeadsTo (server_calls.begun canon) w.server → LeadsTo [] [] w.server.decoder → client.LeadsTo (client_calls.begun width height canon.limit) w.client → LeadsTo [] [] w.client.decoder → w.to_server ≡ [] → w.to_client ≡ spells opening → w.server.terminal.closed ≡ false → HasPast w
+open_sound canon width height w stands reads begins began nothing said opens =
     made w (server_calls.begun canon) stands
     (λ r. (server_courses.started canon, record { history = server_calls.begun canon; reads_as = refl; leads = stands; reads = reads }))
     (λ r. (client_courses.started width height canon.limit, record { history = client_calls.begun width height canon.limit; reads_as = refl; leads = begins; reads = began }))
     (λ r. begins.limit ∙ sym stands.limit)
+    (λ r. opens)
     (λ r. ([], subst (λ x. InFlight w.server.decoder x []) (sym nothing) (start w.server.decoder reads)))
     (λ r. (opening, said_behind w.client.decoder [] w.to_client [] opening said (sent-fit (server_calls.begun canon)) (start w.client.decoder began)))
     (λ a b. opened_words w.server.terms.options w.client.options (ap (λ (t : Terms). t.options) stands.terms) begins.options)
+    (λ a b. All-nil WishesNothing)
 
 -- and so it was opened
 pub opened_world : (canon : Canon) (width height : ℕ) (end : server.End) (other : client.End) (there here typed shown echoed : List ℕ) (taken : List Entry) → server.LeadsTo (server_calls.begun canon) end → LeadsTo [] [] end.decoder → end.failed ≡ false → end.terminal.closed ≡ false → client.LeadsTo (client_calls.begun width height canon.limit) other → LeadsTo [] [] other.decoder → other.failed ≡ false → there ≡ [] → here ≡ spells opening → typed ≡ [] → taken ≡ [] → shown ≡ [] → echoed ≡ [] → IsOpened canon width height (record { server = end; client = other; server_stopped = false; client_stopped = false; to_server = there; to_client = here; typed = typed; taken = taken; shown = shown; echoed = echoed })

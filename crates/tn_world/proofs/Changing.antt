@@ -11,7 +11,7 @@ use Rattle.tn_discipline.specs.declared.termios.Settings.{Settings}
 use Rattle.tn_discipline.proofs.lemmas.Histories.{half_of-fits, length_by_test}
 use Rattle.tn_server.specs.Terms.{allows_local}
 use Rattle.tn_client.specs.Lines.{settings_by}
-use Rattle.tn_world.specs.relation.Machine.{Mode, Rules, Item, byte, mode_ack, other, Server, Client, Message, mode, forward_at, chatter, read, read_all, bytes, edit_key, remote_item, count_next, client_after_key, is_same, client_with_mode, client_after_mode, client_after_message, remote_mode, local_mode, IsAskable}
+use Rattle.tn_world.specs.relation.Machine.{Mode, Item, byte, mode_ack, linemode_on, other, Server, Client, Message, mode, forward_at, linemode_asked, chatter, read, read_all, bytes, edit_key, remote_item, count_next, client_after_key, is_same, client_with_mode, client_after_mode, passed_over, where_on, client_turned_on, client_after_message, remote_mode, local_mode, IsAskable}
 use Rattle.tn_world.proofs.Reading.{read-bytes_then, half-typed, entries-typed}
 use Rattle.tn_world.proofs.Typing.{Follows, literal_key, key-follows}
 use Rattle.tn_world.specs.relation.Relation.{Agrees, server_at}
@@ -63,61 +63,63 @@ count-step limit s key trapped plain half false isig allowed count =
     ∙ ap (λ n. length (if is_dropped limit n (role_of_key s key) then half else half_after half (role_of_key s key))) count
 
 -- a key
-pub key-agrees : (rules : Rules) (typed : List ℕ) (taken : List Entry) (v : Server) (c : Client) (key : ℕ) (e : Bool) → c.mask.edit ≡ e → Agrees rules typed taken v c → Agrees rules (typed ++ key ∷ []) taken (read_all rules.canon v (client_after_key rules e c key).items) (client_after_key rules e c key).client
-key-agrees rules typed taken v c key true is_edit a =
-    let ok = local_of rules.canon.settings c.mask a.askable is_edit in
-    let same : role_of_key (settings_by c.mask.trapsig rules.canon.settings.chars) key ≡ role_of_key rules.canon.settings key =
-    ap (λ (m : Mode). role_of_key (settings_by m.trapsig rules.canon.settings.chars) key) ok.1 ∙ same_role rules.canon.settings key ok.0 in
-    let f : Follows rules.canon a.half a.waiting c.held (role_of_key rules.canon.settings key) (edit_key rules.canon.limit c (role_of_key (settings_by c.mask.trapsig rules.canon.settings.chars) key)) =
-    subst (λ r. Follows rules.canon a.half a.waiting c.held (role_of_key rules.canon.settings key) (edit_key rules.canon.limit c r)) (sym same)
-    (key-follows rules.canon a.half a.waiting c (role_of_key rules.canon.settings key) (literal_key rules.canon.settings key) a.plain (a.ahead is_edit) (fits_at rules.canon typed a.half c.held a.line)) in
+pub key-agrees : (canon : Canon) (typed : List ℕ) (taken : List Entry) (v : Server) (c : Client) (key : ℕ) (e : Bool) → c.mask.edit ≡ e → Agrees canon typed taken v c → Agrees canon (typed ++ key ∷ []) taken (read_all canon v (client_after_key canon e c key).items) (client_after_key canon e c key).client
+key-agrees canon typed taken v c key true is_edit a =
+    let ok = local_of canon.settings c.mask a.askable is_edit in
+    let same : role_of_key (settings_by c.mask.trapsig canon.settings.chars) key ≡ role_of_key canon.settings key =
+    ap (λ (m : Mode). role_of_key (settings_by m.trapsig canon.settings.chars) key) ok.1 ∙ same_role canon.settings key ok.0 in
+    let f : Follows canon c.linemode a.half a.waiting c.held (role_of_key canon.settings key) (edit_key canon.limit c (role_of_key (settings_by c.mask.trapsig canon.settings.chars) key)) =
+    subst (λ r. Follows canon c.linemode a.half a.waiting c.held (role_of_key canon.settings key) (edit_key canon.limit c r)) (sym same)
+    (key-follows canon c.linemode a.half a.waiting c (role_of_key canon.settings key) (literal_key canon.settings key) a.plain (a.ahead is_edit) (fits_at canon typed a.half c.held a.line)) in
     record {
       half = f.half;
-      waiting = a.waiting ++ gain_next rules.canon.limit (a.half ++ c.held) (role_of_key rules.canon.settings key);
+      waiting = a.waiting ++ gain_next canon.limit (a.half ++ c.held) (role_of_key canon.settings key);
       is =
-          ap (λ x. read_all rules.canon x (client_after_key rules true c key).items) a.is
-          ∙ ap (λ e. read_all rules.canon (server_at e a.half a.waiting) (client_after_key rules true c key).items) is_edit
+          ap (λ x. read_all canon x (client_after_key canon true c key).items) a.is
+          ∙ ap (λ e. read_all canon (server_at c.linemode e a.half a.waiting) (client_after_key canon true c key).items) is_edit
           ∙ f.reads
-          ∙ ap (λ e. server_at e f.half (a.waiting ++ gain_next rules.canon.limit (a.half ++ c.held) (role_of_key rules.canon.settings key))) (sym is_edit);
+          ∙ ap (λ e. server_at c.linemode e f.half (a.waiting ++ gain_next canon.limit (a.half ++ c.held) (role_of_key canon.settings key))) (sym is_edit);
+      off = a.off;
       entries =
-          entries-typed rules.canon typed key
-          ∙ ap (λ x. x ++ gain_next rules.canon.limit (typed_half rules.canon typed) (role_of_key rules.canon.settings key)) a.entries
-          ∙ ap (λ x. (taken ++ a.waiting) ++ gain_next rules.canon.limit x (role_of_key rules.canon.settings key)) a.line
-          ∙ append_assoc taken a.waiting (gain_next rules.canon.limit (a.half ++ c.held) (role_of_key rules.canon.settings key));
-      line = half-typed rules.canon typed key ∙ ap (λ x. half_next rules.canon.limit x (role_of_key rules.canon.settings key)) a.line ∙ f.line;
+          entries-typed canon typed key
+          ∙ ap (λ x. x ++ gain_next canon.limit (typed_half canon typed) (role_of_key canon.settings key)) a.entries
+          ∙ ap (λ x. (taken ++ a.waiting) ++ gain_next canon.limit x (role_of_key canon.settings key)) a.line
+          ∙ append_assoc taken a.waiting (gain_next canon.limit (a.half ++ c.held) (role_of_key canon.settings key));
+      line = half-typed canon typed key ∙ ap (λ x. half_next canon.limit x (role_of_key canon.settings key)) a.line ∙ f.line;
       askable = a.askable;
       ahead = λ e. f.ahead;
       none = λ e. absurd (cc);
       plain = f.plain;
       count = λ e allowed. absurd (cc);
     }
-key-agrees rules typed taken v c key false is_remote a =
-    let ok = remote_of rules.canon.settings c.mask a.askable is_remote in
-    let item : remote_item c.mask.trapsig (role_of_mapped (settings_by c.mask.trapsig rules.canon.settings.chars) key) key ≡ byte key =
-    ap (λ (m : Mode). remote_item m.trapsig (role_of_mapped (settings_by m.trapsig rules.canon.settings.chars) key) key) ok in
-    let whole : typed_half rules.canon typed ≡ a.half = a.line ∙ ap (λ x. a.half ++ x) (a.none is_remote) ∙ append-nil a.half in
+key-agrees canon typed taken v c key false is_remote a =
+    let ok = remote_of canon.settings c.mask a.askable is_remote in
+    let item : remote_item c.mask.trapsig (role_of_mapped (settings_by c.mask.trapsig canon.settings.chars) key) key ≡ byte key =
+    ap (λ (m : Mode). remote_item m.trapsig (role_of_mapped (settings_by m.trapsig canon.settings.chars) key) key) ok in
+    let whole : typed_half canon typed ≡ a.half = a.line ∙ ap (λ x. a.half ++ x) (a.none is_remote) ∙ append-nil a.half in
     record {
-      half = half_next rules.canon.limit a.half (role_of_key rules.canon.settings key);
-      waiting = a.waiting ++ gain_next rules.canon.limit a.half (role_of_key rules.canon.settings key);
+      half = half_next canon.limit a.half (role_of_key canon.settings key);
+      waiting = a.waiting ++ gain_next canon.limit a.half (role_of_key canon.settings key);
       is =
-          ap (λ x. read_all rules.canon x (client_after_key rules false c key).items) a.is
-          ∙ ap (λ i. read rules.canon (server_at c.mask.edit a.half a.waiting) i) item
-          ∙ ap (λ e. read rules.canon (server_at e a.half a.waiting) (byte key)) is_remote
-          ∙ ap (λ e. server_at e (half_next rules.canon.limit a.half (role_of_key rules.canon.settings key)) (a.waiting ++ gain_next rules.canon.limit a.half (role_of_key rules.canon.settings key))) (sym is_remote);
+          ap (λ x. read_all canon x (client_after_key canon false c key).items) a.is
+          ∙ ap (λ i. read canon (server_at c.linemode c.mask.edit a.half a.waiting) i) item
+          ∙ ap (λ e. read canon (server_at c.linemode e a.half a.waiting) (byte key)) is_remote
+          ∙ ap (λ e. server_at c.linemode e (half_next canon.limit a.half (role_of_key canon.settings key)) (a.waiting ++ gain_next canon.limit a.half (role_of_key canon.settings key))) (sym is_remote);
+      off = a.off;
       entries =
-          entries-typed rules.canon typed key
-          ∙ ap (λ x. x ++ gain_next rules.canon.limit (typed_half rules.canon typed) (role_of_key rules.canon.settings key)) a.entries
-          ∙ ap (λ x. (taken ++ a.waiting) ++ gain_next rules.canon.limit x (role_of_key rules.canon.settings key)) whole
-          ∙ append_assoc taken a.waiting (gain_next rules.canon.limit a.half (role_of_key rules.canon.settings key));
+          entries-typed canon typed key
+          ∙ ap (λ x. x ++ gain_next canon.limit (typed_half canon typed) (role_of_key canon.settings key)) a.entries
+          ∙ ap (λ x. (taken ++ a.waiting) ++ gain_next canon.limit x (role_of_key canon.settings key)) whole
+          ∙ append_assoc taken a.waiting (gain_next canon.limit a.half (role_of_key canon.settings key));
       line =
-          half-typed rules.canon typed key
-          ∙ ap (λ x. half_next rules.canon.limit x (role_of_key rules.canon.settings key)) whole
-          ∙ sym (ap (λ x. half_next rules.canon.limit a.half (role_of_key rules.canon.settings key) ++ x) (a.none is_remote) ∙ append-nil (half_next rules.canon.limit a.half (role_of_key rules.canon.settings key)));
+          half-typed canon typed key
+          ∙ ap (λ x. half_next canon.limit x (role_of_key canon.settings key)) whole
+          ∙ sym (ap (λ x. half_next canon.limit a.half (role_of_key canon.settings key) ++ x) (a.none is_remote) ∙ append-nil (half_next canon.limit a.half (role_of_key canon.settings key)));
       askable = a.askable;
       ahead = λ e. absurd (cc);
       none = a.none;
       plain = a.plain;
-      count = λ e allowed. count-step rules.canon.limit rules.canon.settings key c.trapped c.plain a.half rules.canon.settings.flags.isig refl allowed (a.count e allowed);
+      count = λ e allowed. count-step canon.limit canon.settings key c.trapped c.plain a.half canon.settings.flags.isig refl allowed (a.count e allowed);
     }
 
 same_if : (b : Bool) (n : ℕ) → (if b then n else n) ≡ n
@@ -128,17 +130,29 @@ same_if false n = refl
 resumed : (s : Settings) (half : List ℕ) (c : Client) (m : Mode) → m ≡ local_mode s → (if s.flags.isig then c.trapped else c.plain) ≡ length half → length half ≡ (if m.trapsig then c.trapped else c.plain)
 resumed s half c m local count = sym count ∙ ap (λ (n : Mode). if n.trapsig then c.trapped else c.plain) (sym local)
 
+-- where LINEMODE is on, an acknowledged mode counts
+acked : (s : Canon) (l edit : Bool) (half : List ℕ) (waiting : List Entry) (m : Mode) → l ≡ true → read s (server_at l edit half waiting) (mode_ack m) ≡ server_at l m.edit half waiting
+acked s l edit half waiting m on =
+    ap (λ (b : Bool). read s (server_at b edit half waiting) (mode_ack m)) on
+    ∙ ap (λ x. server_at true m.edit half x) (append-nil waiting)
+    ∙ ap (λ (b : Bool). server_at b m.edit half waiting) (sym on)
+
+-- LINEMODE does not go off
+still_on : (l : Bool) (A : Type 0) → l ≡ true → l ≡ false → A
+still_on l A p q = absurd (cc)
+
 -- a mode that changes something
-taken-agrees : (rules : Rules) (typed : List ℕ) (taken : List Entry) (v : Server) (c : Client) (m : Mode) (e f : Bool) → c.mask.edit ≡ e → m.edit ≡ f → Agrees rules typed taken v c → IsAskable rules.canon.settings m → Agrees rules typed taken (read_all rules.canon v (client_with_mode rules c m e f).items) (client_with_mode rules c m e f).client
-taken-agrees rules typed taken v c m true false before after a askable =
+taken-agrees : (canon : Canon) (typed : List ℕ) (taken : List Entry) (v : Server) (c : Client) (m : Mode) (e f : Bool) → c.linemode ≡ true → c.mask.edit ≡ e → m.edit ≡ f → Agrees canon typed taken v c → IsAskable canon.settings m → Agrees canon typed taken (read_all canon v (client_with_mode canon c m e f).items) (client_with_mode canon c m e f).client
+taken-agrees canon typed taken v c m true false on before after a askable =
     record {
       half = a.half ++ c.held;
       waiting = a.waiting;
       is =
-          ap (λ x. read_all rules.canon x (bytes c.held ++ mode_ack m ∷ [])) a.is
-          ∙ ap (λ e. read_all rules.canon (server_at e a.half a.waiting) (bytes c.held ++ mode_ack m ∷ [])) before
-          ∙ read-bytes_then rules.canon a.half a.waiting c.held (mode_ack m) a.plain (let fits = fits_at rules.canon typed a.half c.held a.line in omega (arith, length-append a.half c.held))
-          ∙ ap (λ x. server_at m.edit (a.half ++ c.held) x) (append-nil a.waiting);
+          ap (λ x. read_all canon x (bytes c.held ++ mode_ack m ∷ [])) a.is
+          ∙ ap (λ e. read_all canon (server_at c.linemode e a.half a.waiting) (bytes c.held ++ mode_ack m ∷ [])) before
+          ∙ read-bytes_then canon c.linemode a.half a.waiting c.held (mode_ack m) a.plain (let fits = fits_at canon typed a.half c.held a.line in omega (arith, length-append a.half c.held))
+          ∙ acked canon c.linemode true (a.half ++ c.held) a.waiting m on;
+      off = λ e. still_on c.linemode (m.edit ≡ false) on e;
       entries = a.entries;
       line = a.line ∙ sym (append-nil (a.half ++ c.held));
       askable = askable;
@@ -146,28 +160,30 @@ taken-agrees rules typed taken v c m true false before after a askable =
       none = λ e. refl;
       plain = tt;
       count = λ e allowed.
-          same_if rules.canon.settings.flags.isig (c.ahead + length c.held)
+          same_if canon.settings.flags.isig (c.ahead + length c.held)
           ∙ ap (λ n. n + length c.held) (sym (a.ahead before))
           ∙ sym (length-append a.half c.held);
     }
-taken-agrees rules typed taken v c m false true before after a askable =
+taken-agrees canon typed taken v c m false true on before after a askable =
     record {
       half = a.half;
       waiting = a.waiting;
-      is = ap (λ x. read rules.canon x (mode_ack m)) a.is ∙ ap (λ x. server_at m.edit a.half x) (append-nil a.waiting);
+      is = ap (λ x. read canon x (mode_ack m)) a.is ∙ acked canon c.linemode c.mask.edit a.half a.waiting m on;
+      off = λ e. still_on c.linemode (m.edit ≡ false) on e;
       entries = a.entries;
       line = a.line ∙ ap (λ x. a.half ++ x) (a.none before);
       askable = askable;
-      ahead = λ e. let ok = local_of rules.canon.settings m askable after in resumed rules.canon.settings a.half c m ok.1 (a.count before ok.0);
+      ahead = λ e. let ok = local_of canon.settings m askable after in resumed canon.settings a.half c m ok.1 (a.count before ok.0);
       none = λ e. refl;
       plain = tt;
       count = λ e allowed. absurd (cc);
     }
-taken-agrees rules typed taken v c m true true before after a askable =
+taken-agrees canon typed taken v c m true true on before after a askable =
     record {
       half = a.half;
       waiting = a.waiting;
-      is = ap (λ x. read rules.canon x (mode_ack m)) a.is ∙ ap (λ x. server_at m.edit a.half x) (append-nil a.waiting);
+      is = ap (λ x. read canon x (mode_ack m)) a.is ∙ acked canon c.linemode c.mask.edit a.half a.waiting m on;
+      off = λ e. still_on c.linemode (m.edit ≡ false) on e;
       entries = a.entries;
       line = a.line;
       askable = askable;
@@ -176,11 +192,12 @@ taken-agrees rules typed taken v c m true true before after a askable =
       plain = a.plain;
       count = λ e allowed. absurd (cc);
     }
-taken-agrees rules typed taken v c m false false before after a askable =
+taken-agrees canon typed taken v c m false false on before after a askable =
     record {
       half = a.half;
       waiting = a.waiting;
-      is = ap (λ x. read rules.canon x (mode_ack m)) a.is ∙ ap (λ x. server_at m.edit a.half x) (append-nil a.waiting);
+      is = ap (λ x. read canon x (mode_ack m)) a.is ∙ acked canon c.linemode c.mask.edit a.half a.waiting m on;
+      off = λ e. still_on c.linemode (m.edit ≡ false) on e;
       entries = a.entries;
       line = a.line;
       askable = askable;
@@ -190,24 +207,26 @@ taken-agrees rules typed taken v c m false false before after a askable =
       count = λ e allowed. a.count before allowed;
     }
 
-mode-agrees : (rules : Rules) (typed : List ℕ) (taken : List Entry) (v : Server) (c : Client) (m : Mode) (b : Bool) → is_same c.mask m ≡ b → Agrees rules typed taken v c → IsAskable rules.canon.settings m → Agrees rules typed taken (read_all rules.canon v (client_after_mode rules c m b).items) (client_after_mode rules c m b).client
-mode-agrees rules typed taken v c m true same a askable = a
-mode-agrees rules typed taken v c m false differs a askable =
-    taken-agrees rules typed taken v c m c.mask.edit m.edit refl refl a askable
+mode-agrees : (canon : Canon) (typed : List ℕ) (taken : List Entry) (v : Server) (c : Client) (m : Mode) (b : Bool) → c.linemode ≡ true → is_same c.mask m ≡ b → Agrees canon typed taken v c → IsAskable canon.settings m → Agrees canon typed taken (read_all canon v (client_after_mode canon c m b).items) (client_after_mode canon c m b).client
+mode-agrees canon typed taken v c m true on same a askable = a
+mode-agrees canon typed taken v c m false on differs a askable =
+    taken-agrees canon typed taken v c m c.mask.edit m.edit on refl refl a askable
 
 -- the modes of these messages
 abbrev pub IsAskableMessage : Settings → Message → Type 0
 IsAskableMessage s (mode m) = IsAskable s m
 IsAskableMessage s (forward_at f) = Unit
+IsAskableMessage s linemode_asked = Unit
 IsAskableMessage s chatter = Unit
 
 -- an item that has no role and changes no mode
-pub skipped : (rules : Rules) (typed : List ℕ) (taken : List Entry) (v : Server) (c new : Client) (item : Item) → ((e : Bool) (h : List ℕ) (w : List Entry) → read rules.canon (server_at e h w) item ≡ server_at e h (w ++ [])) → new ≡ record c { forward = new.forward } → Agrees rules typed taken v c → Agrees rules typed taken (read rules.canon v item) new
-skipped rules typed taken v c new item silent same a =
-    subst (λ x. Agrees rules typed taken (read rules.canon v item) x) (sym same) (record {
+pub skipped : (canon : Canon) (typed : List ℕ) (taken : List Entry) (v : Server) (c new : Client) (item : Item) → ((l e : Bool) (h : List ℕ) (w : List Entry) → read canon (server_at l e h w) item ≡ server_at l e h (w ++ [])) → new ≡ record c { forward = new.forward } → Agrees canon typed taken v c → Agrees canon typed taken (read canon v item) new
+skipped canon typed taken v c new item silent same a =
+    subst (λ x. Agrees canon typed taken (read canon v item) x) (sym same) (record {
       half = a.half;
       waiting = a.waiting;
-      is = ap (λ x. read rules.canon x item) a.is ∙ silent c.mask.edit a.half a.waiting ∙ ap (λ x. server_at c.mask.edit a.half x) (append-nil a.waiting);
+      is = ap (λ x. read canon x item) a.is ∙ silent c.linemode c.mask.edit a.half a.waiting ∙ ap (λ x. server_at c.linemode c.mask.edit a.half x) (append-nil a.waiting);
+      off = a.off;
       entries = a.entries;
       line = a.line;
       askable = a.askable;
@@ -217,7 +236,41 @@ skipped rules typed taken v c new item silent same a =
       count = a.count;
     })
 
-pub message-agrees : (rules : Rules) (typed : List ℕ) (taken : List Entry) (v : Server) (c : Client) (m : Message) → Agrees rules typed taken v c → IsAskableMessage rules.canon.settings m → Agrees rules typed taken (read_all rules.canon v (client_after_message rules c m).items) (client_after_message rules c m).client
-message-agrees rules typed taken v c (mode m) a askable = mode-agrees rules typed taken v c m (is_same c.mask m) refl a askable
-message-agrees rules typed taken v c (forward_at f) a askable = skipped rules typed taken v c (record c { forward = f }) other (λ e h w. refl) refl a
-message-agrees rules typed taken v c chatter a askable = skipped rules typed taken v c c other (λ e h w. refl) refl a
+passed-agrees : (canon : Canon) (typed : List ℕ) (taken : List Entry) (v : Server) (c : Client) → Agrees canon typed taken v c → Agrees canon typed taken (read_all canon v (passed_over c).items) (passed_over c).client
+passed-agrees canon typed taken v c a = skipped canon typed taken v c c other (λ l e h w. refl) refl a
+
+-- LINEMODE comes on at the client, and at the server once it reads the answer: no line is edited at the client, as before
+turned-agrees : (canon : Canon) (typed : List ℕ) (taken : List Entry) (v : Server) (c : Client) (b : Bool) → c.linemode ≡ b → Agrees canon typed taken v c → Agrees canon typed taken (read_all canon v (client_turned_on b c).items) (client_turned_on b c).client
+turned-agrees canon typed taken v c true was a = passed-agrees canon typed taken v c a
+turned-agrees canon typed taken v c false was a =
+    let raw = a.off was in
+    record {
+      half = a.half;
+      waiting = a.waiting;
+      is =
+          ap (λ x. read canon x linemode_on) a.is
+          ∙ ap (λ (l : Bool). read canon (server_at l c.mask.edit a.half a.waiting) linemode_on) was
+          ∙ ap (λ x. server_at true false a.half x) (append-nil a.waiting);
+      off = λ e. refl;
+      entries = a.entries;
+      line = a.line;
+      askable = inl refl;
+      ahead = λ e. absurd (cc);
+      none = λ e. a.none raw;
+      plain = a.plain;
+      count = λ e allowed. a.count raw allowed;
+    }
+
+pub message-agrees : (canon : Canon) (typed : List ℕ) (taken : List Entry) (v : Server) (c : Client) (m : Message) → Agrees canon typed taken v c → IsAskableMessage canon.settings m → Agrees canon typed taken (read_all canon v (client_after_message canon c m).items) (client_after_message canon c m).client
+message-agrees canon typed taken v c (mode m) a askable = by_test c.linemode refl
+  where
+    by_test : (b : Bool) → c.linemode ≡ b → Agrees canon typed taken (read_all canon v (where_on b c (client_after_mode canon c m (is_same c.mask m))).items) (where_on b c (client_after_mode canon c m (is_same c.mask m))).client
+    by_test true on = mode-agrees canon typed taken v c m (is_same c.mask m) on refl a askable
+    by_test false on = passed-agrees canon typed taken v c a
+message-agrees canon typed taken v c (forward_at f) a askable = by_test c.linemode
+  where
+    by_test : (b : Bool) → Agrees canon typed taken (read_all canon v (where_on b c (record { client = record c { forward = f }; items = other ∷ [] })).items) (where_on b c (record { client = record c { forward = f }; items = other ∷ [] })).client
+    by_test true = skipped canon typed taken v c (record c { forward = f }) other (λ l e h w. refl) refl a
+    by_test false = passed-agrees canon typed taken v c a
+message-agrees canon typed taken v c linemode_asked a askable = turned-agrees canon typed taken v c c.linemode refl a
+message-agrees canon typed taken v c chatter a askable = passed-agrees canon typed taken v c a

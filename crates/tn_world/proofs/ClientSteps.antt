@@ -7,12 +7,15 @@ use Rattle.std.proofs.lemmas.List.Elements.{All-head, All-tail}
 use Rattle.std.proofs.lemmas.Nat.{and_assoc, and_mask}
 use Rattle.tn_codes.specs.Payloads.{parameters_of}
 use Rattle.tn_codes.specs.PayloadOf.{payload_of}
+use Rattle.tn_codes.specs.declared.codes.Verb.{Verb}
+use Rattle.tn_codes.specs.declared.codes.Verb.TheVariants.{Will, DoIt}
 use Rattle.tn_codes.specs.declared.codes.Command.TheVariants as command
 use Rattle.tn_codes.specs.declared.masks.Mask.{Mask}
 use Rattle.tn_codes.specs.declared.payloads.Payload.{Payload}
 use Rattle.tn_codes.specs.declared.payloads.Payload.TheVariants as payload
 use Rattle.tn_codes.proofs.lemmas.Telling.{says}
-use Rattle.tn_discipline.specs.Characters.{Characters, is_set_to}
+use Rattle.tn_discipline.specs.Canon.{Canon}
+use Rattle.tn_discipline.specs.Characters.{Characters, standard_characters, is_set_to}
 use Rattle.tn_discipline.specs.Admitted.{count_after}
 use Rattle.tn_discipline.specs.HalfLine.{HalfLine, is_full, has_held, has_ahead, line_after}
 use Rattle.tn_discipline.specs.Keys.{standard_flags, mapped_key, signal_of, role_by_signal, role_of_mapped, role_of_key, role_or_ignored, roles_from}
@@ -28,24 +31,28 @@ use Rattle.tn_nvt.specs.declared.items.Item.{Item}
 use Rattle.tn_nvt.specs.declared.items.Item.TheVariants.{Byte, Newline, Cmd, Neg, Sub}
 use Rattle.tn_client.specs.Events.{typed, got, resized, History, next, gets}
 use Rattle.tn_client.specs.Terms as terms
-use Rattle.tn_client.specs.Terms.{linemode, tells_size, payload_at, options, changes, mode_by, mode_at, forward_by, forward_at, chars_by, chars, size}
+use Rattle.tn_client.specs.Terms.{linemode, tells_size, payload_at, options, options_after, changes, mode_by, mode_at, forward_by, forward_at, chars_by, chars, size}
 use Rattle.tn_client.specs.Lines.{role_of_typed, role_at, line_limit, is_forward, count_under, line, settings_by}
-use Rattle.tn_client.specs.Replies.{byte_items, command_of, command_items, raw_key_items, edited_key_items, sent_ahead_items, key_items, size_items, payload_answers, answer_items, end_of_edit_items, is_same_size, replies, items_said}
-use Rattle.tn_wire.specs.Words.{payload_items, mode_items}
+use Rattle.tn_client.specs.Replies.{byte_items, command_of, command_items, raw_key_items, edited_key_items, sent_ahead_items, key_items, size_items, new_size_items, payload_answers, answer_items, end_of_edit_items, is_same_size, replies, items_said}
+use Rattle.tn_option.specs.Options.{Options, options_after_word, reply_to, state_of, is_yes, agrees_to}
+use Rattle.tn_option.specs.declared.q_method.Side.TheVariants.{Us}
+use Rattle.tn_wire.specs.Words.{differ, word_items, payload_items, mode_items}
 use Rattle.tn_client.specs.Calls.{End, LeadsTo, Advances, ReadsNothing, Sends, Feeds, StopsWithin}
 use Rattle.tn_client.specs.Steps.{is_sent_now, line_sent, line_typed, count_typed, line_left, count_left, count_told}
 use Rattle.tn_client.proofs.lemmas.Ends.{line_is}
-use Rattle.tn_client.proofs.lemmas.Histories.{mode-small, gets-append}
+use Rattle.tn_server.proofs.lemmas.Terms.{differ_self}
+use Rattle.tn_client.proofs.lemmas.Histories.{mode-small, mode-off, gets-append}
 use Rattle.tn_client.proofs.lemmas.Stopping.{front_said}
 use Rattle.tn_nvt.specs.Feeding as nvt
 use Rattle.tn_client.proofs.lemmas.Lines.{end_at, line_after_key, line_beside_key, line-came, trapped-next, plain-next, trapped-came, plain-came}
 use Rattle.tn_world.specs.relation.Machine as machine
-use Rattle.tn_world.specs.relation.Machine.{Mode, Rules, Message, chatter, Client, Part, Sent, byte, newline, mode_ack, other, bytes, ordinary_key, erase_key, kill_key, edit_key, remote_item, count_next, client_after_key, is_same, client_with_mode, client_after_mode, client_after_message, IsAskable}
-use Rattle.tn_world.specs.relation.Calm.{bits, IsCalmToServer, IsCalmToClient, seen_payload, server_item, heard_payload, client_message}
+use Rattle.tn_world.specs.relation.Machine.{Mode, Message, linemode_asked, chatter, Client, Part, Sent, byte, newline, mode_ack, other, bytes, ordinary_key, erase_key, kill_key, edit_key, remote_item, count_next, client_after_key, is_same, client_with_mode, client_after_mode, passed_over, where_on, client_turned_on, client_after_message, IsAskable}
+use Rattle.tn_world.specs.relation.Calm.{bits, IsCalmToServer, IsCalmToClient, server_item, heard_payload, heard_word, client_message}
 use Rattle.tn_world.specs.relation.Ends.{client_messages, SaysItems, ClientKeys, client_after_messages, ClientSays}
-use Rattle.tn_world.specs.relation.Pictures.{client_core, client_picture, ClientStays}
+use Rattle.tn_world.specs.relation.Pictures.{client_core, client_picture, IsOffOrOn, ClientStays}
 use Rattle.tn_world.proofs.Changing.{remote_of}
-use Rattle.tn_world.proofs.ClientWrites.{writes-none, writes-one, writes-append, writes-bytes, writes-other, writes-if, word-keeps, size-writes, word-answered, word-mode, word-forward, IsChatter, chatter-mode, chatter-forward, chatter-chars, chatter-heard, chatter-answered, chatter-if, forward_of, forward-answered, Forwards, Asks, calm-kinds, said-mode, said-forward}
+use Rattle.tn_world.proofs.Engines.{client_turned, consent, client_consents, client_agrees, word_keeps_state}
+use Rattle.tn_world.proofs.ClientWrites.{writes-none, writes-one, writes-append, writes-bytes, writes-other, writes-if, word-keeps, size-writes, word-answered, word-mode, word-forward, IsChatter, chatter-mode, chatter-forward, chatter-chars, chatter-heard, chatter-answered, chatter-if, forward_of, forward-answered, Forwards, Asks, Tells, calm-kinds, table-at, table-mode, table-forward, table-chars, table-answered, said-mode, said-forward}
 
 -- MASKS
 small : (mask : ℕ) → mode_of mask < 4
@@ -103,6 +110,7 @@ same-bits (suc (suc (suc (suc m)))) n h k = absurd (omega arith)
 abbrev pub core_of : History → Client
 core_of h =
     record {
+      linemode = linemode (options h);
       mask = bits (terms.mode h);
       held = (line h).held;
       ahead = (line h).ahead;
@@ -114,24 +122,25 @@ core_of h =
 
 pub core_at : (h : History) (end : End) → LeadsTo h end → end.failed ≡ false → client_core end ≡ core_of h
 core_at h end s runs =
-    ap (λ (n : ℕ). record { mask = bits n; held = end.line.held; ahead = end.line.ahead; forward = is_forward end.forward; trapped = end.trapped; plain = end.plain; failed = end.failed }) s.mode
-    ∙ ap (λ (l : HalfLine). record { mask = bits (terms.mode h); held = l.held; ahead = l.ahead; forward = is_forward end.forward; trapped = end.trapped; plain = end.plain; failed = end.failed }) (line_is h end s)
-    ∙ ap (λ (f : Option Mask). record { mask = bits (terms.mode h); held = (line h).held; ahead = (line h).ahead; forward = is_forward f; trapped = end.trapped; plain = end.plain; failed = end.failed }) s.forward
-    ∙ ap (λ (n : ℕ). record { mask = bits (terms.mode h); held = (line h).held; ahead = (line h).ahead; forward = is_forward (terms.forward h); trapped = n; plain = end.plain; failed = end.failed }) s.trapped
-    ∙ ap (λ (n : ℕ). record { mask = bits (terms.mode h); held = (line h).held; ahead = (line h).ahead; forward = is_forward (terms.forward h); trapped = count_under true h; plain = n; failed = end.failed }) s.plain
-    ∙ ap (λ (b : Bool). record { mask = bits (terms.mode h); held = (line h).held; ahead = (line h).ahead; forward = is_forward (terms.forward h); trapped = count_under true h; plain = count_under false h; failed = b }) runs
+    ap (λ (o : Options). record { linemode = linemode o; mask = bits end.mode; held = end.line.held; ahead = end.line.ahead; forward = is_forward end.forward; trapped = end.trapped; plain = end.plain; failed = end.failed }) s.options
+    ∙ ap (λ (n : ℕ). record { linemode = linemode (options h); mask = bits n; held = end.line.held; ahead = end.line.ahead; forward = is_forward end.forward; trapped = end.trapped; plain = end.plain; failed = end.failed }) s.mode
+    ∙ ap (λ (l : HalfLine). record { linemode = linemode (options h); mask = bits (terms.mode h); held = l.held; ahead = l.ahead; forward = is_forward end.forward; trapped = end.trapped; plain = end.plain; failed = end.failed }) (line_is h end s)
+    ∙ ap (λ (f : Option Mask). record { linemode = linemode (options h); mask = bits (terms.mode h); held = (line h).held; ahead = (line h).ahead; forward = is_forward f; trapped = end.trapped; plain = end.plain; failed = end.failed }) s.forward
+    ∙ ap (λ (n : ℕ). record { linemode = linemode (options h); mask = bits (terms.mode h); held = (line h).held; ahead = (line h).ahead; forward = is_forward (terms.forward h); trapped = n; plain = end.plain; failed = end.failed }) s.trapped
+    ∙ ap (λ (n : ℕ). record { linemode = linemode (options h); mask = bits (terms.mode h); held = (line h).held; ahead = (line h).ahead; forward = is_forward (terms.forward h); trapped = count_under true h; plain = n; failed = end.failed }) s.plain
+    ∙ ap (λ (b : Bool). record { linemode = linemode (options h); mask = bits (terms.mode h); held = (line h).held; ahead = (line h).ahead; forward = is_forward (terms.forward h); trapped = count_under true h; plain = count_under false h; failed = b }) runs
 
--- LINEMODE, the special characters and the limit are as they were
-pub record IsKept (rules : Rules) (h : History) : Type 0 where
-  pub on : linemode (options h) ≡ rules.linemode
-  pub characters : chars h ≡ rules.canon.settings.chars
-  pub limit : line_limit h ≡ rules.canon.limit
+-- LINEMODE does not end; the special characters and the limit are as they were
+pub record IsKept (canon : Canon) (h : History) : Type 0 where
+  pub on : IsOffOrOn (state_of (options h) Us 34)
+  pub characters : chars h ≡ canon.settings.chars
+  pub limit : line_limit h ≡ canon.limit
 
-pub kept_at : (rules : Rules) (h : History) (end : End) → LeadsTo h end → ClientStays rules end → IsKept rules h
-kept_at rules h end s k = record { on = ap linemode (sym s.options) ∙ k.linemode; characters = sym s.table ∙ k.chars; limit = sym s.limit ∙ k.limit }
+pub kept_at : (canon : Canon) (h : History) (end : End) → LeadsTo h end → ClientStays canon end → IsKept canon h
+kept_at canon h end s k = record { on = subst (λ (o : Options). IsOffOrOn (state_of o Us 34)) s.options k.linemode; characters = sym s.table ∙ k.chars; limit = sym s.limit ∙ k.limit }
 
-pub stays_at : (rules : Rules) (h : History) (end : End) → LeadsTo h end → IsKept rules h → ClientStays rules end
-stays_at rules h end s k = record { linemode = ap linemode s.options ∙ k.on; chars = s.table ∙ k.characters; limit = s.limit ∙ k.limit }
+pub stays_at : (canon : Canon) (h : History) (end : End) → LeadsTo h end → IsKept canon h → ClientStays canon end
+stays_at canon h end s k = record { linemode = subst (λ (o : Options). IsOffOrOn (state_of o Us 34)) (sym s.options) k.on; chars = s.table ∙ k.characters; limit = s.limit ∙ k.limit }
 
 -- A KEY WITH EDIT
 abbrev line_of_part : ℕ → Part → HalfLine
@@ -175,48 +184,48 @@ edited-line h role.Erase = erased-line h (has_held (line h)) (has_ahead (line h)
 edited-line h role.Kill = killed-line (line_limit h) (has_ahead (line h))
 edited-line h role.Ignored = refl
 
-kept-writes : (rules : Rules) (h : History) (b : ℕ) (full forwards : Bool) → SaysItems rules (ordinary_key full forwards (core_of h) b).items (sent_ahead_items (not full && forwards) (if full then line h else record (line h) { held = (line h).held ++ b ∷ [] }))
-kept-writes rules h b true forwards = writes-none rules
-kept-writes rules h b false true = writes-bytes rules ((line h).held ++ b ∷ [])
-kept-writes rules h b false false = writes-none rules
+kept-writes : (canon : Canon) (h : History) (b : ℕ) (full forwards : Bool) → SaysItems canon (ordinary_key full forwards (core_of h) b).items (sent_ahead_items (not full && forwards) (if full then line h else record (line h) { held = (line h).held ++ b ∷ [] }))
+kept-writes canon h b true forwards = writes-none canon
+kept-writes canon h b false true = writes-bytes canon ((line h).held ++ b ∷ [])
+kept-writes canon h b false false = writes-none canon
 
-signal-writes : (rules : Rules) (sig : Sig) → SaysItems rules (machine.command (machine.command_of sig) ∷ []) (command_items (command_of (role.Signal sig)))
-signal-writes rules Int = writes-one rules (Cmd command.Ip) (machine.command command.Ip) tt tt refl
-signal-writes rules Quit = writes-one rules (Cmd command.Abort) (machine.command command.Abort) tt tt refl
-signal-writes rules Tstp = writes-one rules (Cmd command.Susp) (machine.command command.Susp) tt tt refl
+signal-writes : (canon : Canon) (sig : Sig) → SaysItems canon (machine.command (machine.command_of sig) ∷ []) (command_items (command_of (role.Signal sig)))
+signal-writes canon Int = writes-one canon (Cmd command.Ip) (machine.command command.Ip) tt tt refl
+signal-writes canon Quit = writes-one canon (Cmd command.Abort) (machine.command command.Abort) tt tt refl
+signal-writes canon Tstp = writes-one canon (Cmd command.Susp) (machine.command command.Susp) tt tt refl
 
-erased-writes : (rules : Rules) (c : Client) (some further : Bool) → SaysItems rules (erase_key some further c).items (if not some && further then command_items (command_of role.Erase) else [])
-erased-writes rules c true further = writes-none rules
-erased-writes rules c false true = writes-one rules (Cmd command.Ec) (machine.command command.Ec) tt tt refl
-erased-writes rules c false false = writes-none rules
+erased-writes : (canon : Canon) (c : Client) (some further : Bool) → SaysItems canon (erase_key some further c).items (if not some && further then command_items (command_of role.Erase) else [])
+erased-writes canon c true further = writes-none canon
+erased-writes canon c false true = writes-one canon (Cmd command.Ec) (machine.command command.Ec) tt tt refl
+erased-writes canon c false false = writes-none canon
 
-killed-writes : (rules : Rules) (further : Bool) → SaysItems rules (kill_key further).items (if further then command_items (command_of role.Kill) else [])
-killed-writes rules true = writes-one rules (Cmd command.El) (machine.command command.El) tt tt refl
-killed-writes rules false = writes-none rules
+killed-writes : (canon : Canon) (further : Bool) → SaysItems canon (kill_key further).items (if further then command_items (command_of role.Kill) else [])
+killed-writes canon true = writes-one canon (Cmd command.El) (machine.command command.El) tt tt refl
+killed-writes canon false = writes-none canon
 
 -- what is held, and one more item
-closing-writes : (rules : Rules) (held : List ℕ) (says : machine.Item) (item : Item) → Fits item → IsCalmToServer item → server_item rules.linemode item ≡ says → SaysItems rules (bytes held ++ says ∷ []) (byte_items held ++ item ∷ [])
-closing-writes rules held says item fit calm is = writes-append rules (bytes held) (says ∷ []) (byte_items held) (item ∷ []) (writes-bytes rules held) (writes-one rules item says fit calm is)
+closing-writes : (canon : Canon) (held : List ℕ) (says : machine.Item) (item : Item) → Fits item → IsCalmToServer canon.settings item → server_item item ≡ says → SaysItems canon (bytes held ++ says ∷ []) (byte_items held ++ item ∷ [])
+closing-writes canon held says item fit calm is = writes-append canon (bytes held) (says ∷ []) (byte_items held) (item ∷ []) (writes-bytes canon held) (writes-one canon item says fit calm is)
 
 -- and what it sends: of the keys that are not ordinary, none sends more than its line
 abbrev sends : History → Role → List Item
 sends h r = edited_key_items r (line h) ++ sent_ahead_items (is_sent_now (terms.forward h) (line h) r) (line_after (line h) r)
 
-alone-writes : (rules : Rules) (says : List machine.Item) (out : List Item) → SaysItems rules says out → SaysItems rules says (out ++ [])
-alone-writes rules says out w = subst (λ (xs : List Item). SaysItems rules says xs) (sym (append-nil out)) w
+alone-writes : (canon : Canon) (says : List machine.Item) (out : List Item) → SaysItems canon says out → SaysItems canon says (out ++ [])
+alone-writes canon says out w = subst (λ (xs : List Item). SaysItems canon says xs) (sym (append-nil out)) w
 
-edited-writes : (rules : Rules) (limit : ℕ) (h : History) (r : Role) → limit ≡ line_limit h → SaysItems rules (edit_key limit (core_of h) r).items (sends h r)
-edited-writes rules limit h (role.Ordinary b) is =
-    subst (λ (n : ℕ). SaysItems rules (edit_key n (core_of h) (role.Ordinary b)).items (sends h (role.Ordinary b))) (sym is)
-    (kept-writes rules h b (is_full (line h)) (is_forward (terms.forward h) b))
-edited-writes rules limit h role.Nl is = alone-writes rules _ _ (closing-writes rules (line h).held newline Newline tt tt refl)
-edited-writes rules limit h (role.Eol b) is = alone-writes rules _ _ (closing-writes rules (line h).held (byte b) (Byte b) tt tt refl)
-edited-writes rules limit h (role.Eol2 b) is = alone-writes rules _ _ (closing-writes rules (line h).held (byte b) (Byte b) tt tt refl)
-edited-writes rules limit h role.Eof is = alone-writes rules _ _ (closing-writes rules (line h).held (machine.command command.Eof) (Cmd command.Eof) tt tt refl)
-edited-writes rules limit h (role.Signal sig) is = alone-writes rules _ _ (signal-writes rules sig)
-edited-writes rules limit h role.Erase is = alone-writes rules _ _ (erased-writes rules (core_of h) (has_held (line h)) (has_ahead (line h)))
-edited-writes rules limit h role.Kill is = alone-writes rules _ _ (killed-writes rules (has_ahead (line h)))
-edited-writes rules limit h role.Ignored is = writes-none rules
+edited-writes : (canon : Canon) (limit : ℕ) (h : History) (r : Role) → limit ≡ line_limit h → SaysItems canon (edit_key limit (core_of h) r).items (sends h r)
+edited-writes canon limit h (role.Ordinary b) is =
+    subst (λ (n : ℕ). SaysItems canon (edit_key n (core_of h) (role.Ordinary b)).items (sends h (role.Ordinary b))) (sym is)
+    (kept-writes canon h b (is_full (line h)) (is_forward (terms.forward h) b))
+edited-writes canon limit h role.Nl is = alone-writes canon _ _ (closing-writes canon (line h).held newline Newline tt tt refl)
+edited-writes canon limit h (role.Eol b) is = alone-writes canon _ _ (closing-writes canon (line h).held (byte b) (Byte b) tt tt refl)
+edited-writes canon limit h (role.Eol2 b) is = alone-writes canon _ _ (closing-writes canon (line h).held (byte b) (Byte b) tt tt refl)
+edited-writes canon limit h role.Eof is = alone-writes canon _ _ (closing-writes canon (line h).held (machine.command command.Eof) (Cmd command.Eof) tt tt refl)
+edited-writes canon limit h (role.Signal sig) is = alone-writes canon _ _ (signal-writes canon sig)
+edited-writes canon limit h role.Erase is = alone-writes canon _ _ (erased-writes canon (core_of h) (has_held (line h)) (has_ahead (line h)))
+edited-writes canon limit h role.Kill is = alone-writes canon _ _ (killed-writes canon (has_ahead (line h)))
+edited-writes canon limit h role.Ignored is = writes-none canon
 
 raw-tests : (b key : ℕ) (sig : Option Sig) (t u v w x y : Bool) → raw_key_items (if t then role.Nl else (if u then role.Eol b else (if y then role.Eol2 b else (if v then role.Eof else (if w then role.Erase else (if x then role.Kill else role_by_signal false sig b)))))) key ≡ Byte key ∷ []
 raw-tests b key sig true u v w x y = refl
@@ -237,9 +246,9 @@ raw-key mask c key e =
     ∙ raw-mapped c key (mapped_key (record standard_flags { isig = false }) key)
 
 -- what the relation's client does with a key
-record Keyed (rules : Rules) (h : History) (key : ℕ) (edit : Bool) : Type 0 where
-  pub core : core_of (next h (typed key)) ≡ (client_after_key rules edit (core_of h) key).client
-  pub writes : SaysItems rules (client_after_key rules edit (core_of h) key).items (replies h (typed key))
+pub record Keyed (canon : Canon) (h : History) (key : ℕ) (edit : Bool) : Type 0 where
+  pub core : core_of (next h (typed key)) ≡ (client_after_key canon edit (core_of h) key).client
+  pub writes : SaysItems canon (client_after_key canon edit (core_of h) key).items (replies h (typed key))
 
 -- the client of a history, of which these parts are known after a key
 abbrev keyed : History → HalfLine → ℕ → ℕ → Client
@@ -262,17 +271,17 @@ counted limit n (role.Signal sig) = refl
 counted limit n role.Erase = refl
 counted limit n role.Kill = refl
 
-count_there : (rules : Rules) (h : History) (isig : Bool) (n key : ℕ) → IsKept rules h → count_typed false isig (end_at h) n key ≡ count_next rules.canon.limit n (role_of_key (settings_by isig rules.canon.settings.chars) key)
-count_there rules h isig n key k =
+count_there : (canon : Canon) (h : History) (isig : Bool) (n key : ℕ) → IsKept canon h → count_typed false isig (end_at h) n key ≡ count_next canon.limit n (role_of_key (settings_by isig canon.settings.chars) key)
+count_there canon h isig n key k =
     ap (λ (m : ℕ). count_after m n (roles_from (role_of_key (settings_by isig (chars h)) key))) k.limit
-    ∙ ap (λ (c : Characters). count_after rules.canon.limit n (roles_from (role_of_key (settings_by isig c) key))) k.characters
-    ∙ counted rules.canon.limit n (role_of_key (settings_by isig rules.canon.settings.chars) key)
+    ∙ ap (λ (c : Characters). count_after canon.limit n (roles_from (role_of_key (settings_by isig c) key))) k.characters
+    ∙ counted canon.limit n (role_of_key (settings_by isig canon.settings.chars) key)
 
-key-step : (rules : Rules) (h : History) (key : ℕ) (edit : Bool) → edits (terms.mode h) ≡ edit → IsKept rules h → IsAskable rules.canon.settings (bits (terms.mode h)) → Keyed rules h key edit
-key-step rules h key true e k askable =
+pub key-step : (canon : Canon) (h : History) (key : ℕ) (edit : Bool) → edits (terms.mode h) ≡ edit → IsKept canon h → IsAskable canon.settings (bits (terms.mode h)) → Keyed canon h key edit
+key-step canon h key true e k askable =
     let c = core_of h in
-    let limit = rules.canon.limit in
-    let told = role_of_key (settings_by (traps (terms.mode h)) rules.canon.settings.chars) key in
+    let limit = canon.limit in
+    let told = role_of_key (settings_by (traps (terms.mode h)) canon.settings.chars) key in
     let same : role_at h key ≡ told = ap (λ (x : Characters). role_of_typed (terms.mode h) x key) k.characters in
     record {
       core =
@@ -281,47 +290,47 @@ key-step rules h key true e k askable =
           ∙ ap (λ (n : ℕ). let part = edit_key n c (role_at h key) in record c { held = part.held; ahead = part.ahead }) k.limit
           ∙ ap (λ (r : Role). let part = edit_key limit c r in record c { held = part.held; ahead = part.ahead }) same;
       writes =
-          subst (λ (b : Bool). SaysItems rules (edit_key limit c told).items (key_items b (terms.forward h) (role_at h key) (line h) key)) (sym e)
-          (subst (λ (r : Role). SaysItems rules (edit_key limit c r).items (sends h (role_at h key))) same (edited-writes rules limit h (role_at h key) (sym k.limit)));
+          subst (λ (b : Bool). SaysItems canon (edit_key limit c told).items (key_items b (terms.forward h) (role_at h key) (line h) key)) (sym e)
+          (subst (λ (r : Role). SaysItems canon (edit_key limit c r).items (sends h (role_at h key))) same (edited-writes canon limit h (role_at h key) (sym k.limit)));
     }
-key-step rules h key false e k askable =
+key-step canon h key false e k askable =
     let c = core_of h in
-    let off : traps (terms.mode h) ≡ false = ap (λ (m : Mode). m.trapsig) (remote_of rules.canon.settings (bits (terms.mode h)) askable e) in
+    let off : traps (terms.mode h) ≡ false = ap (λ (m : Mode). m.trapsig) (remote_of canon.settings (bits (terms.mode h)) askable e) in
     let trapped = count_typed false true (end_at h) (count_under true h) key in
     let plain = count_typed false false (end_at h) (count_under false h) key in
     record {
       core =
           core_typed h key false e
           ∙ ap (λ (l : HalfLine). keyed h l trapped plain) (line_beside_key h key e)
-          ∙ ap (λ (n : ℕ). keyed h (line h) n plain) (count_there rules h true (count_under true h) key k)
-          ∙ ap (λ (n : ℕ). keyed h (line h) (count_next rules.canon.limit (count_under true h) (role_of_key (settings_by true rules.canon.settings.chars) key)) n) (count_there rules h false (count_under false h) key k);
+          ∙ ap (λ (n : ℕ). keyed h (line h) n plain) (count_there canon h true (count_under true h) key k)
+          ∙ ap (λ (n : ℕ). keyed h (line h) (count_next canon.limit (count_under true h) (role_of_key (settings_by true canon.settings.chars) key)) n) (count_there canon h false (count_under false h) key k);
       writes =
-          subst (λ (b : Bool). SaysItems rules (client_after_key rules false c key).items (key_items b (terms.forward h) (role_at h key) (line h) key)) (sym e)
-          (subst (λ (xs : List Item). SaysItems rules (client_after_key rules false c key).items xs) (sym (raw-key (terms.mode h) (chars h) key off))
-          (subst (λ (b : Bool). SaysItems rules (remote_item b (role_of_mapped (settings_by (traps (terms.mode h)) rules.canon.settings.chars) key) key ∷ []) (Byte key ∷ [])) (sym off) (writes-one rules (Byte key) (byte key) tt tt refl)));
+          subst (λ (b : Bool). SaysItems canon (client_after_key canon false c key).items (key_items b (terms.forward h) (role_at h key) (line h) key)) (sym e)
+          (subst (λ (xs : List Item). SaysItems canon (client_after_key canon false c key).items xs) (sym (raw-key (terms.mode h) (chars h) key off))
+          (subst (λ (b : Bool). SaysItems canon (remote_item b (role_of_mapped (settings_by (traps (terms.mode h)) canon.settings.chars) key) key ∷ []) (Byte key ∷ [])) (sym off) (writes-one canon (Byte key) (byte key) tt tt refl)));
     }
 
 -- Whatever came before, a key does what the relation says of it.
-pub keys_done : (rules : Rules) (h : History) (old new : End) (key : ℕ) (before after : List ℕ) → LeadsTo h old → ClientStays rules old → IsAskable rules.canon.settings (bits old.mode) → old.failed ≡ false → Advances old (typed key) new → ReadsNothing old new → (g : Sends old (typed key) before after) → ClientKeys rules (client_picture old) key g.said (client_picture new)
-keys_done rules h old new key before after s stays askable runs goes keeps g =
+pub keys_done : (canon : Canon) (h : History) (old new : End) (key : ℕ) (before after : List ℕ) → LeadsTo h old → ClientStays canon old → IsAskable canon.settings (bits old.mode) → old.failed ≡ false → Advances old (typed key) new → ReadsNothing old new → (g : Sends old (typed key) before after) → ClientKeys canon (client_picture old) key g.said (client_picture new)
+keys_done canon h old new key before after s stays askable runs goes keeps g =
     let here = core_at h old s runs in
-    let k = key-step rules h key (edits (terms.mode h)) refl (kept_at rules h old s stays) (subst (λ (n : ℕ). IsAskable rules.canon.settings (bits n)) s.mode askable) in
-    let done = client_after_key rules (edits (terms.mode h)) (core_of h) key in
-    let same : client_after_key rules (bits old.mode).edit (client_core old) key ≡ done =
-    ap (λ (c : Client). client_after_key rules c.mask.edit c key) here in
+    let k = key-step canon h key (edits (terms.mode h)) refl (kept_at canon h old s stays) (subst (λ (n : ℕ). IsAskable canon.settings (bits n)) s.mode askable) in
+    let done = client_after_key canon (edits (terms.mode h)) (core_of h) key in
+    let same : client_after_key canon (bits old.mode).edit (client_core old) key ≡ done =
+    ap (λ (c : Client). client_after_key canon c.mask.edit c key) here in
     record {
       decoder = keeps.decoder;
       core = core_at (next h (typed key)) new (goes.leads h s) (keeps.failed ∙ runs) ∙ k.core ∙ ap (λ (x : Sent). x.client) (sym same);
       writes =
-          subst (λ (x : Sent). SaysItems rules x.items g.said) (sym same)
-          (subst (λ (xs : List Item). SaysItems rules done.items xs) (g.replies h s) k.writes);
+          subst (λ (x : Sent). SaysItems canon x.items g.said) (sym same)
+          (subst (λ (xs : List Item). SaysItems canon done.items xs) (g.replies h s) k.writes);
     }
 
 -- LINEMODE, the characters and the mask stay as they are
-pub keys_stay : (rules : Rules) (h : History) (old new : End) (key : ℕ) → LeadsTo h old → ClientStays rules old → Advances old (typed key) new → ClientStays rules new
-keys_stay rules h old new key s stays goes =
-    let k = kept_at rules h old s stays in
-    stays_at rules (next h (typed key)) new (goes.leads h s) (record { on = k.on; characters = k.characters; limit = k.limit })
+pub keys_stay : (canon : Canon) (h : History) (old new : End) (key : ℕ) → LeadsTo h old → ClientStays canon old → Advances old (typed key) new → ClientStays canon new
+keys_stay canon h old new key s stays goes =
+    let k = kept_at canon h old s stays in
+    stays_at canon (next h (typed key)) new (goes.leads h s) (record { on = k.on; characters = k.characters; limit = k.limit })
 
 -- AN ITEM
 ending-same : (b : Bool) (bs : List ℕ) → end_of_edit_items b b bs ≡ []
@@ -329,10 +338,11 @@ ending-same true bs = refl
 ending-same false bs = refl
 
 -- the client of a history under another mask and another forward mask, by EDIT before and after
-abbrev moded : History → ℕ → Option Mask → Bool → Bool → Client
-moded h n f before after =
+abbrev moded : History → Bool → ℕ → Option Mask → Bool → Bool → Client
+moded h on n f before after =
     let l = line_left before after (count_told n (count_under true h) (count_under false h)) (line h) in
     record {
+      linemode = on;
       mask = bits n;
       held = l.held;
       ahead = l.ahead;
@@ -342,79 +352,134 @@ moded h n f before after =
       failed = false;
     }
 
-abbrev by_mask : History → ℕ → Option Mask → Client
-by_mask h n f = moded h n f (edits (terms.mode h)) (edits n)
+abbrev by_mask : History → Bool → ℕ → Option Mask → Client
+by_mask h on n f = moded h on n f (edits (terms.mode h)) (edits n)
 
-core_came : (h : History) (item : Item) → core_of (next h (got item)) ≡ by_mask h (mode_at (options h) (terms.mode h) item) (forward_at (options h) (terms.forward h) item)
+core_came : (h : History) (item : Item) → core_of (next h (got item)) ≡ by_mask h (linemode (options_after (options h) item)) (mode_at (options h) (terms.mode h) item) (forward_at (options h) (terms.forward h) item)
 core_came h item =
     let after = next h (got item) in
+    let on = linemode (options after) in
     let t = count_under true after in
     let p = count_under false after in
     let l = line_left (edits (terms.mode h)) (edits (terms.mode after)) (count_told (terms.mode after) (count_under true h) (count_under false h)) (line h) in
-    ap (λ (x : HalfLine). record { mask = bits (terms.mode after); held = x.held; ahead = x.ahead; forward = is_forward (terms.forward after); trapped = t; plain = p; failed = false }) (line-came h item)
-    ∙ ap (λ (n : ℕ). record { mask = bits (terms.mode after); held = l.held; ahead = l.ahead; forward = is_forward (terms.forward after); trapped = n; plain = p; failed = false }) (trapped-came h item)
-    ∙ ap (λ (n : ℕ). record { mask = bits (terms.mode after); held = l.held; ahead = l.ahead; forward = is_forward (terms.forward after); trapped = count_left (edits (terms.mode h)) (edits (terms.mode after)) (line h) (count_under true h); plain = n; failed = false }) (plain-came h item)
+    ap (λ (x : HalfLine). record { linemode = on; mask = bits (terms.mode after); held = x.held; ahead = x.ahead; forward = is_forward (terms.forward after); trapped = t; plain = p; failed = false }) (line-came h item)
+    ∙ ap (λ (n : ℕ). record { linemode = on; mask = bits (terms.mode after); held = l.held; ahead = l.ahead; forward = is_forward (terms.forward after); trapped = n; plain = p; failed = false }) (trapped-came h item)
+    ∙ ap (λ (n : ℕ). record { linemode = on; mask = bits (terms.mode after); held = l.held; ahead = l.ahead; forward = is_forward (terms.forward after); trapped = count_left (edits (terms.mode h)) (edits (terms.mode after)) (line h) (count_under true h); plain = n; failed = false }) (plain-came h item)
 
 -- what the relation's client does with a message
-record Came (rules : Rules) (h : History) (item : Item) (m : Message) : Type 0 where
-  pub core : core_of (next h (got item)) ≡ (client_after_message rules (core_of h) m).client
-  pub writes : SaysItems rules (client_after_message rules (core_of h) m).items (replies h (got item))
+pub record CameAs (canon : Canon) (h : History) (item : Item) (sent : Sent) : Type 0 where
+  pub core : core_of (next h (got item)) ≡ sent.client
+  pub writes : SaysItems canon sent.items (replies h (got item))
+
+abbrev Came : Canon → History → Item → Message → Type 0
+Came canon h item m = CameAs canon h item (client_after_message canon (core_of h) m)
 
 -- a mask that stays
-moded-same : (h : History) (n : ℕ) (f : Option Mask) (b : Bool) → moded h n f b b ≡ record (core_of h) { mask = bits n; forward = is_forward f }
-moded-same h n f true = refl
-moded-same h n f false = refl
+moded-same : (h : History) (on : Bool) (n : ℕ) (f : Option Mask) (b : Bool) → moded h on n f b b ≡ record (core_of h) { linemode = on; mask = bits n; forward = is_forward f }
+moded-same h on n f true = refl
+moded-same h on n f false = refl
 
-core-same : (h : History) (m : ℕ) (f : Option Mask) → m ≡ terms.mode h → by_mask h m f ≡ record (core_of h) { forward = is_forward f }
-core-same h m f e = ap (λ (n : ℕ). by_mask h n f) e ∙ moded-same h (terms.mode h) f (edits (terms.mode h))
+core-same : (h : History) (m : ℕ) (f : Option Mask) → m ≡ terms.mode h → by_mask h (linemode (options h)) m f ≡ record (core_of h) { forward = is_forward f }
+core-same h m f e = ap (λ (n : ℕ). by_mask h (linemode (options h)) n f) e ∙ moded-same h (linemode (options h)) (terms.mode h) f (edits (terms.mode h))
 
-writes-same : (rules : Rules) (says : List machine.Item) (h : History) (m : ℕ) (out : List Item) → m ≡ (terms.mode h) → SaysItems rules says out → SaysItems rules says (end_of_edit_items (edits (terms.mode h)) (edits m) (line h).held ++ out)
-writes-same rules says h m out e w =
-    subst (λ (n : ℕ). SaysItems rules says (end_of_edit_items (edits (terms.mode h)) (edits n) (line h).held ++ out)) (sym e)
-    (subst (λ (xs : List Item). SaysItems rules says (xs ++ out)) (sym (ending-same (edits (terms.mode h)) (line h).held)) w)
+writes-same : (canon : Canon) (says : List machine.Item) (h : History) (m : ℕ) (out : List Item) → m ≡ (terms.mode h) → SaysItems canon says out → SaysItems canon says (end_of_edit_items (edits (terms.mode h)) (edits m) (line h).held ++ out)
+writes-same canon says h m out e w =
+    subst (λ (n : ℕ). SaysItems canon says (end_of_edit_items (edits (terms.mode h)) (edits n) (line h).held ++ out)) (sym e)
+    (subst (λ (xs : List Item). SaysItems canon says (xs ++ out)) (sym (ending-same (edits (terms.mode h)) (line h).held)) w)
 
-chatter-came : (rules : Rules) (h : History) (item : Item) → mode_at (options h) (terms.mode h) item ≡ (terms.mode h) → forward_at (options h) (terms.forward h) item ≡ terms.forward h → client_message rules.linemode item ≡ chatter → SaysItems rules [] (answer_items (options h) (terms.mode h) (chars h) (size h) item) → Came rules h item (client_message rules.linemode item)
-chatter-came rules h item e f is w =
+-- what changes nothing, and is answered by nothing that counts
+chatter-came : (canon : Canon) (h : History) (item : Item) (m : Message) → client_after_message canon (core_of h) m ≡ passed_over (core_of h) → linemode (options_after (options h) item) ≡ linemode (options h) → mode_at (options h) (terms.mode h) item ≡ (terms.mode h) → forward_at (options h) (terms.forward h) item ≡ terms.forward h → SaysItems canon [] (answer_items (options h) (terms.mode h) (chars h) (size h) item) → Came canon h item m
+chatter-came canon h item m passes same e f w =
     let out = answer_items (options h) (terms.mode h) (chars h) (size h) item in
-    subst (λ (m : Message). Came rules h item m) (sym is)
+    let n = mode_at (options h) (terms.mode h) item in
+    record {
+      core =
+          core_came h item ∙ ap (λ (b : Bool). by_mask h b n (forward_at (options h) (terms.forward h) item)) same
+          ∙ ap (λ (x : Option Mask). by_mask h (linemode (options h)) n x) f
+          ∙ core-same h n (terms.forward h) e
+          ∙ ap (λ (x : Sent). x.client) (sym passes);
+      writes =
+          subst (λ (x : Sent). SaysItems canon x.items (replies h (got item))) (sym passes)
+          (writes-same canon (other ∷ []) h n out e (writes-other canon out w));
+    }
+
+-- LINEMODE is asked for: it comes on without a mask, and consents once
+turned_linemode : (o : Options) → agrees_to o Us 34 ≡ true → IsOffOrOn (state_of o Us 34) → linemode (options_after_word o DoIt 34) ≡ true
+turned_linemode o a n = ap is_yes (client_turned o a n)
+
+sizes-write : (canon : Canon) (was on : Bool) (z : ℕ × ℕ) → SaysItems canon [] (new_size_items was on z)
+sizes-write canon was on z = writes-if canon (on && not was) (size_items z) (size-writes canon z)
+
+consent-writes : (canon : Canon) (b : Bool) → canon.settings.chars ≡ standard_characters → SaysItems canon (if b then [] else machine.linemode_on ∷ []) (word_items (consent b))
+consent-writes canon true is = writes-none canon
+consent-writes canon false is = writes-one canon (Neg Will 34) machine.linemode_on tt (inr (refl, refl, is)) refl
+
+turning-writes : (canon : Canon) (h : History) (b : Bool) → linemode (options h) ≡ b → IsKept canon h → canon.settings.chars ≡ standard_characters → SaysItems canon (if b then [] else machine.linemode_on ∷ []) (word_items (reply_to (options h) DoIt 34))
+turning-writes canon h b was k is =
+    subst (λ (w : Option (Verb × ℕ)). SaysItems canon (if b then [] else machine.linemode_on ∷ []) (word_items w)) (sym (client_consents (options h) (client_agrees h) k.on ∙ ap consent was)) (consent-writes canon b is)
+
+turned-came : (canon : Canon) (h : History) (b : Bool) → linemode (options h) ≡ b → IsKept canon h → canon.settings.chars ≡ standard_characters → Came canon h (Neg DoIt 34) linemode_asked
+turned-came canon h true was k is =
+    let o = options h in
+    let same : linemode (options_after_word o DoIt 34) ≡ linemode o = turned_linemode o (client_agrees h) k.on ∙ sym was in
+    chatter-came canon h (Neg DoIt 34) linemode_asked (ap (λ (b : Bool). client_turned_on b (core_of h)) was) same
+    (ap (λ (b : Bool). if differ (linemode o) b then 0 else terms.mode h) same ∙ ap (λ (b : Bool). if b then 0 else terms.mode h) (differ_self (linemode o)))
+    (ap (λ (b : Bool). if differ (linemode o) b then None else terms.forward h) same ∙ ap (λ (b : Bool). if b then None else terms.forward h) (differ_self (linemode o)))
+    (writes-append canon [] [] (word_items (reply_to o DoIt 34)) (new_size_items (tells_size o) (tells_size (options_after_word o DoIt 34)) (size h))
+    (turning-writes canon h true was k is) (sizes-write canon (tells_size o) (tells_size (options_after_word o DoIt 34)) (size h)))
+turned-came canon h false was k is =
+    let o = options h in
+    let on : linemode (options_after_word o DoIt 34) ≡ true = turned_linemode o (client_agrees h) k.on in
+    let changed : differ (linemode o) (linemode (options_after_word o DoIt 34)) ≡ true = ap (λ (b : Bool). differ b (linemode (options_after_word o DoIt 34))) was ∙ on in
+    let mask : mode_at o (terms.mode h) (Neg DoIt 34) ≡ 0 = ap (λ (b : Bool). if b then 0 else terms.mode h) changed in
+    let forward : forward_at o (terms.forward h) (Neg DoIt 34) ≡ None = ap (λ (b : Bool). if b then None else terms.forward h) changed in
+    let raw : edits (terms.mode h) ≡ false = ap edits (mode-off h was) in
+    let out = answer_items o (terms.mode h) (chars h) (size h) (Neg DoIt 34) in
+    subst (λ (x : Sent). CameAs canon h (Neg DoIt 34) x) (sym (ap (λ (b : Bool). client_turned_on b (core_of h)) was))
     (record {
       core =
-          core_came h item ∙ ap (λ (x : Option Mask). by_mask h (mode_at (options h) (terms.mode h) item) x) f
-          ∙ core-same h (mode_at (options h) (terms.mode h) item) (terms.forward h) e;
-      writes = writes-same rules (other ∷ []) h (mode_at (options h) (terms.mode h) item) out e (writes-other rules out w);
+          core_came h (Neg DoIt 34)
+          ∙ ap (λ (b : Bool). by_mask h b (mode_at o (terms.mode h) (Neg DoIt 34)) (forward_at o (terms.forward h) (Neg DoIt 34))) on
+          ∙ ap (λ (n : ℕ). by_mask h true n (forward_at o (terms.forward h) (Neg DoIt 34))) mask
+          ∙ ap (λ (x : Option Mask). by_mask h true 0 x) forward
+          ∙ ap (λ (b : Bool). moded h true 0 None b false) raw;
+      writes =
+          subst (λ (b : Bool). SaysItems canon (machine.linemode_on ∷ []) (end_of_edit_items b (edits (mode_at o (terms.mode h) (Neg DoIt 34))) (line h).held ++ out)) (sym raw)
+          (writes-append canon (machine.linemode_on ∷ []) [] (word_items (reply_to o DoIt 34)) (new_size_items (tells_size o) (tells_size (options_after_word o DoIt 34)) (size h))
+          (turning-writes canon h false was k is) (sizes-write canon (tells_size o) (tells_size (options_after_word o DoIt 34)) (size h)));
     })
 
 -- the acknowledgement of a mode
-ack-writes : (rules : Rules) (n : ℕ) → rules.linemode ≡ true → n < 4 → SaysItems rules (mode_ack (bits n) ∷ []) (payload_items (payload.Mode (bit_or n 4)))
-ack-writes rules n on fits =
-    writes-one rules (Sub 34 (parameters_of (payload.Mode (bit_or n 4)))) (mode_ack (bits n)) (omega arith) (is-ack n fits)
-    (ap (λ (l : Bool). seen_payload l (Some (payload.Mode (bit_or n 4)))) on ∙ ap (λ (m : Mode). mode_ack m) (bits-ack n fits))
+ack-writes : (canon : Canon) (n : ℕ) → n < 4 → SaysItems canon (mode_ack (bits n) ∷ []) (payload_items (payload.Mode (bit_or n 4)))
+ack-writes canon n fits =
+    writes-one canon (Sub 34 (parameters_of (payload.Mode (bit_or n 4)))) (mode_ack (bits n)) (omega arith) (is-ack n fits)
+    (ap (λ (m : Mode). mode_ack m) (bits-ack n fits))
 
 -- a mode that differs, by EDIT before and after
-record Taken (rules : Rules) (h : History) (n : ℕ) (before after : Bool) : Type 0 where
-  pub core : moded h n (terms.forward h) before after ≡ (client_with_mode rules (core_of h) (bits n) before after).client
-  pub writes : SaysItems rules (client_with_mode rules (core_of h) (bits n) before after).items (end_of_edit_items before after (line h).held ++ payload_items (payload.Mode (bit_or n 4)))
+record Taken (canon : Canon) (h : History) (n : ℕ) (before after : Bool) : Type 0 where
+  pub core : moded h (linemode (options h)) n (terms.forward h) before after ≡ (client_with_mode canon (core_of h) (bits n) before after).client
+  pub writes : SaysItems canon (client_with_mode canon (core_of h) (bits n) before after).items (end_of_edit_items before after (line h).held ++ payload_items (payload.Mode (bit_or n 4)))
 
-mode-taken : (rules : Rules) (h : History) (n : ℕ) (before after : Bool) → rules.linemode ≡ true → n < 4 → Taken rules h n before after
-mode-taken rules h n true false on fits = record {
+mode-taken : (canon : Canon) (h : History) (n : ℕ) (before after : Bool) → n < 4 → Taken canon h n before after
+mode-taken canon h n true false fits = record {
   core = refl;
-  writes = writes-append rules (bytes (line h).held) (mode_ack (bits n) ∷ []) (byte_items (line h).held) (payload_items (payload.Mode (bit_or n 4))) (writes-bytes rules (line h).held) (ack-writes rules n on fits);
+  writes = writes-append canon (bytes (line h).held) (mode_ack (bits n) ∷ []) (byte_items (line h).held) (payload_items (payload.Mode (bit_or n 4))) (writes-bytes canon (line h).held) (ack-writes canon n fits);
 }
-mode-taken rules h n false true on fits = record { core = refl; writes = ack-writes rules n on fits }
-mode-taken rules h n true true on fits = record { core = refl; writes = ack-writes rules n on fits }
-mode-taken rules h n false false on fits = record { core = refl; writes = ack-writes rules n on fits }
+mode-taken canon h n false true fits = record { core = refl; writes = ack-writes canon n fits }
+mode-taken canon h n true true fits = record { core = refl; writes = ack-writes canon n fits }
+mode-taken canon h n false false fits = record { core = refl; writes = ack-writes canon n fits }
 
 -- a mode, by whether it is the one in force
-record Moded (rules : Rules) (h : History) (n : ℕ) (same : Bool) : Type 0 where
-  pub core : by_mask h n (terms.forward h) ≡ (client_after_mode rules (core_of h) (bits n) same).client
-  pub writes : SaysItems rules (client_after_mode rules (core_of h) (bits n) same).items (end_of_edit_items (edits (terms.mode h)) (edits n) (line h).held ++ mode_items (if same then None else Some (bit_or n 4)))
+record Moded (canon : Canon) (h : History) (n : ℕ) (same : Bool) : Type 0 where
+  pub core : by_mask h (linemode (options h)) n (terms.forward h) ≡ (client_after_mode canon (core_of h) (bits n) same).client
+  pub writes : SaysItems canon (client_after_mode canon (core_of h) (bits n) same).items (end_of_edit_items (edits (terms.mode h)) (edits n) (line h).held ++ mode_items (if same then None else Some (bit_or n 4)))
 
-mode-came : (rules : Rules) (h : History) (n : ℕ) (same : Bool) → rules.linemode ≡ true → n < 4 → (n == (terms.mode h)) ≡ same → Moded rules h n same
-mode-came rules h n true on fits e =
+mode-came : (canon : Canon) (h : History) (n : ℕ) (same : Bool) → n < 4 → (n == (terms.mode h)) ≡ same → Moded canon h n same
+mode-came canon h n true fits e =
     let is : n ≡ (terms.mode h) = eqb-true n (terms.mode h) e in
-    record { core = core-same h n (terms.forward h) is; writes = writes-same rules [] h n [] is (writes-none rules) }
-mode-came rules h n false on fits e =
-    let m = mode-taken rules h n (edits (terms.mode h)) (edits n) on fits in
+    record { core = core-same h n (terms.forward h) is; writes = writes-same canon [] h n [] is (writes-none canon) }
+mode-came canon h n false fits e =
+    let m = mode-taken canon h n (edits (terms.mode h)) (edits n) fits in
     record { core = m.core; writes = m.writes }
 
 answer-asked : (m mask : ℕ) → is_acknowledged mask ≡ false → mode_answer m mask ≡ (if mode_of mask == m then None else Some (bit_or (mode_of mask) 4))
@@ -431,35 +496,31 @@ asked-mode : (h : History) (option : ℕ) (params : List ℕ) (mask : ℕ) → p
 asked-mode h option params mask is plain on =
     ap (λ (q : Option Payload). mode_by (terms.mode h) q) (asked-at h option params mask is on) ∙ after-asked (terms.mode h) mask plain
 
-asked-heard : (rules : Rules) (option : ℕ) (params : List ℕ) (mask : ℕ) → payload_of option params ≡ Some (payload.Mode mask) → rules.linemode ≡ true → client_message rules.linemode (Sub option params) ≡ machine.mode (bits mask)
-asked-heard rules option params mask is on =
-    ap (λ (l : Bool). heard_payload l (payload_of option params)) on ∙ ap (λ (q : Option Payload). heard_payload true q) is
-
 -- a mode that is asked for while LINEMODE is on
-asked-came : (rules : Rules) (h : History) (option : ℕ) (params : List ℕ) (mask : ℕ) → rules.linemode ≡ true → IsKept rules h → payload_of option params ≡ Some (payload.Mode mask) → is_acknowledged mask ≡ false → Came rules h (Sub option params) (client_message rules.linemode (Sub option params))
-asked-came rules h option params mask on stays is plain =
+asked-came : (canon : Canon) (h : History) (option : ℕ) (params : List ℕ) (mask : ℕ) → linemode (options h) ≡ true → payload_of option params ≡ Some (payload.Mode mask) → is_acknowledged mask ≡ false → Came canon h (Sub option params) (machine.mode (bits mask))
+asked-came canon h option params mask on is plain =
     let item = Sub option params in
     let n = mode_of mask in
     let c = core_of h in
     let same = is_same (bits (terms.mode h)) (bits n) in
     let e : (n == (terms.mode h)) ≡ same = sym (same-bits (terms.mode h) n (mode-small h) (small mask)) in
-    let there : linemode (options h) ≡ true = stays.on ∙ on in
-    let q = asked-at h option params mask is there in
-    let k = asked-mode h option params mask is plain there in
-    let m = mode-came rules h n same on (small mask) e in
+    let q = asked-at h option params mask is on in
+    let k = asked-mode h option params mask is plain on in
+    let m = mode-came canon h n same (small mask) e in
     let told : mode_answer (terms.mode h) mask ≡ (if same then None else Some (bit_or n 4)) = answer-asked (terms.mode h) mask plain ∙ ap (λ (b : Bool). if b then None else Some (bit_or n 4)) e in
-    subst (λ (x : Message). Came rules h item x) (sym (asked-heard rules option params mask is on ∙ ap (λ (x : Mode). machine.mode x) (sym (bits-mode mask))))
+    subst (λ (x : Mode). Came canon h item (machine.mode x)) (bits-mode mask)
+    (subst (λ (x : Sent). CameAs canon h item x) (sym (ap (λ (b : Bool). where_on b c (client_after_mode canon c (bits n) same)) on))
     (record {
       core =
           core_came h item
-          ∙ ap (λ (x : ℕ). by_mask h x (forward_at (options h) (terms.forward h) item)) k
-          ∙ ap (λ (x : Option Mask). by_mask h n x) (ap (λ (x : Option Payload). forward_by (terms.forward h) x) q)
+          ∙ ap (λ (x : ℕ). by_mask h (linemode (options h)) x (forward_at (options h) (terms.forward h) item)) k
+          ∙ ap (λ (x : Option Mask). by_mask h (linemode (options h)) n x) (ap (λ (x : Option Payload). forward_by (terms.forward h) x) q)
           ∙ m.core;
       writes =
-          subst (λ (x : ℕ). SaysItems rules (client_after_mode rules c (bits n) same).items (end_of_edit_items (edits (terms.mode h)) (edits x) (line h).held ++ payload_answers (terms.mode h) (chars h) (payload_at (options h) item))) (sym k)
-          (subst (λ (x : Option Payload). SaysItems rules (client_after_mode rules c (bits n) same).items (end_of_edit_items (edits (terms.mode h)) (edits n) (line h).held ++ payload_answers (terms.mode h) (chars h) x)) (sym q)
-          (subst (λ (x : Option ℕ). SaysItems rules (client_after_mode rules c (bits n) same).items (end_of_edit_items (edits (terms.mode h)) (edits n) (line h).held ++ mode_items x)) (sym told) m.writes));
-    })
+          subst (λ (x : ℕ). SaysItems canon (client_after_mode canon c (bits n) same).items (end_of_edit_items (edits (terms.mode h)) (edits x) (line h).held ++ payload_answers (terms.mode h) (chars h) (payload_at (options h) item))) (sym k)
+          (subst (λ (x : Option Payload). SaysItems canon (client_after_mode canon c (bits n) same).items (end_of_edit_items (edits (terms.mode h)) (edits n) (line h).held ++ payload_answers (terms.mode h) (chars h) x)) (sym q)
+          (subst (λ (x : Option ℕ). SaysItems canon (client_after_mode canon c (bits n) same).items (end_of_edit_items (edits (terms.mode h)) (edits n) (line h).held ++ mode_items x)) (sym told) m.writes));
+    }))
 
 -- where LINEMODE is off, no mode counts
 unasked-at : (h : History) (option : ℕ) (params : List ℕ) (mask : ℕ) → payload_of option params ≡ Some (payload.Mode mask) → linemode (options h) ≡ false → payload_at (options h) (Sub option params) ≡ None
@@ -469,13 +530,13 @@ unasked-at h option params mask is off =
 chattered-at : (h : History) (option : ℕ) (params : List ℕ) → IsChatter (payload_of option params) → IsChatter (payload_at (options h) (Sub option params))
 chattered-at h option params i = chatter-if (((option == 34) && linemode (options h)) && nat_le (length params) 512) (payload_of option params) i
 
-nothing-came : (rules : Rules) (h : History) (option : ℕ) (params : List ℕ) → IsChatter (payload_at (options h) (Sub option params)) → client_message rules.linemode (Sub option params) ≡ chatter → Came rules h (Sub option params) (client_message rules.linemode (Sub option params))
-nothing-came rules h option params i is =
-    chatter-came rules h (Sub option params) (chatter-mode (terms.mode h) (payload_at (options h) (Sub option params)) i)
-    (chatter-forward (terms.forward h) (payload_at (options h) (Sub option params)) i) is (chatter-answered rules (terms.mode h) (chars h) (payload_at (options h) (Sub option params)) i)
+nothing-came : (canon : Canon) (h : History) (option : ℕ) (params : List ℕ) (m : Message) → IsChatter (payload_at (options h) (Sub option params)) → client_after_message canon (core_of h) m ≡ passed_over (core_of h) → Came canon h (Sub option params) m
+nothing-came canon h option params m i passes =
+    chatter-came canon h (Sub option params) m passes refl (chatter-mode (terms.mode h) (payload_at (options h) (Sub option params)) i)
+    (chatter-forward (terms.forward h) (payload_at (options h) (Sub option params)) i) (chatter-answered canon (terms.mode h) (chars h) (payload_at (options h) (Sub option params)) i)
 
 -- a forward mask, by whether LINEMODE is on
-forward-heard : (f : Option Mask) → heard_payload true (Some (forward_of f)) ≡ machine.forward_at (is_forward f)
+forward-heard : (f : Option Mask) → heard_payload (Some (forward_of f)) ≡ machine.forward_at (is_forward f)
 forward-heard (Some mask) = refl
 forward-heard None = refl
 
@@ -491,46 +552,76 @@ forward-chars : (c : Characters) (f : Option Mask) → chars_by c (Some (forward
 forward-chars c (Some mask) = refl
 forward-chars c None = refl
 
-forward-came : (rules : Rules) (h : History) (option : ℕ) (params : List ℕ) (on : Bool) → rules.linemode ≡ on → IsKept rules h → (f : Option Mask) → payload_of option params ≡ Some (forward_of f) → Came rules h (Sub option params) (client_message rules.linemode (Sub option params))
-forward-came rules h option params true e stays f is =
+forward-came : (canon : Canon) (h : History) (option : ℕ) (params : List ℕ) (on : Bool) → linemode (options h) ≡ on → (f : Option Mask) → payload_of option params ≡ Some (forward_of f) → Came canon h (Sub option params) (machine.forward_at (is_forward f))
+forward-came canon h option params true e f is =
     let item = Sub option params in
-    let at : payload_at (options h) item ≡ Some (forward_of f) = said-forward (options h) option params f is ∙ ap (λ (b : Bool). if b then Some (forward_of f) else None) (stays.on ∙ e) in
+    let c = core_of h in
+    let at : payload_at (options h) item ≡ Some (forward_of f) = said-forward (options h) option params f is ∙ ap (λ (b : Bool). if b then Some (forward_of f) else None) e in
     let same : mode_at (options h) (terms.mode h) item ≡ terms.mode h = ap (λ (q : Option Payload). mode_by (terms.mode h) q) at ∙ forward-mode (terms.mode h) f in
-    let heard : client_message rules.linemode item ≡ machine.forward_at (is_forward f) = ap (λ (l : Bool). heard_payload l (payload_of option params)) e ∙ ap (λ (q : Option Payload). heard_payload true q) is ∙ forward-heard f in
-    subst (λ (m : Message). Came rules h item m) (sym heard)
+    subst (λ (x : Sent). CameAs canon h item x) (sym (ap (λ (b : Bool). where_on b c (record { client = record c { forward = is_forward f }; items = other ∷ [] })) e))
     (record {
       core =
           core_came h item
-          ∙ ap (λ (x : Option Mask). by_mask h (mode_at (options h) (terms.mode h) item) x) (ap (λ (q : Option Payload). forward_by (terms.forward h) q) at ∙ forward-taken (terms.forward h) f)
+          ∙ ap (λ (x : Option Mask). by_mask h (linemode (options h)) (mode_at (options h) (terms.mode h) item) x) (ap (λ (q : Option Payload). forward_by (terms.forward h) q) at ∙ forward-taken (terms.forward h) f)
           ∙ core-same h (mode_at (options h) (terms.mode h) item) f same;
       writes =
-          writes-same rules (other ∷ []) h (mode_at (options h) (terms.mode h) item) (answer_items (options h) (terms.mode h) (chars h) (size h) item) same
-          (subst (λ (q : Option Payload). SaysItems rules (other ∷ []) (payload_answers (terms.mode h) (chars h) q)) (sym at) (forward-answered rules f (terms.mode h) (chars h)));
+          writes-same canon (other ∷ []) h (mode_at (options h) (terms.mode h) item) (answer_items (options h) (terms.mode h) (chars h) (size h) item) same
+          (subst (λ (q : Option Payload). SaysItems canon (other ∷ []) (payload_answers (terms.mode h) (chars h) q)) (sym at) (forward-answered canon f (terms.mode h) (chars h)));
     })
-forward-came rules h option params false e stays f is =
-    nothing-came rules h option params
-    (subst (λ (q : Option Payload). IsChatter q) (sym (said-forward (options h) option params f is ∙ ap (λ (b : Bool). if b then Some (forward_of f) else None) (stays.on ∙ e))) tt)
-    (ap (λ (l : Bool). heard_payload l (payload_of option params)) e)
+forward-came canon h option params false e f is =
+    let c = core_of h in
+    nothing-came canon h option params (machine.forward_at (is_forward f))
+    (subst (λ (q : Option Payload). IsChatter q) (sym (said-forward (options h) option params f is ∙ ap (λ (b : Bool). if b then Some (forward_of f) else None) e)) tt)
+    (ap (λ (b : Bool). where_on b c (record { client = record c { forward = is_forward f }; items = other ∷ [] })) e)
 
-mode-asked : (rules : Rules) (h : History) (option : ℕ) (params : List ℕ) (on : Bool) → rules.linemode ≡ on → IsKept rules h → Asks rules.canon.settings (payload_of option params) → Came rules h (Sub option params) (client_message rules.linemode (Sub option params))
-mode-asked rules h option params true e stays a = asked-came rules h option params a.mask e stays a.is a.plain
-mode-asked rules h option params false e stays a =
-    nothing-came rules h option params (subst (λ (q : Option Payload). IsChatter q) (sym (unasked-at h option params a.mask a.is (stays.on ∙ e))) tt) (ap (λ (l : Bool). heard_payload l (payload_of option params)) e)
+mode-asked : (canon : Canon) (h : History) (option : ℕ) (params : List ℕ) (on : Bool) → linemode (options h) ≡ on → (a : Asks canon.settings (payload_of option params)) → Came canon h (Sub option params) (machine.mode (bits a.mask))
+mode-asked canon h option params true e a = asked-came canon h option params a.mask e a.is a.plain
+mode-asked canon h option params false e a =
+    let c = core_of h in
+    nothing-came canon h option params (machine.mode (bits a.mask)) (subst (λ (q : Option Payload). IsChatter q) (sym (unasked-at h option params a.mask a.is e)) tt)
+    (ap (λ (b : Bool). where_on b c (client_after_mode canon c (bits a.mask) (is_same c.mask (bits a.mask)))) e)
 
-sub-came : (rules : Rules) (h : History) (option : ℕ) (params : List ℕ) → IsKept rules h → IsChatter (payload_of option params) ⊎ (Forwards (payload_of option params) ⊎ Asks rules.canon.settings (payload_of option params)) → Came rules h (Sub option params) (client_message rules.linemode (Sub option params))
-sub-came rules h option params stays (inl i) = nothing-came rules h option params (chattered-at h option params i) (chatter-heard rules.linemode (payload_of option params) i)
-sub-came rules h option params stays (inr (inl f)) = forward-came rules h option params rules.linemode refl stays f.mask f.is
-sub-came rules h option params stays (inr (inr a)) = mode-asked rules h option params rules.linemode refl stays a
+-- the table
+table-came : (canon : Canon) (h : History) (option : ℕ) (params : List ℕ) → IsKept canon h → Tells canon.settings (payload_of option params) → Came canon h (Sub option params) chatter
+table-came canon h option params stays t =
+    let b = ((option == 34) && linemode (options h)) && nat_le (length params) 512 in
+    let at = table-at (options h) option params t.is in
+    chatter-came canon h (Sub option params) chatter refl refl
+    (ap (λ (q : Option Payload). mode_by (terms.mode h) q) at ∙ table-mode (terms.mode h) b)
+    (ap (λ (q : Option Payload). forward_by (terms.forward h) q) at ∙ table-forward (terms.forward h) b)
+    (subst (λ (q : Option Payload). SaysItems canon [] (payload_answers (terms.mode h) (chars h) q)) (sym at) (table-answered canon (terms.mode h) (chars h) b (stays.characters ∙ t.standard)))
+
+heard-as : (canon : Canon) (h : History) (option : ℕ) (params : List ℕ) (m : Message) → heard_payload (payload_of option params) ≡ m → Came canon h (Sub option params) m → Came canon h (Sub option params) (client_message (Sub option params))
+heard-as canon h option params m is c = subst (λ (x : Message). Came canon h (Sub option params) x) (sym is) c
+
+sub-came : (canon : Canon) (h : History) (option : ℕ) (params : List ℕ) → IsKept canon h → IsChatter (payload_of option params) ⊎ (Forwards (payload_of option params) ⊎ (Asks canon.settings (payload_of option params) ⊎ Tells canon.settings (payload_of option params))) → Came canon h (Sub option params) (client_message (Sub option params))
+sub-came canon h option params stays (inl i) =
+    heard-as canon h option params chatter (chatter-heard (payload_of option params) i) (nothing-came canon h option params chatter (chattered-at h option params i) refl)
+sub-came canon h option params stays (inr (inl f)) =
+    heard-as canon h option params (machine.forward_at (is_forward f.mask)) (ap heard_payload f.is ∙ forward-heard f.mask) (forward-came canon h option params (linemode (options h)) refl f.mask f.is)
+sub-came canon h option params stays (inr (inr (inl a))) =
+    heard-as canon h option params (machine.mode (bits a.mask)) (ap heard_payload a.is) (mode-asked canon h option params (linemode (options h)) refl a)
+sub-came canon h option params stays (inr (inr (inr t))) =
+    heard-as canon h option params chatter (ap heard_payload t.is) (table-came canon h option params stays t)
+
+-- an option word
+word-came : (canon : Canon) (h : History) (verb : Verb) (option : ℕ) → IsKept canon h → IsCalmToClient canon.settings (Neg verb option) → Came canon h (Neg verb option) (client_message (Neg verb option))
+word-came canon h verb option stays (inl e) =
+    subst (λ (m : Message). Came canon h (Neg verb option) m) (sym (ap heard_word e))
+    (chatter-came canon h (Neg verb option) chatter refl (word-keeps (options h) verb option e) (word-mode (options h) (terms.mode h) verb option e) (word-forward (options h) (terms.forward h) verb option e) (word-answered canon (options h) (terms.mode h) (chars h) (size h) verb option e))
+word-came canon h verb option stays (inr t) =
+    subst (λ (v : Verb). Came canon h (Neg v option) (client_message (Neg v option))) (sym t.0)
+    (subst (λ (n : ℕ). Came canon h (Neg DoIt n) (client_message (Neg DoIt n))) (sym t.1)
+    (turned-came canon h (linemode (options h)) refl stays t.2))
 
 -- A calm item does what the relation says of it.
-item-came : (rules : Rules) (h : History) (item : Item) → IsKept rules h → IsCalmToClient rules.canon.settings item → Came rules h item (client_message rules.linemode item)
-item-came rules h (Byte b) stays calm = chatter-came rules h (Byte b) refl refl refl (writes-none rules)
-item-came rules h Newline stays calm = chatter-came rules h Newline refl refl refl (writes-none rules)
-item-came rules h (Cmd command) stays calm = chatter-came rules h (Cmd command) refl refl refl (writes-none rules)
-item-came rules h (Neg verb option) stays calm =
-    chatter-came rules h (Neg verb option) (word-mode (options h) (terms.mode h) verb option calm) (word-forward (options h) (terms.forward h) verb option calm) refl (word-answered rules (options h) (terms.mode h) (chars h) (size h) verb option calm)
-item-came rules h (Sub option params) stays calm =
-    sub-came rules h option params stays (calm-kinds rules.canon.settings (payload_of option params) calm)
+pub item-came : (canon : Canon) (h : History) (item : Item) → IsKept canon h → IsCalmToClient canon.settings item → Came canon h item (client_message item)
+item-came canon h (Byte b) stays calm = chatter-came canon h (Byte b) chatter refl refl refl refl (writes-none canon)
+item-came canon h Newline stays calm = chatter-came canon h Newline chatter refl refl refl refl (writes-none canon)
+item-came canon h (Cmd command) stays calm = chatter-came canon h (Cmd command) chatter refl refl refl refl (writes-none canon)
+item-came canon h (Neg verb option) stays calm = word-came canon h verb option stays calm
+item-came canon h (Sub option params) stays calm =
+    sub-came canon h option params stays (calm-kinds canon.settings (payload_of option params) calm)
 
 -- and leaves LINEMODE and the characters as they are
 mode-chars : (c : Characters) (mask : ℕ) (b : Bool) → chars_by c (if b then Some (payload.Mode mask) else None) ≡ c
@@ -541,79 +632,89 @@ dropped-chars : (c : Characters) (f : Option Mask) (b : Bool) → chars_by c (if
 dropped-chars c f true = forward-chars c f
 dropped-chars c f false = refl
 
-sub-chars : (s : Settings) (h : History) (option : ℕ) (params : List ℕ) → IsChatter (payload_of option params) ⊎ (Forwards (payload_of option params) ⊎ Asks s (payload_of option params)) → chars_by (chars h) (payload_at (options h) (Sub option params)) ≡ (chars h)
-sub-chars s h option params (inl i) = chatter-chars (chars h) (payload_at (options h) (Sub option params)) (chattered-at h option params i)
-sub-chars s h option params (inr (inl f)) =
+sub-chars : (canon : Canon) (h : History) (option : ℕ) (params : List ℕ) → IsKept canon h → IsChatter (payload_of option params) ⊎ (Forwards (payload_of option params) ⊎ (Asks canon.settings (payload_of option params) ⊎ Tells canon.settings (payload_of option params))) → chars_by (chars h) (payload_at (options h) (Sub option params)) ≡ (chars h)
+sub-chars canon h option params k (inl i) = chatter-chars (chars h) (payload_at (options h) (Sub option params)) (chattered-at h option params i)
+sub-chars canon h option params k (inr (inl f)) =
     ap (λ (q : Option Payload). chars_by (chars h) q) (said-forward (options h) option params f.mask f.is) ∙ dropped-chars (chars h) f.mask (linemode (options h))
-sub-chars s h option params (inr (inr a)) =
+sub-chars canon h option params k (inr (inr (inl a))) =
     ap (λ (q : Option Payload). chars_by (chars h) q) (said-mode (options h) option params a.mask a.is) ∙ mode-chars (chars h) a.mask (linemode (options h))
+sub-chars canon h option params k (inr (inr (inr t))) =
+    ap (λ (q : Option Payload). chars_by (chars h) q) (table-at (options h) option params t.is)
+    ∙ table-chars (chars h) (((option == 34) && linemode (options h)) && nat_le (length params) 512) (k.characters ∙ t.standard)
 
-item-stays : (rules : Rules) (h : History) (item : Item) → IsKept rules h → IsCalmToClient rules.canon.settings item → IsKept rules (next h (got item))
-item-stays rules h (Byte b) stays calm = record { on = stays.on; characters = stays.characters; limit = stays.limit }
-item-stays rules h Newline stays calm = record { on = stays.on; characters = stays.characters; limit = stays.limit }
-item-stays rules h (Cmd command) stays calm = record { on = stays.on; characters = stays.characters; limit = stays.limit }
-item-stays rules h (Neg verb option) stays calm = record { on = word-keeps (options h) verb option calm ∙ stays.on; characters = stays.characters; limit = stays.limit }
-item-stays rules h (Sub option params) stays calm =
-    record { on = stays.on; characters = sub-chars rules.canon.settings h option params (calm-kinds rules.canon.settings (payload_of option params) calm) ∙ stays.characters; limit = stays.limit }
+word-stays : (s : Settings) (o : Options) (verb : Verb) (option : ℕ) → agrees_to o Us 34 ≡ true → IsOffOrOn (state_of o Us 34) → IsCalmToClient s (Neg verb option) → IsOffOrOn (state_of (options_after_word o verb option) Us 34)
+word-stays s o verb option a n (inl e) = subst IsOffOrOn (sym (word_keeps_state o Us verb option e)) n
+word-stays s o verb option a n (inr t) =
+    subst (λ (v : Verb). IsOffOrOn (state_of (options_after_word o v option) Us 34)) (sym t.0)
+    (subst (λ (x : ℕ). IsOffOrOn (state_of (options_after_word o DoIt x) Us 34)) (sym t.1)
+    (subst IsOffOrOn (sym (client_turned o a n)) tt))
+
+pub item-stays : (canon : Canon) (h : History) (item : Item) → IsKept canon h → IsCalmToClient canon.settings item → IsKept canon (next h (got item))
+item-stays canon h (Byte b) stays calm = record { on = stays.on; characters = stays.characters; limit = stays.limit }
+item-stays canon h Newline stays calm = record { on = stays.on; characters = stays.characters; limit = stays.limit }
+item-stays canon h (Cmd command) stays calm = record { on = stays.on; characters = stays.characters; limit = stays.limit }
+item-stays canon h (Neg verb option) stays calm = record { on = word-stays canon.settings (options h) verb option (client_agrees h) stays.on calm; characters = stays.characters; limit = stays.limit }
+item-stays canon h (Sub option params) stays calm =
+    record { on = stays.on; characters = sub-chars canon h option params stays (calm-kinds canon.settings (payload_of option params) calm) ∙ stays.characters; limit = stays.limit }
 
 -- ITEMS
-record CameAll (rules : Rules) (h : History) (items : List Item) : Type 0 where
-  pub core : core_of (gets h items) ≡ (client_after_messages rules (core_of h) (client_messages rules items)).client
+record CameAll (canon : Canon) (h : History) (items : List Item) : Type 0 where
+  pub core : core_of (gets h items) ≡ (client_after_messages canon (core_of h) (client_messages items)).client
   pub said : List Item
   pub sends : items_said (gets h items) ≡ items_said h ++ said
-  pub writes : SaysItems rules (client_after_messages rules (core_of h) (client_messages rules items)).items said
-  pub kept : IsKept rules (gets h items)
+  pub writes : SaysItems canon (client_after_messages canon (core_of h) (client_messages items)).items said
+  pub kept : IsKept canon (gets h items)
 
 -- Calm items do what the relation says of them, one after another.
-items-came : (rules : Rules) (h : History) (items : List Item) → IsKept rules h → All (IsCalmToClient rules.canon.settings) items → CameAll rules h items
-items-came rules h [] k calm = record { core = refl; said = []; sends = sym (append-nil (items_said h)); writes = writes-none rules; kept = k }
-items-came rules h (item ∷ items) k calm =
-    let first = All-head (IsCalmToClient rules.canon.settings) item items calm in
-    let one = item-came rules h item k first in
-    let rest = items-came rules (next h (got item)) items (item-stays rules h item k first) (All-tail (IsCalmToClient rules.canon.settings) item items calm) in
-    let c = client_after_message rules (core_of h) (client_message rules.linemode item) in
+items-came : (canon : Canon) (h : History) (items : List Item) → IsKept canon h → All (IsCalmToClient canon.settings) items → CameAll canon h items
+items-came canon h [] k calm = record { core = refl; said = []; sends = sym (append-nil (items_said h)); writes = writes-none canon; kept = k }
+items-came canon h (item ∷ items) k calm =
+    let first = All-head (IsCalmToClient canon.settings) item items calm in
+    let one = item-came canon h item k first in
+    let rest = items-came canon (next h (got item)) items (item-stays canon h item k first) (All-tail (IsCalmToClient canon.settings) item items calm) in
+    let c = client_after_message canon (core_of h) (client_message item) in
     record {
-      core = rest.core ∙ ap (λ (x : Client). (client_after_messages rules x (client_messages rules items)).client) one.core;
+      core = rest.core ∙ ap (λ (x : Client). (client_after_messages canon x (client_messages items)).client) one.core;
       said = replies h (got item) ++ rest.said;
       sends = rest.sends ∙ append_assoc (items_said h) (replies h (got item)) rest.said;
       writes =
-          writes-append rules c.items (client_after_messages rules c.client (client_messages rules items)).items (replies h (got item)) rest.said one.writes
-          (subst (λ (x : Client). SaysItems rules (client_after_messages rules x (client_messages rules items)).items rest.said) one.core rest.writes);
+          writes-append canon c.items (client_after_messages canon c.client (client_messages items)).items (replies h (got item)) rest.said one.writes
+          (subst (λ (x : Client). SaysItems canon (client_after_messages canon x (client_messages items)).items rest.said) one.core rest.writes);
       kept = rest.kept;
     }
 
 -- A PIECE
 -- Whatever came before, calm items do what the relation says of them, however they were cut.
-pub feeds_done : (rules : Rules) (h : History) (old new : End) (piece before after server_item now : List ℕ) → LeadsTo h old → ClientStays rules old → old.failed ≡ false → (f : Feeds old piece before after server_item now new) → All (IsCalmToClient rules.canon.settings) f.items → (client_core new ≡ (client_after_messages rules (client_core old) (client_messages rules f.items)).client) × SaysItems rules (client_after_messages rules (client_core old) (client_messages rules f.items)).items f.said
-feeds_done rules h old new piece before after server_item now s stays runs f calm =
-    let all = items-came rules h f.items (kept_at rules h old s stays) calm in
+pub feeds_done : (canon : Canon) (h : History) (old new : End) (piece before after server_item now : List ℕ) → LeadsTo h old → ClientStays canon old → old.failed ≡ false → (f : Feeds old piece before after server_item now new) → All (IsCalmToClient canon.settings) f.items → (client_core new ≡ (client_after_messages canon (client_core old) (client_messages f.items)).client) × SaysItems canon (client_after_messages canon (client_core old) (client_messages f.items)).items f.said
+feeds_done canon h old new piece before after server_item now s stays runs f calm =
+    let all = items-came canon h f.items (kept_at canon h old s stays) calm in
     let here = core_at h old s runs in
-    let same : client_after_messages rules (client_core old) (client_messages rules f.items) ≡ client_after_messages rules (core_of h) (client_messages rules f.items) =
-    ap (λ (c : Client). client_after_messages rules c (client_messages rules f.items)) here in (
+    let same : client_after_messages canon (client_core old) (client_messages f.items) ≡ client_after_messages canon (core_of h) (client_messages f.items) =
+    ap (λ (c : Client). client_after_messages canon c (client_messages f.items)) here in (
       core_at (gets h f.items) new (f.leads h s) (f.failed ∙ runs) ∙ all.core ∙ ap (λ (x : Sent). x.client) (sym same),
-      subst (λ (x : Sent). SaysItems rules x.items f.said) (sym same)
-          (subst (λ (xs : List Item). SaysItems rules (client_after_messages rules (core_of h) (client_messages rules f.items)).items xs)
+      subst (λ (x : Sent). SaysItems canon x.items f.said) (sym same)
+          (subst (λ (xs : List Item). SaysItems canon (client_after_messages canon (core_of h) (client_messages f.items)).items xs)
           (append_cancel_left (items_said h) all.said f.said (sym all.sends ∙ f.sends h s)) all.writes),
     )
 
 -- and leave LINEMODE and the characters as they are
-pub feeds_stay : (rules : Rules) (h : History) (old new : End) (piece before after server_item now : List ℕ) → LeadsTo h old → ClientStays rules old → (f : Feeds old piece before after server_item now new) → All (IsCalmToClient rules.canon.settings) f.items → ClientStays rules new
-feeds_stay rules h old new piece before after server_item now s stays f calm =
-    stays_at rules (gets h f.items) new (f.leads h s) (items-came rules h f.items (kept_at rules h old s stays) calm).kept
+pub feeds_stay : (canon : Canon) (h : History) (old new : End) (piece before after server_item now : List ℕ) → LeadsTo h old → ClientStays canon old → (f : Feeds old piece before after server_item now new) → All (IsCalmToClient canon.settings) f.items → ClientStays canon new
+feeds_stay canon h old new piece before after server_item now s stays f calm =
+    stays_at canon (gets h f.items) new (f.leads h s) (items-came canon h f.items (kept_at canon h old s stays) calm).kept
 
 -- A PIECE THAT WAS REFUSED
 -- What these items say to any server begins with this.
-pub record SaysFront (rules : Rules) (c : Client) (items said : List Item) : Type 0 where
+pub record SaysFront (canon : Canon) (c : Client) (items said : List Item) : Type 0 where
   pub all : List Item
   pub rest : List Item
   pub whole : all ≡ said ++ rest
-  pub writes : SaysItems rules (client_after_messages rules c (client_messages rules items)).items all
+  pub writes : SaysItems canon (client_after_messages canon c (client_messages items)).items all
 
--- Of calm items a front of what they say was said.
-pub stops_done : (rules : Rules) (h : History) (old : End) (piece before after seen now bytes : List ℕ) (had : List Item) → LeadsTo h old → nvt.LeadsTo bytes had old.decoder → ClientStays rules old → old.failed ≡ false → (x : StopsWithin old piece before after seen now) → All (IsCalmToClient rules.canon.settings) (x.done ++ x.left) → SaysFront rules (client_core old) (x.done ++ x.left) (x.said ++ x.part)
-stops_done rules h old piece before after seen now bytes had s read stays runs x calm =
+-- Of calm items a prefix of what they say was said.
+pub stops_done : (canon : Canon) (h : History) (old : End) (piece before after seen now bytes : List ℕ) (had : List Item) → LeadsTo h old → nvt.LeadsTo bytes had old.decoder → ClientStays canon old → old.failed ≡ false → (x : StopsWithin old piece before after seen now) → All (IsCalmToClient canon.settings) (x.done ++ x.left) → SaysFront canon (client_core old) (x.done ++ x.left) (x.said ++ x.part)
+stops_done canon h old piece before after seen now bytes had s read stays runs x calm =
     let items = x.done ++ x.left in
-    let all = items-came rules h items (kept_at rules h old s stays) calm in
+    let all = items-came canon h items (kept_at canon h old s stays) calm in
     let u = front_said (gets h x.done) x.left [] x.part x.here x.back (x.cause h bytes had s read) in
     let here : items_said (gets h items) ≡ items_said h ++ ((x.said ++ x.part) ++ u.0) =
     ap items_said (gets-append h x.done x.left ∙ ap (gets (gets h x.done)) (sym (append-nil x.left)))
@@ -624,21 +725,21 @@ stops_done rules h old piece before after seen now bytes had s read stays runs x
       all = all.said;
       rest = u.0;
       whole = append_cancel_left (items_said h) all.said ((x.said ++ x.part) ++ u.0) (sym all.sends ∙ here);
-      writes = subst (λ (c : Client). SaysItems rules (client_after_messages rules c (client_messages rules items)).items all.said) (sym (core_at h old s runs)) all.writes;
+      writes = subst (λ (c : Client). SaysItems canon (client_after_messages canon c (client_messages items)).items all.said) (sym (core_at h old s runs)) all.writes;
     }
 
 -- A NEW SIZE of the window says nothing of lines
-pub resized_done : (rules : Rules) (h : History) (old new : End) (width height : ℕ) (before after : List ℕ) → LeadsTo h old → old.failed ≡ false → Advances old (resized width height) new → ReadsNothing old new → (g : Sends old (resized width height) before after) → ClientSays rules (client_picture old) g.said (client_picture new)
-resized_done rules h old new width height before after s runs goes keeps g = record {
+pub resized_done : (canon : Canon) (h : History) (old new : End) (width height : ℕ) (before after : List ℕ) → LeadsTo h old → old.failed ≡ false → Advances old (resized width height) new → ReadsNothing old new → (g : Sends old (resized width height) before after) → ClientSays canon (client_picture old) g.said (client_picture new)
+resized_done canon h old new width height before after s runs goes keeps g = record {
   same =
       ap (λ d. record { decoder = d; core = client_core new }) keeps.decoder
       ∙ ap (λ (c : Client). record { decoder = old.decoder; core = c }) (core_at (next h (resized width height)) new (goes.leads h s) (keeps.failed ∙ runs) ∙ sym (core_at h old s runs));
   writes =
-      subst (λ (xs : List Item). SaysItems rules [] xs) (g.replies h s)
-      (writes-if rules (tells_size (options h) && not (is_same_size (size h) (width, height))) (size_items (width, height)) (size-writes rules (width, height)));
+      subst (λ (xs : List Item). SaysItems canon [] xs) (g.replies h s)
+      (writes-if canon (tells_size (options h) && not (is_same_size (size h) (width, height))) (size_items (width, height)) (size-writes canon (width, height)));
 }
 
-pub resized_stays : (rules : Rules) (h : History) (old new : End) (width height : ℕ) → LeadsTo h old → ClientStays rules old → Advances old (resized width height) new → ClientStays rules new
-resized_stays rules h old new width height s stays goes =
-    let k = kept_at rules h old s stays in
-    stays_at rules (next h (resized width height)) new (goes.leads h s) (record { on = k.on; characters = k.characters; limit = k.limit })
+pub resized_stays : (canon : Canon) (h : History) (old new : End) (width height : ℕ) → LeadsTo h old → ClientStays canon old → Advances old (resized width height) new → ClientStays canon new
+resized_stays canon h old new width height s stays goes =
+    let k = kept_at canon h old s stays in
+    stays_at canon (next h (resized width height)) new (goes.leads h s) (record { on = k.on; characters = k.characters; limit = k.limit })

@@ -12,9 +12,10 @@ use Rattle.tn_codes.specs.declared.payloads.Payload.{Payload}
 use Rattle.tn_codes.specs.declared.payloads.Payload.TheVariants as payload
 use Rattle.tn_codes.proofs.lemmas.Telling.{says}
 use Rattle.tn_discipline.specs.Canon.{Canon}
-use Rattle.tn_discipline.specs.Characters.{Characters}
+use Rattle.tn_discipline.specs.Characters.{Characters, standard_characters}
 use Rattle.tn_discipline.specs.declared.reads.Entry.{Entry}
 use Rattle.tn_discipline.specs.declared.termios.Settings.{Settings}
+use Rattle.tn_linemode.specs.Exchange.{announcement, answers_along, client_after, client_answers}
 use Rattle.tn_linemode.specs.Modes.{is_acknowledged}
 use Rattle.tn_nvt.specs.Spelling.{Fits}
 use Rattle.tn_nvt.specs.declared.items.Item.{Item}
@@ -24,42 +25,42 @@ use Rattle.tn_option.specs.QMethod.{side_of, cause_of}
 use Rattle.tn_option.specs.declared.q_method.Side.TheVariants.{Us}
 use Rattle.tn_option.proofs.lemmas.OptionLaws.{LeavesOthers-moved}
 use Rattle.tn_client.specs.Terms.{linemode, tells_size, payload_at, mode_by, mode_at, forward_by, forward_at, chars_by}
-use Rattle.tn_wire.specs.Words.{differ, word_items, payload_items}
+use Rattle.tn_wire.specs.Words.{differ, word_items, list_items}
 use Rattle.tn_client.specs.Replies.{byte_items, size_items, new_size_items, payload_answers, answer_items}
 use Rattle.tn_world.specs.relation.Machine as machine
-use Rattle.tn_world.specs.relation.Machine.{Mode, Rules, chatter, Server, read, read_item, read_all, byte, other, bytes, IsAskable}
-use Rattle.tn_world.specs.relation.Calm.{bits, IsCalmToServer, AsksCalmly, server_item, heard_payload}
+use Rattle.tn_world.specs.relation.Machine.{Mode, chatter, Server, read, read_item, read_all, byte, other, bytes, IsAskable}
+use Rattle.tn_world.specs.relation.Calm.{bits, IsCalmToServer, AsksCalmly, seen_word, server_item, heard_payload}
 use Rattle.tn_world.specs.relation.Ends.{server_items, SaysItems}
 use Rattle.tn_world.proofs.Reading.{read_all-append}
 use Rattle.tn_world.proofs.ServerSteps.{Speaks, reply_speaks}
 
 -- WHAT IS WRITTEN
 -- what these items say to any server, part by part
-pub writes-none : (rules : Rules) → SaysItems rules [] []
-writes-none rules = record { fit = All-nil Fits; calm = All-nil IsCalmToServer; says_so = λ v. refl }
+pub writes-none : (canon : Canon) → SaysItems canon [] []
+writes-none canon = record { fit = All-nil Fits; calm = All-nil (IsCalmToServer canon.settings); says_so = λ v. refl }
 
-pub writes-one : (rules : Rules) (item : Item) (says : machine.Item) → Fits item → IsCalmToServer item → server_item rules.linemode item ≡ says → SaysItems rules (says ∷ []) (item ∷ [])
-writes-one rules item says f calm e = record {
+pub writes-one : (canon : Canon) (item : Item) (says : machine.Item) → Fits item → IsCalmToServer canon.settings item → server_item item ≡ says → SaysItems canon (says ∷ []) (item ∷ [])
+writes-one canon item says f calm e = record {
   fit = All-cons Fits item [] f (All-nil Fits);
-  calm = All-cons IsCalmToServer item [] calm (All-nil IsCalmToServer);
-  says_so = λ v. ap (λ (i : machine.Item). read rules.canon v i) e;
+  calm = All-cons (IsCalmToServer canon.settings) item [] calm (All-nil (IsCalmToServer canon.settings));
+  says_so = λ v. ap (λ (i : machine.Item). read canon v i) e;
 }
 
-pub writes-append : (rules : Rules) (a b : List machine.Item) (x y : List Item) → SaysItems rules a x → SaysItems rules b y → SaysItems rules (a ++ b) (x ++ y)
-writes-append rules a b x y h k = record {
+pub writes-append : (canon : Canon) (a b : List machine.Item) (x y : List Item) → SaysItems canon a x → SaysItems canon b y → SaysItems canon (a ++ b) (x ++ y)
+writes-append canon a b x y h k = record {
   fit = All-append Fits x y h.fit k.fit;
-  calm = All-append IsCalmToServer x y h.calm k.calm;
+  calm = All-append (IsCalmToServer canon.settings) x y h.calm k.calm;
   says_so = λ v.
-      ap (λ (xs : List machine.Item). read_all rules.canon v xs) (map-append (server_item rules.linemode) x y)
-      ∙ read_all-append rules.canon v (server_items rules x) (server_items rules y)
-      ∙ k.says_so (read_all rules.canon v (server_items rules x))
-      ∙ ap (λ (u : Server). read_all rules.canon u b) (h.says_so v)
-      ∙ sym (read_all-append rules.canon v a b);
+      ap (λ (xs : List machine.Item). read_all canon v xs) (map-append server_item x y)
+      ∙ read_all-append canon v (server_items x) (server_items y)
+      ∙ k.says_so (read_all canon v (server_items x))
+      ∙ ap (λ (u : Server). read_all canon u b) (h.says_so v)
+      ∙ sym (read_all-append canon v a b);
 }
 
-pub writes-bytes : (rules : Rules) (bs : List ℕ) → SaysItems rules (bytes bs) (byte_items bs)
-writes-bytes rules [] = writes-none rules
-writes-bytes rules (b ∷ bs) = writes-append rules (byte b ∷ []) (bytes bs) (Byte b ∷ []) (byte_items bs) (writes-one rules (Byte b) (byte b) tt tt refl) (writes-bytes rules bs)
+pub writes-bytes : (canon : Canon) (bs : List ℕ) → SaysItems canon (bytes bs) (byte_items bs)
+writes-bytes canon [] = writes-none canon
+writes-bytes canon (b ∷ bs) = writes-append canon (byte b ∷ []) (bytes bs) (Byte b ∷ []) (byte_items bs) (writes-one canon (Byte b) (byte b) tt tt refl) (writes-bytes canon bs)
 
 -- what says nothing of lines leaves a server as it is
 read-other : (s : Canon) (v : Server) → read s v other ≡ v
@@ -69,15 +70,15 @@ read-other s v = by_test v.failed refl
     by_test true e = refl
     by_test false e = ap (λ (w : List Entry). record v { waiting = w; failed = false }) (append-nil v.waiting) ∙ ap (λ (f : Bool). record v { failed = f }) (sym e)
 
-writes-hushed : (rules : Rules) (out : List Item) → SaysItems rules (other ∷ []) out → SaysItems rules [] out
-writes-hushed rules out h = record { fit = h.fit; calm = h.calm; says_so = λ v. h.says_so v ∙ read-other rules.canon v }
+writes-hushed : (canon : Canon) (out : List Item) → SaysItems canon (other ∷ []) out → SaysItems canon [] out
+writes-hushed canon out h = record { fit = h.fit; calm = h.calm; says_so = λ v. h.says_so v ∙ read-other canon v }
 
-pub writes-other : (rules : Rules) (out : List Item) → SaysItems rules [] out → SaysItems rules (other ∷ []) out
-writes-other rules out h = record { fit = h.fit; calm = h.calm; says_so = λ v. h.says_so v ∙ sym (read-other rules.canon v) }
+pub writes-other : (canon : Canon) (out : List Item) → SaysItems canon [] out → SaysItems canon (other ∷ []) out
+writes-other canon out h = record { fit = h.fit; calm = h.calm; says_so = λ v. h.says_so v ∙ sym (read-other canon v) }
 
-pub writes-if : (rules : Rules) (b : Bool) (out : List Item) → SaysItems rules [] out → SaysItems rules [] (if b then out else [])
-writes-if rules true out h = h
-writes-if rules false out h = writes-none rules
+pub writes-if : (canon : Canon) (b : Bool) (out : List Item) → SaysItems canon [] out → SaysItems canon [] (if b then out else [])
+writes-if canon true out h = h
+writes-if canon false out h = writes-none canon
 
 -- AN OPTION WORD
 -- a word on another option than LINEMODE leaves LINEMODE as it is
@@ -89,24 +90,20 @@ unfolding options_after_word
 word-keeps o verb code e = ap is_yes (LeavesOthers-moved o (side_of verb) code (cause_of verb) Us 34 (inl (another code e)))
 
 -- and is answered on its own option
-word-writes : (rules : Rules) (code : ℕ) (w : Option (Verb × ℕ)) → (code == 34) ≡ false → Speaks code w → SaysItems rules [] (word_items w)
-word-writes rules code None e on = writes-none rules
-word-writes rules code (Some w) e on = writes-hushed rules (word_items (Some w)) (writes-one rules (Neg w.0 w.1) other tt (ap (λ (n : ℕ). n == 34) on ∙ e) refl)
+word-writes : (canon : Canon) (code : ℕ) (w : Option (Verb × ℕ)) → (code == 34) ≡ false → Speaks code w → SaysItems canon [] (word_items w)
+word-writes canon code None e on = writes-none canon
+word-writes canon code (Some w) e on = writes-hushed canon (word_items (Some w)) (writes-one canon (Neg w.0 w.1) other tt (inl (ap (λ (n : ℕ). n == 34) on ∙ e)) (ap seen_word (ap (λ (n : ℕ). n == 34) on ∙ e)))
 
-size-other : (on : Bool) (width height : ℕ) → server_item on (Sub 31 (parameters_of (payload.Naws width height))) ≡ other
-size-other true width height = refl
-size-other false width height = refl
-
-pub size-writes : (rules : Rules) (z : ℕ × ℕ) → SaysItems rules [] (size_items z)
-size-writes rules (width, height) =
-    writes-hushed rules (size_items (width, height)) (writes-one rules (Sub 31 (parameters_of (payload.Naws width height))) other (omega arith) tt (size-other rules.linemode width height))
+pub size-writes : (canon : Canon) (z : ℕ × ℕ) → SaysItems canon [] (size_items z)
+size-writes canon (width, height) =
+    writes-hushed canon (size_items (width, height)) (writes-one canon (Sub 31 (parameters_of (payload.Naws width height))) other (omega arith) tt refl)
 
 -- what answers such a word says nothing of lines
-pub word-answered : (rules : Rules) (o : Options) (m : ℕ) (c : Characters) (z : ℕ × ℕ) (verb : Verb) (code : ℕ) → (code == 34) ≡ false → SaysItems rules [] (answer_items o m c z (Neg verb code))
-word-answered rules o m c z verb code e =
-    writes-append rules [] [] (word_items (reply_to o verb code)) (new_size_items (tells_size o) (tells_size (options_after_word o verb code)) z)
-    (word-writes rules code (reply_to o verb code) e (reply_speaks o verb code))
-    (writes-if rules (tells_size (options_after_word o verb code) && not (tells_size o)) (size_items z) (size-writes rules z))
+pub word-answered : (canon : Canon) (o : Options) (m : ℕ) (c : Characters) (z : ℕ × ℕ) (verb : Verb) (code : ℕ) → (code == 34) ≡ false → SaysItems canon [] (answer_items o m c z (Neg verb code))
+word-answered canon o m c z verb code e =
+    writes-append canon [] [] (word_items (reply_to o verb code)) (new_size_items (tells_size o) (tells_size (options_after_word o verb code)) z)
+    (word-writes canon code (reply_to o verb code) e (reply_speaks o verb code))
+    (writes-if canon (tells_size (options_after_word o verb code) && not (tells_size o)) (size_items z) (size-writes canon z))
 
 same_or_none : (was on : Bool) (m : ℕ) → on ≡ was → (if differ was on then 0 else m) ≡ m
 same_or_none true true m e = refl
@@ -149,16 +146,15 @@ chatter-chars c (Some payload.ForwardYes) i = refl
 chatter-chars c (Some payload.ForwardNo) i = refl
 chatter-chars c (Some (payload.Slc triples)) i = absurd i
 
-pub chatter-heard : (on : Bool) (p : Option Payload) → IsChatter p → heard_payload on p ≡ chatter
-chatter-heard false p i = refl
-chatter-heard true None i = refl
-chatter-heard true (Some (payload.Naws width height)) i = refl
-chatter-heard true (Some (payload.Mode mask)) i = absurd i
-chatter-heard true (Some (payload.ForwardOn mask)) i = absurd i
-chatter-heard true (Some payload.ForwardOff) i = absurd i
-chatter-heard true (Some payload.ForwardYes) i = refl
-chatter-heard true (Some payload.ForwardNo) i = refl
-chatter-heard true (Some (payload.Slc triples)) i = absurd i
+pub chatter-heard : (p : Option Payload) → IsChatter p → heard_payload p ≡ chatter
+chatter-heard None i = refl
+chatter-heard (Some (payload.Naws width height)) i = refl
+chatter-heard (Some (payload.Mode mask)) i = absurd i
+chatter-heard (Some (payload.ForwardOn mask)) i = absurd i
+chatter-heard (Some payload.ForwardOff) i = absurd i
+chatter-heard (Some payload.ForwardYes) i = refl
+chatter-heard (Some payload.ForwardNo) i = refl
+chatter-heard (Some (payload.Slc triples)) i = absurd i
 
 pub chatter-forward : (f : Option Mask) (p : Option Payload) → IsChatter p → forward_by f p ≡ f
 chatter-forward f None i = refl
@@ -175,32 +171,30 @@ abbrev pub forward_of : Option Mask → Payload
 forward_of (Some mask) = payload.ForwardOn mask
 forward_of None = payload.ForwardOff
 
-answered-other : (on : Bool) (f : Option Mask) → (m : ℕ) (c : Characters) → All Fits (payload_answers m c (Some (forward_of f))) × All IsCalmToServer (payload_answers m c (Some (forward_of f))) × (map (server_item on) (payload_answers m c (Some (forward_of f))) ≡ other ∷ [])
-answered-other true (Some mask) m c = (All-cons Fits _ [] (omega arith) (All-nil Fits), All-cons IsCalmToServer _ [] tt (All-nil IsCalmToServer), refl)
-answered-other true None m c = (All-cons Fits _ [] (omega arith) (All-nil Fits), All-cons IsCalmToServer _ [] tt (All-nil IsCalmToServer), refl)
-answered-other false (Some mask) m c = (All-cons Fits _ [] (omega arith) (All-nil Fits), All-cons IsCalmToServer _ [] tt (All-nil IsCalmToServer), refl)
-answered-other false None m c = (All-cons Fits _ [] (omega arith) (All-nil Fits), All-cons IsCalmToServer _ [] tt (All-nil IsCalmToServer), refl)
+answered-other : (s : Settings) (f : Option Mask) → (m : ℕ) (c : Characters) → All Fits (payload_answers m c (Some (forward_of f))) × All (IsCalmToServer s) (payload_answers m c (Some (forward_of f))) × (map server_item (payload_answers m c (Some (forward_of f))) ≡ other ∷ [])
+answered-other s (Some mask) m c = (All-cons Fits _ [] (omega arith) (All-nil Fits), All-cons (IsCalmToServer s) _ [] tt (All-nil (IsCalmToServer s)), refl)
+answered-other s None m c = (All-cons Fits _ [] (omega arith) (All-nil Fits), All-cons (IsCalmToServer s) _ [] tt (All-nil (IsCalmToServer s)), refl)
 
-pub forward-answered : (rules : Rules) (f : Option Mask) (m : ℕ) (c : Characters) → SaysItems rules (other ∷ []) (payload_answers m c (Some (forward_of f)))
-forward-answered rules f m c =
-    let a = answered-other rules.linemode f m c in
-    record { fit = a.0; calm = a.1; says_so = λ v. ap (λ (xs : List machine.Item). read_all rules.canon v xs) a.2 }
+pub forward-answered : (canon : Canon) (f : Option Mask) (m : ℕ) (c : Characters) → SaysItems canon (other ∷ []) (payload_answers m c (Some (forward_of f)))
+forward-answered canon f m c =
+    let a = answered-other canon.settings f m c in
+    record { fit = a.0; calm = a.1; says_so = λ v. ap (λ (xs : List machine.Item). read_all canon v xs) a.2 }
 
-pub chatter-answered : (rules : Rules) (m : ℕ) (c : Characters) (p : Option Payload) → IsChatter p → SaysItems rules [] (payload_answers m c p)
-chatter-answered rules m c None i = writes-none rules
-chatter-answered rules m c (Some (payload.Naws width height)) i = writes-none rules
-chatter-answered rules m c (Some (payload.Mode mask)) i = absurd i
-chatter-answered rules m c (Some (payload.ForwardOn mask)) i = absurd i
-chatter-answered rules m c (Some payload.ForwardOff) i = absurd i
-chatter-answered rules m c (Some payload.ForwardYes) i = writes-none rules
-chatter-answered rules m c (Some payload.ForwardNo) i = writes-none rules
-chatter-answered rules m c (Some (payload.Slc triples)) i = absurd i
+pub chatter-answered : (canon : Canon) (m : ℕ) (c : Characters) (p : Option Payload) → IsChatter p → SaysItems canon [] (payload_answers m c p)
+chatter-answered canon m c None i = writes-none canon
+chatter-answered canon m c (Some (payload.Naws width height)) i = writes-none canon
+chatter-answered canon m c (Some (payload.Mode mask)) i = absurd i
+chatter-answered canon m c (Some (payload.ForwardOn mask)) i = absurd i
+chatter-answered canon m c (Some payload.ForwardOff) i = absurd i
+chatter-answered canon m c (Some payload.ForwardYes) i = writes-none canon
+chatter-answered canon m c (Some payload.ForwardNo) i = writes-none canon
+chatter-answered canon m c (Some (payload.Slc triples)) i = absurd i
 
 pub chatter-if : (b : Bool) (p : Option Payload) → IsChatter p → IsChatter (if b then p else None)
 chatter-if true p i = i
 chatter-if false p i = tt
 
--- a calm payload is such a one, or a forward mask, or a mode that is asked for
+-- a calm payload is such a one, or a forward mask, or a mode that is asked for, or the table that the client has
 pub record Forwards (p : Option Payload) : Type 0 where
   pub mask : Option Mask
   pub is : p ≡ Some (forward_of mask)
@@ -211,15 +205,53 @@ pub record Asks (s : Settings) (p : Option Payload) : Type 0 where
   pub plain : is_acknowledged mask ≡ false
   pub askable : IsAskable s (bits mask)
 
-pub calm-kinds : (s : Settings) (p : Option Payload) → AsksCalmly s p → IsChatter p ⊎ (Forwards p ⊎ Asks s p)
+pub record Tells (s : Settings) (p : Option Payload) : Type 0 where
+  pub is : p ≡ Some (payload.Slc (announcement standard_characters))
+  pub standard : s.chars ≡ standard_characters
+
+pub calm-kinds : (s : Settings) (p : Option Payload) → AsksCalmly s p → IsChatter p ⊎ (Forwards p ⊎ (Asks s p ⊎ Tells s p))
 calm-kinds s None a = inl tt
 calm-kinds s (Some (payload.Naws width height)) a = inl tt
-calm-kinds s (Some (payload.Mode mask)) a = inr (inr (record { mask = mask; is = refl; plain = a.0; askable = a.1 }))
+calm-kinds s (Some (payload.Mode mask)) a = inr (inr (inl (record { mask = mask; is = refl; plain = a.0; askable = a.1 })))
 calm-kinds s (Some (payload.ForwardOn mask)) a = inr (inl (record { mask = Some mask; is = refl }))
 calm-kinds s (Some payload.ForwardOff) a = inr (inl (record { mask = None; is = refl }))
 calm-kinds s (Some payload.ForwardYes) a = inl tt
 calm-kinds s (Some payload.ForwardNo) a = inl tt
-calm-kinds s (Some (payload.Slc triples)) a = absurd a
+calm-kinds s (Some (payload.Slc triples)) a = inr (inr (inr (record { is = ap (λ ts. Some (payload.Slc ts)) a.1; standard = a.0 })))
+
+-- THE TABLE that the client has already changes nothing and is not answered, whether LINEMODE is on or not
+abbrev pub table_if : Bool → Option Payload
+table_if b = if b then Some (payload.Slc (announcement standard_characters)) else None
+
+pub table-at : (o : Options) (option : ℕ) (params : List ℕ) → payload_of option params ≡ Some (payload.Slc (announcement standard_characters)) → payload_at o (Sub option params) ≡ table_if (((option == 34) && linemode o) && nat_le (length params) 512)
+table-at o option params e = ap (λ (p : Option Payload). if ((option == 34) && linemode o) && nat_le (length params) 512 then p else None) e
+
+pub table-mode : (m : ℕ) (b : Bool) → mode_by m (table_if b) ≡ m
+table-mode m true = refl
+table-mode m false = refl
+
+pub table-forward : (f : Option Mask) (b : Bool) → forward_by f (table_if b) ≡ f
+table-forward f true = refl
+table-forward f false = refl
+
+same_table : client_after standard_characters (announcement standard_characters) ≡ standard_characters
+unfolding client_after announcement
+same_table = refl
+
+no_answer : client_answers standard_characters (announcement standard_characters) ≡ []
+unfolding client_answers answers_along announcement
+no_answer = refl
+
+pub table-chars : (c : Characters) (b : Bool) → c ≡ standard_characters → chars_by c (table_if b) ≡ c
+table-chars c true is = ap (λ (x : Characters). client_after x (announcement standard_characters)) is ∙ same_table ∙ sym is
+table-chars c false is = refl
+
+table-unanswered : (m : ℕ) (c : Characters) (b : Bool) → c ≡ standard_characters → payload_answers m c (table_if b) ≡ []
+table-unanswered m c true is = ap (λ (x : Characters). list_items (client_answers x (announcement standard_characters))) is ∙ ap list_items no_answer
+table-unanswered m c false is = refl
+
+pub table-answered : (canon : Canon) (m : ℕ) (c : Characters) (b : Bool) → c ≡ standard_characters → SaysItems canon [] (payload_answers m c (table_if b))
+table-answered canon m c b is = subst (λ (xs : List Item). SaysItems canon [] xs) (sym (table-unanswered m c b is)) (writes-none canon)
 
 -- where LINEMODE is on, a mode that is said is one that counts; where it is off, it counts for nothing
 pub said-mode : (o : Options) (option : ℕ) (params : List ℕ) (mask : ℕ) → payload_of option params ≡ Some (payload.Mode mask) → payload_at o (Sub option params) ≡ (if linemode o then Some (payload.Mode mask) else None)

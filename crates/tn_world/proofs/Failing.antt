@@ -24,13 +24,14 @@ use Rattle.tn_client.specs.Calls as client
 use Rattle.tn_client.specs.declared.faults.ClientFault.{ClientFault}
 use Rattle.tn_client.specs.declared.faults.ClientFault.TheVariants as client_faults
 use Rattle.tn_world.specs.Flight.{InFlight}
-use Rattle.tn_world.specs.Headline.{RunsQuietly, IsQuietEvent, PassesQuietly, NoneFailed, IsPrefixOf, entries_made, local_entries}
+use Rattle.tn_world.specs.Headline.{RunsQuietly, IsQuietEvent, PassesQuietly, NoneFailed, entries_made, local_entries}
+use Rattle.tn_streams.specs.Prefixes.{IsPrefixOf}
 use Rattle.tn_world.specs.Past.{HasPast}
 use Rattle.tn_world.specs.relation.Calm.{IsCalmToServer, IsCalmToClient, server_item}
 use Rattle.tn_world.specs.relation.Ends.{server_items, client_messages, client_after_messages}
-use Rattle.tn_world.specs.relation.Machine.{Rules, Server, read_all}
+use Rattle.tn_world.specs.relation.Machine.{Server, read_all}
 use Rattle.tn_world.specs.relation.Pictures.{server_core, server_picture, client_core, ServerStays}
-use Rattle.tn_world.specs.relation.Relation.{IsRelated, IsBehind, rules_of}
+use Rattle.tn_world.specs.relation.Relation.{IsRelated, IsBehind}
 use Rattle.tn_world.specs.Worlds.{World, UnlessStopped, TypesKey, CallsClient, DeliversToServer, DeliversToClient, CallsServer, Pulls, TakesEntry, RunsEvent, ServerRefusesDelivery, ClientRefusesDelivery}
 use Rattle.tn_world.specs.declared.events.Event.{Event}
 use Rattle.tn_world.specs.declared.events.Event.TheVariants.{Key, ToServer, ToClient, Write, Pull, Take, Wish, Resize, SetChar, Propose, Echo, Mask, ServerStops, ClientStops}
@@ -82,14 +83,12 @@ server_goes_on end e = by_test end.failed refl
 -- THE CLIENT SAYS NOTHING MORE
 pub related_behind : (s : Canon) (w : World) → IsRelated s w → IsBehind s w
 related_behind s w h =
-    let rules = rules_of s h.linemode in
-    let v = read_all s (server_core w.server) (server_items rules h.tied.items) in
+    let v = read_all s (server_core w.server) (server_items h.tied.items) in
     record {
-      linemode = h.linemode;
       items = h.tied.items;
       flight = h.tied.flight;
       calm = h.tied.calm;
-      begins = prefix_same (w.taken ++ v.waiting) (local_entries s w.typed) (agreed rules w.typed w.taken v (client_core w.client) h.tied.agrees);
+      begins = prefix_same (w.taken ++ v.waiting) (local_entries s w.typed) (agreed s w.typed w.taken v (client_core w.client) h.tied.agrees);
       server = h.server;
       past = h.past;
     }
@@ -98,84 +97,76 @@ related_behind s w h =
 pub behind_begins : (s : Canon) (w : World) → IsBehind s w → Begins s w
 behind_begins s w h =
     let v = server_core w.server in
-    let items = server_items (rules_of s h.linemode) h.items in
+    let items = server_items h.items in
     prefix_trans (entries_made w) (w.taken ++ (read_all s v items).waiting) (local_entries s w.typed)
     (prefix_after w.taken w.server.terminal.entries (read_all s v items).waiting (read-more s v items)) h.begins
 
 -- an event that has no part in it
 behind_as : (s : Canon) (old new : World) → new.server ≡ old.server → new.to_server ≡ old.to_server → new.typed ≡ old.typed → new.taken ≡ old.taken → HasPast new → IsBehind s old → IsBehind s new
 behind_as s old new a b c d sound h =
-    let rules = rules_of s h.linemode in
-    let Goes : List Entry → List ℕ → server.End → Type 0 = λ taken typed end. IsPrefixOf (taken ++ (read_all s (server_core end) (server_items rules h.items)).waiting) (local_entries s typed) in
+    let Goes : List Entry → List ℕ → server.End → Type 0 = λ taken typed end. IsPrefixOf (taken ++ (read_all s (server_core end) (server_items h.items)).waiting) (local_entries s typed) in
     record {
-      linemode = h.linemode;
       items = h.items;
       flight =
           subst (λ (x : List ℕ). InFlight new.server.decoder x h.items) (sym b)
           (subst (λ (e : server.End). InFlight e.decoder old.to_server h.items) (sym a) h.flight);
       calm = h.calm;
       begins = subst (λ x. Goes x new.typed new.server) (sym d) (subst (λ x. Goes old.taken x new.server) (sym c) (subst (λ x. Goes old.taken old.typed x) (sym a) h.begins));
-      server = subst (λ (e : server.End). ServerStays rules e) (sym a) h.server;
+      server = subst (λ (e : server.End). ServerStays s e) (sym a) h.server;
       past = sound;
     }
 
 -- reading in two parts
-read_two : (s : Canon) (rules : Rules) (v : Server) (all xs ys : List Item) → all ≡ xs ++ ys → read_all s v (server_items rules all) ≡ read_all s (read_all s v (server_items rules xs)) (server_items rules ys)
-read_two s rules v all xs ys is =
-    ap (λ x. read_all s v x) (ap (server_items rules) is ∙ map-append (server_item rules.linemode) xs ys)
-    ∙ read_all-append s v (server_items rules xs) (server_items rules ys)
+read_two : (s : Canon) (v : Server) (all xs ys : List Item) → all ≡ xs ++ ys → read_all s v (server_items all) ≡ read_all s (read_all s v (server_items xs)) (server_items ys)
+read_two s v all xs ys is =
+    ap (λ x. read_all s v x) (ap server_items is ∙ map-append server_item xs ys)
+    ∙ read_all-append s v (server_items xs) (server_items ys)
 
 -- a delivery to the server
 behind_reaches : (s : Canon) (old new : World) (n : ℕ) → old.server.failed ≡ false → HasPast new → DeliversToServer old n new → IsBehind s old → IsBehind s new
 behind_reaches s old new n runs sound t h =
-    let rules = rules_of s h.linemode in
     let f = t.feeds in
     let d = cut_at old.server.decoder new.server.decoder n old.to_server h.items f.items h.flight f.reads in
     let fit = (all_parts Fits f.items d.left (subst (λ l. All Fits l) d.all (flight_fits old.server.decoder old.to_server h.items h.flight))).0 in
-    let calm = all_parts IsCalmToServer f.items d.left (subst (λ l. All IsCalmToServer l) d.all h.calm) in
-    let core = feeds_core rules h.past.history old.server new.server (take n old.to_server) old.to_client new.to_client h.past.server h.server runs f fit calm.0 in
-    let same : read_all s (server_core old.server) (server_items rules h.items) ≡ read_all s (server_core new.server) (server_items rules d.left) =
-    read_two s rules (server_core old.server) h.items f.items d.left d.all ∙ ap (λ v. read_all s v (server_items rules d.left)) (sym core) in
+    let calm = all_parts (IsCalmToServer s.settings) f.items d.left (subst (λ l. All (IsCalmToServer s.settings) l) d.all h.calm) in
+    let core = feeds_core s h.past.history old.server new.server (take n old.to_server) old.to_client new.to_client h.past.server h.server runs f fit calm.0 in
+    let same : read_all s (server_core old.server) (server_items h.items) ≡ read_all s (server_core new.server) (server_items d.left) =
+    read_two s (server_core old.server) h.items f.items d.left d.all ∙ ap (λ v. read_all s v (server_items d.left)) (sym core) in
     record {
-      linemode = h.linemode;
       items = d.left;
       flight = subst (λ (x : List ℕ). InFlight new.server.decoder x d.left) (ap (λ (w : World). w.to_server) (sym t.rest)) d.flight;
       calm = calm.1;
       begins =
-          subst (λ (w : World). IsPrefixOf (w.taken ++ (read_all s (server_core new.server) (server_items rules d.left)).waiting) (local_entries s w.typed)) (sym t.rest)
+          subst (λ (w : World). IsPrefixOf (w.taken ++ (read_all s (server_core new.server) (server_items d.left)).waiting) (local_entries s w.typed)) (sym t.rest)
           (subst (λ (v : Server). IsPrefixOf (old.taken ++ v.waiting) (local_entries s old.typed)) same h.begins);
-      server = feeds_stays rules h.past.history old.server new.server (take n old.to_server) old.to_client new.to_client h.past.server h.server runs f fit calm.0;
+      server = feeds_stays s h.past.history old.server new.server (take n old.to_server) old.to_client new.to_client h.past.server h.server runs f fit calm.0;
       past = sound;
     }
 
 -- a call of the server that makes no entry and takes none
 behind_asks : (s : Canon) (old new : World) (e : server_calls.Event) → KeepsEntries e → HasPast new → CallsServer old e new → IsBehind s old → IsBehind s new
 behind_asks s old new e plain sound t h =
-    let rules = rules_of s h.linemode in
     let core = says_core h.past.history old.server new.server e old.to_client new.to_client plain h.past.server t.goes t.keeps in
     record {
-      linemode = h.linemode;
       items = h.items;
       flight =
           subst (λ (x : List ℕ). InFlight new.server.decoder x h.items) (ap (λ (w : World). w.to_server) (sym t.rest))
           (subst (λ d. InFlight d old.to_server h.items) (sym t.keeps.decoder) h.flight);
       calm = h.calm;
       begins =
-          subst (λ (w : World). IsPrefixOf (w.taken ++ (read_all s (server_core new.server) (server_items rules h.items)).waiting) (local_entries s w.typed)) (sym t.rest)
-          (subst (λ (v : Server). IsPrefixOf (old.taken ++ (read_all s v (server_items rules h.items)).waiting) (local_entries s old.typed)) (sym core) h.begins);
-      server = says_stays rules h.past.history old.server new.server e old.to_client new.to_client (calls e plain) h.past.server h.server t.goes;
+          subst (λ (w : World). IsPrefixOf (w.taken ++ (read_all s (server_core new.server) (server_items h.items)).waiting) (local_entries s w.typed)) (sym t.rest)
+          (subst (λ (v : Server). IsPrefixOf (old.taken ++ (read_all s v (server_items h.items)).waiting) (local_entries s old.typed)) (sym core) h.begins);
+      server = says_stays s h.past.history old.server new.server e old.to_client new.to_client (calls e plain) h.past.server h.server t.goes;
       past = sound;
     }
 
 -- an entry is asked for
 behind_takes : (s : Canon) (old new : World) → HasPast new → TakesEntry old new → IsBehind s old → IsBehind s new
 behind_takes s old new sound t h =
-    let rules = rules_of s h.linemode in
-    let items = server_items rules h.items in
+    let items = server_items h.items in
     let first = took_core h.past.history old.server new.server old.to_client new.to_client t.entry h.past.server t.goes t.keeps (t.is_first h.past.history h.past.server) in
     let side = taken-waits s (server_picture old.server) (server_picture new.server) old.taken (option_to_list t.entry) items first in
     record {
-      linemode = h.linemode;
       items = h.items;
       flight =
           subst (λ (x : List ℕ). InFlight new.server.decoder x h.items) (ap (λ (w : World). w.to_server) (sym t.rest))
@@ -184,12 +175,12 @@ behind_takes s old new sound t h =
       begins =
           subst (λ (w : World). IsPrefixOf (w.taken ++ (read_all s (server_core new.server) items).waiting) (local_entries s w.typed)) (sym t.rest)
           (subst (λ (xs : List Entry). IsPrefixOf xs (local_entries s old.typed)) (sym side) h.begins);
-      server = says_stays rules h.past.history old.server new.server server_calls.took old.to_client new.to_client tt h.past.server h.server t.goes;
+      server = says_stays s h.past.history old.server new.server server_calls.took old.to_client new.to_client tt h.past.server h.server t.goes;
       past = sound;
     }
 
 -- A REFUSED DELIVERY
--- the items of a front of a piece are the first of those in flight
+-- the items of a prefix of a piece are the first of those in flight
 front_at : (old new : DecoderState) (n : ℕ) (flight front back : List ℕ) (items got : List Item) → InFlight old flight items → take n flight ≡ front ++ back → Advances old front got new → (left : List Item) × (items ≡ got ++ left)
 front_at old new n flight front back items got f is adds =
     let whole : flight ≡ front ++ (back ++ drop n flight) =
@@ -200,21 +191,20 @@ front_at old new n flight front back items got f is adds =
 -- the server fails: those of its items that were done are the first of those in flight
 halted : (s : Canon) (old new : World) (n : ℕ) (fault : ServerFault) → old.server.failed ≡ false → ServerRefusesDelivery old n fault new → IsBehind s old → server.StopsWithin old.server (take n old.to_server) fault old.to_client new.to_client new.server → Begins s new
 halted s old new n fault runs r h x =
-    let rules = rules_of s h.linemode in
     let v = server_core old.server in
     let f = front_at old.server.decoder x.here n old.to_server x.front x.back h.items (x.done ++ x.left) h.flight x.whole x.reads in
     let all : h.items ≡ x.done ++ (x.left ++ f.0) = f.1 ∙ append_assoc x.done x.left f.0 in
     let fit = (all_parts Fits x.done (x.left ++ f.0) (subst (λ l. All Fits l) all (flight_fits old.server.decoder old.to_server h.items h.flight))).0 in
-    let calm = (all_parts IsCalmToServer x.done (x.left ++ f.0) (subst (λ l. All IsCalmToServer l) all h.calm)).0 in
-    let here = read_all s v (server_items rules x.done) in
-    let there = read_all s here (server_items rules (x.left ++ f.0)) in
-    let waits : new.server.terminal.entries ≡ here.waiting = stops_waiting rules h.past.history old.server new.server x.done h.past.server h.server runs (x.leads h.past.history h.past.server) fit calm in
+    let calm = (all_parts (IsCalmToServer s.settings) x.done (x.left ++ f.0) (subst (λ l. All (IsCalmToServer s.settings) l) all h.calm)).0 in
+    let here = read_all s v (server_items x.done) in
+    let there = read_all s here (server_items (x.left ++ f.0)) in
+    let waits : new.server.terminal.entries ≡ here.waiting = stops_waiting s h.past.history old.server new.server x.done h.past.server h.server runs (x.leads h.past.history h.past.server) fit calm in
     let begins : IsPrefixOf (old.taken ++ there.waiting) (local_entries s old.typed) =
-    subst (λ (u : Server). IsPrefixOf (old.taken ++ u.waiting) (local_entries s old.typed)) (read_two s rules v h.items x.done (x.left ++ f.0) all) h.begins in
+    subst (λ (u : Server). IsPrefixOf (old.taken ++ u.waiting) (local_entries s old.typed)) (read_two s v h.items x.done (x.left ++ f.0) all) h.begins in
     subst (λ (w : World). IsPrefixOf (w.taken ++ new.server.terminal.entries) (local_entries s w.typed)) (sym r.rest)
     (subst (λ (es : List Entry). IsPrefixOf (old.taken ++ es) (local_entries s old.typed)) (sym waits)
     (prefix_trans (old.taken ++ here.waiting) (old.taken ++ there.waiting) (local_entries s old.typed)
-    (prefix_after old.taken here.waiting there.waiting (read-more s here (server_items rules (x.left ++ f.0)))) begins))
+    (prefix_after old.taken here.waiting there.waiting (read-more s here (server_items (x.left ++ f.0)))) begins))
 
 behind_halts : (s : Canon) (old new : World) (n : ℕ) (fault : ServerFault) → old.server.failed ≡ false → ServerRefusesDelivery old n fault new → IsBehind s old → Begins s new
 behind_halts s old new n fault runs r h = by_fault fault refl
@@ -229,7 +219,6 @@ behind_halts s old new n fault runs r h = by_fault fault refl
 -- the client fails: what it said begins what the items of the piece make it say, and reading more only adds entries
 pub behind_breaks : (s : Canon) (old new : World) (n : ℕ) (fault : ClientFault) → NoneFailed old → ClientRefusesDelivery old n fault new → IsRelated s old → IsBehind s new
 behind_breaks s old new n fault none r h =
-    let rules = rules_of s h.linemode in
     let x = r.breaks (memory_is old.client.failed fault r.is_fault none.1) in
     let c = h.past.client_course none.1 in
     let at = c.1 in
@@ -239,34 +228,33 @@ behind_breaks s old new n fault none r h =
     let said = x.said ++ x.part in
     let f = front_at old.client.decoder x.here n old.to_client x.front x.back h.tied.messages got h.tied.back x.whole x.reads in
     let calm = (all_parts (IsCalmToClient s.settings) got f.0 (subst (λ l. All (IsCalmToClient s.settings) l) f.1 h.tied.calm_back)).0 in
-    let w = stops_done rules at.history old.client (take n old.to_client) old.to_server new.to_server old.shown new.shown bytes had at.leads at.reads h.client none.1 x calm in
+    let w = stops_done s at.history old.client (take n old.to_client) old.to_server new.to_server old.shown new.shown bytes had at.leads at.reads h.client none.1 x calm in
     let fit = breaks_fit at.history old.client (take n old.to_client) old.to_server new.to_server old.shown new.shown bytes had at.leads at.reads x in
-    let hushed = (all_parts IsCalmToServer said w.rest (subst (λ l. All IsCalmToServer l) w.whole w.writes.calm)).0 in
-    let v = read_all s (server_core old.server) (server_items rules h.tied.items) in
-    let says = (client_after_messages rules (client_core old.client) (client_messages rules got)).items in
-    let here = read_all s v (server_items rules said) in
-    let there = read_all s here (server_items rules w.rest) in
-    let same : read_all s v says ≡ there = sym (w.writes.says_so v) ∙ read_two s rules v w.all said w.rest w.whole in
+    let hushed = (all_parts (IsCalmToServer s.settings) said w.rest (subst (λ l. All (IsCalmToServer s.settings) l) w.whole w.writes.calm)).0 in
+    let v = read_all s (server_core old.server) (server_items h.tied.items) in
+    let says = (client_after_messages s (client_core old.client) (client_messages got)).items in
+    let here = read_all s v (server_items said) in
+    let there = read_all s here (server_items w.rest) in
+    let same : read_all s v says ≡ there = sym (w.writes.says_so v) ∙ read_two s v w.all said w.rest w.whole in
     let made : old.taken ++ there.waiting ≡ local_entries s old.typed =
     ap (λ (u : Server). old.taken ++ u.waiting) (sym same)
-    ∙ agreed rules old.typed old.taken (read_all s v says) (client_after_messages rules (client_core old.client) (client_messages rules got)).client
-    (all-agree rules old.typed old.taken v (client_core old.client) got h.tied.agrees calm) in
+    ∙ agreed s old.typed old.taken (read_all s v says) (client_after_messages s (client_core old.client) (client_messages got)).client
+    (all-agree s old.typed old.taken v (client_core old.client) got h.tied.agrees calm) in
     let end : new.server ≡ old.server = ap (λ (u : World). u.server) r.rest in
-    let begins : IsPrefixOf (old.taken ++ (read_all s (server_core old.server) (server_items rules (h.tied.items ++ said))).waiting) (local_entries s old.typed) =
-    subst (λ (u : Server). IsPrefixOf (old.taken ++ u.waiting) (local_entries s old.typed)) (sym (read_two s rules (server_core old.server) (h.tied.items ++ said) h.tied.items said refl))
+    let begins : IsPrefixOf (old.taken ++ (read_all s (server_core old.server) (server_items (h.tied.items ++ said))).waiting) (local_entries s old.typed) =
+    subst (λ (u : Server). IsPrefixOf (old.taken ++ u.waiting) (local_entries s old.typed)) (sym (read_two s (server_core old.server) (h.tied.items ++ said) h.tied.items said refl))
     (prefix_trans (old.taken ++ here.waiting) (old.taken ++ there.waiting) (local_entries s old.typed)
-    (prefix_after old.taken here.waiting there.waiting (read-more s here (server_items rules w.rest)))
+    (prefix_after old.taken here.waiting there.waiting (read-more s here (server_items w.rest)))
     (prefix_same (old.taken ++ there.waiting) (local_entries s old.typed) made)) in
     record {
-      linemode = h.linemode;
       items = h.tied.items ++ said;
       flight =
           subst (λ (e : server.End). InFlight e.decoder new.to_server (h.tied.items ++ said)) (sym end)
           (said_behind old.server.decoder old.to_server new.to_server h.tied.items said x.appended fit h.tied.flight);
-      calm = All-append IsCalmToServer h.tied.items said h.tied.calm hushed;
+      calm = All-append (IsCalmToServer s.settings) h.tied.items said h.tied.calm hushed;
       begins =
-          subst (λ (u : World). IsPrefixOf (u.taken ++ (read_all s (server_core u.server) (server_items rules (h.tied.items ++ said))).waiting) (local_entries s u.typed)) (sym r.rest) begins;
-      server = subst (λ (e : server.End). ServerStays rules e) (sym end) h.server;
+          subst (λ (u : World). IsPrefixOf (u.taken ++ (read_all s (server_core u.server) (server_items (h.tied.items ++ said))).waiting) (local_entries s u.typed)) (sym r.rest) begins;
+      server = subst (λ (e : server.End). ServerStays s e) (sym end) h.server;
       past = sound_breaks old new n fault r h.past;
     }
 

@@ -26,7 +26,7 @@ use Rattle.tn_world.proofs.ServerSteps.{KeepsEntries, IsCall}
 use Rattle.tn_world.proofs.Soundness.{opposite, Refusal, unchanged, by_server, by_client, refusal_of, sound_does}
 use Rattle.tn_world.proofs.Cut.{cut_at}
 use Rattle.tn_world.proofs.Tied.{all_parts, happens-tied}
-use Rattle.tn_world.specs.relation.Relation.{IsRelated, IsTied, picture, rules_of}
+use Rattle.tn_world.specs.relation.Relation.{IsRelated, IsTied, picture}
 
 -- a call that makes no entry and takes none changes no character either
 pub calls : (e : server_calls.Event) → KeepsEntries e → IsCall e
@@ -57,125 +57,113 @@ flight_fits d flight items f = (all_parts Fits f.had items (reading_fits (f.stre
 -- a key
 holds_types : (s : Canon) (old new : World) (key : ℕ) → NoneFailed old → HasPast new → TypesKey old key new → IsRelated s old → IsRelated s new
 holds_types s old new key none sound t h =
-    let rules = rules_of s h.linemode in
     let c = (h.past.client_course none.1).1 in
-    let k = client_steps.keys_done rules c.history old.client new.client key old.to_server new.to_server c.leads h.client h.tied.agrees.askable none.1 t.goes t.keeps t.sends in
+    let k = client_steps.keys_done s c.history old.client new.client key old.to_server new.to_server c.leads h.client h.tied.agrees.askable none.1 t.goes t.keeps t.sends in
     record {
-      linemode = h.linemode;
-      tied = happens-tied rules (picture old) (picture new) (ends.key key) (
+      tied = happens-tied s (picture old) (picture new) (ends.key key) (
         client_picture new.client,
         t.sends.said,
         k,
         ap picture t.rest ∙ ap (λ x. record (picture old) { typed = old.typed ++ key ∷ []; client = client_picture new.client; to_server = x }) t.sends.appended,
       ) h.tied;
-      server = subst (λ (w : World). ServerStays rules w.server) (sym t.rest) h.server;
-      client = client_steps.keys_stay rules c.history old.client new.client key c.leads h.client t.goes;
+      server = subst (λ (w : World). ServerStays s w.server) (sym t.rest) h.server;
+      client = client_steps.keys_stay s c.history old.client new.client key c.leads h.client t.goes;
       past = sound;
     }
 
 -- the window's size
 holds_resizes : (s : Canon) (old new : World) (width height : ℕ) → NoneFailed old → HasPast new → CallsClient old (client_calls.resized width height) new → IsRelated s old → IsRelated s new
 holds_resizes s old new width height none sound t h =
-    let rules = rules_of s h.linemode in
     let c = (h.past.client_course none.1).1 in
     record {
-      linemode = h.linemode;
-      tied = happens-tied rules (picture old) (picture new) ends.client_call (
+      tied = happens-tied s (picture old) (picture new) ends.client_call (
         client_picture new.client,
         t.sends.said,
-        client_steps.resized_done rules c.history old.client new.client width height old.to_server new.to_server c.leads none.1 t.goes t.keeps t.sends,
+        client_steps.resized_done s c.history old.client new.client width height old.to_server new.to_server c.leads none.1 t.goes t.keeps t.sends,
         ap picture t.rest ∙ ap (λ x. record (picture old) { client = client_picture new.client; to_server = x }) t.sends.appended,
       ) h.tied;
-      server = subst (λ (w : World). ServerStays rules w.server) (sym t.rest) h.server;
-      client = client_steps.resized_stays rules c.history old.client new.client width height c.leads h.client t.goes;
+      server = subst (λ (w : World). ServerStays s w.server) (sym t.rest) h.server;
+      client = client_steps.resized_stays s c.history old.client new.client width height c.leads h.client t.goes;
       past = sound;
     }
 
 -- a call of the server that makes no entry and takes none
 holds_asks : (s : Canon) (old new : World) (e : server_calls.Event) → KeepsEntries e → HasPast new → CallsServer old e new → IsRelated s old → IsRelated s new
 holds_asks s old new e plain sound t h =
-    let rules = rules_of s h.linemode in
     record {
-      linemode = h.linemode;
-      tied = happens-tied rules (picture old) (picture new) ends.server_call (
+      tied = happens-tied s (picture old) (picture new) ends.server_call (
         server_picture new.server,
         t.goes.said,
         record {
           same = ap (λ d. record { decoder = d; core = server_core new.server }) t.keeps.decoder
               ∙ ap (λ c. record { decoder = old.server.decoder; core = c }) (server_steps.says_core h.past.history old.server new.server e old.to_client new.to_client plain h.past.server t.goes t.keeps);
-          replies = server_steps.says_replies rules h.past.history old.server new.server e old.to_client new.to_client (calls e plain) h.past.server h.server t.goes;
+          replies = server_steps.says_replies s h.past.history old.server new.server e old.to_client new.to_client (calls e plain) h.past.server h.server t.goes;
         },
         ap picture t.rest ∙ ap (λ x. record (picture old) { server = server_picture new.server; to_client = x }) t.goes.appended,
       ) h.tied;
-      server = server_steps.says_stays rules h.past.history old.server new.server e old.to_client new.to_client (calls e plain) h.past.server h.server t.goes;
-      client = subst (λ (w : World). ClientStays rules w.client) (sym t.rest) h.client;
+      server = server_steps.says_stays s h.past.history old.server new.server e old.to_client new.to_client (calls e plain) h.past.server h.server t.goes;
+      client = subst (λ (w : World). ClientStays s w.client) (sym t.rest) h.client;
       past = sound;
     }
 
 -- an entry is asked for
 holds_takes : (s : Canon) (old new : World) → HasPast new → TakesEntry old new → IsRelated s old → IsRelated s new
 holds_takes s old new sound t h =
-    let rules = rules_of s h.linemode in
     record {
-      linemode = h.linemode;
-      tied = happens-tied rules (picture old) (picture new) ends.take_entry (
+      tied = happens-tied s (picture old) (picture new) ends.take_entry (
         server_picture new.server,
         t.goes.said,
         option_to_list t.entry,
         server_steps.took_core h.past.history old.server new.server old.to_client new.to_client t.entry h.past.server t.goes t.keeps (t.is_first h.past.history h.past.server),
-        server_steps.says_replies rules h.past.history old.server new.server server_calls.took old.to_client new.to_client tt h.past.server h.server t.goes,
+        server_steps.says_replies s h.past.history old.server new.server server_calls.took old.to_client new.to_client tt h.past.server h.server t.goes,
         ap picture t.rest ∙ ap (λ x. record (picture old) { taken = old.taken ++ option_to_list t.entry; server = server_picture new.server; to_client = x }) t.goes.appended,
       ) h.tied;
-      server = server_steps.says_stays rules h.past.history old.server new.server server_calls.took old.to_client new.to_client tt h.past.server h.server t.goes;
-      client = subst (λ (w : World). ClientStays rules w.client) (sym t.rest) h.client;
+      server = server_steps.says_stays s h.past.history old.server new.server server_calls.took old.to_client new.to_client tt h.past.server h.server t.goes;
+      client = subst (λ (w : World). ClientStays s w.client) (sym t.rest) h.client;
       past = sound;
     }
 
 -- a delivery to the server
 holds_reaches : (s : Canon) (old new : World) (n : ℕ) → NoneFailed old → HasPast new → DeliversToServer old n new → IsRelated s old → IsRelated s new
 holds_reaches s old new n none sound t h =
-    let rules = rules_of s h.linemode in
     let gains = t.feeds.reads in
     let d = cut_at old.server.decoder new.server.decoder n old.to_server h.tied.items t.feeds.items h.tied.flight gains in
     let fit = (all_parts Fits t.feeds.items d.left (subst (λ l. All Fits l) d.all (flight_fits old.server.decoder old.to_server h.tied.items h.tied.flight))).0 in
-    let calm = (all_parts IsCalmToServer t.feeds.items d.left (subst (λ l. All IsCalmToServer l) d.all h.tied.calm)).0 in
+    let calm = (all_parts (IsCalmToServer s.settings) t.feeds.items d.left (subst (λ l. All (IsCalmToServer s.settings) l) d.all h.tied.calm)).0 in
     record {
-      linemode = h.linemode;
-      tied = happens-tied rules (picture old) (picture new) (ends.to_server n) (
+      tied = happens-tied s (picture old) (picture new) (ends.to_server n) (
         server_picture new.server,
         t.feeds.said,
         record {
           got = t.feeds.items;
           reads = gains;
-          core = server_steps.feeds_core rules h.past.history old.server new.server (take n old.to_server) old.to_client new.to_client h.past.server h.server none.0 t.feeds fit calm;
-          replies = server_steps.feeds_replies rules h.past.history old.server new.server (take n old.to_server) old.to_client new.to_client h.past.server h.server none.0 t.feeds fit calm;
+          core = server_steps.feeds_core s h.past.history old.server new.server (take n old.to_server) old.to_client new.to_client h.past.server h.server none.0 t.feeds fit calm;
+          replies = server_steps.feeds_replies s h.past.history old.server new.server (take n old.to_server) old.to_client new.to_client h.past.server h.server none.0 t.feeds fit calm;
         },
         ap picture t.rest ∙ ap (λ x. record (picture old) { server = server_picture new.server; to_server = drop n old.to_server; to_client = x }) t.feeds.appended,
       ) h.tied;
-      server = server_steps.feeds_stays rules h.past.history old.server new.server (take n old.to_server) old.to_client new.to_client h.past.server h.server none.0 t.feeds fit calm;
-      client = subst (λ (w : World). ClientStays rules w.client) (sym t.rest) h.client;
+      server = server_steps.feeds_stays s h.past.history old.server new.server (take n old.to_server) old.to_client new.to_client h.past.server h.server none.0 t.feeds fit calm;
+      client = subst (λ (w : World). ClientStays s w.client) (sym t.rest) h.client;
       past = sound;
     }
 
 -- a delivery to the client
 holds_returns : (s : Canon) (old new : World) (n : ℕ) → NoneFailed old → HasPast new → DeliversToClient old n new → IsRelated s old → IsRelated s new
 holds_returns s old new n none sound t h =
-    let rules = rules_of s h.linemode in
     let c = (h.past.client_course none.1).1 in
     let gains = t.feeds.reads in
     let d = cut_at old.client.decoder new.client.decoder n old.to_client h.tied.messages t.feeds.items h.tied.back gains in
     let calm = (all_parts (IsCalmToClient s.settings) t.feeds.items d.left (subst (λ l. All (IsCalmToClient s.settings) l) d.all h.tied.calm_back)).0 in
-    let k = client_steps.feeds_done rules c.history old.client new.client (take n old.to_client) old.to_server new.to_server old.shown new.shown c.leads h.client none.1 t.feeds calm in
+    let k = client_steps.feeds_done s c.history old.client new.client (take n old.to_client) old.to_server new.to_server old.shown new.shown c.leads h.client none.1 t.feeds calm in
     record {
-      linemode = h.linemode;
-      tied = happens-tied rules (picture old) (picture new) (ends.to_client n) (
+      tied = happens-tied s (picture old) (picture new) (ends.to_client n) (
         client_picture new.client,
         t.feeds.said,
         record { got = t.feeds.items; reads = gains; core = k.0; writes = k.1 },
         ap picture t.rest ∙ ap (λ x. record (picture old) { client = client_picture new.client; to_client = drop n old.to_client; to_server = x }) t.feeds.appended,
       ) h.tied;
-      server = subst (λ (w : World). ServerStays rules w.server) (sym t.rest) h.server;
-      client = client_steps.feeds_stay rules c.history old.client new.client (take n old.to_client) old.to_server new.to_server old.shown new.shown c.leads h.client t.feeds calm;
+      server = subst (λ (w : World). ServerStays s w.server) (sym t.rest) h.server;
+      client = client_steps.feeds_stay s c.history old.client new.client (take n old.to_client) old.to_server new.to_server old.shown new.shown c.leads h.client t.feeds calm;
       past = sound;
     }
 
@@ -190,10 +178,9 @@ unless s false old new happens done is h = done is h
 holds_stops : (s : Canon) (old new : World) (a b : Bool) → new ≡ record old { server_stopped = a; client_stopped = b } → HasPast new → IsRelated s old → IsRelated s new
 holds_stops s old new a b is sound h =
     record {
-      linemode = h.linemode;
-      tied = subst (λ w. IsTied (rules_of s h.linemode) (picture w)) (sym is) h.tied;
-      server = subst (λ (w : World). ServerStays (rules_of s h.linemode) w.server) (sym is) h.server;
-      client = subst (λ (w : World). ClientStays (rules_of s h.linemode) w.client) (sym is) h.client;
+      tied = subst (λ w. IsTied s (picture w)) (sym is) h.tied;
+      server = subst (λ (w : World). ServerStays s w.server) (sym is) h.server;
+      client = subst (λ (w : World). ClientStays s w.client) (sym is) h.client;
       past = sound;
     }
 

@@ -4,8 +4,8 @@ use Rattle.tn_discipline.specs.declared.reads.Entry.{Entry}
 use Rattle.tn_discipline.specs.Canon.{Canon, typed_entries}
 use Rattle.tn_discipline.specs.Steps.{gain_next}
 use Rattle.tn_world.specs.relation.Ends.{ServerEnd, TakesFirst}
-use Rattle.tn_world.specs.relation.Machine.{Rules, Item, Server, item_role, read, read_item, read_all, Client}
-use Rattle.tn_world.specs.Headline.{IsPrefixOf}
+use Rattle.tn_world.specs.relation.Machine.{Item, Server, item_role, read, read_item, read_all, Client}
+use Rattle.tn_streams.specs.Prefixes.{IsPrefixOf}
 use Rattle.tn_world.specs.relation.Relation.{Agrees, server_at}
 
 -- prefixes
@@ -39,8 +39,8 @@ read-fronted : (s : Canon) (x : Entry) (v : Server) (items : List Item) → read
 read-fronted s x v [] = refl
 read-fronted s x v (i ∷ items) = ap (λ u. read_all s u items) (fronted_by_test s x v i v.failed) ∙ read-fronted s x (read s v i) items
 
-pub agreed : (rules : Rules) (typed : List ℕ) (taken : List Entry) (v : Server) (c : Client) → Agrees rules typed taken v c → taken ++ v.waiting ≡ typed_entries rules.canon typed
-agreed rules typed taken v c a = ap (λ (x : Server). taken ++ x.waiting) a.is ∙ sym a.entries
+pub agreed : (canon : Canon) (typed : List ℕ) (taken : List Entry) (v : Server) (c : Client) → Agrees canon typed taken v c → taken ++ v.waiting ≡ typed_entries canon typed
+agreed canon typed taken v c a = ap (λ (x : Server). taken ++ x.waiting) a.is ∙ sym a.entries
 
 -- an entry is taken
 pub popped : (s : Canon) (v : Server) (items : List Item) (x : Entry) (entries : List Entry) → v.waiting ≡ x ∷ entries → read_all s v items ≡ fronted x (read_all s (record v { waiting = entries }) items)
@@ -59,14 +59,15 @@ taken-waits s old new taken (x ∷ none) items h =
     ∙ append_assoc taken (x ∷ []) later.waiting
     ∙ ap (λ (v : Server). taken ++ v.waiting) (sym (popped s old.core items x h.0 h.1))
 
-pub take-agrees : (rules : Rules) (typed : List ℕ) (taken : List Entry) (v : Server) (c : Client) (items : List Item) (x : Entry) (entries : List Entry) → v.waiting ≡ x ∷ entries → Agrees rules typed taken (read_all rules.canon v items) c → Agrees rules typed (taken ++ x ∷ []) (read_all rules.canon (record v { waiting = entries }) items) c
-take-agrees rules typed taken v c items x entries is a =
-    let later = read_all rules.canon (record v { waiting = entries }) items in
-    let front_is : fronted x later ≡ server_at c.mask.edit a.half a.waiting = sym (popped rules.canon v items x entries is) ∙ a.is in
+pub take-agrees : (canon : Canon) (typed : List ℕ) (taken : List Entry) (v : Server) (c : Client) (items : List Item) (x : Entry) (entries : List Entry) → v.waiting ≡ x ∷ entries → Agrees canon typed taken (read_all canon v items) c → Agrees canon typed (taken ++ x ∷ []) (read_all canon (record v { waiting = entries }) items) c
+take-agrees canon typed taken v c items x entries is a =
+    let later = read_all canon (record v { waiting = entries }) items in
+    let front_is : fronted x later ≡ server_at c.linemode c.mask.edit a.half a.waiting = sym (popped canon v items x entries is) ∙ a.is in
     record {
       half = a.half;
       waiting = later.waiting;
       is = ap (λ (u : Server). record u { waiting = later.waiting }) front_is;
+      off = a.off;
       entries = a.entries ∙ ap (λ (u : Server). taken ++ u.waiting) (sym front_is) ∙ sym (append_assoc taken (x ∷ []) later.waiting);
       line = a.line;
       askable = a.askable;

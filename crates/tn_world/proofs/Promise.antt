@@ -5,43 +5,69 @@ use Rattle.std.proofs.Math.Seq.{drop-cons}
 use Rattle.std.proofs.lemmas.List.{take_more, take_all, take-append-drop, length-take-le}
 use Rattle.tn_discipline.specs.declared.reads.Entry.{Entry}
 use Rattle.tn_discipline.specs.Canon.{Canon}
+use Rattle.tn_discipline.specs.Characters.{standard_characters}
 use Rattle.tn_world.specs.Past.{HasPast}
-use Rattle.tn_world.specs.Headline.{IsPrefixOf, local_entries, PassesQuietly, IsQuiet, AreQuietEvents, IsMark, FollowsMark, NoneFailed, NothingInFlight, IsSettled, entries_made, Headline}
-use Rattle.tn_world.specs.Opened.{with_new_lists}
+use Rattle.tn_world.specs.Headline.{local_entries, local_half, PassesQuietly, IsQuiet, AreQuietEvents, IsBeginning, Follows, NoneFailed, IsSettled, entries_made, half_made, Headline}
+use Rattle.tn_streams.specs.Prefixes.{IsPrefixOf}
+use Rattle.tn_world.specs.Opened.{IsOpened, with_new_lists}
 use Rattle.tn_world.specs.Worlds.{World, RunsEvent, Refuses, Runs, StopsWithin, canon_of}
 use Rattle.tn_world.specs.declared.events.Event.{Event}
 use Rattle.tn_world.specs.declared.faults.Cause.{Cause}
 use Rattle.tn_world.proofs.Following.{holds_passes}
 use Rattle.tn_world.proofs.Marking.{mark_holds}
 use Rattle.tn_world.proofs.Failing.{both, stage_begins, stage_passes}
-use Rattle.tn_world.proofs.Tied.{tied-complete}
-use Rattle.tn_world.specs.relation.Relation.{picture, rules_of}
+use Rattle.tn_world.proofs.Opening.{opened_holds}
+use Rattle.tn_world.proofs.Tied.{tied-complete, tied-half}
+use Rattle.tn_world.specs.relation.Relation.{IsRelated, picture}
 
--- the headline
-pub passes_prefix : (s : Canon) (start new : World) (events : List Event) → IsMark s start → PassesQuietly start events new → IsPrefixOf (entries_made new) (local_entries s new.typed)
-passes_prefix s start new events m p =
-    stage_begins s new (stage_passes s start new events p (both (m.settled.idle.server_failed, m.settled.idle.client_failed) (mark_holds s start m)))
-
-pub passes_complete : (s : Canon) (start new : World) (events : List Event) → IsMark s start → PassesQuietly start events new → NoneFailed new → NothingInFlight new → entries_made new ≡ local_entries s new.typed
-passes_complete s start new events m p none nothing =
-    let h = holds_passes s start new events none p (mark_holds s start m) in
-    tied-complete (rules_of s h.linemode) (picture new) h.tied nothing.0
-
-pub headline : (s : Canon) (w : World) → FollowsMark s w → Headline s w
-headline s w f = record {
-  prefix = passes_prefix s f.start w f.events f.mark f.passes;
-  complete = λ none nothing. passes_complete s f.start w f.events f.mark f.passes none nothing;
+-- the headline, from where the relation holds and no end has failed
+related_headline : (s : Canon) (start w : World) (events : List Event) → NoneFailed start → IsRelated s start → PassesQuietly start events w → Headline s w
+related_headline s start w events runs h p = record {
+  prefix = stage_begins s w (stage_passes s start w events p (both runs h));
+  complete = λ none nothing. tied-complete s (picture w) (holds_passes s start w events none p h).tied nothing;
+  half = λ none nothing. tied-half s (picture w) (holds_passes s start w events none p h).tied nothing;
 }
+
+-- the relation holds at each beginning
+begins_related : (s : Canon) (w : World) → IsBeginning s w → IsRelated s w
+begins_related s w (inl m) = mark_holds s w m
+begins_related s w (inr o) = opened_holds s o.width o.height w o.standard o.opened
+
+begins_running : (s : Canon) (w : World) → IsBeginning s w → NoneFailed w
+begins_running s w (inl m) = (m.settled.idle.server_failed, m.settled.idle.client_failed)
+begins_running s w (inr o) = (o.opened.server_runs, o.opened.client_runs)
+
+passes_headline : (s : Canon) (start w : World) (events : List Event) → IsBeginning s start → PassesQuietly start events w → Headline s w
+passes_headline s start w events b p = related_headline s start w events (begins_running s start b) (begins_related s start b) p
+
+pub passes_prefix : (s : Canon) (start new : World) (events : List Event) → IsBeginning s start → PassesQuietly start events new → IsPrefixOf (entries_made new) (local_entries s new.typed)
+passes_prefix s start new events b p = (passes_headline s start new events b p).prefix
+
+pub passes_complete : (s : Canon) (start new : World) (events : List Event) → IsBeginning s start → PassesQuietly start events new → NoneFailed new → new.to_server ≡ [] → entries_made new ≡ local_entries s new.typed
+passes_complete s start new events b p none nothing = (passes_headline s start new events b p).complete none nothing
+
+pub passes_half : (s : Canon) (start new : World) (events : List Event) → IsBeginning s start → PassesQuietly start events new → NoneFailed new → new.to_server ≡ [] → half_made new ≡ local_half s new.typed
+passes_half s start new events b p none nothing = (passes_headline s start new events b p).half none nothing
+
+pub headline : (s : Canon) (w : World) → Follows s w → Headline s w
+headline s w f = passes_headline s f.start w f.events f.begins f.passes
+
+pub related : (s : Canon) (w : World) → Follows s w → NoneFailed w → IsRelated s w
+related s w f none = holds_passes s f.start w f.events none f.passes (begins_related s f.start f.begins)
 
 passes_on : (old mid new : World) (xs ys : List Event) → PassesQuietly old xs mid → PassesQuietly mid ys new → PassesQuietly old (xs ++ ys) new
 passes_on old mid new [] ys p q = subst (λ w. PassesQuietly w ys new) p q
 passes_on old mid new (e ∷ xs) ys p q = (p.0, p.1, passes_on p.0 mid new xs ys p.2 q)
 
-pub follows_on : (s : Canon) (old new : World) (events : List Event) → FollowsMark s old → PassesQuietly old events new → FollowsMark s new
-follows_on s old new events f p = record { start = f.start; mark = f.mark; events = f.events ++ events; passes = passes_on f.start old new f.events events f.passes p }
+pub follows_on : (s : Canon) (old new : World) (events : List Event) → Follows s old → PassesQuietly old events new → Follows s new
+follows_on s old new events f p = record { start = f.start; begins = f.begins; events = f.events ++ events; passes = passes_on f.start old new f.events events f.passes p }
+
+pub just_opened : (s : Canon) (width height : ℕ) (w : World) → IsOpened s width height w → s.settings.chars ≡ standard_characters → Follows s w
+just_opened s width height w o standard =
+    record { start = w; begins = inr (record { standard = standard; width = width; height = height; opened = o }); events = []; passes = refl }
 
 -- a run of quiet events
-runs_pass : (old new : World) (events : List Event) → IsQuiet old events → Runs old events new → PassesQuietly old events new
+pub runs_pass : (old new : World) (events : List Event) → IsQuiet old events → Runs old events new → PassesQuietly old events new
 runs_pass old new [] quiet r = r
 runs_pass old new (e ∷ events) quiet r =
     let here = quiet r.0 r.1 in
@@ -54,20 +80,21 @@ ends_pass old mid new (d ∷ done) left e cause quiet r refused =
     let here = quiet r.0 r.1 in
     (r.0, inl (here.0, r.1), ends_pass r.0 mid new done left e cause here.1 r.2 refused)
 
-pub follows_runs : (s : Canon) (old new : World) (events : List Event) → FollowsMark s old → IsQuiet old events → Runs old events new → FollowsMark s new
+pub follows_runs : (s : Canon) (old new : World) (events : List Event) → Follows s old → IsQuiet old events → Runs old events new → Follows s new
 follows_runs s old new events f quiet r = follows_on s old new events f (runs_pass old new events quiet r)
 
-pub follows_ends : (s : Canon) (old new : World) (events : List Event) (at : ℕ) (cause : Cause) → FollowsMark s old → IsQuiet old events → StopsWithin old events at cause new → FollowsMark s new
-follows_ends s old new events at cause f quiet e =
-    follows_on s old new (e.done ++ e.event ∷ []) f
-    (ends_pass old e.mid new e.done e.left e.event cause (subst (λ l. IsQuiet old l) e.whole quiet) e.runs e.refuses)
+stops_pass : (old new : World) (events : List Event) (at : ℕ) (cause : Cause) → IsQuiet old events → (e : StopsWithin old events at cause new) → PassesQuietly old (e.done ++ e.event ∷ []) new
+stops_pass old new events at cause quiet e = ends_pass old e.mid new e.done e.left e.event cause (subst (λ l. IsQuiet old l) e.whole quiet) e.runs e.refuses
+
+pub follows_ends : (s : Canon) (old new : World) (events : List Event) (at : ℕ) (cause : Cause) → Follows s old → IsQuiet old events → StopsWithin old events at cause new → Follows s new
+follows_ends s old new events at cause f quiet e = follows_on s old new (e.done ++ e.event ∷ []) f (stops_pass old new events at cause quiet e)
 
 -- quiet events are quiet wherever they are done
 pub quiet_always : (w : World) (events : List Event) → AreQuietEvents events → IsQuiet w events
 quiet_always w [] q = tt
 quiet_always w (e ∷ events) q = λ mid does. (q.0, quiet_always mid events q.1)
 
--- the world whose lists begin anew
+-- the world whose lists are reset
 pub anew_settled : (w : World) → IsSettled w → IsSettled (with_new_lists w)
 anew_settled w m =
     record {
@@ -84,28 +111,30 @@ anew_sound w s =
       server_course = s.server_course;
       client_course = s.client_course;
       limit = s.limit;
+      takes_keys = s.takes_keys;
       to_server = s.to_server;
       to_client = s.to_client;
       words = s.words;
+      unwished = s.unwished;
     }
 
-pub mark_follows : (w : World) → HasPast w → IsSettled w → FollowsMark (canon_of w) (with_new_lists w)
+pub mark_follows : (w : World) → HasPast w → IsSettled w → Follows (canon_of w) (with_new_lists w)
 mark_follows w s m =
     record {
       start = with_new_lists w;
-      mark = record { past = anew_sound w s; settled = anew_settled w m; rules = refl; typed = refl; taken = refl };
+      begins = inl (record { past = anew_sound w s; settled = anew_settled w m; rules = refl; typed = refl; taken = refl });
       events = [];
       passes = refl;
     }
 
-pub marked : (old w : World) (typed : List ℕ) (taken : List Entry) → w ≡ old → HasPast w → IsSettled old → typed ≡ [] → taken ≡ [] → FollowsMark (canon_of old) (record w { typed = typed; taken = taken })
+pub marked : (old w : World) (typed : List ℕ) (taken : List Entry) → w ≡ old → HasPast w → IsSettled old → typed ≡ [] → taken ≡ [] → Follows (canon_of old) (record w { typed = typed; taken = taken })
 marked old w typed taken is sound settled no_keys no_entries =
-    subst (λ x. FollowsMark (canon_of old) (record w { typed = x; taken = taken })) (sym no_keys)
-    (subst (λ x. FollowsMark (canon_of old) (record w { typed = []; taken = x })) (sym no_entries)
-    (subst (λ x. FollowsMark (canon_of x) (with_new_lists w)) is (mark_follows w sound (subst (λ x. IsSettled x) (sym is) settled))))
+    subst (λ x. Follows (canon_of old) (record w { typed = x; taken = taken })) (sym no_keys)
+    (subst (λ x. Follows (canon_of old) (record w { typed = []; taken = x })) (sym no_entries)
+    (subst (λ x. Follows (canon_of x) (with_new_lists w)) is (mark_follows w sound (subst (λ x. IsSettled x) (sym is) settled))))
 
 -- the run goes on
-runs_on : (old mid new : World) (xs : List Event) (e : Event) → Runs old xs mid → RunsEvent mid e new → Runs old (xs ++ e ∷ []) new
+pub runs_on : (old mid new : World) (xs : List Event) (e : Event) → Runs old xs mid → RunsEvent mid e new → Runs old (xs ++ e ∷ []) new
 runs_on old mid new [] e r d = (new, subst (λ w. RunsEvent w e new) r d, refl)
 runs_on old mid new (x ∷ xs) e r d = (r.0, r.1, runs_on r.0 mid new xs e r.2 d)
 
@@ -130,8 +159,8 @@ runs_stop old mid new events n e cause within is r refuses =
     }
 
 -- the promises of a run
-pub run_follows : (old new : World) (events : List Event) → Runs old events new → (s : Canon) → FollowsMark s old → IsQuiet old events → FollowsMark s new
+pub run_follows : (old new : World) (events : List Event) → Runs old events new → (s : Canon) → Follows s old → IsQuiet old events → Follows s new
 run_follows old new events r s f quiet = follows_runs s old new events f quiet r
 
-pub end_follows : (old new : World) (events : List Event) (at : ℕ) (cause : Cause) → StopsWithin old events at cause new → (s : Canon) → FollowsMark s old → IsQuiet old events → FollowsMark s new
+pub end_follows : (old new : World) (events : List Event) (at : ℕ) (cause : Cause) → StopsWithin old events at cause new → (s : Canon) → Follows s old → IsQuiet old events → Follows s new
 end_follows old new events at cause e s f quiet = follows_ends s old new events at cause f quiet e

@@ -31,24 +31,24 @@ ordinary-take chars (suc n) (x ∷ xs) p = (p.0, ordinary-take chars n xs p.1)
 not_full : (limit n : ℕ) → n < most_counted limit → (n == most_counted limit) ≡ false
 not_full limit n h = grind arith
 
-read-byte : (s : Canon) (h : List ℕ) (w : List Entry) (b : ℕ) → literal_role s.settings.chars b ≡ role.Ordinary b → length h < most_counted s.limit → read s (server_at true h w) (byte b) ≡ server_at true (h ++ b ∷ []) w
-read-byte s h w b plain fits =
-    ap (λ r. server_at true (half_next s.limit h r) (w ++ gain_next s.limit h r)) plain
-    ∙ ap (λ (t : Bool). server_at true (if t then h else h ++ b ∷ []) (w ++ (if t then [] else []))) (not_full s.limit (length h) fits)
-    ∙ ap (λ x. server_at true (h ++ b ∷ []) x) (append-nil w)
+read-byte : (s : Canon) (l : Bool) (h : List ℕ) (w : List Entry) (b : ℕ) → literal_role s.settings.chars b ≡ role.Ordinary b → length h < most_counted s.limit → read s (server_at l true h w) (byte b) ≡ server_at l true (h ++ b ∷ []) w
+read-byte s l h w b plain fits =
+    ap (λ r. server_at l true (half_next s.limit h r) (w ++ gain_next s.limit h r)) plain
+    ∙ ap (λ (t : Bool). server_at l true (if t then h else h ++ b ∷ []) (w ++ (if t then [] else []))) (not_full s.limit (length h) fits)
+    ∙ ap (λ x. server_at l true (h ++ b ∷ []) x) (append-nil w)
 
 -- ordinary bytes that fit are all kept
-pub read-bytes : (s : Canon) (h : List ℕ) (w : List Entry) (bs : List ℕ) → AreOrdinary s.settings.chars bs → length h + length bs ≤ most_counted s.limit → read_all s (server_at true h w) (bytes bs) ≡ server_at true (h ++ bs) w
-read-bytes s h w [] plain fits = ap (λ x. server_at true x w) (sym (append-nil h))
-read-bytes s h w (b ∷ bs) plain fits =
-    ap (λ v. read_all s v (bytes bs)) (read-byte s h w b plain.0 (omega arith))
-    ∙ read-bytes s (h ++ b ∷ []) w bs plain.1 (omega (arith, length-append h (b ∷ [])))
-    ∙ ap (λ x. server_at true x w) (append_assoc h (b ∷ []) bs)
+pub read-bytes : (s : Canon) (l : Bool) (h : List ℕ) (w : List Entry) (bs : List ℕ) → AreOrdinary s.settings.chars bs → length h + length bs ≤ most_counted s.limit → read_all s (server_at l true h w) (bytes bs) ≡ server_at l true (h ++ bs) w
+read-bytes s l h w [] plain fits = ap (λ x. server_at l true x w) (sym (append-nil h))
+read-bytes s l h w (b ∷ bs) plain fits =
+    ap (λ v. read_all s v (bytes bs)) (read-byte s l h w b plain.0 (omega arith))
+    ∙ read-bytes s l (h ++ b ∷ []) w bs plain.1 (omega (arith, length-append h (b ∷ [])))
+    ∙ ap (λ x. server_at l true x w) (append_assoc h (b ∷ []) bs)
 
 -- ordinary bytes, and one more item
-pub read-bytes_then : (s : Canon) (h : List ℕ) (w : List Entry) (bs : List ℕ) (item : Item) → AreOrdinary s.settings.chars bs → length h + length bs ≤ most_counted s.limit → read_all s (server_at true h w) (bytes bs ++ item ∷ []) ≡ read s (server_at true (h ++ bs) w) item
-read-bytes_then s h w bs item plain fits =
-    read_all-append s (server_at true h w) (bytes bs) (item ∷ []) ∙ ap (λ v. read s v item) (read-bytes s h w bs plain fits)
+pub read-bytes_then : (s : Canon) (l : Bool) (h : List ℕ) (w : List Entry) (bs : List ℕ) (item : Item) → AreOrdinary s.settings.chars bs → length h + length bs ≤ most_counted s.limit → read_all s (server_at l true h w) (bytes bs ++ item ∷ []) ≡ read s (server_at l true (h ++ bs) w) item
+read-bytes_then s l h w bs item plain fits =
+    read_all-append s (server_at l true h w) (bytes bs) (item ∷ []) ∙ ap (λ v. read s v item) (read-bytes s l h w bs plain fits)
 
 -- one more key at a local terminal
 pub half-role : (limit : ℕ) (h : List Role) (r : Role) → half_of limit (h ++ roles_from r) ≡ half_next limit (half_of limit h) r

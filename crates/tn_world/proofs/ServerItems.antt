@@ -144,7 +144,7 @@ said_none h items said is =
 pub feeds_none : (h : History) (old new : End) (piece before after : List ℕ) → LeadsTo h old → (f : Feeds old piece before after new) → text_of f.said ≡ []
 feeds_none h old new piece before after s f = said_none h f.items f.said (f.sends h s)
 
--- a front of what shows nothing
+-- a prefix of what shows nothing
 front_none : (part rest : List Item) → text_of (part ++ rest) ≡ [] → text_of part ≡ []
 front_none part rest none = empty (text_of part) (text_of rest) (sym (flat_map-append item_shown part rest) ∙ none)
   where

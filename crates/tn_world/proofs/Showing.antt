@@ -22,7 +22,7 @@ use Rattle.tn_client.specs.Events as client_calls
 use Rattle.tn_client.specs.Screen.{item_shown, text_shown as shown_of, symbol_shown}
 use Rattle.tn_client.specs.Calls as client
 use Rattle.tn_world.specs.Past.{HasPast}
-use Rattle.tn_world.specs.Headline.{IsPrefixOf}
+use Rattle.tn_streams.specs.Prefixes.{IsPrefixOf}
 use Rattle.tn_world.specs.Flight.{InFlight}
 use Rattle.tn_world.specs.Output.{screen, text_of, IsOutput, Queues, IsNoneAt, OutputGrows, OutputGrowsTo, OutputGrowsAll, OutputGrowsBefore}
 use Rattle.tn_world.specs.Worlds.{World, UnlessStopped, TypesKey, CallsClient, DeliversToServer, DeliversToClient, CallsServer, Pulls, TakesEntry, RunsEvent, Runs, StopsWithin, ServerRefusesDelivery}

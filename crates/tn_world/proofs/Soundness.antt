@@ -6,9 +6,9 @@ use Rattle.tn_nvt.specs.declared.items.Item.{Item}
 use Rattle.tn_nvt.specs.Spelling.{spells, Fits}
 use Rattle.tn_nvt.specs.Feeding.{DecoderState, LeadsTo}
 use Rattle.tn_codes.specs.declared.codes.Verb.{Verb}
-use Rattle.tn_option.specs.EnginePair.{EnginePair, LeadTo}
+use Rattle.tn_option.specs.EnginePair.{TalkTo}
 use Rattle.tn_option.specs.Options.{Options}
-use Rattle.tn_option.proofs.lemmas.Agreement.{Moves, moves-LeadTo}
+use Rattle.tn_option.proofs.lemmas.Agreement.{Moves, then-Moves}
 use Rattle.tn_wire.specs.OptionWords.{words_in}
 use Rattle.tn_wire.proofs.lemmas.OptionWords.{words_in-append}
 use Rattle.tn_server.specs.Course as server_courses
@@ -22,7 +22,6 @@ use Rattle.tn_server.proofs.lemmas.Courses as server_on
 use Rattle.tn_server.proofs.lemmas.Fitting as server_fits
 use Rattle.tn_server.proofs.lemmas.Histories.{limit-gets}
 use Rattle.tn_server.proofs.lemmas.Words as server_words
-use Rattle.tn_server.specs.Terms as server_terms
 use Rattle.tn_client.specs.Course as client_courses
 use Rattle.tn_client.specs.Events as client_calls
 use Rattle.tn_client.specs.Lines.{line_limit}
@@ -33,8 +32,7 @@ use Rattle.tn_client.specs.declared.faults.ClientFault.TheVariants as client_fau
 use Rattle.tn_client.proofs.lemmas.Courses as client_on
 use Rattle.tn_client.proofs.lemmas.Fitting as client_fits
 use Rattle.tn_client.proofs.lemmas.Words as client_words
-use Rattle.tn_client.specs.Terms as client_terms
-use Rattle.tn_world.specs.Past.{HasPast, engines}
+use Rattle.tn_world.specs.Past.{HasPast, engines, opening_pair, WishesNothing}
 use Rattle.tn_world.specs.Flight.{InFlight}
 use Rattle.tn_world.specs.Worlds.{World, UnlessStopped, TypesKey, CallsClient, DeliversToServer, DeliversToClient, CallsServer, Pulls, TakesEntry, RunsEvent, ServerRefusesDelivery, ClientRefusesDelivery, Refuses, client_fault}
 use Rattle.tn_world.specs.declared.events.Event.{Event}
@@ -43,6 +41,7 @@ use Rattle.tn_world.specs.declared.faults.Cause.{Cause}
 use Rattle.tn_world.specs.declared.faults.Cause.TheVariants as cause
 use Rattle.tn_world.proofs.Cut.{said_behind, cut_at}
 use Rattle.tn_world.proofs.Tied.{all_parts}
+use Rattle.tn_world.proofs.Saying.{says_no_wish, said_no_wish}
 
 -- what is true and false is nothing
 pub opposite : (b : Bool) (A : Type 0) → b ≡ true → b ≡ false → A
@@ -109,10 +108,10 @@ propose_goes_on end (client_calls.resized width height) e = call_goes_on end e
 -- THE OPTION WORDS in flight
 -- two engines of a server and a client, from their beginning
 abbrev pub Lead : Options → Options → List (Verb × ℕ) → List (Verb × ℕ) → Type 0
-Lead here there ws vs = LeadTo server_terms.agreement client_terms.agreement (record { here = here; there = there; to_here = ws; to_there = vs })
+Lead here there ws vs = TalkTo opening_pair (record { here = here; there = there; to_here = ws; to_there = vs })
 
 leads_on : (here there here2 there2 : Options) (ws vs ws2 vs2 : List (Verb × ℕ)) → Moves (record { here = here; there = there; to_here = ws; to_there = vs }) (record { here = here2; there = there2; to_here = ws2; to_there = vs2 }) → Lead here there ws vs → Lead here2 there2 ws2 vs2
-leads_on here there here2 there2 ws vs ws2 vs2 m l = moves-LeadTo server_terms.agreement client_terms.agreement _ _ m l
+leads_on here there here2 there2 ws vs ws2 vs2 m l = then-Moves opening_pair _ _ l m
 
 -- more is said to the server, and to the client
 said_there : (here there : Options) (xs said : List Item) (vs : List (Verb × ℕ)) → Lead here there (words_in xs ++ words_in said) vs → Lead here there (words_in (xs ++ said)) vs
@@ -140,10 +139,12 @@ pub made : (w : World) (h : server_calls.History) → server.LeadsTo h w.server
     → (w.server.failed ≡ false → (c : server_courses.Course) × server_courses.CourseLeadsTo c w.server)
     → (w.client.failed ≡ false → (c : client_courses.Course) × client_courses.CourseLeadsTo c w.client)
     → (w.client.failed ≡ false → w.client.line.limit ≡ w.server.terminal.line.limit)
+    → (w.server.failed ≡ false → w.server.terminal.closed ≡ false)
     → (there : w.server.failed ≡ false → (items : List Item) × InFlight w.server.decoder w.to_server items)
     → (here : w.client.failed ≡ false → (items : List Item) × InFlight w.client.decoder w.to_client items)
-    → ((a : w.server.failed ≡ false) (b : w.client.failed ≡ false) → LeadTo server_terms.agreement client_terms.agreement (engines w (there a).0 (here b).0)) → HasPast w
-made w h stands of_server of_client limit there here words = record { history = h; server = stands; server_course = of_server; client_course = of_client; limit = limit; to_server = there; to_client = here; words = words }
+    → ((a : w.server.failed ≡ false) (b : w.client.failed ≡ false) → TalkTo opening_pair (engines w (there a).0 (here b).0))
+    → ((a : w.server.failed ≡ false) → w.client.failed ≡ false → All WishesNothing (there a).0) → HasPast w
+made w h stands of_server of_client limit opened there here words unwished = record { history = h; server = stands; server_course = of_server; client_course = of_client; limit = limit; takes_keys = opened; to_server = there; to_client = here; words = words; unwished = unwished }
 
 -- a call of the client
 module _ (old new : World) (e : client_calls.Event) (call : client_courses.IsCall e) (g : client.Advances old.client e new.client) (k : client.ReadsNothing old.client new.client) (sends : client.Sends old.client e old.to_server new.to_server) (runs : old.client.failed ≡ false) (s : HasPast old) where
@@ -162,10 +163,12 @@ module _ (old new : World) (e : client_calls.Event) (call : client_courses.IsCal
       let at = (s.client_course runs).1 in
       made (record old { client = new.client; to_server = new.to_server }) s.history s.server s.server_course (λ b. told_now)
       (λ b. told_limit ∙ s.limit runs)
+      s.takes_keys
       (λ a. let f = s.to_server a in (f.0 ++ sends.said, said_behind old.server.decoder old.to_server new.to_server f.0 sends.said sends.appended (sends_fit at.history old.client e old.to_server new.to_server at.leads sends) f.1))
       (λ b. let f = s.to_client runs in (f.0, subst (λ d. InFlight d old.to_client f.0) (sym k.decoder) f.1))
       (λ a b. wordless old.server.terms.options old.client.options new.client.options (s.to_server a).0 sends.said (words_in (s.to_client runs).0)
       (client_words.advances_keeps at.history old.client new.client e call at.leads g) (client_words.sends_none at.history old.client e old.to_server new.to_server call at.leads sends) (s.words a runs))
+      (λ a b. All-append WishesNothing (s.to_server a).0 sends.said (s.unwished a runs) (subst (All WishesNothing) (sends.replies at.history at.leads) (says_no_wish at.history e)))
 
 -- what no part of the invariant looks at
 pub sound_as : (old new : World) → new.server ≡ old.server → new.client ≡ old.client → new.to_server ≡ old.to_server → new.to_client ≡ old.to_client → HasPast old → HasPast new
@@ -174,6 +177,7 @@ sound_as old new a b c d s =
     (λ r. let x = s.server_course (sym (ap (λ e. e.failed) a) ∙ r) in (x.0, subst (server_courses.CourseLeadsTo x.0) (sym a) x.1))
     (λ r. let x = s.client_course (sym (ap (λ e. e.failed) b) ∙ r) in (x.0, subst (client_courses.CourseLeadsTo x.0) (sym b) x.1))
     (λ r. ap (λ e. e.line.limit) b ∙ s.limit (sym (ap (λ e. e.failed) b) ∙ r) ∙ sym (ap (λ e. e.terminal.line.limit) a))
+    (λ r. ap (λ (e : server.End). e.terminal.closed) a ∙ s.takes_keys (sym (ap (λ (e : server.End). e.failed) a) ∙ r))
     (λ r. let f = s.to_server (sym (ap (λ e. e.failed) a) ∙ r) in (f.0, subst (λ x. InFlight new.server.decoder x f.0) (sym c) (subst (λ e. InFlight e.decoder old.to_server f.0) (sym a) f.1)))
     (λ r. let f = s.to_client (sym (ap (λ e. e.failed) b) ∙ r) in (f.0, subst (λ x. InFlight new.client.decoder x f.0) (sym d) (subst (λ e. InFlight e.decoder old.to_client f.0) (sym b) f.1)))
     (λ p q.
@@ -183,6 +187,7 @@ sound_as old new a b c d s =
     let vs = words_in (s.to_client q2).0 in
     subst (λ (e : server.End). Lead e.terms.options new.client.options ws vs) (sym a)
     (subst (λ (e : client.End). Lead old.server.terms.options e.options ws vs) (sym b) (s.words p2 q2)))
+    (λ p q. s.unwished (sym (ap (λ e. e.failed) a) ∙ p) (sym (ap (λ e. e.failed) b) ∙ q))
 
 pub sound_types : (old new : World) (key : ℕ) → TypesKey old key new → HasPast old → HasPast new
 sound_types old new key t s =
@@ -210,6 +215,7 @@ module _ (old new : World) (e : server_calls.Event) (call : server_courses.IsCal
       (λ r. let x = s.server_course (sym k.failed ∙ r) in (server_courses.called x.0 e, server_on.called_on x.0 old.server new.server e old.to_client new.to_client x.1 call g k))
       s.client_course
       (λ b. s.limit b ∙ sym asked_limit)
+      (λ a. g.closed ∙ s.takes_keys (sym k.failed ∙ a))
       (λ a. let f = s.to_server (sym k.failed ∙ a) in (f.0, subst (λ d. InFlight d old.to_server f.0) (sym k.decoder) f.1))
       (λ b. let f = s.to_client b in (f.0 ++ g.said, said_behind old.client.decoder old.to_client new.to_client f.0 g.said g.appended (goes_fit s.history old.server new.server e old.to_client new.to_client s.server g) f.1))
       (λ a b.
@@ -218,6 +224,7 @@ module _ (old new : World) (e : server_calls.Event) (call : server_courses.IsCal
       said_back new.server.terms.options old.client.options ws y g.said
       (leads_on old.server.terms.options old.client.options new.server.terms.options old.client.options ws (words_in y) ws (words_in y ++ words_in g.said)
       (server_words.advances_moves s.history old.server new.server e old.to_client new.to_client old.client.options ws (words_in y) call s.server g) (s.words (sym k.failed ∙ a) b)))
+      (λ a b. s.unwished (sym k.failed ∙ a) b)
 
 pub sound_asks : (old new : World) (e : server_calls.Event) → server_courses.IsCall e → CallsServer old e new → HasPast old → HasPast new
 sound_asks old new e call t s = subst (λ w. HasPast w) (sym t.rest) (asked_sound old new e call t.goes t.keeps s)
@@ -240,6 +247,7 @@ sound_reaches old new n t s =
     (λ r. let x = s.server_course (runs r) in (server_courses.fed x.0 piece, server_on.fed_on x.0 old.server new.server piece old.to_client new.to_client x.1 f))
     s.client_course
     (λ b. s.limit b ∙ before.limit ∙ sym (limit-gets s.history f.items) ∙ sym after.limit)
+    (λ a. f.closed ∙ s.takes_keys (runs a))
     (λ a. let x = s.to_server (runs a) in let d = cut_at old.server.decoder new.server.decoder n old.to_server x.0 f.items x.1 f.reads in (d.left, d.flight))
     (λ b. let x = s.to_client b in (x.0 ++ f.said, said_behind old.client.decoder old.to_client new.to_client x.0 f.said f.appended (feeds_fit s.history old.server new.server piece old.to_client new.to_client s.server f) x.1))
     (λ a b.
@@ -249,7 +257,11 @@ sound_reaches old new n t s =
     said_back new.server.terms.options old.client.options (words_in d.left) y f.said
     (leads_on old.server.terms.options old.client.options new.server.terms.options old.client.options (words_in f.items ++ words_in d.left) (words_in y) (words_in d.left) (words_in y ++ words_in f.said)
     (server_words.feeds_moves s.history old.server new.server piece old.to_client new.to_client old.client.options (words_in d.left) (words_in y) s.server f)
-    (split_there old.server.terms.options old.client.options x.0 f.items d.left (words_in y) d.all (s.words (runs a) b)))))
+    (split_there old.server.terms.options old.client.options x.0 f.items d.left (words_in y) d.all (s.words (runs a) b))))
+    (λ a b.
+    let x = s.to_server (runs a) in
+    let d = cut_at old.server.decoder new.server.decoder n old.to_server x.0 f.items x.1 f.reads in
+    (all_parts WishesNothing f.items d.left (subst (All WishesNothing) d.all (s.unwished (runs a) b))).1))
 
 -- a delivery to the client
 line_limit-gets : (h : client_calls.History) (items : List Item) → line_limit (client_calls.gets h items) ≡ line_limit h
@@ -269,6 +281,7 @@ sound_returns old new n t s =
     s.server_course
     (λ r. let x = s.client_course runs in (client_courses.fed x.0 piece, client_on.fed_at x.0 old.client new.client piece old.to_server new.to_server old.shown new.shown x.1 f))
     (λ b. after.limit ∙ line_limit-gets at.history f.items ∙ sym before.limit ∙ s.limit runs)
+    s.takes_keys
     (λ a. let x = s.to_server a in (x.0 ++ f.said, said_behind old.server.decoder old.to_server new.to_server x.0 f.said f.appended (came_fit at.history old.client new.client piece old.to_server new.to_server old.shown new.shown at.leads f) x.1))
     (λ b. let x = s.to_client runs in let d = cut_at old.client.decoder new.client.decoder n old.to_client x.0 f.items x.1 f.reads in (d.left, d.flight))
     (λ a b.
@@ -278,7 +291,9 @@ sound_returns old new n t s =
     said_there old.server.terms.options new.client.options x f.said (words_in d.left)
     (leads_on old.server.terms.options old.client.options old.server.terms.options new.client.options (words_in x) (words_in f.items ++ words_in d.left) (words_in x ++ words_in f.said) (words_in d.left)
     (client_words.feeds_moves at.history old.client new.client piece old.to_server new.to_server old.shown new.shown old.server.terms.options (words_in x) (words_in d.left) at.leads f)
-    (split_back old.server.terms.options old.client.options (words_in x) y.0 f.items d.left d.all (s.words a runs)))))
+    (split_back old.server.terms.options old.client.options (words_in x) y.0 f.items d.left d.all (s.words a runs))))
+    (λ a b. All-append WishesNothing (s.to_server a).0 f.said (s.unwished a runs)
+    (all_parts WishesNothing (client_says.items_said at.history) f.said (subst (All WishesNothing) (f.sends at.history at.leads) (said_no_wish (client_calls.gets at.history f.items)))).1))
 
 unless : (stopped : Bool) (old new : World) (happens : Type 0) → (happens → HasPast old → HasPast new) → UnlessStopped stopped old new happens → HasPast old → HasPast new
 unless true old new happens done is s = subst (λ w. HasPast w) (sym is) s
@@ -337,7 +352,9 @@ halts_sound old end piece left later fault again none halts of failed s =
     (λ r. opposite end.failed _ failed r) s.client_course
     (λ b. s.limit b ∙ before.limit ∙ sym (limit-gets s.history at.0) ∙ sym after.limit)
     (λ r. opposite end.failed _ failed r)
+    (λ r. opposite end.failed _ failed r)
     (λ b. let f = s.to_client b in (f.0 ++ more.said, said_behind old.client.decoder old.to_client later f.0 more.said more.appended more.fit f.1))
+    (λ a b. opposite end.failed _ failed a)
     (λ a b. opposite end.failed _ failed a)
 
 -- the client failed
@@ -346,7 +363,7 @@ breaks_sound old end piece left later seen runs x failed s =
     let at = s.client_course runs in
     let here = at.1 in
     made (record old { client = end; to_client = left; to_server = later; shown = seen }) s.history s.server s.server_course
-    (λ r. opposite end.failed _ failed r) (λ r. opposite end.failed _ failed r)
+    (λ r. opposite end.failed _ failed r) (λ r. opposite end.failed _ failed r) s.takes_keys
     (λ a. let f = s.to_server a in (
       f.0 ++ (x.said ++ x.part),
       said_behind old.server.decoder old.to_server later f.0 (x.said ++ x.part) x.appended
@@ -354,11 +371,12 @@ breaks_sound old end piece left later seen runs x failed s =
     ))
     (λ r. opposite end.failed _ failed r)
     (λ a b. opposite end.failed _ failed b)
+    (λ a b. opposite end.failed _ failed b)
 
 -- the client had failed before
 pub again_sound : (old : World) (left : List ℕ) → old.client.failed ≡ true → HasPast old → HasPast (record old { to_client = left })
 again_sound old left failed s =
-    made (record old { to_client = left }) s.history s.server s.server_course s.client_course s.limit s.to_server (λ r. opposite old.client.failed _ failed r) (λ a b. opposite old.client.failed _ failed b)
+    made (record old { to_client = left }) s.history s.server s.server_course s.client_course s.limit s.takes_keys s.to_server (λ r. opposite old.client.failed _ failed r) (λ a b. opposite old.client.failed _ failed b) (λ a b. opposite old.client.failed _ failed b)
 
 -- A refusal changed nothing, or it was of a delivery.
 pub data Refusal (old : World) (e : Event) (new : World) : Type 0 where

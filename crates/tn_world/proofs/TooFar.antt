@@ -76,10 +76,52 @@ far_at old new (Mask mask) s r = absurd (never_unless old.server.failed (if line
 far_at old new ServerStops s r = absurd r.0
 far_at old new ClientStops s r = absurd r.0
 
+-- and the terminal is never found shut
+shut_failed : Pty pty.Closed ≡ Failed → ⊥
+shut_failed f = cc
+
+never_shut : (old new : World) (n : ℕ) → HasPast old → ServerRefusesDelivery old n (Pty pty.Closed) new → ⊥
+never_shut old new n s r = by_test old.server.failed refl
+  where
+    by_test : (b : Bool) → old.server.failed ≡ b → ⊥
+    by_test true is = shut_failed (r.first is)
+    by_test false is = let turned : true ≡ false = sym (r.shut refl) ∙ s.takes_keys is in cc
+
+shut_unless : (b : Bool) (o : Option ServerFault) → (IsFault o (Pty pty.Closed) → ⊥) → IsFault (if b then Some Failed else o) (Pty pty.Closed) → ⊥
+shut_unless true o never f = cc
+shut_unless false o never f = never f
+
+shut_none : IsFault None (Pty pty.Closed) → ⊥
+shut_none f = cc
+
+shut_char : (o : Option CharFault) → IsFault (option_map Char o) (Pty pty.Closed) → ⊥
+shut_char None f = cc
+shut_char (Some fault) f = cc
+
+shut_mask : (b : Bool) → IsFault (if b then None else Some NotOn) (Pty pty.Closed) → ⊥
+shut_mask true f = cc
+shut_mask false f = cc
+
+shut_at : (old new : World) (e : Event) → HasPast old → Refuses old e (cause.Server (Pty pty.Closed)) new → ⊥
+shut_at old new (ToServer n) s r = never_shut old new n s r
+shut_at old new (Key key) s r = r.0
+shut_at old new (ToClient n) s r = r.0
+shut_at old new (Write bytes) s r = r.0
+shut_at old new (Pull n) s r = shut_none r.0.1.cause
+shut_at old new Take s r = shut_none r.0.cause
+shut_at old new (Wish editing) s r = shut_unless old.server.failed None shut_none r.0.1.cause
+shut_at old new (Resize width height) s r = r.0
+shut_at old new (SetChar func value) s r = shut_unless old.server.failed (option_map Char (char_fault old.server.table func value)) (shut_char (char_fault old.server.table func value)) r.0.1.cause
+shut_at old new (Propose func value) s r = r.0
+shut_at old new (Echo on) s r = shut_unless old.server.failed None shut_none r.0.1.cause
+shut_at old new (Mask mask) s r = shut_unless old.server.failed (if linemode old.server.terms.options then None else Some NotOn) (shut_mask (linemode old.server.terms.options)) r.0.1.cause
+shut_at old new ServerStops s r = r.0
+shut_at old new ClientStops s r = r.0
+
 pub shows_cause : (old new : World) (events : List Event) (at : ℕ) (c : Cause) → HasPast old → StopsWithin old events at c new → ShowsCause c new
 shows_cause old new events at (cause.Server (Pty pty.TooFarAhead)) s e = far_at e.mid new e.event (runs_sound old e.mid e.done e.runs s) e.refuses
 shows_cause old new events at (cause.Server (Pty pty.Memory)) s e = tt
-shows_cause old new events at (cause.Server (Pty pty.Closed)) s e = tt
+shows_cause old new events at (cause.Server (Pty pty.Closed)) s e = shut_at e.mid new e.event (runs_sound old e.mid e.done e.runs s) e.refuses
 shows_cause old new events at (cause.Server Memory) s e = tt
 shows_cause old new events at (cause.Server Failed) s e = tt
 shows_cause old new events at (cause.Server (Char fault)) s e = tt

@@ -65,9 +65,9 @@ literal_key s key = by_mapped s (mapped_key s.flags key)
 
 -- After a key with this role the server's half line, once it has read what is sent, is that of a local terminal up
 -- to what the client holds, and the client knows its length.
-pub record Follows (s : Canon) (h : List ℕ) (w : List Entry) (held : List ℕ) (r : Role) (p : Part) : Type 0 where
+pub record Follows (s : Canon) (l : Bool) (h : List ℕ) (w : List Entry) (held : List ℕ) (r : Role) (p : Part) : Type 0 where
   pub half : List ℕ
-  pub reads : read_all s (server_at true h w) p.items ≡ server_at true half (w ++ gain_next s.limit (h ++ held) r)
+  pub reads : read_all s (server_at l true h w) p.items ≡ server_at l true half (w ++ gain_next s.limit (h ++ held) r)
   pub line : half_next s.limit (h ++ held) r ≡ half ++ p.held
   pub ahead : length half ≡ p.ahead
   pub plain : AreOrdinary s.settings.chars p.held
@@ -90,33 +90,33 @@ below most n h e = grind arith
 room : (most : ℕ) (h held : List ℕ) (b : ℕ) → length (h ++ held) ≤ most → (length (h ++ held) == most) ≡ false → length h + length (held ++ b ∷ []) ≤ most
 room most h held b fits test = omega (arith, below most (length (h ++ held)) fits test, length-append h held, length-append held (b ∷ []))
 
-ordinary-follows : (s : Canon) (h : List ℕ) (w : List Entry) (c : Client) (b : ℕ) (t f : Bool) → (c.ahead + length c.held == most_counted s.limit) ≡ t → literal_role s.settings.chars b ≡ role.Ordinary b → AreOrdinary s.settings.chars c.held → length h ≡ c.ahead → length (h ++ c.held) ≤ most_counted s.limit → Follows s h w c.held (role.Ordinary b) (ordinary_key t f c b)
-ordinary-follows s h w c b true f test literal plain count fits =
+ordinary-follows : (s : Canon) (l : Bool) (h : List ℕ) (w : List Entry) (c : Client) (b : ℕ) (t f : Bool) → (c.ahead + length c.held == most_counted s.limit) ≡ t → literal_role s.settings.chars b ≡ role.Ordinary b → AreOrdinary s.settings.chars c.held → length h ≡ c.ahead → length (h ++ c.held) ≤ most_counted s.limit → Follows s l h w c.held (role.Ordinary b) (ordinary_key t f c b)
+ordinary-follows s l h w c b true f test literal plain count fits =
     let is_full = full s.limit h c.held c.ahead true count test in
     record {
       half = h;
-      reads = ap (λ x. server_at true h x) (sym (ap (λ (t : Bool). w ++ (if t then [] else [])) is_full ∙ append-nil w));
+      reads = ap (λ x. server_at l true h x) (sym (ap (λ (t : Bool). w ++ (if t then [] else [])) is_full ∙ append-nil w));
       line = ap (λ (t : Bool). if t then h ++ c.held else (h ++ c.held) ++ b ∷ []) is_full;
       ahead = count;
       plain = plain;
     }
-ordinary-follows s h w c b false true test literal plain count fits =
+ordinary-follows s l h w c b false true test literal plain count fits =
     let is_full = full s.limit h c.held c.ahead false count test in
     let more : AreOrdinary s.settings.chars (c.held ++ b ∷ []) = ordinary-append s.settings.chars c.held (b ∷ []) plain (literal, tt) in
     record {
       half = h ++ (c.held ++ b ∷ []);
       reads =
-          read-bytes s h w (c.held ++ b ∷ []) more (room (most_counted s.limit) h c.held b fits is_full)
-          ∙ ap (λ x. server_at true (h ++ (c.held ++ b ∷ [])) x) (sym (ap (λ (t : Bool). w ++ (if t then [] else [])) is_full ∙ append-nil w));
+          read-bytes s l h w (c.held ++ b ∷ []) more (room (most_counted s.limit) h c.held b fits is_full)
+          ∙ ap (λ x. server_at l true (h ++ (c.held ++ b ∷ [])) x) (sym (ap (λ (t : Bool). w ++ (if t then [] else [])) is_full ∙ append-nil w));
       line = ap (λ (t : Bool). if t then h ++ c.held else (h ++ c.held) ++ b ∷ []) is_full ∙ append_assoc h c.held (b ∷ []) ∙ sym (append-nil (h ++ (c.held ++ b ∷ [])));
       ahead = length-append h (c.held ++ b ∷ []) ∙ ap (λ n. n + length (c.held ++ b ∷ [])) count;
       plain = tt;
     }
-ordinary-follows s h w c b false false test literal plain count fits =
+ordinary-follows s l h w c b false false test literal plain count fits =
     let is_full = full s.limit h c.held c.ahead false count test in
     record {
       half = h;
-      reads = ap (λ x. server_at true h x) (sym (ap (λ (t : Bool). w ++ (if t then [] else [])) is_full ∙ append-nil w));
+      reads = ap (λ x. server_at l true h x) (sym (ap (λ (t : Bool). w ++ (if t then [] else [])) is_full ∙ append-nil w));
       line = ap (λ (t : Bool). if t then h ++ c.held else (h ++ c.held) ++ b ∷ []) is_full ∙ append_assoc h c.held (b ∷ []);
       ahead = count;
       plain = ordinary-append s.settings.chars c.held (b ∷ []) plain (literal, tt);
@@ -133,16 +133,16 @@ some_of n h = grind arith
 none_of : (n : ℕ) → nat_lt 0 n ≡ false → n ≡ 0
 none_of n h = grind arith
 
-erase-follows : (s : Canon) (h : List ℕ) (w : List Entry) (c : Client) (t f : Bool) → nat_lt 0 (length c.held) ≡ t → nat_lt 0 c.ahead ≡ f → AreOrdinary s.settings.chars c.held → length h ≡ c.ahead → Follows s h w c.held role.Erase (erase_key t f c)
-erase-follows s h w c true f some further plain count =
+erase-follows : (s : Canon) (l : Bool) (h : List ℕ) (w : List Entry) (c : Client) (t f : Bool) → nat_lt 0 (length c.held) ≡ t → nat_lt 0 c.ahead ≡ f → AreOrdinary s.settings.chars c.held → length h ≡ c.ahead → Follows s l h w c.held role.Erase (erase_key t f c)
+erase-follows s l h w c true f some further plain count =
     record {
       half = h;
-      reads = ap (λ x. server_at true h x) (sym (append-nil w));
+      reads = ap (λ x. server_at l true h x) (sym (append-nil w));
       line = front-append h c.held (some_of (length c.held) some);
       ahead = count;
       plain = ordinary-take s.settings.chars (length c.held - 1) c.held plain;
     }
-erase-follows s h w c false true none further plain count =
+erase-follows s l h w c false true none further plain count =
     let nothing : c.held ≡ [] = empty_of c.held (none_of (length c.held) none) in
     record {
       half = front h;
@@ -151,60 +151,60 @@ erase-follows s h w c false true none further plain count =
       ahead = omega (arith, length-take (length h - 1) h, count);
       plain = plain;
     }
-erase-follows s h w c false false none nowhere plain count =
+erase-follows s l h w c false false none nowhere plain count =
     let nothing : c.held ≡ [] = empty_of c.held (none_of (length c.held) none) in
     let start : h ≡ [] = empty_of h (count ∙ none_of c.ahead nowhere) in
     let both : h ++ c.held ≡ [] = ap (λ held. h ++ held) nothing ∙ append-nil h ∙ start in
     record {
       half = h;
-      reads = ap (λ x. server_at true h x) (sym (append-nil w));
+      reads = ap (λ x. server_at l true h x) (sym (append-nil w));
       line = ap front both ∙ sym both;
       ahead = count;
       plain = plain;
     }
 
-kill-follows : (s : Canon) (h : List ℕ) (w : List Entry) (c : Client) (t : Bool) → nat_lt 0 c.ahead ≡ t → length h ≡ c.ahead → Follows s h w c.held role.Kill (kill_key t)
-kill-follows s h w c true some count = record { half = []; reads = refl; line = refl; ahead = refl; plain = tt }
-kill-follows s h w c false nowhere count =
+kill-follows : (s : Canon) (l : Bool) (h : List ℕ) (w : List Entry) (c : Client) (t : Bool) → nat_lt 0 c.ahead ≡ t → length h ≡ c.ahead → Follows s l h w c.held role.Kill (kill_key t)
+kill-follows s l h w c true some count = record { half = []; reads = refl; line = refl; ahead = refl; plain = tt }
+kill-follows s l h w c false nowhere count =
     record {
       half = [];
-      reads = ap (λ x. server_at true x w) (empty_of h (count ∙ none_of c.ahead nowhere)) ∙ ap (λ x. server_at true [] x) (sym (append-nil w));
+      reads = ap (λ x. server_at l true x w) (empty_of h (count ∙ none_of c.ahead nowhere)) ∙ ap (λ x. server_at l true [] x) (sym (append-nil w));
       line = refl;
       ahead = refl;
       plain = tt;
     }
 
-pub key-follows : (s : Canon) (h : List ℕ) (w : List Entry) (c : Client) (r : Role) → IsLiteral s.settings.chars r → AreOrdinary s.settings.chars c.held → length h ≡ c.ahead → length (h ++ c.held) ≤ most_counted s.limit → Follows s h w c.held r (edit_key s.limit c r)
-key-follows s h w c (role.Ordinary b) literal plain count fits =
-    ordinary-follows s h w c b (c.ahead + length c.held == most_counted s.limit) (c.forward b) refl literal plain count fits
-key-follows s h w c role.Nl literal plain count fits =
-    record { half = []; reads = read-bytes_then s h w c.held newline plain (omega (arith, length-append h c.held)); line = refl; ahead = refl; plain = tt }
-key-follows s h w c (role.Eol b) literal plain count fits =
+pub key-follows : (s : Canon) (l : Bool) (h : List ℕ) (w : List Entry) (c : Client) (r : Role) → IsLiteral s.settings.chars r → AreOrdinary s.settings.chars c.held → length h ≡ c.ahead → length (h ++ c.held) ≤ most_counted s.limit → Follows s l h w c.held r (edit_key s.limit c r)
+key-follows s l h w c (role.Ordinary b) literal plain count fits =
+    ordinary-follows s l h w c b (c.ahead + length c.held == most_counted s.limit) (c.forward b) refl literal plain count fits
+key-follows s l h w c role.Nl literal plain count fits =
+    record { half = []; reads = read-bytes_then s l h w c.held newline plain (omega (arith, length-append h c.held)); line = refl; ahead = refl; plain = tt }
+key-follows s l h w c (role.Eol b) literal plain count fits =
     record {
       half = [];
       reads =
-          read-bytes_then s h w c.held (byte b) plain (omega (arith, length-append h c.held))
-          ∙ ap (λ r. server_at true (half_next s.limit (h ++ c.held) r) (w ++ gain_next s.limit (h ++ c.held) r)) literal;
+          read-bytes_then s l h w c.held (byte b) plain (omega (arith, length-append h c.held))
+          ∙ ap (λ r. server_at l true (half_next s.limit (h ++ c.held) r) (w ++ gain_next s.limit (h ++ c.held) r)) literal;
       line = refl;
       ahead = refl;
       plain = tt;
     }
-key-follows s h w c (role.Eol2 b) literal plain count fits =
+key-follows s l h w c (role.Eol2 b) literal plain count fits =
     record {
       half = [];
       reads =
-          read-bytes_then s h w c.held (byte b) plain (omega (arith, length-append h c.held))
-          ∙ ap (λ r. server_at true (half_next s.limit (h ++ c.held) r) (w ++ gain_next s.limit (h ++ c.held) r)) literal;
+          read-bytes_then s l h w c.held (byte b) plain (omega (arith, length-append h c.held))
+          ∙ ap (λ r. server_at l true (half_next s.limit (h ++ c.held) r) (w ++ gain_next s.limit (h ++ c.held) r)) literal;
       line = refl;
       ahead = refl;
       plain = tt;
     }
-key-follows s h w c role.Eof literal plain count fits =
-    record { half = []; reads = read-bytes_then s h w c.held (command Eof) plain (omega (arith, length-append h c.held)); line = refl; ahead = refl; plain = tt }
-key-follows s h w c (role.Signal sig) literal plain count fits =
-    record { half = h; reads = ap (λ r. server_at true (half_next s.limit h r) (w ++ gain_next s.limit h r)) (command-role sig); line = refl; ahead = count; plain = plain }
-key-follows s h w c role.Erase literal plain count fits =
-    erase-follows s h w c (nat_lt 0 (length c.held)) (nat_lt 0 c.ahead) refl refl plain count
-key-follows s h w c role.Kill literal plain count fits = kill-follows s h w c (nat_lt 0 c.ahead) refl count
-key-follows s h w c role.Ignored literal plain count fits =
-    record { half = h; reads = ap (λ x. server_at true h x) (sym (append-nil w)); line = refl; ahead = count; plain = plain }
+key-follows s l h w c role.Eof literal plain count fits =
+    record { half = []; reads = read-bytes_then s l h w c.held (command Eof) plain (omega (arith, length-append h c.held)); line = refl; ahead = refl; plain = tt }
+key-follows s l h w c (role.Signal sig) literal plain count fits =
+    record { half = h; reads = ap (λ r. server_at l true (half_next s.limit h r) (w ++ gain_next s.limit h r)) (command-role sig); line = refl; ahead = count; plain = plain }
+key-follows s l h w c role.Erase literal plain count fits =
+    erase-follows s l h w c (nat_lt 0 (length c.held)) (nat_lt 0 c.ahead) refl refl plain count
+key-follows s l h w c role.Kill literal plain count fits = kill-follows s l h w c (nat_lt 0 c.ahead) refl count
+key-follows s l h w c role.Ignored literal plain count fits =
+    record { half = h; reads = ap (λ x. server_at l true h x) (sym (append-nil w)); line = refl; ahead = count; plain = plain }

@@ -1,22 +1,26 @@
--- The headline: from a settled moment at rest, after every quiet list of events, the entries that jobs took,
--- followed by those that wait, are a prefix of the entries that the typed keys give at a local terminal, and
--- are all of them where nothing is in flight and no end has failed. Read `Headline` at the end first, and
--- then the words that it is made of.
+-- The headline: from a settled moment on, and from the opening on where the special characters are the
+-- standard ones, after every quiet list of events, the entries that jobs took, followed by those that wait,
+-- are a prefix of the entries that the typed keys give at a local terminal. They are all of them once nothing
+-- is in flight to the server, if no end has failed, and the line that is not finished is the local
+-- terminal's, too. Read `Headline` at the end first, and then the words that it is made of.
 use Rattle.std.specs.Prelude.{◌≡◌, ◌⊎◌, ℕ, Bool, true, false, List, [], ◌∷◌, ◌++◌}
-use Rattle.tn_discipline.specs.Canon.{Canon, typed_entries}
+use Rattle.tn_discipline.specs.Canon.{Canon, typed_entries, typed_half}
+use Rattle.tn_discipline.specs.Characters.{standard_characters}
 use Rattle.tn_discipline.specs.declared.reads.Entry.{Entry}
 use Rattle.tn_option.specs.Options.{Options, state_of}
 use Rattle.tn_option.specs.declared.q_method.Side.{Side}
 use Rattle.tn_option.specs.declared.q_method.Side.TheVariants.{Us, Them}
 use Rattle.tn_option.specs.declared.q_method.QState.{QState}
 use Rattle.tn_option.specs.declared.q_method.QState.TheVariants.{No, Yes, WantNoEmpty, WantNoOpposite, WantYesEmpty, WantYesOpposite}
+use Rattle.tn_streams.specs.Prefixes.{IsPrefixOf}
+use Rattle.tn_world.specs.Opened.{IsOpened}
 use Rattle.tn_world.specs.Past.{HasPast}
 use Rattle.tn_world.specs.Worlds.{World, RunsEvent, Refuses, canon_of}
 use Rattle.tn_world.specs.declared.events.Event.{Event}
 use Rattle.tn_world.specs.declared.events.Event.TheVariants.{SetChar, Propose}
 use Rattle.tn_world.specs.declared.faults.Cause.{Cause}
 
--- A SETTLED MOMENT AT REST: what `mark` finds.
+-- A SETTLED MOMENT: what `mark` finds.
 
 -- RFC 1143: no wish waits behind another
 abbrev pub is_in_order : QState → Bool
@@ -74,7 +78,9 @@ pub record IsSettled (w : World) : Type 0 where
   pub agreed : IsAgreed w
   pub empty : IsEmpty w
 
--- A settled moment, from which lists begin anew.
+-- A BEGINNING, from which typed keys and taken entries are listed: a settled moment, or the opening.
+
+-- A settled moment. The lists are reset there.
 pub record IsMark (canon : Canon) (w : World) : Type 0 where
   pub past : HasPast w
   pub settled : IsSettled w
@@ -82,10 +88,20 @@ pub record IsMark (canon : Canon) (w : World) : Type 0 where
   pub typed : w.typed ≡ []
   pub taken : w.taken ≡ []
 
--- QUIET LISTS OF EVENTS: no special character changes. LINEMODE and every flag but ECHO stay as they are
--- after a mark, whatever happens; a mode may change in the middle of a line.
+-- The opening of a world whose server has the standard characters, which a client has until the server's
+-- table reaches it.
+pub record IsOpening (canon : Canon) (w : World) : Type 0 where
+  pub standard : canon.settings.chars ≡ standard_characters
+  pub width : ℕ
+  pub height : ℕ
+  pub opened : IsOpened canon width height w
 
--- no special character is set or proposed
+abbrev pub IsBeginning : Canon → World → Type 0
+IsBeginning canon w = IsMark canon w ⊎ IsOpening canon w
+
+-- QUIET LISTS OF EVENTS: no special character is set or proposed. A mode may change in the middle of a line,
+-- and so may masks, sizes and ECHO; no event turns LINEMODE off or changes another flag.
+
 abbrev pub IsQuietEvent : Event → Type 0
 IsQuietEvent (SetChar func value) = ⊥
 IsQuietEvent (Propose func value) = ⊥
@@ -110,11 +126,11 @@ abbrev pub AreQuietEvents : List Event → Type 0
 AreQuietEvents [] = Unit {0}
 AreQuietEvents (e ∷ events) = IsQuietEvent e × AreQuietEvents events
 
--- This world came from a settled moment at rest, at which the server had these settings and this limit, by a
--- quiet list of events.
-pub record FollowsMark (canon : Canon) (w : World) : Type 0 where
+-- This world came from a beginning, at which the server had these settings and this limit, by a quiet list of
+-- events.
+pub record Follows (canon : Canon) (w : World) : Type 0 where
   pub start : World
-  pub mark : IsMark canon start
+  pub begins : IsBeginning canon start
   pub events : List Event
   pub passes : PassesQuietly start events w
 
@@ -130,16 +146,20 @@ NothingInFlight w = (w.to_server ≡ []) × (w.to_client ≡ [])
 abbrev pub entries_made : World → List Entry
 entries_made w = w.taken ++ w.server.terminal.entries
 
--- the entries of these keys at a local terminal
+-- the line that is not finished: what the server has of it, and what the client holds
+abbrev pub half_made : World → List ℕ
+half_made w = w.server.terminal.line.held ++ w.client.line.held
+
+-- the entries of these keys at a local terminal, and their line that is not finished
 abbrev pub local_entries : Canon → List ℕ → List Entry
 local_entries canon typed = typed_entries canon typed
 
-abbrev pub IsPrefixOf : {A : Type 0} → List A → List A → Type 0
-IsPrefixOf {A} xs ys = (rest : List A) × (xs ++ rest ≡ ys)
+abbrev pub local_half : Canon → List ℕ → List ℕ
+local_half canon typed = typed_half canon typed
 
--- What holds of a world that follows a mark, at which the server had these settings and this limit: its two
--- halves. The first holds whichever end failed on the way, for want of memory or because too many entries
--- waited.
+-- What holds of a world that follows a beginning. The first part holds whichever end failed on the way, out
+-- of memory or because too many entries waited; the two others whatever is in flight to the client.
 pub record Headline (canon : Canon) (w : World) : Type 0 where
   pub prefix : IsPrefixOf (entries_made w) (local_entries canon w.typed)
-  pub complete : NoneFailed w → NothingInFlight w → entries_made w ≡ local_entries canon w.typed
+  pub complete : NoneFailed w → w.to_server ≡ [] → entries_made w ≡ local_entries canon w.typed
+  pub half : NoneFailed w → w.to_server ≡ [] → half_made w ≡ local_half canon w.typed

@@ -6,3 +6,4 @@ pub mod Agreement
 pub mod Headline
 pub mod Output
 pub mod relation
+pub mod Settling

@@ -1,4 +1,4 @@
--- A world that was just opened, and a world whose lists begin anew.
+-- A world that was just opened, and a world whose lists are reset.
 use Rattle.std.specs.Prelude.{◌≡◌, ◌⊎◌, ℕ, false, []}
 use Rattle.tn_discipline.specs.Canon.{Canon}
 use Rattle.tn_nvt.specs.Spelling.{spells}
@@ -32,7 +32,7 @@ pub record IsOpened (canon : Canon) (width height : ℕ) (w : World) : Type 0 wh
     echoed = [];
   }
 
--- want of memory alone, before any event
+-- out of memory alone, before any event
 abbrev pub IsOpenFault : WorldFault → Type 0
 IsOpenFault fault =
     (fault.at ≡ 0)

@@ -1,11 +1,18 @@
 -- What holds of every world from its opening on.
-use Rattle.std.specs.Prelude.{◌≡◌, false, List}
+use Rattle.std.specs.Prelude.{◌≡◌, true, false, List, [], Option, Some, All}
+use Rattle.tn_codes.specs.PayloadOf.{payload_of}
+use Rattle.tn_codes.specs.declared.payloads.Payload.{Payload}
+use Rattle.tn_codes.specs.declared.payloads.Payload.TheVariants.{Mode}
+use Rattle.tn_linemode.specs.Modes.{is_acknowledged}
 use Rattle.tn_nvt.specs.declared.items.Item.{Item}
-use Rattle.tn_option.specs.EnginePair.{EnginePair, LeadTo}
+use Rattle.tn_nvt.specs.declared.items.Item.TheVariants.{Sub}
+use Rattle.tn_option.specs.EnginePair.{EnginePair, TalkTo}
+use Rattle.tn_option.specs.Options.{new_options}
 use Rattle.tn_wire.specs.OptionWords.{words_in}
 use Rattle.tn_server.specs.Course as server_courses
 use Rattle.tn_server.specs.Events as server_calls
 use Rattle.tn_server.specs.Calls as server
+use Rattle.tn_server.specs.Replies.{opening}
 use Rattle.tn_server.specs.Terms as server_terms
 use Rattle.tn_client.specs.Course as client_courses
 use Rattle.tn_client.specs.Terms as client_terms
@@ -22,10 +29,30 @@ engines w there back =
       to_there = words_in back;
     }
 
+-- both engines as they begin: the server's opening words are on their way
+abbrev pub opening_pair : EnginePair
+opening_pair =
+    record {
+      here = server_terms.opening_options;
+      there = new_options client_terms.agreement;
+      to_here = [];
+      to_there = words_in opening;
+    }
+
+-- RFC 1184, section 2.2: no MODE but one that acknowledges
+abbrev pub IsNoWish : Option Payload → Type 0
+IsNoWish (Some (Mode mask)) = is_acknowledged mask ≡ true
+IsNoWish _ = Unit {0}
+
+abbrev pub WishesNothing : Item → Type 0
+WishesNothing (Sub option params) = IsNoWish (payload_of option params)
+WishesNothing _ = Unit {0}
+
 -- Whatever happened since the world was opened: the server stands where some history leads; as long as an end
 -- has not failed, it is where some pieces and calls lead, and what flies to it are whole items; both ends
--- have lines of one limit. While neither has failed, both engines are where some wishes and words lead (RFC
--- 1143).
+-- have lines of one limit. The terminal of a server that has not failed takes keys. While neither has failed,
+-- both engines are where a talk leads that began with the opening words (RFC 1143), and the client wishes for
+-- no mode.
 pub record HasPast (w : World) : Type 0 where
   pub history : server_calls.History
   pub server : server.LeadsTo history w.server
@@ -34,7 +61,9 @@ pub record HasPast (w : World) : Type 0 where
   pub client_course : w.client.failed ≡ false
       → (course : client_courses.Course) × client_courses.CourseLeadsTo course w.client
   pub limit : w.client.failed ≡ false → w.client.line.limit ≡ w.server.terminal.line.limit
+  pub takes_keys : w.server.failed ≡ false → w.server.terminal.closed ≡ false
   pub to_server : w.server.failed ≡ false → (items : List Item) × InFlight w.server.decoder w.to_server items
   pub to_client : w.client.failed ≡ false → (items : List Item) × InFlight w.client.decoder w.to_client items
   pub words : (a : w.server.failed ≡ false) (b : w.client.failed ≡ false)
-      → LeadTo server_terms.agreement client_terms.agreement (engines w (to_server a).0 (to_client b).0)
+      → TalkTo opening_pair (engines w (to_server a).0 (to_client b).0)
+  pub unwished : (a : w.server.failed ≡ false) → w.client.failed ≡ false → All WishesNothing (to_server a).0

@@ -3,7 +3,7 @@ use Rattle.std.specs.Prelude.{◌≡◌, ℕ, ◌<◌, Bool, true, false, min, O
 use Rattle.tn_discipline.specs.Canon.{Canon}
 use Rattle.tn_discipline.specs.declared.reads.Entry.{Entry}
 use Rattle.tn_pty.specs.Terminal.{most_waiting}
-use Rattle.tn_pty.specs.declared.pty.PtyFault.TheVariants.{TooFarAhead}
+use Rattle.tn_pty.specs.declared.pty.PtyFault.TheVariants.{Closed, TooFarAhead}
 use Rattle.tn_server.specs.Events as server_calls
 use Rattle.tn_server.specs.Faults as faults
 use Rattle.tn_server.specs.Faults.{IsOfItem, IsOfPiece, SaysSomething}
@@ -162,6 +162,7 @@ pub record ServerRefusesDelivery (old : World) (n : ℕ) (fault : ServerFault) (
       → (old.server.failed ≡ true) × (new ≡ record old { to_server = drop n old.to_server })
   pub halts : IsOfItem fault
       → server.StopsWithin old.server (take n old.to_server) fault old.to_client new.to_client new.server
+  pub shut : (fault ≡ server_faults.Pty Closed) → old.server.terminal.closed ≡ true
   pub failed : new.server.failed ≡ true
   pub rest : new
       ≡ record old { server = new.server; to_server = drop n old.to_server; to_client = new.to_client }
@@ -182,7 +183,7 @@ pub record ClientRefusesDelivery (old : World) (n : ℕ) (fault : ClientFault) (
         shown = new.shown;
       }
 
--- A call of the server is refused for its cause, or for want of memory for what it says.
+-- A call of the server is refused for its cause, or for lack of memory for what it says.
 pub record ServerRefusesCall (end : server.End) (e : server_calls.Event) (fault : ServerFault) : Type 0 where
   pub cause : faults.IsFault (server_fault end e) fault
   pub grows : (fault ≡ server_faults.Memory) → (h : server_calls.History) → server.LeadsTo h end
@@ -219,7 +220,7 @@ ClientRefusesEvent w (Propose func value) fault =
     (w.client_stopped ≡ false) × ClientRefusesCall w.client (client_calls.proposed func value) fault
 ClientRefusesEvent w e fault = ⊥
 
--- the world wants memory of its own: for a typed key, for the rest of a flight that is cut, for a taken entry
+-- the world needs memory of its own: for a typed key, for the rest of a flight that is cut, for a taken entry
 abbrev pub WantsMemory : World → Event → Type 0
 WantsMemory w (Key key) = w.client_stopped ≡ false
 WantsMemory w (ToServer n) = (w.server_stopped ≡ false) × (n < length w.to_server)
@@ -252,7 +253,8 @@ pub record StopsWithin (old : World) (events : List Event) (at : ℕ) (cause : C
   pub runs : Runs old done mid
   pub refuses : Refuses mid event cause new
 
--- where the fault is that too many entries wait, as many do as there may be
+-- where the fault is that too many entries wait, as many do as there may be; a terminal is never found shut
 abbrev pub ShowsCause : Cause → World → Type 0
 ShowsCause (cause.Server (server_faults.Pty TooFarAhead)) w = length w.server.terminal.entries ≡ most_waiting
+ShowsCause (cause.Server (server_faults.Pty Closed)) w = ⊥
 ShowsCause c w = Unit {0}

@@ -1,28 +1,63 @@
-//! The headline and Output, as laws over the definitions alone. A world at a settled moment at rest
-//! goes through events, some of them refused, and then the entries that jobs took and those that wait
-//! are compared with those of the typed keys at a local terminal.
+//! The headline and Output, as laws over the definitions alone. A world at a beginning, which is a settled
+//! moment or the opening, goes through events, some of them refused, and then the entries that jobs took and
+//! those that wait are compared with those of the typed keys at a local terminal.
 
-ghost use Rattle.std.specs.Prelude.{◌≡◌, ℕ, false, List};
+ghost use Rattle.std.specs.Prelude.{◌≡◌, ℕ, false, List, []};
 ghost use Rattle.tn_discipline.specs.Canon.{Canon};
 ghost use Rattle.tn_world.specs.Past.{HasPast};
-ghost use Rattle.tn_world.specs.Headline.{IsPrefixOf, local_entries, IsMark, IsQuiet, AreQuietEvents, PassesQuietly, NoneFailed, NothingInFlight, entries_made};
+ghost use Rattle.tn_world.specs.Headline.{local_entries, local_half, IsBeginning, IsQuiet, AreQuietEvents, PassesQuietly, Follows, NoneFailed, NothingInFlight, entries_made, half_made};
+ghost use Rattle.tn_streams.specs.Prefixes.{IsPrefixOf};
 ghost use Rattle.tn_world.specs.Output.{IsOutput, OutputGrows};
+ghost use Rattle.tn_world.specs.Settling.{IsRound, HasSettled};
 ghost use Rattle.tn_world.specs.Worlds.{World, RunsEvent};
 ghost use Rattle.tn_world.specs.declared.events.Event.{Event};
+ghost use Rattle.tn_world.specs.relation.Relation.{IsRelated};
 
-/// Whatever the mode does meanwhile, and whichever end fails, what was made is a prefix of what the keys
-/// give.
+use tn_linemode::laws::exchanges_end;
+
+/// Type what you like, change modes, masks and sizes as you like, and settle: then the entries are those of a
+/// local terminal, and so is the line that is not finished, of which the server has the first part and the
+/// client holds the rest.
+pub fn what_is_typed_is_read()
+    ensures entries { (canon : Canon) (w : World) → HasSettled canon w →
+        entries_made w ≡ local_entries canon w.typed }
+    ensures half { (canon : Canon) (w : World) → HasSettled canon w → half_made w ≡ local_half canon w.typed }
+{
+    exchanges_end();
+}
+
+/// From a beginning on, whatever the mode does meanwhile, and whichever end fails, what was made is a prefix
+/// of what the keys give.
 pub fn headline_prefix()
-    ensures { (s : Canon) (start end : World) (events : List Event) → IsMark s start →
-        PassesQuietly start events end → IsPrefixOf (entries_made end) (local_entries s end.typed) }
+    ensures { (canon : Canon) (start end : World) (events : List Event) → IsBeginning canon start →
+        PassesQuietly start events end → IsPrefixOf (entries_made end) (local_entries canon end.typed) }
 {}
 
-/// It is all of it where nothing is in flight and no end has failed.
+/// It is all of it where nothing is in flight to the server and no end has failed, and so is the line that is
+/// not finished.
 pub fn headline_complete()
-    ensures { (s : Canon) (start end : World) (events : List Event) → IsMark s start →
-        PassesQuietly start events end → NoneFailed end → NothingInFlight end →
-        entries_made end ≡ local_entries s end.typed }
+    ensures entries { (canon : Canon) (start end : World) (events : List Event) → IsBeginning canon start →
+        PassesQuietly start events end → NoneFailed end → end.to_server ≡ [] →
+        entries_made end ≡ local_entries canon end.typed }
+    ensures half { (canon : Canon) (start end : World) (events : List Event) → IsBeginning canon start →
+        PassesQuietly start events end → NoneFailed end → end.to_server ≡ [] →
+        half_made end ≡ local_half canon end.typed }
 {}
+
+/// While no end has failed, the ends and what is in flight between them are related as `docs/HEADLINE.md`
+/// tells.
+pub fn relation_kept()
+    ensures { (canon : Canon) (w : World) → Follows canon w → NoneFailed w → IsRelated canon w }
+{}
+
+/// What the server says to what the client answers to what the server says is answered by nothing: whatever
+/// happened before, two rounds leave nothing in flight, where neither end was stopped.
+pub fn two_rounds_to_rest()
+    ensures { (old mid new : World) → HasPast old → old.server_stopped ≡ false → old.client_stopped ≡ false →
+        IsRound old mid → IsRound mid new → NothingInFlight new }
+{
+    exchanges_end();
+}
 
 /// Every list of keys, deliveries, writes, pulls, takes, wishes, masks, sizes, settings of ECHO and stops is
 /// quiet: the owner alone breaks the headline's premise, by setting or proposing a special character.

@@ -23,4 +23,5 @@ mod faults;
 pub mod laws;
 mod rest;
 mod running;
+mod settling;
 mod world;

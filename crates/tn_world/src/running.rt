@@ -2,7 +2,7 @@
 
 ghost use Rattle.std.specs.Prelude.{◌≡◌, ◌<◌, ℕ, false, List, length, take, drop, IfOk, IfErr, OnOk, OnErr};
 ghost use Rattle.tn_discipline.specs.Canon.{Canon};
-ghost use Rattle.tn_world.specs.Headline.{Headline, FollowsMark, IsQuiet};
+ghost use Rattle.tn_world.specs.Headline.{Headline, Follows, IsQuiet};
 ghost use Rattle.tn_world.specs.Output.{IsOutput, OutputGrowsAll, OutputGrowsBefore};
 ghost use Rattle.tn_world.specs.Worlds.{RunsEvent, Refuses, Runs, StopsWithin, ShowsCause};
 ghost use Rattle.tn_world.specs.declared.events.Event.TheVariants as event;
@@ -22,9 +22,9 @@ impl World {
         ensures runs { OnOk result (Runs self.old events.now self.new) }
         ensures ends { IfErr result (λ fault. StopsWithin self.old events.now fault.at fault.cause self.new) }
         ensures causes { IfErr result (λ fault. ShowsCause fault.cause self.new) }
-        ensures follows { (canon : Canon) → FollowsMark canon self.old → IsQuiet self.old events.now →
-            FollowsMark canon self.new }
-        ensures headline { (canon : Canon) → FollowsMark canon self.old → IsQuiet self.old events.now →
+        ensures follows { (canon : Canon) → Follows canon self.old → IsQuiet self.old events.now →
+            Follows canon self.new }
+        ensures headline { (canon : Canon) → Follows canon self.old → IsQuiet self.old events.now →
             Headline canon self.new }
         ensures output { OnOk result ((text : List ℕ) → IsOutput self.old text →
             self.old.client.failed ≡ false → OutputGrowsAll self.old events.now self.new text) }
@@ -94,7 +94,7 @@ impl World {
         }
     }
 
-    fn reach_server(&mut self, count: usize) -> Result<(), Cause>
+    pub(crate) fn reach_server(&mut self, count: usize) -> Result<(), Cause>
         ensures ok { OnOk result (RunsEvent self.old (event.ToServer count) self.new) }
         ensures err { IfErr result (λ cause. Refuses self.old (event.ToServer count) cause self.new) }
     {
@@ -111,7 +111,7 @@ impl World {
         }
     }
 
-    fn reach_client(&mut self, count: usize) -> Result<(), Cause>
+    pub(crate) fn reach_client(&mut self, count: usize) -> Result<(), Cause>
         ensures ok { OnOk result (RunsEvent self.old (event.ToClient count) self.new) }
         ensures err { IfErr result (λ cause. Refuses self.old (event.ToClient count) cause self.new) }
     {

@@ -1,7 +1,8 @@
 //! Both ends and the two streams between them.
 
 ghost use Rattle.std.specs.Prelude.{◌≡◌, ◌↔◌, true, false, [], ◌++◌, IfOk, IfErr, OnOk, OnErr, option_copied, slice_get};
-ghost use Rattle.tn_world.specs.Headline.{IsSettled, FollowsMark};
+ghost use Rattle.tn_discipline.specs.Characters.{standard_characters};
+ghost use Rattle.tn_world.specs.Headline.{IsSettled, Follows};
 ghost use Rattle.tn_world.specs.Opened.{IsOpened, IsOpenFault, with_new_lists};
 ghost use Rattle.tn_world.specs.Output.{IsOutput};
 ghost use Rattle.tn_world.specs.Worlds.{canon_of};
@@ -80,6 +81,8 @@ impl World {
     ) -> Result<World, WorldFault>
         ensures opened { IfOk result (λ world.
             IsOpened (record { settings = settings; limit = limit }) width height world) }
+        ensures follows { IfOk result (λ world. settings.chars ≡ standard_characters →
+            Follows (record { settings = settings; limit = limit }) world) }
         ensures fault { IfErr result (λ fault. IsOpenFault fault) }
         ensures output { IfOk result (λ world. IsOutput world []) }
     {
@@ -108,12 +111,12 @@ impl World {
     }
 
     /// Whether all is at rest: nothing is in flight and nobody has stopped, the ends agree, and no
-    /// line is half typed. Where it is, the lists of typed keys and taken entries begin anew.
+    /// line is half typed. Where it is, the lists of typed keys and taken entries are reset.
     pub fn mark(&mut self) -> bool
         ensures settled { result ≡ true ↔ IsSettled self.old }
         ensures anew { result ≡ true → self.new ≡ with_new_lists self.old }
         ensures else_same { result ≡ false → self.new ≡ self.old }
-        ensures follows { result ≡ true → FollowsMark (canon_of self.old) self.new }
+        ensures follows { result ≡ true → Follows (canon_of self.old) self.new }
     {
         if !self.is_settled() {
             return false;

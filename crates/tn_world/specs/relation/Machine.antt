@@ -1,6 +1,6 @@
 -- Both ends as far as lines go: what the server makes of what comes,
 -- and what the client does with keys and modes.
-use Rattle.std.specs.Prelude.{◌≡◌, ◌⊎◌, ℕ, ◌+◌, ◌-◌, ◌==◌, nat_lt, Bool, true, false, not, ◌&&◌, List, [], ◌∷◌, ◌++◌, length, map, if◌then◌else◌}
+use Rattle.std.specs.Prelude.{◌≡◌, ◌⊎◌, ℕ, ◌+◌, ◌-◌, ◌==◌, nat_lt, Bool, true, false, not, ◌&&◌, None, List, [], ◌∷◌, ◌++◌, length, map, if◌then◌else◌}
 use Rattle.tn_codes.specs.declared.codes.Command.{Command}
 use Rattle.tn_codes.specs.declared.codes.Command.TheVariants.{Eof, Susp, Abort, Ip, Ec, El}
 use Rattle.tn_discipline.specs.declared.reads.Entry.{Entry}
@@ -17,17 +17,12 @@ use Rattle.tn_discipline.specs.declared.keys.Role.TheVariants as role
 use Rattle.tn_pty.specs.Typing.{command_role}
 use Rattle.tn_server.specs.Lines.{role_of_byte}
 use Rattle.tn_server.specs.Terms.{allows_local}
-use Rattle.tn_client.specs.Lines.{settings_by}
+use Rattle.tn_client.specs.Lines.{settings_by, is_forward}
 
 -- the two bits of a mode
 pub record Mode : Type 0 where
   pub edit : Bool
   pub trapsig : Bool
-
--- what the keys mean, and whether LINEMODE is on
-pub record Rules : Type 0 where
-  pub canon : Canon
-  pub linemode : Bool
 
 -- what is in flight to the server
 pub data Item : Type 0 where
@@ -35,12 +30,14 @@ pub data Item : Type 0 where
   newline : Item
   command : Command → Item
   mode_ack : Mode → Item
+  linemode_on : Item
   other : Item
 
 -- what is in flight to the client
 pub data Message : Type 0 where
   mode : Mode → Message
   forward_at : (ℕ → Bool) → Message
+  linemode_asked : Message
   chatter : Message
 
 -- the command of a signal
@@ -49,8 +46,10 @@ command_of Int = Ip
 command_of Quit = Abort
 command_of Tstp = Susp
 
--- The server: whether it takes bytes as edited, its half line, and the entries that wait.
+-- The server: whether LINEMODE is on, whether it takes bytes as edited, its half line, and the entries that
+-- wait.
 pub record Server : Type 0 where
+  pub linemode : Bool
   pub edit : Bool
   pub half : List ℕ
   pub waiting : List Entry
@@ -61,19 +60,32 @@ item_role s edit (byte b) = role_of_byte s edit b
 item_role s edit newline = role_of_byte s edit 10
 item_role s edit (command c) = command_role c
 item_role s edit (mode_ack m) = role.Ignored
+item_role s edit linemode_on = role.Ignored
 item_role s edit other = role.Ignored
 
-abbrev pub edit_after : Bool → Item → Bool
-edit_after edit (mode_ack m) = m.edit
-edit_after edit (byte b) = edit
-edit_after edit newline = edit
-edit_after edit (command c) = edit
-edit_after edit other = edit
+-- LINEMODE comes on once
+abbrev pub linemode_after : Bool → Item → Bool
+linemode_after linemode linemode_on = true
+linemode_after linemode (mode_ack m) = linemode
+linemode_after linemode (byte b) = linemode
+linemode_after linemode newline = linemode
+linemode_after linemode (command c) = linemode
+linemode_after linemode other = linemode
+
+-- a mode counts where LINEMODE is on, and LINEMODE begins without EDIT
+abbrev pub edit_after : Bool → Bool → Item → Bool
+edit_after linemode edit (mode_ack m) = if linemode then m.edit else edit
+edit_after linemode edit linemode_on = linemode && edit
+edit_after linemode edit (byte b) = edit
+edit_after linemode edit newline = edit
+edit_after linemode edit (command c) = edit
+edit_after linemode edit other = edit
 
 abbrev pub read_item : Canon → Server → Item → Server
 read_item canon v item =
     record {
-      edit = edit_after v.edit item;
+      linemode = linemode_after v.linemode item;
+      edit = edit_after v.linemode v.edit item;
       half = half_next canon.limit v.half (item_role canon.settings v.edit item);
       waiting = v.waiting ++ gain_next canon.limit v.half (item_role canon.settings v.edit item);
       failed = false;
@@ -89,6 +101,7 @@ read_all canon v [] = v
 read_all canon v (item ∷ items) = read_all canon (read canon v item) items
 
 pub record Client : Type 0 where
+  pub linemode : Bool
   pub mask : Mode
   pub held : List ℕ
   pub ahead : ℕ
@@ -153,21 +166,21 @@ abbrev pub count_next : ℕ → ℕ → Role → ℕ
 count_next limit n r = if is_dropped limit n r then n else next_count n r
 
 -- a key, by whether EDIT is set
-abbrev pub client_after_key : Rules → Bool → Client → ℕ → Sent
-client_after_key rules true c key =
-    let part = edit_key rules.canon.limit c
-    (role_of_key (settings_by c.mask.trapsig rules.canon.settings.chars) key) in
+abbrev pub client_after_key : Canon → Bool → Client → ℕ → Sent
+client_after_key canon true c key =
+    let part = edit_key canon.limit c
+    (role_of_key (settings_by c.mask.trapsig canon.settings.chars) key) in
     record { client = record c { held = part.held; ahead = part.ahead }; items = part.items }
-client_after_key rules false c key =
+client_after_key canon false c key =
     record {
       client = record c {
-        trapped = count_next rules.canon.limit c.trapped
-            (role_of_key (settings_by true rules.canon.settings.chars) key);
-        plain = count_next rules.canon.limit
-            c.plain (role_of_key (settings_by false rules.canon.settings.chars) key);
+        trapped = count_next canon.limit c.trapped
+            (role_of_key (settings_by true canon.settings.chars) key);
+        plain = count_next canon.limit
+            c.plain (role_of_key (settings_by false canon.settings.chars) key);
       };
       items = remote_item c.mask.trapsig
-          (role_of_mapped (settings_by c.mask.trapsig rules.canon.settings.chars) key) key ∷ [];
+          (role_of_mapped (settings_by c.mask.trapsig canon.settings.chars) key) key ∷ [];
     }
 
 abbrev pub bits_same : Bool → Bool → Bool
@@ -178,33 +191,53 @@ abbrev pub is_same : Mode → Mode → Bool
 is_same m n = bits_same m.edit n.edit && bits_same m.trapsig n.trapsig
 
 -- the client takes a mode, by EDIT before and after
-abbrev pub client_with_mode : Rules → Client → Mode → Bool → Bool → Sent
-client_with_mode rules c m true false =
+abbrev pub client_with_mode : Canon → Client → Mode → Bool → Bool → Sent
+client_with_mode canon c m true false =
     let count = c.ahead + length c.held in
     record {
       client = record c { mask = m; held = []; ahead = 0; trapped = count; plain = count };
       items = bytes c.held ++ mode_ack m ∷ [];
     }
-client_with_mode rules c m false true =
+client_with_mode canon c m false true =
     let ahead = (if m.trapsig then c.trapped else c.plain) in
     record {
       client = record c { mask = m; held = []; ahead = ahead; trapped = 0; plain = 0 };
       items = mode_ack m ∷ [];
     }
-client_with_mode rules c m true true = record { client = record c { mask = m }; items = mode_ack m ∷ [] }
-client_with_mode rules c m false false = record { client = record c { mask = m }; items = mode_ack m ∷ [] }
+client_with_mode canon c m true true = record { client = record c { mask = m }; items = mode_ack m ∷ [] }
+client_with_mode canon c m false false = record { client = record c { mask = m }; items = mode_ack m ∷ [] }
 
-abbrev pub client_after_mode : Rules → Client → Mode → Bool → Sent
-client_after_mode rules c m true = record { client = c; items = [] }
-client_after_mode rules c m false = client_with_mode rules c m c.mask.edit m.edit
-
-abbrev pub client_after_message : Rules → Client → Message → Sent
-client_after_message rules c (mode m) = client_after_mode rules c m (is_same c.mask m)
-client_after_message rules c (forward_at f) = record { client = record c { forward = f }; items = other ∷ [] }
-client_after_message rules c chatter = record { client = c; items = other ∷ [] }
+abbrev pub client_after_mode : Canon → Client → Mode → Bool → Sent
+client_after_mode canon c m true = record { client = c; items = [] }
+client_after_mode canon c m false = client_with_mode canon c m c.mask.edit m.edit
 
 abbrev pub remote_mode : Mode
 remote_mode = record { edit = false; trapsig = false }
+
+abbrev pub passed_over : Client → Sent
+passed_over c = record { client = c; items = other ∷ [] }
+
+-- a mode and a forward mask count where LINEMODE is on
+abbrev pub where_on : Bool → Client → Sent → Sent
+where_on true c sent = sent
+where_on false c sent = passed_over c
+
+-- LINEMODE comes on, without a mask and a forward mask, unless it was on
+abbrev pub client_turned_on : Bool → Client → Sent
+client_turned_on true c = passed_over c
+client_turned_on false c =
+    record {
+      client = record c { linemode = true; mask = remote_mode; forward = is_forward None };
+      items = linemode_on ∷ [];
+    }
+
+abbrev pub client_after_message : Canon → Client → Message → Sent
+client_after_message canon c (mode m) =
+    where_on c.linemode c (client_after_mode canon c m (is_same c.mask m))
+client_after_message canon c (forward_at f) =
+    where_on c.linemode c (record { client = record c { forward = f }; items = other ∷ [] })
+client_after_message canon c linemode_asked = client_turned_on c.linemode c
+client_after_message canon c chatter = passed_over c
 
 abbrev pub local_mode : Settings → Mode
 local_mode s = record { edit = true; trapsig = s.flags.isig }

@@ -7,19 +7,21 @@ use Rattle.tn_discipline.specs.declared.keys.Role.TheVariants as role
 use Rattle.tn_discipline.specs.declared.reads.Entry.{Entry}
 use Rattle.tn_nvt.specs.declared.items.Item.{Item}
 use Rattle.tn_server.specs.Terms.{allows_local}
-use Rattle.tn_world.specs.Headline.{IsPrefixOf, local_entries}
+use Rattle.tn_world.specs.Headline.{local_entries}
+use Rattle.tn_streams.specs.Prefixes.{IsPrefixOf}
 use Rattle.tn_world.specs.Past.{HasPast}
 use Rattle.tn_world.specs.relation.Calm.{IsCalmToServer, IsCalmToClient}
 use Rattle.tn_world.specs.relation.Ends as ends
 use Rattle.tn_world.specs.relation.Ends.{server_items}
 use Rattle.tn_world.specs.Flight.{InFlight}
-use Rattle.tn_world.specs.relation.Machine.{Rules, Server, read_all, Client, IsAskable}
+use Rattle.tn_world.specs.relation.Machine.{Server, read_all, Client, IsAskable}
 use Rattle.tn_world.specs.relation.Pictures.{server_core, server_picture, client_picture, ServerStays, ClientStays}
 use Rattle.tn_world.specs.Worlds.{World}
 
 -- a server that goes on
-abbrev pub server_at : Bool → List ℕ → List Entry → Server
-server_at edit half waiting = record { edit = edit; half = half; waiting = waiting; failed = false }
+abbrev pub server_at : Bool → Bool → List ℕ → List Entry → Server
+server_at linemode edit half waiting =
+    record { linemode = linemode; edit = edit; half = half; waiting = waiting; failed = false }
 
 -- bytes that are ordinary as they are
 abbrev pub AreOrdinary : Characters → List ℕ → Type 0
@@ -27,37 +29,35 @@ AreOrdinary chars [] = Unit {0}
 AreOrdinary chars (b ∷ bs) = (literal_role chars b ≡ role.Ordinary b) × AreOrdinary chars bs
 
 -- Between the typed keys and the taken entries, the server `v` once it has read what is in flight to it, and
--- the client: the keys' entries are those taken and those that wait at `v`, and their half line is that of
--- `v` followed by what the client holds. Where the client edits, it knows how long the half line of `v` is;
--- where it does not, it holds nothing, and the count that ISIG names is that length, if Local is a mode that
--- the server may ask for.
-pub record Agrees (rules : Rules) (typed : List ℕ) (taken : List Entry) (v : Server)
+-- the client: `v` has LINEMODE on exactly where the client has it on; the keys' entries are those taken and
+-- those that wait at `v`, and their half line is that of `v` followed by what the client holds. Where the
+-- client edits, it knows how long the half line of `v` is; where it does not, it holds nothing, and the count
+-- that ISIG names is that length, if Local is a mode that the server may ask for.
+pub record Agrees (canon : Canon) (typed : List ℕ) (taken : List Entry) (v : Server)
     (c : Client) : Type 0 where
   pub half : List ℕ
   pub waiting : List Entry
-  pub is : v ≡ server_at c.mask.edit half waiting
-  pub entries : typed_entries rules.canon typed ≡ taken ++ waiting
-  pub line : typed_half rules.canon typed ≡ half ++ c.held
-  pub askable : IsAskable rules.canon.settings c.mask
+  pub is : v ≡ server_at c.linemode c.mask.edit half waiting
+  pub off : c.linemode ≡ false → c.mask.edit ≡ false
+  pub entries : typed_entries canon typed ≡ taken ++ waiting
+  pub line : typed_half canon typed ≡ half ++ c.held
+  pub askable : IsAskable canon.settings c.mask
   pub ahead : c.mask.edit ≡ true → length half ≡ c.ahead
   pub none : c.mask.edit ≡ false → c.held ≡ []
-  pub plain : AreOrdinary rules.canon.settings.chars c.held
-  pub count : c.mask.edit ≡ false → allows_local rules.canon.settings.flags ≡ true
-      → (if rules.canon.settings.flags.isig then c.trapped else c.plain) ≡ length half
+  pub plain : AreOrdinary canon.settings.chars c.held
+  pub count : c.mask.edit ≡ false → allows_local canon.settings.flags ≡ true
+      → (if canon.settings.flags.isig then c.trapped else c.plain) ≡ length half
 
 -- The same of both ends and the bytes between them, which are whole items and calm.
-pub record IsTied (rules : Rules) (w : ends.World) : Type 0 where
+pub record IsTied (canon : Canon) (w : ends.World) : Type 0 where
   pub items : List Item
   pub flight : InFlight w.server.decoder w.to_server items
-  pub calm : All IsCalmToServer items
+  pub calm : All (IsCalmToServer canon.settings) items
   pub messages : List Item
   pub back : InFlight w.client.decoder w.to_client messages
-  pub calm_back : All (IsCalmToClient rules.canon.settings) messages
-  pub agrees : Agrees rules w.typed w.taken (read_all rules.canon w.server.core (server_items rules items))
+  pub calm_back : All (IsCalmToClient canon.settings) messages
+  pub agrees : Agrees canon w.typed w.taken (read_all canon w.server.core (server_items items))
       w.client.core
-
-abbrev pub rules_of : Canon → Bool → Rules
-rules_of canon linemode = record { canon = canon; linemode = linemode }
 
 abbrev pub picture : World → ends.World
 picture w =
@@ -72,21 +72,19 @@ picture w =
 
 -- The same of a world, with the server's settings and line limit at its mark.
 pub record IsRelated (canon : Canon) (w : World) : Type 0 where
-  pub linemode : Bool
-  pub tied : IsTied (rules_of canon linemode) (picture w)
-  pub server : ServerStays (rules_of canon linemode) w.server
-  pub client : ClientStays (rules_of canon linemode) w.client
+  pub tied : IsTied canon (picture w)
+  pub server : ServerStays canon w.server
+  pub client : ClientStays canon w.client
   pub past : HasPast w
 
 -- What is left of it where the client has failed, and says nothing more: the entries taken, followed by those
 -- that wait at the server once it has read what is in flight to it, begin those of the typed keys.
 pub record IsBehind (canon : Canon) (w : World) : Type 0 where
-  pub linemode : Bool
   pub items : List Item
   pub flight : InFlight w.server.decoder w.to_server items
-  pub calm : All IsCalmToServer items
+  pub calm : All (IsCalmToServer canon.settings) items
   pub begins : IsPrefixOf (w.taken
-      ++ (read_all canon (server_core w.server) (server_items (rules_of canon linemode) items)).waiting)
+      ++ (read_all canon (server_core w.server) (server_items items)).waiting)
       (local_entries canon w.typed)
-  pub server : ServerStays (rules_of canon linemode) w.server
+  pub server : ServerStays canon w.server
   pub past : HasPast w

@@ -1,13 +1,13 @@
-use Rattle.std.proofs.Common.{◌≡◌, true, false, refl, inl, arith}
-use Rattle.tn_cli.proofs.Played.{round_more}
+use Rattle.std.proofs.Common.{◌≡◌, true, false}
+use Rattle.tn_cli.proofs.Played.{settles_again, settling_refused}
 use Rattle.tn_cli.proofs.playing.settle.Goals as goal
 
-pub returns-then-is_quiet-clause-ok : goal.returns-then-is_quiet-clause-ok
-returns-then-is_quiet-clause-ok c =
-    record { count = c.loop-round._round; rounds = c.loop-round.invariant; most = omega arith; ended = inl (c.if-is_quiet.ensures.0 refl) }
+pub returns-in-Err-clause-err : goal.returns-in-Err-clause-err
+returns-in-Err-clause-err c =
+    settling_refused c.loop-settling._settling c.args.world.now c.loop-settling.world c.settle.new.self _ _ c.loop-settling-test.true c.loop-settling.invariant
+    (λ none. let turned : false ≡ true = c.if-is_flight_empty.ensures.1 none in cc) c.in-Err.ensures.ends
 
-pub loop-round-preserved : goal.loop-round-preserved
-loop-round-preserved c =
-    round_more c.loop-round._round c.args.world.now c.loop-round.world c.deliver.new.world c.loop-round.invariant
-    (λ quiet. let turned : false ≡ true = c.if-is_quiet.ensures.1 quiet in cc)
-    c.in_ok-deliver.ensures.ok
+pub loop-settling-preserved : goal.loop-settling-preserved
+loop-settling-preserved c =
+    settles_again c.loop-settling._settling c.args.world.now c.loop-settling.world c.settle.new.self c.loop-settling.invariant
+    (λ none. let turned : false ≡ true = c.if-is_flight_empty.ensures.1 none in cc) c.in-Ok.ensures.settles

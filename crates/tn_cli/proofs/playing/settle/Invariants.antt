@@ -1,5 +1,5 @@
-use Rattle.tn_cli.specs.Playing.{RunsRounds}
+use Rattle.tn_cli.proofs.Played.{SettledBefore}
 use Rattle.tn_cli.proofs.playing.settle.Given as goal
 
-abbrev pub invariant-loop-round : goal.invariant-loop-round
-invariant-loop-round l = RunsRounds l._round l.fn.world l.world
+abbrev pub invariant-loop-settling : goal.invariant-loop-settling
+invariant-loop-settling l = SettledBefore l._settling l.fn.world l.world
