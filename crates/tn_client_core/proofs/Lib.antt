@@ -1,4 +1,5 @@
 pub mod Typing
 pub mod Doing
 pub mod Marking
+pub mod Refusing
 pub mod lemmas

@@ -6,7 +6,7 @@ use Rattle.tn_client.specs.Screen.{text_shown}
 use Rattle.tn_client.specs.declared.faults.ClientFault.{ClientFault}
 use Rattle.tn_client_core.proofs.Doing.{is_over}
 use Rattle.tn_client_core.specs.Counting.{after_failure}
-use Rattle.tn_client_core.specs.Reaching.{DoesWhole, StopsWithin, SendsFront, IsTurn, sent_bytes}
+use Rattle.tn_client_core.specs.Reaching.{DoesWhole, StopsWithin, RefusesFor, SendsFront, IsTurn, sent_bytes}
 use Rattle.tn_client_core.specs.Run.{Run, ActsUnless, fail, sent_after}
 use Rattle.tn_client_core.specs.declared.machine.Core.{Core}
 use Rattle.tn_client_core.specs.declared.messages.Mark.TheVariants.{Whole, Refused}
@@ -81,8 +81,8 @@ turn_whole old new told x y u v bytes none blank on drops h = record {
   idle = λ e. absurd (true_false (sym e ∙ on));
 }
 
-pub turn_refused : (old mid new : Core) (told : Told) (f : ClientFault) (x y u v bytes : List ℕ) → x ≡ [] → u ≡ [] → old.progress.over ≡ false → bytes ≡ sent_bytes old.progress.closed y → StopsWithin old told x y u v mid → new ≡ record mid { progress = after_failure (fault.Client f) mid.progress } → IsTurn (Refused f) old told bytes v new
-turn_refused old mid new told f x y u v bytes none blank on drops h is = record {
+pub turn_refused : (old mid new : Core) (told : Told) (f : ClientFault) (x y u v bytes : List ℕ) → x ≡ [] → u ≡ [] → old.progress.over ≡ false → bytes ≡ sent_bytes old.progress.closed y → StopsWithin old told x y u v mid → new ≡ record mid { progress = after_failure (fault.Client f) mid.progress } → RefusesFor old told f → IsTurn (Refused f) old told bytes v new
+turn_refused old mid new told f x y u v bytes none blank on drops h is cause = record {
   leads = λ c at.
       let l = h.leads c at in
       let shut : old.progress.closed ≡ c.progress.closed = ap (λ (p : Progress). p.closed) at.progress in
@@ -91,7 +91,7 @@ turn_refused old mid new told f x y u v bytes none blank on drops h is = record 
       let next = fail (fault.Client f) l.0 in
       let over : new.progress.over ≡ true = ap (λ (core : Core). core.progress.over) is in (
         next,
-        (sym (ap (λ (p : Progress). p.over) at.progress) ∙ on, l.0, l.1, refl),
+        (sym (ap (λ (p : Progress). p.over) at.progress) ∙ on, l.0, l.1, refl, cause c at),
         is_over next new over (ap (λ (core : Core). core.progress) is ∙ ap (after_failure (fault.Client f)) l.2),
         sends_as c.progress.closed false c next bytes h.part l.4.0 l.3 (at.live on).latest gives l.4.1 (λ w. absurd (false_true w)),
         (l.5.0, l.5.1 ∙ ap (λ (bs : List ℕ). text_shown c.history ++ (bs ++ l.5.0)) (sym (from_none u v h.text blank h.displayed)), λ w. absurd (false_true w)),

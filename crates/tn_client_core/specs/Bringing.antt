@@ -20,8 +20,8 @@ abbrev pub brought : Origin → List Told → List ℕ
 brought side [] = []
 brought side (told ∷ later) = brought_from side told.from told.message ++ brought side later
 
--- The keys that were typed are a front of those that the messages brought, and the history's items those of a
--- front of the bytes from the network; both are all of them as long as the messages have their effect.
+-- The keys that were typed are a prefix of those that the messages brought, and the history's items those of
+-- a prefix of the bytes from the network; both are all of them as long as the messages have their effect.
 pub record TakesInOrder (all_told : List Told) (new : Run) : Type 0 where
   pub untyped : List ℕ
   pub typed : brought Keys all_told ≡ keys new.history ++ untyped

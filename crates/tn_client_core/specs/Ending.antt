@@ -1,5 +1,8 @@
 -- What a run ends by: the message that brought the fault, or the mark that it left.
 use Rattle.std.specs.Prelude.{◌≡◌, List, ◌∷◌, ◌++◌, ◌⊎◌}
+use Rattle.tn_client_core.specs.Marks.{Runs}
+use Rattle.tn_client_core.specs.Refusing.{IsRefusalCause}
+use Rattle.tn_client_core.specs.Run.{Run}
 use Rattle.tn_client_core.specs.declared.messages.Mark.{Mark}
 use Rattle.tn_client_core.specs.declared.messages.Mark.TheVariants as mark
 use Rattle.tn_client_core.specs.declared.messages.Told.{Told}
@@ -9,21 +12,23 @@ use Rattle.tn_term.specs.declared.faults.SessionFault.TheVariants.{Read, Write, 
 use Rattle.tn_term.specs.declared.messages.Message.TheVariants as message
 
 -- this message with this mark is why the run ended so
-abbrev pub EndsAt : Told → Mark → Ended → Type 0
-EndsAt m k HangUp = Unit {0}
-EndsAt m k Done = ⊥
-EndsAt m k (Fault Read) = m.message ≡ message.ReadFailed
-EndsAt m k (Fault Write) = (k ≡ mark.WriteFailed) ⊎ (k ≡ mark.ShowFailed)
-EndsAt m k (Fault (Server f)) = ⊥
-EndsAt m k (Fault (Client f)) = k ≡ mark.Refused f
-EndsAt m k (Fault Memory) = m.message ≡ message.Refused
-EndsAt m k (Fault Start) = ⊥
-EndsAt m k (Fault Channel) = ⊥
+abbrev pub EndsAt : Run → Told → Mark → Ended → Type 0
+EndsAt c m k HangUp = Unit {0}
+EndsAt c m k Done = ⊥
+EndsAt c m k (Fault Read) = m.message ≡ message.ReadFailed
+EndsAt c m k (Fault Write) = (k ≡ mark.WriteFailed) ⊎ (k ≡ mark.ShowFailed)
+EndsAt c m k (Fault (Server f)) = ⊥
+EndsAt c m k (Fault (Client f)) = (k ≡ mark.Refused f) × IsRefusalCause c m.from m.message f
+EndsAt c m k (Fault Memory) = m.message ≡ message.Refused
+EndsAt c m k (Fault Start) = ⊥
+EndsAt c m k (Fault Channel) = ⊥
 
--- at one of these messages, with its mark
-pub record IsEndedAt (marked : List (Told × Mark)) (ended : Ended) : Type 0 where
+-- at one of these messages, with its mark, and where the run was when it came
+pub record IsEndedAt (c : Run) (marked : List (Told × Mark)) (ended : Ended) : Type 0 where
   pub before : List (Told × Mark)
   pub last : Told × Mark
   pub after : List (Told × Mark)
   pub whole : marked ≡ before ++ last ∷ after
-  pub ends : EndsAt last.0 last.1 ended
+  pub mid : Run
+  pub runs : Runs c before mid
+  pub ends : EndsAt mid last.0 last.1 ended

@@ -1,5 +1,6 @@
 pub mod Counting
 pub mod Run
+pub mod Refusing
 pub mod Marks
 pub mod Reaching
 pub mod Bringing

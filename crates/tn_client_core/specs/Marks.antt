@@ -1,13 +1,15 @@
 -- The run of the messages, each with its mark: how far it was done.
 use Rattle.std.specs.Prelude.{◌≡◌, Bool, true, false, ◌&&◌, List, [], ◌∷◌}
 use Rattle.std.specs.List.{FoldsTo}
+use Rattle.tn_client_core.specs.Refusing.{IsRefusalCause}
 use Rattle.tn_client_core.specs.Run.{Run, Handles, fail}
 use Rattle.tn_client_core.specs.declared.messages.Mark.{Mark}
 use Rattle.tn_client_core.specs.declared.messages.Mark.TheVariants as mark
 use Rattle.tn_client_core.specs.declared.messages.Told.{Told}
 use Rattle.tn_term.specs.declared.faults.SessionFault.TheVariants as fault
 
--- A message with its mark. None is written, and no call is made, once nothing has any effect.
+-- A message with its mark. None is written, and no call is made, once nothing has any effect. A call that was
+-- refused was so for its cause.
 abbrev pub Turns : Run → Told × Mark → Run → Type 0
 Turns c (m, mark.Whole) new = Handles c m new
 Turns c (m, mark.WriteFailed) new =
@@ -16,6 +18,7 @@ Turns c (m, mark.ShowFailed) new =
     (c.progress.over ≡ false) × (whole : Run) × Handles c m whole × (new ≡ fail fault.Write whole)
 Turns c (m, mark.Refused f) new =
     (c.progress.over ≡ false) × (whole : Run) × Handles c m whole × (new ≡ fail (fault.Client f) whole)
+    × IsRefusalCause c m.from m.message f
 
 -- what it sends was written
 abbrev pub is_written : Mark → Bool

@@ -5,7 +5,9 @@ use Rattle.tn_client.specs.Calls as client
 use Rattle.tn_client.specs.Events.{History, items}
 use Rattle.tn_client.specs.Replies.{items_said}
 use Rattle.tn_client.specs.Screen.{text_shown}
+use Rattle.tn_client.specs.declared.faults.ClientFault.{ClientFault}
 use Rattle.tn_client_core.specs.Marks.{Turns, is_written, is_whole}
+use Rattle.tn_client_core.specs.Refusing.{IsRefusalCause}
 use Rattle.tn_client_core.specs.Run.{Run, Handles, types, sent_after}
 use Rattle.tn_client_core.specs.declared.machine.Core.{Core}
 use Rattle.tn_client_core.specs.declared.messages.Mark.{Mark}
@@ -38,7 +40,7 @@ pub record TypesAll (old : End) (keys before after seen now : List ℕ) (new : E
   pub leads : (h : History) → client.LeadsTo h old → client.LeadsTo (types h keys) new
   pub keeps : ReadsNothing old new
 
--- a front of the keys was typed
+-- a prefix of the keys was typed
 abbrev pub TypesFront : End → List ℕ → List ℕ → List ℕ → List ℕ → List ℕ → End → Type 0
 TypesFront old keys before after seen now new =
     (front : List ℕ) × (back : List ℕ) × (keys ≡ front ++ back)
@@ -56,7 +58,7 @@ pub record DoesWhole (old : Core) (told : Told) (before after seen now : List �
       × (items_said next.history ≡ items_said c.history ++ said)
       × (text_shown next.history ≡ text_shown c.history ++ text)
 
--- a call of a message was refused: fronts of what the whole message sends and shows were appended
+-- a call of a message was refused: prefixes of what the whole message sends and shows were appended
 pub record StopsWithin (old : Core) (told : Told) (before after seen now : List ℕ) (new : Core) : Type 0 where
   pub part : List ℕ
   pub text : List ℕ
@@ -69,12 +71,16 @@ pub record StopsWithin (old : Core) (told : Told) (before after seen now : List 
       × (spells (items_said whole.history) ≡ spells (items_said c.history) ++ (part ++ rest)))
       × ((rest : List ℕ) × (text_shown whole.history ≡ text_shown c.history ++ (text ++ rest)))
 
+-- the call was refused for its cause, wherever the core may have been
+abbrev pub RefusesFor : Core → Told → ClientFault → Type 0
+RefusesFor old told f = (c : Run) → LeadsTo c old → IsRefusalCause c told.from told.message f
+
 -- what goes to the network of the bytes that were appended
 abbrev pub sent_bytes : Bool → List ℕ → List ℕ
 sent_bytes true bytes = []
 sent_bytes false bytes = bytes
 
--- these bytes are a front of what the longer run sends more
+-- these bytes are a prefix of what the longer run sends more
 abbrev pub SendsFront : Run → Run → List ℕ → Bool → Type 0
 SendsFront c next bytes all =
     (rest : List ℕ) × (spells (items_said next.sent) ≡ spells (items_said c.sent) ++ (bytes ++ rest))

@@ -10,7 +10,7 @@ ghost use Rattle.tn_client_core.specs.declared.messages.Told.{Told};
 ghost use Rattle.tn_term.specs.declared.faults.Ended.TheVariants.{Fault};
 ghost use Rattle.tn_term.specs.declared.faults.SessionFault.{SessionFault};
 
-/// The keys that were typed, and the bytes from the network whose items came, are fronts of what the
+/// The keys that were typed, and the bytes from the network whose items came, are prefixes of what the
 /// messages brought, in order, each once, whatever failed; and all of it where nothing ended the session.
 pub fn bytes_go_in_order()
     ensures { (width height limit : ℕ) (marked : List (Told × Mark)) (new : Run) →
@@ -18,10 +18,10 @@ pub fn bytes_go_in_order()
 {}
 
 /// A run ends by a fault only where the fault's cause was there: a message that reading failed, or that
-/// memory was wanting; a write to the network or the screen that failed;
-/// or a call of the end that was refused.
+/// memory ran out; a write to the network or the screen that failed;
+/// or a call of the end that was refused for its cause, out of memory within a piece.
 pub fn faults_have_causes()
     ensures { (width height limit : ℕ) (marked : List (Told × Mark)) (new : Run) (fault : SessionFault) →
         Runs (start width height limit) marked new → new.progress.ended ≡ Fault fault →
-        IsEndedAt marked (Fault fault) }
+        IsEndedAt (start width height limit) marked (Fault fault) }
 {}

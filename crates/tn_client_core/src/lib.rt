@@ -1,5 +1,5 @@
 //! The core of a running client session: the machine that alone uses the client end, one message at a time.
-//! It has no handle and waits for nobody.
+//! It has no handle and never blocks.
 //!
 //! ```
 //! let mut core = Core::start(alloc, 80, 24, Limit::standard())?;

@@ -1,9 +1,12 @@
 //! The core of a client session, which alone uses the client end.
 
 ghost use Rattle.std.specs.Prelude.{◌≡◌, true, false, OnOk, OnErr, IfOk, IfErr, []};
+ghost use Rattle.tn_client.specs.Calls as client;
+ghost use Rattle.tn_client.specs.Events.{History};
 ghost use Rattle.tn_client_core.specs.Counting as counting;
 ghost use Rattle.tn_client_core.specs.Marks.{no_write_failed, no_show_failed};
-ghost use Rattle.tn_client_core.specs.Reaching.{LeadsTo, TypesAll, TypesFront, DoesWhole, StopsWithin, IsTurn, sent_bytes};
+ghost use Rattle.tn_client_core.specs.Reaching.{LeadsTo, TypesAll, TypesFront, DoesWhole, StopsWithin, RefusesFor, IsTurn, sent_bytes};
+ghost use Rattle.tn_client_core.specs.Refusing.{RefusesAtKey};
 ghost use Rattle.tn_client_core.specs.Run as run;
 ghost use Rattle.tn_client_core.specs.Run.{Run};
 
@@ -32,6 +35,8 @@ fn type_all(
         (TypesAll end.old keys.now out.old.items out.new.items screen.old.items screen.new.items end.new) }
     ensures err { OnErr result
         (TypesFront end.old keys.now out.old.items out.new.items screen.old.items screen.new.items end.new) }
+    ensures cause { IfErr result (λ fault. (h : History) → client.LeadsTo h end.old →
+        end.old.failed ≡ false → (fault ≡ ClientFault.Memory) × RefusesAtKey h keys.now) }
 {
     for key in keys {
         match end.key(*key, out, screen) {
@@ -79,6 +84,8 @@ impl Core {
         ensures err { OnErr result (StopsWithin self.old
             (record { from = Origin.Keys; message = Message.Piece keys.now })
             out.old.items out.new.items screen.old.items screen.new.items self.new) }
+        ensures cause { IfErr result (RefusesFor self.old
+            (record { from = Origin.Keys; message = Message.Piece keys.now })) }
     {
         self.progress = self.progress.fed();
         match type_all(&mut self.end, keys, out, screen) {
@@ -101,6 +108,8 @@ impl Core {
         ensures err { OnErr result (StopsWithin self.old
             (record { from = Origin.Net; message = Message.Piece piece.now })
             out.old.items out.new.items screen.old.items screen.new.items self.new) }
+        ensures cause { IfErr result (RefusesFor self.old
+            (record { from = Origin.Net; message = Message.Piece piece.now })) }
     {
         self.progress = self.progress.fed();
         match self.end.feed(piece, out, screen) {
@@ -123,6 +132,8 @@ impl Core {
         ensures err { OnErr result (StopsWithin self.old
             (record { from = from; message = Message.Piece piece.now })
             out.old.items out.new.items screen.old.items screen.new.items self.new) }
+        ensures cause { IfErr result (RefusesFor self.old
+            (record { from = from; message = Message.Piece piece.now })) }
     {
         match from {
             Origin::Keys => self.keys(piece, out, screen),
@@ -160,6 +171,7 @@ impl Core {
             out.old.items out.new.items screen.old.items screen.new.items self.new) }
         ensures err { OnErr result (StopsWithin self.old told
             out.old.items out.new.items screen.old.items screen.new.items self.new) }
+        ensures cause { IfErr result (RefusesFor self.old told) }
     {
         let Told { from, message } = told;
         match message {

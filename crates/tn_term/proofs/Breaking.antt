@@ -44,7 +44,7 @@ grows_parts h (part ∷ parts) =
     let k = flushed_history (next h (wrote part)) in
     grows_then h k (in_parts k parts) (grows_then h (next h (wrote part)) k ([], refl) (grows_flushed (next h (wrote part)))) (grows_parts k parts)
 
-kept_history : (c : Run) (ws : List Entry) → (answer c ws).history ≡ c.history
+pub kept_history : (c : Run) (ws : List Entry) → (answer c ws).history ≡ c.history
 kept_history c [] = refl
 kept_history c (w ∷ ws) = refl
 

@@ -82,7 +82,7 @@ stops_by message change old new x y put on acts b = record {
 pub breaks_none : (id : ℕ) (text : List ℕ) (v : Option Verdict) (old new : Term) (x y : List ℕ) → v ≡ None → BreaksOff flush old x y [] new → SayBreaksOff id text v old x y None new
 breaks_none id text v old new x y e b = rw e (record { parts = []; cuts = refl; breaks = b })
 
-same_verdict : (id : ℕ) (text : List ℕ) (after : After) (old : Term) (c : Run) → old.progress.over ≡ false → LeadsTo c old → verdict_at (state_at old.table id) (has_text text) after old.tostop ≡ verdict c id text after
+pub same_verdict : (id : ℕ) (text : List ℕ) (after : After) (old : Term) (c : Run) → old.progress.over ≡ false → LeadsTo c old → verdict_at (state_at old.table id) (has_text text) after old.tostop ≡ verdict c id text after
 same_verdict id text after old c on at =
     ap (λ (j : Jobs). verdict_at (state_at j id) (has_text text) after old.tostop) (at.live on).jobs
     ∙ ap (λ (b : Bool). verdict_at (state_at c.jobs id) (has_text text) after b) (at.live on).tostop

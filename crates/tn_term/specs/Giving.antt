@@ -15,6 +15,6 @@ pub record Gives (puts : List (Option Entry)) (h : History) : Type 0 where
   pub all : entries_put puts ++ waiting h ≡ entries h
   pub taken : taken_count h ≤ length (entries h)
 
--- what was put is a front of the history's entries
+-- what was put is a prefix of the history's entries
 abbrev pub GivesFront : List (Option Entry) → History → Type 0
 GivesFront puts h = (rest : List Entry) × (entries_put puts ++ rest ≡ entries h)

@@ -57,7 +57,7 @@ pub record AdvancesRun (change : Run → Run) (old : Term) (before after : List 
   pub sends : (c : Run) → LeadsTo c old → items_said (change c).history ≡ items_said c.history ++ said
   pub puts : (c : Run) → LeadsTo c old → (change c).puts ≡ c.puts ++ put
 
--- The run was to change like this, and a call was refused: a front of what it sends more was appended.
+-- The run was to change like this, and a call was refused: a prefix of what it sends more was appended.
 pub record BreaksOff (change : Run → Run) (old : Term) (before after : List ℕ) (put : List (Option Entry))
     (new : Term) : Type 0 where
   pub part : List ℕ
@@ -74,7 +74,7 @@ pub record Feeds (old : Term) (piece before after : List ℕ) (new : Term) : Typ
   pub reads : (c : Run) → LeadsTo c old → Reads c piece items
   pub does : AdvancesRun (feed piece items) old before after [] new
 
--- a piece was refused: a front of what its items make the end send was appended
+-- a piece was refused: a prefix of what its items make the end send was appended
 pub record FeedBreaksOff (old : Term) (piece before after : List ℕ) (new : Term) : Type 0 where
   pub part : List ℕ
   pub appended : after ≡ before ++ part
@@ -113,7 +113,7 @@ pub record DoesWhole (old : Term) (message : Message) (before after : List ℕ) 
       × (items_said next.history ≡ items_said c.history ++ said)
       × (next.puts ≡ c.puts ++ option_to_list put)
 
--- a call of a message was refused: a front of what the whole message sends was appended
+-- a call of a message was refused: a prefix of what the whole message sends was appended
 pub record StopsWithin (old : Term) (message : Message) (given : Bool) (before after : List ℕ)
     (put : Option (Option Entry)) (new : Term) : Type 0 where
   pub part : List ℕ

@@ -21,7 +21,7 @@ pub enum SessionFault {
     #[error("the session did not start")]
     Start,
     /// The other end of a channel is gone.
-    #[error("a channel has no other end")]
+    #[error("channel disconnected")]
     Channel,
 }
 

@@ -18,7 +18,7 @@ ghost use Rattle.tn_term.specs.declared.messages.Message.{Message};
 
 use tn_jobs::laws::one_job_changes;
 
-/// What goes to the foreground job is a front of the history's entries, in order, each once, whatever
+/// What goes to the foreground job is a prefix of the history's entries, in order, each once, whatever
 /// failed.
 pub fn entries_go_in_order()
     ensures { (opens : Bool) (canon : Canon) (editing : Editing) (jobs : Jobs)
@@ -57,7 +57,7 @@ pub fn runs_agree()
 {}
 
 /// A run ends by a fault only where the fault's cause was there: a message that reading failed, or that
-/// memory was wanting; a write that failed; or a call of the end that was refused for its cause, too far
+/// memory ran out; a write that failed; or a call of the end that was refused for its cause, too far
 /// behind only where as many entries waited as there may be.
 pub fn faults_have_causes()
     ensures { (opens : Bool) (canon : Canon) (editing : Editing) (jobs : Jobs)

@@ -1,5 +1,5 @@
 //! The terminal of a running session: the machine that alone uses the server end, one message at a time.
-//! It has no handle and waits for nobody.
+//! It has no handle and never blocks.
 #![tactic(auto)]
 
 pub use faults::{Ended, SessionFault};

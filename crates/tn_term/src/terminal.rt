@@ -1,16 +1,22 @@
 //! The terminal of a session, which alone uses the server end.
 
-ghost use Rattle.std.specs.Prelude.{◌≡◌, ◌&&◌, ℕ, List, true, false, OnOk, OnErr, IfOk, IfErr, IfNone, None, Some, [], ◌∷◌, ◌++◌, option_to_list, All, MatchResult};
+ghost use Rattle.std.specs.Prelude.{◌≡◌, ◌≤◌, ◌<◌, ◌&&◌, ℕ, List, length, true, false, OnOk, OnErr, IfOk, IfErr, IfNone, None, Some, [], ◌∷◌, ◌++◌, option_to_list, All, MatchResult};
 ghost use Rattle.std.specs.List.{concat};
 ghost use Rattle.tn_discipline.specs.Canon.{Canon};
 ghost use Rattle.tn_jobs.specs.Jobs.{state_at, with_state, is_stopped, is_foreground};
 ghost use Rattle.tn_nvt.specs.Spelling.{spells};
+ghost use Rattle.tn_server.specs.Calls as server;
+ghost use Rattle.tn_server.specs.Events as events;
+ghost use Rattle.tn_server.specs.Events.{History};
+ghost use Rattle.tn_server.specs.Faults.{SaysSomething};
+ghost use Rattle.tn_server.specs.Lines.{waiting};
 ghost use Rattle.tn_server.specs.Replies.{items_said};
 ghost use Rattle.tn_term.specs.Counting as counting;
 ghost use Rattle.tn_term.specs.Marks.{is_whole, no_write_failed};
 ghost use Rattle.tn_term.specs.Run as run;
 ghost use Rattle.tn_term.specs.Run.{Run};
 ghost use Rattle.tn_term.specs.Reaching.{FollowsPath, AdvancesRun, BreaksOff, Feeds, FeedBreaksOff, HaltsIf, Says, SayBreaksOff, DoesWhole, StopsWithin, RefusesFor, IsTurn, LeadsTo};
+ghost use Rattle.tn_term.specs.Refusing.{SymbolsWait, SymbolsWaitWithin, WaitsWithText, WaitsWithRequest};
 
 use crate::faults::{Ended, SessionFault};
 use crate::messages::{Mark, Message, Outcome};
@@ -22,6 +28,9 @@ use tn_server::{Editing, ServerEnd, ServerFault};
 
 /// How many symbols a screen holds at most.
 const MOST_SYMBOLS: usize = 4096;
+
+/// How many entries may wait for one more piece to be welcome.
+const MOST_BEFORE_PIECE: usize = 511;
 
 /// The terminal of a session.
 #[derive(Drop)]
@@ -47,6 +56,7 @@ fn pull_all(end: &mut ServerEnd, out: &mut Vec<u8>) -> Result<(), ServerFault>
     ensures err { OnErr result (end.new ≡ end.old) }
     ensures err_appends { OnErr result (out.new.items ≡ out.old.items) }
     ensures fault { IfErr result (λ fault. fault ≡ ServerFault.Memory) }
+    ensures grows { OnErr result ((h : History) → server.LeadsTo h end.old → SymbolsWait h) }
 {
     match end.pull(MOST_SYMBOLS, out) {
         Ok(_) => Ok(()),
@@ -55,8 +65,8 @@ fn pull_all(end: &mut ServerEnd, out: &mut Vec<u8>) -> Result<(), ServerFault>
 }
 
 impl Term {
-    /// Starts the end, appends the opening words, and wishes for editing at one side. Only memory may be
-    /// wanting for it.
+    /// Starts the end, appends the opening words, and wishes for editing at one side. It fails only when
+    /// out of memory.
     pub fn start(
         alloc: Global,
         settings: Settings,
@@ -102,6 +112,7 @@ impl Term {
         ensures err { OnErr result (BreaksOff run.flush self.old out.old.items out.new.items [] self.new) }
         ensures progress { self.new.progress ≡ self.old.progress }
         ensures fault { IfErr result (λ fault. fault ≡ ServerFault.Memory) }
+        ensures grows { OnErr result ((c : Run) → LeadsTo c self.old → SymbolsWait c.history) }
     {
         match pull_all(&mut self.end, out) {
             Ok(()) => Ok(()),
@@ -118,6 +129,8 @@ impl Term {
             (BreaksOff (run.show (part.now ∷ [])) self.old out.old.items out.new.items [] self.new) }
         ensures progress { self.new.progress ≡ self.old.progress }
         ensures fault { IfErr result (λ fault. fault ≡ ServerFault.Memory) }
+        ensures grows { OnErr result ((c : Run) → LeadsTo c self.old →
+            SymbolsWait (events.next c.history (events.wrote part.now))) }
     {
         self.end.write(part);
         match pull_all(&mut self.end, out) {
@@ -136,6 +149,8 @@ impl Term {
             BreaksOff (run.show parts) self.old out.old.items out.new.items [] self.new) }
         ensures progress { self.new.progress ≡ self.old.progress }
         ensures fault { IfErr result (λ fault. fault ≡ ServerFault.Memory) }
+        ensures grows { OnErr result ((c : Run) → LeadsTo c self.old →
+            SymbolsWaitWithin c.history text.now) }
     {
         let mut rest = text;
         while !rest.is_empty() {
@@ -158,6 +173,8 @@ impl Term {
             BreaksOff (run.show parts) self.old out.old.items out.new.items [] self.new) }
         ensures progress { self.new.progress ≡ self.old.progress }
         ensures fault { IfErr result (λ fault. fault ≡ ServerFault.Memory) }
+        ensures grows { OnErr result ((c : Run) → LeadsTo c self.old →
+            WaitsWithText writes c.history text.now) }
     {
         if writes {
             match self.show(text, out) {
@@ -178,6 +195,8 @@ impl Term {
             BreaksOff (λ c. run.flush (run.show parts c)) self.old out.old.items out.new.items [] self.new) }
         ensures progress { self.new.progress ≡ self.old.progress }
         ensures fault { IfErr result (λ fault. fault ≡ ServerFault.Memory) }
+        ensures grows { OnErr result ((c : Run) → LeadsTo c self.old →
+            WaitsWithText writes c.history text.now) }
     {
         match self.show_if(writes, text, out) {
             Ok(()) => {},
@@ -199,6 +218,7 @@ impl Term {
         ensures err { OnErr result (self.new ≡ self.old) }
         ensures err_appends { OnErr result (out.new.items ≡ out.old.items) }
         ensures fault { IfErr result (λ fault. fault ≡ ServerFault.Memory) }
+        ensures grows { OnErr result ((c : Run) → LeadsTo c self.old → SaysSomething c.history events.took) }
     {
         match self.end.take(out) {
             Ok(Some(entry)) => {
@@ -321,6 +341,7 @@ impl Term {
         ensures err { IfErr result (λ s. (s.put ≡ put) × (s.given ≡ true) ×
             BreaksOff run.flush self.old out.old.items out.new.items [] self.new) }
         ensures fault { IfErr result (λ s. s.fault ≡ ServerFault.Memory) }
+        ensures grows { OnErr result ((c : Run) → LeadsTo c self.old → SymbolsWait c.history) }
     {
         match self.flush(out) {
             Ok(()) => Ok(put),
@@ -349,6 +370,8 @@ impl Term {
         ensures err { IfErr result (λ s. (s.given ≡ true) ×
             SayBreaksOff id.0 text.now (Some verdict) self.old out.old.items out.new.items s.put self.new) }
         ensures fault { IfErr result (λ s. s.fault ≡ ServerFault.Memory) }
+        ensures grows { OnErr result ((c : Run) → LeadsTo c self.old →
+            WaitsWithText verdict.write c.history text.now) }
     {
         let is_over = ends_all(state, verdict.next);
         self.moves(id, state, verdict.next);
@@ -391,6 +414,9 @@ impl Term {
             (run.verdict_at (state_at self.old.table id.0) (run.has_text text.now) after self.old.tostop)
             self.old out.old.items out.new.items s.put self.new) }
         ensures fault { IfErr result (λ s. s.fault ≡ ServerFault.Memory) }
+        ensures grows { OnErr result ((c : Run) → LeadsTo c self.old → WaitsWithText (run.writes
+            (run.verdict_at (state_at self.old.table id.0) (run.has_text text.now) after self.old.tostop))
+            c.history text.now) }
     {
         let Some(state) = self.table.state(id) else {
             return self.finish(None, out);
@@ -442,6 +468,7 @@ impl Term {
         ensures err { IfErr result (λ s.
             StopsWithin self.old Message.Take s.given out.old.items out.new.items s.put self.new) }
         ensures fault { IfErr result (λ s. s.fault ≡ ServerFault.Memory) }
+        ensures grows { OnErr result ((c : Run) → LeadsTo c self.old → WaitsWithRequest c.history) }
     {
         match self.ask(out) {
             Ok(put) => self.finish(put, out),
@@ -463,6 +490,7 @@ impl Term {
         ensures err { IfErr result (λ s.
             StopsWithin self.old Message.Refused s.given out.old.items out.new.items s.put self.new) }
         ensures fault { IfErr result (λ s. s.fault ≡ ServerFault.Memory) }
+        ensures grows { OnErr result ((c : Run) → LeadsTo c self.old → SymbolsWait c.history) }
     {
         self.ends_by(Ended::Fault(SessionFault::Memory));
         let pulled = self.flush(out);
@@ -531,6 +559,21 @@ impl Term {
         ensures { result ≡ self.now.progress }
     {
         self.progress
+    }
+
+    /// Whether one more piece is welcome: at most 511 entries wait, or nothing has any effect any more. So
+    /// a piece of 512 bytes finds room for its entries: each byte makes one at most, and the first may make
+    /// another of a CR that came last before it.
+    pub fn is_welcoming(&self) -> bool
+        ensures room { (c : Run) → LeadsTo c self.now → result ≡ true → self.now.progress.over ≡ false →
+            length (waiting c.history) ≤ 511 }
+        ensures full { (c : Run) → LeadsTo c self.now → result ≡ false → 511 < length (waiting c.history) }
+        ensures over { self.now.progress.over ≡ true → result ≡ true }
+    {
+        match self.end.waiting(MOST_BEFORE_PIECE) {
+            Some(_) => self.progress.over,
+            None => true,
+        }
     }
 
     /// Handles one message, and appends what is to be sent to the network.

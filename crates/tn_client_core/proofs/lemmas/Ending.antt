@@ -28,13 +28,13 @@ first_cases (ended.Fault f) b = inl refl
 
 -- the run ended so before, or ends at this message
 abbrev Moves : Run → Told → Mark → Ended → Type 0
-Moves c m k e = (e ≡ ended_of c) ⊎ EndsAt m k e
+Moves c m k e = (e ≡ ended_of c) ⊎ EndsAt c m k e
 
 moves_as : (c : Run) (m : Told) (k : Mark) (e d : Ended) → d ≡ e → Moves c m k e → Moves c m k d
 moves_as c m k e d is moves = subst (λ (x : Ended). Moves c m k x) (sym is) moves
 
 -- a message after which another end would count, had none come
-moves_first : (c : Run) (m : Told) (k : Mark) (a e : Ended) (f : SessionFault) → e ≡ first_end a (ended.Fault f) → Moves c m k a → EndsAt m k (ended.Fault f) → Moves c m k e
+moves_first : (c : Run) (m : Told) (k : Mark) (a e : Ended) (f : SessionFault) → e ≡ first_end a (ended.Fault f) → Moves c m k a → EndsAt c m k (ended.Fault f) → Moves c m k e
 moves_first c m k a e f is before why = ⊎_elim (λ s. moves_as c m k a e (is ∙ s) before) (λ s. moves_as c m k (ended.Fault f) e (is ∙ s) (inr why)) (first_cases a (ended.Fault f))
 
 abbrev told : Origin → Message → Told
@@ -67,9 +67,9 @@ turn_moves c new m mark.WriteFailed t =
 turn_moves c new m mark.ShowFailed t =
     moves_first c m mark.ShowFailed (ended_of t.1) (ended_of new) fault.Write (ap ended_of t.3) (handles_moves c.progress.over c t.1 m mark.ShowFailed t.2) (inr refl)
 turn_moves c new m (mark.Refused f) t =
-    moves_first c m (mark.Refused f) (ended_of t.1) (ended_of new) (fault.Client f) (ap ended_of t.3) (handles_moves c.progress.over c t.1 m (mark.Refused f) t.2) refl
+    moves_first c m (mark.Refused f) (ended_of t.1) (ended_of new) (fault.Client f) (ap ended_of t.3) (handles_moves c.progress.over c t.1 m (mark.Refused f) t.2) (refl, t.4)
 
-ran_moves : (marked : List (Told × Mark)) (c new : Run) → FoldsTo Turns c marked new → (ended_of new ≡ ended_of c) ⊎ IsEndedAt marked (ended_of new)
+ran_moves : (marked : List (Told × Mark)) (c new : Run) → FoldsTo Turns c marked new → (ended_of new ≡ ended_of c) ⊎ IsEndedAt c marked (ended_of new)
 ran_moves [] c new f = inl (ap ended_of (sym f))
 ran_moves ((m, k) ∷ marked) c new f =
     ⊎_elim
@@ -78,13 +78,17 @@ ran_moves ((m, k) ∷ marked) c new f =
       last = (m, k);
       after = marked;
       whole = refl;
-      ends = subst (λ (x : Ended). EndsAt m k x) (sym s) h;
+      mid = c;
+      runs = refl;
+      ends = subst (λ (x : Ended). EndsAt c m k x) (sym s) h;
     })) (turn_moves c f.0 m k f.1))
     (λ r. inr (record {
       before = (m, k) ∷ r.before;
       last = r.last;
       after = r.after;
       whole = ap (λ (xs : List (Told × Mark)). (m, k) ∷ xs) r.whole;
+      mid = r.mid;
+      runs = (f.0, f.1, r.runs);
       ends = r.ends;
     }))
     (ran_moves marked f.0 new f.2)
@@ -92,6 +96,7 @@ ran_moves ((m, k) ∷ marked) c new f =
 no_fault : (f : SessionFault) → ended.Fault f ≡ ended.HangUp → ⊥
 no_fault f e = cc
 
-pub fault_cause : (width height limit : ℕ) (marked : List (Told × Mark)) (new : Run) (f : SessionFault) → Runs (start width height limit) marked new → new.progress.ended ≡ ended.Fault f → IsEndedAt marked (ended.Fault f)
+pub fault_cause : (width height limit : ℕ) (marked : List (Told × Mark)) (new : Run) (f : SessionFault) → Runs (start width height limit) marked new → new.progress.ended ≡ ended.Fault f → IsEndedAt (start width height limit) marked (ended.Fault f)
 fault_cause width height limit marked new f runs e =
-    ⊎_elim (λ s. absurd (no_fault f (sym e ∙ s))) (λ r. subst (λ (x : Ended). IsEndedAt marked x) e r) (ran_moves marked (start width height limit) new runs)
+    let c = start width height limit in
+    ⊎_elim (λ s. absurd (no_fault f (sym e ∙ s))) (λ r. subst (λ (x : Ended). IsEndedAt c marked x) e r) (ran_moves marked c new runs)

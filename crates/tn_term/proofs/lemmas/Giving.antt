@@ -154,7 +154,7 @@ gives_acts c new Left a g = gives_as (flush c) new a (gives_flush c g)
 pub gives_start : (canon : Canon) (editing : Editing) → Gives [] (opening canon editing)
 gives_start canon editing = record { all = refl; taken = omega arith }
 
--- what was put is a front of the history's entries
+-- what was put is a prefix of the history's entries
 
 front_of : (ps : List (Option Entry)) (h : History) → Gives ps h → GivesFront ps h
 front_of ps h g = (waiting h, g.all)

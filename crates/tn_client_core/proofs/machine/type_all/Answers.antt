@@ -1,5 +1,6 @@
-use Rattle.std.proofs.Common.{drop, sym, take-append-drop}
+use Rattle.std.proofs.Common.{ap, Err, drop, sym, take-append-drop}
 use Rattle.std.proofs.lemmas.List.{take_more}
+use Rattle.tn_client_core.proofs.Refusing.{key_cause}
 use Rattle.tn_client_core.proofs.Typing.{types_none, types_more, types_kept}
 use Rattle.tn_client_core.proofs.machine.type_all.Goals as goal
 
@@ -17,3 +18,7 @@ returns-in-Err-clause-err c = (
 pub loop-key-preserved : goal.loop-key-preserved
 loop-key-preserved c =
     rw (take_more c.args.keys.now c.loop-key.key-index 0 c.loop-key-test.true) (types_more c.args.end.now c.loop-key.end c.key.new.self _ _ _ _ _ _ _ _ c.loop-key.invariant c.in-Ok.ensures.goes c.in-Ok.ensures.sends c.in-Ok.ensures.shows c.in-Ok.ensures.keeps)
+
+pub returns-in-Err-clause-cause : goal.returns-in-Err-clause-cause
+returns-in-Err-clause-cause c =
+    key_cause c.args.end.now c.loop-key.end c.args.keys.now c.loop-key.key-index c.in-Err.fault _ _ _ _ c.loop-key-test.true c.loop-key.invariant c.in-Err.ensures.fault (λ e. c.in-Err.ensures.grows (ap Err e))

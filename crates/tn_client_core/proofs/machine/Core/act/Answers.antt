@@ -5,4 +5,5 @@ pub returns-in_default : goal.returns-in_default
 returns-in_default c = record {
   ok = does_step c.args.told c.args.self.now c.step.new.self _ _ (is_plain c.args.told.message c.in_default.not-Piece) c.requires c.step.ensures;
   err = tt;
+  cause = tt;
 }

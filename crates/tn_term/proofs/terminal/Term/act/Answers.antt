@@ -1,5 +1,12 @@
-use Rattle.std.proofs.Common.{None}
+use Rattle.std.proofs.Common.{None, ℕ, List, [], IfErr, refl, subst}
 use Rattle.tn_term.specs.declared.messages.Message.TheVariants.{HangUp, ReadFailed, Left}
+use Rattle.tn_term.specs.declared.faults.Ended.TheVariants.{Fault}
+use Rattle.tn_term.specs.declared.faults.SessionFault.TheVariants as fault
+use Rattle.tn_term.specs.declared.messages.Message.TheVariants.{Said, Refused}
+use Rattle.tn_term.specs.Reaching.{RefusesFor}
+use Rattle.tn_term.specs.Run.{hang_up, ends_by}
+use Rattle.tn_term.proofs.Doing.{does_nothing, does_then}
+use Rattle.tn_term.proofs.Refusing.{take_cause, said_cause, quiet_cause}
 use Rattle.tn_term.proofs.Handling.{with_ok, with_stuck, handled_hang_up, handled_fault, handled_left, stops_hang_up, stops_fault, stops_left}
 use Rattle.tn_term.proofs.terminal.Term.act.Goals as goal
 
@@ -30,3 +37,33 @@ returns-in-Left-clause-ok c =
 pub returns-in-Left-clause-err : goal.returns-in-Left-clause-err
 returns-in-Left-clause-err c =
     rw c.in-Left.is (with_stuck c.args.self.now Left _ _ c.finish-in-Left.new.self _ c.finish-in-Left.result None (λ d. stops_left c.args.self.now c.finish-in-Left.new.self _ _ c.requires d) c.finish-in-Left.ensures.err)
+
+pub returns-in-HangUp-clause-cause : goal.returns-in-HangUp-clause-cause
+returns-in-HangUp-clause-cause c =
+    let put = c.hang_up-put in
+    rw c.in-HangUp.is (quiet_cause hang_up c.args.self.now put.new.self HangUp [] [] _ c.finish.result tt (λ d. refl) (put.ensures.does []) c.finish.ensures.fault c.finish.ensures.grows)
+
+pub returns-in-ReadFailed-clause-cause : goal.returns-in-ReadFailed-clause-cause
+returns-in-ReadFailed-clause-cause c =
+    let put = c.hang_up-put-in-ReadFailed in
+    let last = c.finish-in-ReadFailed in
+    rw c.in-ReadFailed.is (quiet_cause (λ d. hang_up (ends_by (Fault fault.Read) d)) c.args.self.now put.new.self ReadFailed [] [] _ last.result tt (λ d. refl) (does_then (ends_by (Fault fault.Read)) hang_up c.args.self.now c.ends_by.new.self put.new.self [] [] [] _ _ (c.ends_by.ensures.does []) (put.ensures.does [])) last.ensures.fault last.ensures.grows)
+
+pub returns-in-Take-clause-cause : goal.returns-in-Take-clause-cause
+returns-in-Take-clause-cause c = rw c.in-Take.is (take_cause c.args.self.now c.take.result c.take.ensures.fault c.take.ensures.grows)
+
+pub returns-in-Said-clause-cause : goal.returns-in-Said-clause-cause
+returns-in-Said-clause-cause c =
+    let s = c.in-Said in
+    let text = c.as_slice-in-Said in
+    let P : List ℕ → Type 0 = λ t. IfErr c.said.result (λ r. RefusesFor c.args.self.now (Said s.job t s.after) r.fault) in
+    rw s.is (subst P text.ensures (said_cause c.args.self.now s.job text.result.now s.after c.said.result c.requires c.said.ensures.fault c.said.ensures.grows))
+
+pub returns-in-Refused-clause-cause : goal.returns-in-Refused-clause-cause
+returns-in-Refused-clause-cause c =
+    rw c.in-Refused.is (quiet_cause (λ d. d) c.args.self.now c.args.self.now Refused [] [] _ c.refused.result tt (λ d. refl) (does_nothing c.args.self.now []) c.refused.ensures.fault c.refused.ensures.grows)
+
+pub returns-in-Left-clause-cause : goal.returns-in-Left-clause-cause
+returns-in-Left-clause-cause c =
+    let last = c.finish-in-Left in
+    rw c.in-Left.is (quiet_cause (λ d. d) c.args.self.now c.args.self.now Left [] [] _ last.result tt (λ d. refl) (does_nothing c.args.self.now []) last.ensures.fault last.ensures.grows)

@@ -10,3 +10,6 @@ returns-in-Ok-Some-clause-ok c =
 pub returns-in-Ok-None-clause-ok : goal.returns-in-Ok-None-clause-ok
 returns-in-Ok-None-clause-ok c =
     does_wait c.args.self.now _ c.take.new.self _ _ _ c.requires (ap (λ (p : Progress). record c.args.self.now { end = c.take.new.self; progress = p }) c.unanswered-self.ensures) c.end_if-put.ensures c.in-Ok-None.ensures.ok c.in-Ok-None.ensures.keeps (λ h s. of_none _ _ c.in-Ok-None.field-0 c.in-Ok-None.field-0-is (c.in-Ok-None.ensures.entry h s))
+
+pub returns-in-Err-clause-grows : goal.returns-in-Err-clause-grows
+returns-in-Err-clause-grows c = λ d at. c.in-Err.ensures.grows d.history (at.live c.requires).leads

@@ -11,3 +11,6 @@ returns-in-Ok-clause-ok c = does_follow flushed_history c.args.self.now _ c.pull
 pub returns-in-Err-clause-err : goal.returns-in-Err-clause-err
 returns-in-Err-clause-err c =
     breaks_at_once flush c.args.self.now _ _ _ (ap (λ (e : End). record c.args.self.now { end = e }) c.in-Err.ensures.err) c.in-Err.ensures.err_appends (λ d. grows_flushed d.history) (λ d. refl) (λ d. refl)
+
+pub returns-in-Err-clause-grows : goal.returns-in-Err-clause-grows
+returns-in-Err-clause-grows c = λ d at. c.in-Err.ensures.grows d.history (at.live c.requires).leads

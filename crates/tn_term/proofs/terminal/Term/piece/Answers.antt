@@ -2,7 +2,7 @@ use Rattle.std.proofs.Common.{None, true, false}
 use Rattle.tn_term.specs.declared.messages.Message.TheVariants.{Piece}
 use Rattle.tn_term.proofs.Doing.{does_nothing}
 use Rattle.tn_term.proofs.Handling.{with_ok, with_stuck, handled_piece, stops_piece, stops_feed, stops_fed}
-use Rattle.tn_term.proofs.Refusing.{for_memory, stuck_for_memory}
+use Rattle.tn_term.proofs.Refusing.{asked_cause, fed_cause, answered_cause}
 use Rattle.tn_term.proofs.terminal.Term.piece.Goals as goal
 
 pub returns-in-Err-clause-err : goal.returns-in-Err-clause-err
@@ -32,10 +32,12 @@ pub returns-in-Err-clause-cause : goal.returns-in-Err-clause-cause
 returns-in-Err-clause-cause c = c.in-Err.ensures.cause
 
 pub returns-in-Ok-ask-clause-cause : goal.returns-in-Ok-ask-clause-cause
-returns-in-Ok-ask-clause-cause c = stuck_for_memory c.args.self.now (Piece c.args.piece.now) c.finish.result c.finish.ensures.fault
+returns-in-Ok-ask-clause-cause c =
+    answered_cause c.args.self.now c.feed.new.self c.ask.new.self c.args.piece.now _ _ _ _ _ c.finish.result c.in-Ok.ensures.ok c.in-Ok-ask.ensures.ok c.finish.ensures.fault c.finish.ensures.grows
 
 pub returns-in-Err-ask-clause-cause : goal.returns-in-Err-ask-clause-cause
-returns-in-Err-ask-clause-cause c = for_memory c.args.self.now (Piece c.args.piece.now) _ c.in-Err-ask.ensures.fault
+returns-in-Err-ask-clause-cause c = asked_cause c.args.self.now c.feed.new.self c.args.piece.now _ _ _ c.if-asks.true c.in-Ok.ensures.ok c.in-Err-ask.ensures.fault c.in-Err-ask.ensures.grows
 
 pub returns-else-asks-clause-cause : goal.returns-else-asks-clause-cause
-returns-else-asks-clause-cause c = stuck_for_memory c.args.self.now (Piece c.args.piece.now) c.finish-else-asks.result c.finish-else-asks.ensures.fault
+returns-else-asks-clause-cause c =
+    fed_cause c.args.self.now c.feed.new.self c.args.piece.now _ _ c.finish-else-asks.result c.in-Ok.ensures.ok c.finish-else-asks.ensures.fault c.finish-else-asks.ensures.grows

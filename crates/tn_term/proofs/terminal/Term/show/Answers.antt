@@ -5,18 +5,22 @@ use Rattle.tn_term.proofs.Breaking.{in_single, breaks_parts}
 use Rattle.std.proofs.lemmas.List.Folds.{concat-append}
 use Rattle.tn_term.specs.Run.{IsPart}
 use Rattle.tn_term.proofs.Doing.{does_push}
+use Rattle.tn_term.proofs.Refusing.{wait_within}
 use Rattle.tn_term.proofs.terminal.Term.show.Goals as goal
 
 short : (xs : List ℕ) (n : ℕ) (part : List ℕ) → n ≡ min (length xs) 4096 → part ≡ take n xs → IsPart part
 short xs n part e f = let g = ap (λ (p : List ℕ). length p) f in let h = length-take n xs in omega (arith, e, g, h)
+
+inner : (done : List (List ℕ)) (n : ℕ) (part later rest text : List ℕ) → part ≡ take n rest → later ≡ drop n rest → concat done ++ rest ≡ text → concat done ++ (part ++ later) ≡ text
+inner done n part later rest text front back all =
+    ap (λ (xs : List ℕ). concat done ++ xs) (ap (λ (xs : List ℕ). xs ++ later) front ∙ ap (λ (xs : List ℕ). take n rest ++ xs) back ∙ take-append-drop n rest) ∙ all
 
 whole : (done : List (List ℕ)) (n : ℕ) (part later rest text : List ℕ) → part ≡ take n rest → later ≡ drop n rest → concat done ++ rest ≡ text → concat (done ++ part ∷ []) ++ later ≡ text
 whole done n part later rest text front back all =
     ap (λ (xs : List ℕ). xs ++ later) (concat-append done (part ∷ []))
     ∙ append_assoc (concat done) (part ++ []) later
     ∙ ap (λ (xs : List ℕ). concat done ++ (xs ++ later)) (append-nil part)
-    ∙ ap (λ (xs : List ℕ). concat done ++ xs) (ap (λ (xs : List ℕ). xs ++ later) front ∙ ap (λ (xs : List ℕ). take n rest ++ xs) back ∙ take-append-drop n rest)
-    ∙ all
+    ∙ inner done n part later rest text front back all
 
 pub loop-rest-preserved : goal.loop-rest-preserved
 loop-rest-preserved c =
@@ -41,3 +45,10 @@ returns-in-Err-clause-err c =
       All-append IsPart i.0 (part ∷ rest.0) i.2 (All-cons IsPart part rest.0 (short old c.min.result part c.min.ensures c.split_at.ensures.front) rest.2),
       breaks_parts i.0 part rest.0 c.args.self.now c.loop-rest.self c.show_part.new.self _ _ _ i.3 c.in-Err.ensures.err,
     )
+
+pub returns-in-Err-clause-grows : goal.returns-in-Err-clause-grows
+returns-in-Err-clause-grows c =
+    let i = c.loop-rest.invariant in
+    let part = c.split_at.result.0.now in
+    let later = c.split_at.result.1.now in
+    wait_within i.0 part later c.args.text.now c.args.self.now c.loop-rest.self _ _ (inner i.0 c.min.result part later c.loop-rest.rest.now c.args.text.now c.split_at.ensures.front c.split_at.ensures.back i.1) i.3 c.in-Err.ensures.grows

@@ -1,4 +1,5 @@
-use Rattle.std.proofs.Common.{refl}
+use Rattle.std.proofs.Common.{refl, []}
+use Rattle.tn_server.specs.Events.{next, wrote}
 use Rattle.tn_term.proofs.Breaking.{breaks_part}
 use Rattle.tn_term.proofs.Doing.{does_part}
 use Rattle.tn_term.proofs.terminal.Term.show_part.Goals as goal
@@ -9,3 +10,6 @@ returns-in-Ok-clause-ok c =
 
 pub returns-in-Err-clause-err : goal.returns-in-Err-clause-err
 returns-in-Err-clause-err c = breaks_part c.args.self.now _ c.pull_all.new.end c.args.part.now _ _ refl c.in-Err.ensures.err_appends
+
+pub returns-in-Err-clause-grows : goal.returns-in-Err-clause-grows
+returns-in-Err-clause-grows c = λ d at. c.in-Err.ensures.grows (next d.history (wrote c.args.part.now)) ((c.write.ensures.goes []).leads d.history (at.live c.requires).leads)

@@ -1,0 +1,73 @@
+-- Each call is refused for its cause.
+use Rattle.std.proofs.Common.{◌≡◌, ◌⊎◌, inl, inr, ℕ, ◌+◌, ◌<◌, All, Bool, true, false, if◌then◌else◌, Some, None, List, [], ◌∷◌, ◌++◌, length, take, drop, refl, sym, ap, ◌∙◌, subst, append_assoc}
+use Rattle.std.proofs.lemmas.List.{drop_more, take-append-drop}
+use Rattle.std.proofs.lemmas.List.Elements.{All-append}
+use lib.ListN.{get_or}
+use Rattle.tn_client.specs.Calls.{End, IsStopCause, IsFault, SaysOrShows, call_fault}
+use Rattle.tn_client.specs.Calls as client
+use Rattle.tn_client.specs.Events.{History, typed, gets, items}
+use Rattle.tn_client.specs.declared.faults.ClientFault.{ClientFault}
+use Rattle.tn_client.specs.declared.faults.ClientFault.TheVariants as client_fault
+use Rattle.tn_client_core.specs.Reaching.{LeadsTo, TypesAll, RefusesFor}
+use Rattle.tn_client_core.specs.Refusing.{RefusesAtKey, RefusesAtItem, RefusesAtByte}
+use Rattle.tn_client_core.specs.Run.{Run, Reads, types}
+use Rattle.tn_client_core.specs.declared.machine.Core.{Core}
+use Rattle.tn_client_core.specs.declared.messages.Origin.TheVariants.{Net}
+use Rattle.tn_nvt.proofs.lemmas.Reading.{has_reading, reads_on}
+use Rattle.tn_nvt.specs.Feeding.{DecoderState}
+use Rattle.tn_nvt.specs.Feeding as nvt
+use Rattle.tn_nvt.specs.Stream.{Reading}
+use Rattle.tn_nvt.specs.declared.items.Item.{Item}
+use Rattle.tn_term.specs.declared.messages.Message.TheVariants.{Piece}
+
+-- an end that has not failed refuses only when out of memory
+only_memory : (end : End) (f : ClientFault) → end.failed ≡ false → IsFault (call_fault end) f → f ≡ client_fault.Memory
+only_memory end f runs why = by_test end.failed runs why
+  where
+    true_false : true ≡ false → ⊥
+    true_false e = cc
+
+    by_test : (b : Bool) → b ≡ false → IsFault (if b then Some client_fault.Failed else None) f → f ≡ client_fault.Memory
+    by_test true e cause = absurd (true_false e)
+    by_test false e cause = cause
+
+-- one of some keys was refused
+pub key_cause : (old end : End) (keys : List ℕ) (i : ℕ) (f : ClientFault) (x y u v : List ℕ) → i < length keys → TypesAll old (take i keys) x y u v end → IsFault (call_fault end) f → (f ≡ client_fault.Memory → (h : History) → client.LeadsTo h end → SaysOrShows h (typed (get_or keys i 0))) → (h : History) → client.LeadsTo h old → old.failed ≡ false → (f ≡ client_fault.Memory) × RefusesAtKey h keys
+key_cause old end keys i f x y u v lt t why grows h at runs =
+    let is = only_memory end f (t.keeps.failed ∙ runs) why in (
+      is,
+      (
+        take i keys,
+        get_or keys i 0,
+        drop (i + 1) keys,
+        sym (take-append-drop i keys) ∙ ap (λ (ks : List ℕ). take i keys ++ ks) (drop_more keys i 0 lt),
+        grows is (types h (take i keys)) (t.leads h at),
+      ),
+    )
+
+-- the items of the whole piece go on from those of its front
+read_past : (piece : List ℕ) (old : Core) (x y u v : List ℕ) → All (λ b. b < 256) piece → old.progress.over ≡ false → (f : client.StopsWithin old.end piece x y u v) → (c : Run) → LeadsTo c old → (more : List Item) × Reads c piece (f.done ++ (f.left ++ more))
+read_past piece old x y u v small on f c at =
+    let l = at.live on in
+    let before = f.reads c.stream (items c.history) l.read in
+    let all = has_reading (c.stream ++ piece) (All-append (λ b. b < 256) c.stream piece l.bytes small) in
+    let split : c.stream ++ piece ≡ (c.stream ++ f.front) ++ f.back = ap (λ (bs : List ℕ). c.stream ++ bs) f.whole ∙ sym (append_assoc c.stream f.front f.back) in
+    let P : List ℕ → Type 0 = λ bs. Reading bs all.0 all.1 in
+    let on_from = reads_on (c.stream ++ f.front) f.back before.rest all.1 (items c.history ++ (f.done ++ f.left)) all.0 before.reading (subst P split all.2) in
+    let more : List Item = on_from.0 in
+    let is_all : all.0 ≡ items c.history ++ (f.done ++ (f.left ++ more)) = on_from.1 ∙ append_assoc (items c.history) (f.done ++ f.left) more ∙ ap (λ (ys : List Item). items c.history ++ ys) (append_assoc f.done f.left more) in
+    let Q : List Item → Type 0 = λ ys. Reading (c.stream ++ piece) ys all.1 in
+    (more, (all.1, subst Q is_all all.2))
+
+-- one of the items was refused, or the decoder was
+at_stop : (c : Run) (piece front back : List ℕ) (done left more part : List Item) (here : DecoderState) → piece ≡ front ++ back → nvt.LeadsTo (c.stream ++ front) (items c.history ++ (done ++ left)) here → Reads c piece (done ++ (left ++ more)) → IsStopCause (gets c.history done) left part here back → RefusesAtItem c piece ⊎ RefusesAtByte c piece
+at_stop c piece front back done [] more part here whole at r why = inr (front, back, whole, done ++ [], here, at, why.1)
+at_stop c piece front back done (item ∷ left) more part here whole at r why = inl (done, item, left ++ more, r, why.grows)
+
+pub feed_cause : (piece : List ℕ) (old : Core) (x y u v : List ℕ) (f : ClientFault) → All (λ b. b < 256) piece → old.progress.over ≡ false → IsFault (call_fault old.end) f → (f ≡ client_fault.Memory → client.StopsWithin old.end piece x y u v) → RefusesFor old (record { from = Net; message = Piece piece }) f
+feed_cause piece old x y u v f small on why memory = λ c at.
+    let l = at.live on in
+    let is = only_memory old.end f l.failed why in
+    let s = memory is in
+    let past = read_past piece old x y u v small on s c at in
+    (is, at_stop c piece s.front s.back s.done s.left past.0 s.part s.here s.whole (s.reads c.stream (items c.history) l.read) past.1 (s.cause c.history c.stream (items c.history) l.leads l.read))
