@@ -110,7 +110,7 @@ one_list s a b v e f = is_some a b (sym (sender_share s a v e) ∙ sender_share 
     is_some x y eq = cc
 
 reader_bytes : (who : Sender) (may_stop : Bool) (given : Option (List ℕ)) (foretold : Option Failures) (v : View) (mails : List Mail) → ReaderSends who may_stop given foretold v → v ≡ sender who mails → (left : Option (List ℕ)) × Consumes given left (bytes_of mails)
-reader_bytes who may_stop given foretold v mails (pieces, left, close, consumed, closes, is) e =
+reader_bytes who may_stop given foretold v mails (pieces, left, close, consumed, closes, is, small) e =
     let all : bytes_of mails ≡ concat pieces =
     ap bytes_of (one_list who mails (map (mail who) (pieces_of pieces ++ close)) v e is) ∙ pieces_bytes who pieces close
     ∙ ap (λ (bs : List ℕ). concat pieces ++ bs) (close_bytes who may_stop pieces left foretold close closes) ∙ append-nil (concat pieces) in

@@ -2,8 +2,8 @@
 use Rattle.std.proofs.Common.{◌≡◌, ℕ, Bool, true, false, ◌&&◌, ◌⊎◌, inl, inr, ⊎_elim, List, [], ◌∷◌, ◌++◌, Option, refl, sym, ap, ◌∙◌, subst, map, length}
 use Rattle.tn_client_core.specs.Ending.{IsEndedAt}
 use Rattle.tn_client_core.specs.Marks.{no_write_failed, no_show_failed, all_by}
+use Rattle.tn_client_core.specs.Run.{Run}
 use Rattle.tn_client_core.specs.declared.messages.Mark.{Mark}
-use Rattle.tn_client_core.specs.declared.messages.Mark.TheVariants as mark
 use Rattle.tn_client_core.specs.declared.messages.Told.{Told}
 use Rattle.tn_session.proofs.Causes.{HasFailure, has_split, failure_from, failure_last, failure_never, never_and}
 use Rattle.tn_session.proofs.Ending.{messages_from}
@@ -51,8 +51,8 @@ keys_close foretold pieces left close closes h =
     (λ x. absurd (failure_never pieces (subst Fails x.2 h)))
     closes
 
-pub read_cause : (keys_given net_given : Option (List ℕ)) (keys_foretold net_foretold : Option Failures) (from_keys from_net handled : List Mail) (keys net : View) (marked : List (Told × Mark)) → keys ≡ sender Keys from_keys → net ≡ sender Net from_net → Interleaves handled (four from_net [] [] from_keys) → (typed : KeysSends keys_given keys_foretold keys) → (read : NetSends net_given net_foretold net) → map (λ m. m.0) marked ≡ all_told handled → IsEndedAt marked (ended.Fault fault.Read) → WillFail most_reads (length typed.0) keys_foretold ⊎ WillFail most_reads (length read.0) net_foretold
-read_cause keys_given net_given keys_foretold net_foretold from_keys from_net handled keys net marked keys_is net_is woven typed read messages r =
+pub read_cause : (keys_given net_given : Option (List ℕ)) (keys_foretold net_foretold : Option Failures) (from_keys from_net handled : List Mail) (keys net : View) (marked : List (Told × Mark)) → keys ≡ sender Keys from_keys → net ≡ sender Net from_net → Interleaves handled (four from_net [] [] from_keys) → (typed : KeysSends keys_given keys_foretold keys) → (read : NetSends net_given net_foretold net) → map (λ m. m.0) marked ≡ all_told handled → (c : Run) → IsEndedAt c marked (ended.Fault fault.Read) → WillFail most_reads (length typed.0) keys_foretold ⊎ WillFail most_reads (length read.0) net_foretold
+read_cause keys_given net_given keys_foretold net_foretold from_keys from_net handled keys net marked keys_is net_is woven typed read messages c r =
     let who = failure_from handled (failure_told marked r.before r.last r.after handled r.whole messages r.ends) in
     by who.0 who.1
   where
@@ -73,8 +73,8 @@ by_false is marked before last after whole e = ap (all_by is) whole ∙ at befor
     at [] = ap (λ (b : Bool). b && all_by is after) e
     at ((m, k) ∷ ms) = never_and (is k) (all_by is (ms ++ last ∷ after)) (at ms)
 
-pub write_cause : (p q r t : Option Calls) (marked : List (Told × Mark)) → Tells (all_by no_write_failed marked) p q → Tells (all_by no_show_failed marked) r t → IsEndedAt marked (ended.Fault fault.Write) → SomeFailed most_writes p q ⊎ SomeFailed most_writes r t
-write_cause p q r t marked tells shows at =
+pub write_cause : (p q r t : Option Calls) (marked : List (Told × Mark)) → Tells (all_by no_write_failed marked) p q → Tells (all_by no_show_failed marked) r t → (c : Run) → IsEndedAt c marked (ended.Fault fault.Write) → SomeFailed most_writes p q ⊎ SomeFailed most_writes r t
+write_cause p q r t marked tells shows c at =
     ⊎_elim
     (λ e. inl (some_failed most_writes (all_by no_write_failed marked) p q tells (by_false no_write_failed marked at.before at.last at.after at.whole (ap no_write_failed e))))
     (λ e. inr (some_failed most_writes (all_by no_show_failed marked) r t shows (by_false no_show_failed marked at.before at.last at.after at.whole (ap no_show_failed e))))

@@ -123,6 +123,6 @@ client_ran core last keys_given net_given keys_foretold net_foretold x y u v p q
       all_shown = g.4.2;
       report_is = is;
       caused = caused;
-      read_failed = λ e. read_cause keys_given net_given keys_foretold net_foretold ks.mails ns.mails acted.handled k' n' acted.goes.marked s.1 s.0 woven typed read acted.goes.whole (caused fault.Read e);
-      write_failed = λ e. write_cause p q r t acted.goes.marked acted.goes.tells acted.goes.tells_shown (caused fault.Write e);
+      read_failed = λ e. read_cause keys_given net_given keys_foretold net_foretold ks.mails ns.mails acted.handled k' n' acted.goes.marked s.1 s.0 woven typed read acted.goes.whole begin (caused fault.Read e);
+      write_failed = λ e. write_cause p q r t acted.goes.marked acted.goes.tells acted.goes.tells_shown begin (caused fault.Write e);
     }

@@ -18,7 +18,7 @@ use Rattle.tn_session.specs.Mailbox.{same, from, sender, mail}
 use Rattle.tn_session.specs.Queue.{taker}
 use Rattle.tn_session.specs.Reading.{IsEnding, IsReadCause, most_reads, pieces_of}
 use Rattle.tn_session.specs.Session.{Schedule, HearsReader, TakesEntries}
-use Rattle.tn_session.specs.Stepping.{IsClose, step_said}
+use Rattle.tn_session.specs.Stepping.{BackJobs, IsClose, step_said}
 use Rattle.tn_session.specs.Talk.{Closes, turns_said, entries_of, ends_done}
 use Rattle.tn_session.specs.Turns.{messages_of, most_writes}
 use Rattle.tn_session.specs.declared.channels.View.{View}
@@ -234,7 +234,7 @@ known_left bytes stream (Some rest) c = (rest, c, λ at. at)
 
 -- A SESSION
 
-module _ {J : Type 0} {fresh : J → Type 0} {reacts : J → Entry → Reaction → J → Type 0} {steps : J → Reaction → J → Type 0} {first : JobId} {others : List ℕ} {canon : Canon} {editing : Editing} {jobs : Jobs} {given : Option (List ℕ)} {foretold : Option Failures} {old new : Option (List ℕ)} {told_old told_new : Option Calls} {report : Report} {net desk back term : View} {put took : Hand}
+module _ {J : Type 0} {fresh : J → Type 0} {reacts : J → Entry → Reaction → J → Type 0} {steps : J → Reaction → J → Type 0} {first : JobId} {others : BackJobs} {canon : Canon} {editing : Editing} {jobs : Jobs} {given : Option (List ℕ)} {foretold : Option Failures} {old new : Option (List ℕ)} {told_old told_new : Option Calls} {report : Report} {net desk back term : View} {put took : Hand}
     (s : Schedule {J = J} fresh reacts steps first others canon editing jobs given foretold old new told_old told_new report net desk back term put took) where
   abbrev pub messages : List Message
   messages = map (λ m. m.0) s.marked

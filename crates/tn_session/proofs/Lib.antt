@@ -9,6 +9,7 @@ pub mod Going
 pub mod Lefts
 pub mod Sent
 pub mod Numbering
+pub mod Makers
 pub mod Whole
 pub mod Causes
 pub mod Ending

@@ -69,7 +69,7 @@ sent_by s ms all v n e is =
 
 -- a thread that reads
 pub reader_sent : (who : Sender) (may_stop : Bool) (given : Option (List ℕ)) (foretold : Option Failures) (v : View) → ReaderSends who may_stop given foretold v → Sent who v
-reader_sent who may_stop given foretold v (pieces, left, close, consumed, closes, is) =
+reader_sent who may_stop given foretold v (pieces, left, close, consumed, closes, is, small) =
     let read = pieces_of pieces in
     let P : List Message → Type 0 = λ ms. v ≡ sender who (map (mail who) (read ++ ms)) in
     ⊎_elim

@@ -1,18 +1,22 @@
 -- One more step of a background job.
-use Rattle.std.proofs.Common.{◌≡◌, ℕ, ◌==◌, Bool, true, false, List, [], ◌∷◌, ◌++◌, ◌⊎◌, ⊎_elim, inl, inr, map, append_assoc, Option, Some, None, IfSome, refl, sym, ap, ◌∙◌, subst, if◌then◌else◌, eq-eqb, eqb-true}
+use Rattle.std.proofs.Common.{◌≡◌, ℕ, ◌==◌, Bool, true, false, not, List, [], ◌∷◌, ◌++◌, ◌⊎◌, ⊎_elim, inl, inr, map, drop, length, length-drop, arith, ◌<◌, Result, Ok, Err, append_assoc, Option, Some, None, IfSome, refl, sym, ap, ◌∙◌, subst, if◌then◌else◌, eq-eqb, eqb-true}
 use Rattle.std.proofs.lemmas.Fn.{FoldsTo-push}
 use Rattle.std.specs.List.{FoldsTo}
+use Rattle.std.specs.Result.{is_ok, is_err}
+use Rattle.tn_jobs.specs.Judging.{judged}
 use Rattle.tn_jobs.specs.declared.held_jobs.JobId.{JobId}
+use Rattle.tn_jobs.specs.declared.verdicts.JobState.TheVariants as job
 use Rattle.tn_session.specs.declared.back.Runner.{Runner}
 use Rattle.tn_jobs.specs.declared.reactions.Reaction.{Reaction}
-use Rattle.tn_session.specs.Stepping.{IsIn, AreBy, Steps, AreSteps, reactions_of, step_said}
+use Rattle.tn_session.specs.Stepping.{IsIn, AreBy, Steps, AreSteps, LeavesLast, reactions_of, step_said, leaves_in_background, stays}
 use Rattle.tn_session.specs.Mailbox.{sender, mail}
 use Rattle.tn_session.specs.declared.channels.View.{View}
 use Rattle.tn_session.specs.declared.mail.Mail.{Mail}
 use Rattle.tn_session.specs.declared.mail.Sender.TheVariants.{Back}
+use Rattle.tn_term.specs.Run.{has_text}
 use Rattle.tn_term.specs.declared.messages.Message.{Message}
 use Rattle.tn_term.specs.declared.messages.Message.TheVariants.{Refused, Left}
-use Rattle.tn_session.specs.Turning.{ids_of, AreApart, EachFresh, IsLine, Chain, EachRuns, Running, AdvancesLine}
+use Rattle.tn_session.specs.Turning.{ids_of, AreApart, EachFresh, IsLine, Chain, EachRuns, AllStay, EachStays, Running, StandsNext, AdvancesLine}
 
 abbrev Said : Type 0
 Said = JobId × Reaction
@@ -33,7 +37,17 @@ other-push : (said : List Said) (s : Said) (id : ℕ) → (s.0.0 == id) ≡ fals
 other-push [] s id e = ap (λ (b : Bool). if b then s.1 ∷ [] else []) e
 other-push (x ∷ said) s id e = one_more (x.0.0 == id) x.1 _ _ (other-push said s id e)
 
-module _ {J : Type 0} (fresh : J → Type 0) (steps : J → Reaction → J → Type 0) (ids : List ℕ) where
+-- one more after those that all left the job in the background
+last-push : (tostop : Bool) (xs : List Reaction) (x : Reaction) → AllStay tostop xs → LeavesLast tostop (xs ++ x ∷ [])
+last-push tostop [] x all = tt
+last-push tostop (y ∷ []) x all = (all.0, tt)
+last-push tostop (y ∷ z ∷ xs) x all = (all.0, last-push tostop (z ∷ xs) x all.1)
+
+all-push : (tostop : Bool) (xs : List Reaction) (x : Reaction) → AllStay tostop xs → stays tostop x ≡ true → AllStay tostop (xs ++ x ∷ [])
+all-push tostop [] x all on = (on, tt)
+all-push tostop (y ∷ xs) x all on = (all.0, all-push tostop xs x all.1 on)
+
+module _ {J : Type 0} (fresh : J → Type 0) (steps : J → Reaction → J → Type 0) (tostop : Bool) (ids : List ℕ) where
   by-push : (said : List Said) (s : Said) → IsIn s.0.0 ids → AreBy ids said → AreBy ids (said ++ s ∷ [])
   by-push [] s i b = (i, tt)
   by-push (x ∷ said) s i b = (b.0, by-push said s i b.1)
@@ -89,29 +103,67 @@ module _ {J : Type 0} (fresh : J → Type 0) (steps : J → Reaction → J → T
   fresh_steps [] f id i = absurd i
   fresh_steps (r ∷ rs) f id i = ⊎_elim (λ e. (r.job, r.job, f.0, refl)) (λ later. fresh_steps rs f.1 id later) i
 
-  pub advanced : (said : List Said) (old new : List (Runner J)) (id : JobId) (reaction : Reaction) → Running fresh steps ids said old → AdvancesLine steps old id reaction new → Running fresh steps ids (said ++ (id, reaction) ∷ []) new
-  advanced said old new id reaction run a =
+  -- of those in the line that made no step nothing changes
+  stay_on : (said : List Said) (s : Said) (line : List (Runner J)) → (IsIn s.0.0 (ids_of line) → ⊥) → EachStays tostop said line → EachStays tostop (said ++ s ∷ []) line
+  stay_on said s [] none e = tt
+  stay_on said s (r ∷ rs) none e =
+      let P : List Reaction → Type 0 = λ xs. AllStay tostop xs in
+      (subst P (sym (other-push said s r.id.0 (is_other s.0.0 r.id.0 (λ same. none (inl same))))) e.0, stay_on said s rs (λ i. none (inr i)) e.1)
+
+  stay-push : (said : List Said) (line : List (Runner J)) (r : Runner J) → AllStay tostop (reactions_of r.id.0 said) → EachStays tostop said line → EachStays tostop said (line ++ r ∷ [])
+  stay-push said [] r all e = (all, tt)
+  stay-push said (x ∷ line) r all e = (e.0, stay-push said line r all e.1)
+
+  leave_of : (said : List Said) (s : Said) → AllStay tostop (reactions_of s.0.0 said) → (other : ℕ) → LeavesLast tostop (reactions_of other said) → (b : Bool) → (other == s.0.0) ≡ b → LeavesLast tostop (reactions_of other (said ++ s ∷ []))
+  leave_of said s all other old true e =
+      let P : List Reaction → Type 0 = λ xs. LeavesLast tostop xs in
+      let Q : ℕ → Type 0 = λ n. LeavesLast tostop (reactions_of n (said ++ s ∷ [])) in
+      subst Q (sym (eqb-true other s.0.0 e)) (subst P (sym (same-push said s s.0.0 (eq-eqb s.0.0 s.0.0 refl))) (last-push tostop (reactions_of s.0.0 said) s.1 all))
+  leave_of said s all other old false e =
+      let P : List Reaction → Type 0 = λ xs. LeavesLast tostop xs in
+      subst P (sym (other-push said s other (is_other s.0.0 other (λ same. let t = eq-eqb other s.0.0 (sym same) in cc)))) old
+
+  none_left : (line : List (Runner J)) → EachStays tostop [] line
+  none_left [] = tt
+  none_left (r ∷ rs) = (tt, none_left rs)
+
+  -- the job stands in the line no more, or last
+  gone_or_last : (on refused : Bool) (rest new : List (Runner J)) (r : Runner J) → StandsNext on refused rest r new → (new ≡ rest) ⊎ ((on ≡ true) × (new ≡ rest ++ r ∷ []))
+  gone_or_last true false rest new r e = inr (refl, e)
+  gone_or_last true true rest new r e = inl e
+  gone_or_last false refused rest new r e = inl e.1
+
+  pub advanced : (said : List Said) (old new : List (Runner J)) (id : JobId) (reaction : Reaction) (refused : Bool) → Running fresh steps tostop ids said old → AdvancesLine steps tostop old id reaction refused new → Running fresh steps tostop ids (said ++ (id, reaction) ∷ []) new
+  advanced said old new id reaction refused run a =
       let s : Said = (id, reaction) in
-      let P : List (Runner J) → Type 0 = λ l. EachRuns fresh steps ids said l × AreApart (ids_of l) in
-      let here = subst P a.was (run.runs, run.apart) in
-      let Q : JobId → Type 0 = λ i. IsIn i.0 ids × Chain fresh steps said i.0 a.runner.job × (IsIn i.0 (ids_of a.rest) → ⊥) in
-      let mine = subst Q (sym a.number) (here.0.0, here.0.1, here.1.0) in
+      let P : List (Runner J) → Type 0 = λ l. EachRuns fresh steps ids said l × AreApart (ids_of l) × EachStays tostop said l in
+      let here = subst P a.was (run.runs, run.apart, run.stay) in
+      let Q : JobId → Type 0 = λ i. IsIn i.0 ids × Chain fresh steps said i.0 a.runner.job × (IsIn i.0 (ids_of a.rest) → ⊥) × AllStay tostop (reactions_of i.0 said) in
+      let mine = subst Q (sym a.number) (here.0.0, here.0.1, here.1.0, here.2.0) in
       let next = chain_on said s a.runner.job a.job mine.1 a.step in
       let rest = runs_stay said s a.rest mine.2 here.0.2 in
-      let R : List (Runner J) → Type 0 = λ l. EachRuns fresh steps ids (said ++ s ∷ []) l × AreApart (ids_of l) in
-      let after = ⊎_elim (λ gone. subst R (sym gone) (rest, here.1.1)) (λ last. subst R (sym last) (runs-push (said ++ s ∷ []) a.rest (record { id = id; job = a.job }) mine.0 next rest, apart-push a.rest (record { id = id; job = a.job }) mine.2 here.1.1)) a.left in
+      let on = stay_on said s a.rest mine.2 here.2.1 in
+      let last : Runner J = record { id = id; job = a.job } in
+      let W : List Reaction → Type 0 = λ xs. AllStay tostop xs in
+      let stands = λ (keeps : stays tostop reaction ≡ true). subst W (sym (same-push said s id.0 (eq-eqb id.0 id.0 refl))) (all-push tostop (reactions_of id.0 said) reaction mine.3 keeps) in
+      let R : List (Runner J) → Type 0 = λ l. EachRuns fresh steps ids (said ++ s ∷ []) l × AreApart (ids_of l) × EachStays tostop (said ++ s ∷ []) l in
+      let after = ⊎_elim (λ gone. subst R (sym gone) (rest, here.1.1, on)) (λ stood. subst R (sym stood.1) (runs-push (said ++ s ∷ []) a.rest last mine.0 next rest, apart-push a.rest last mine.2 here.1.1, stay-push (said ++ s ∷ []) a.rest last (stands stood.0) on)) (gone_or_last (stays tostop reaction) refused a.rest new last a.left) in
       record {
         by = by-push said s mine.0 run.by;
+        leave = λ other i. leave_of said s mine.3 other (run.leave other i) (other == id.0) refl;
+        stay = after.2;
         each = λ other i. each_of said s a.job next other (run.each other i) (other == id.0) refl;
         runs = after.0;
         apart = after.1;
       }
 
-pub running_first : {J : Type 0} (fresh : J → Type 0) (steps : J → Reaction → J → Type 0) (line : List (Runner J)) → IsLine fresh line → Running fresh steps (ids_of line) [] line
-running_first fresh steps line l = record {
+pub running_first : {J : Type 0} (fresh : J → Type 0) (steps : J → Reaction → J → Type 0) (tostop : Bool) (line : List (Runner J)) → IsLine fresh line → Running fresh steps tostop (ids_of line) [] line
+running_first fresh steps tostop line l = record {
   by = tt;
-  each = fresh_steps fresh steps (ids_of line) line l.0;
-  runs = runs_fresh fresh steps (ids_of line) line (λ id i. i) l.0;
+  leave = λ id i. tt;
+  stay = none_left fresh steps tostop (ids_of line) line;
+  each = fresh_steps fresh steps tostop (ids_of line) line l.0;
+  runs = runs_fresh fresh steps tostop (ids_of line) line (λ id i. i) l.0;
   apart = l.1;
 }
 
@@ -131,17 +183,46 @@ role ms v e = (map (mail Back) ms, e)
 pub said_step : (ss : List Said) (s : Said) (v : View) → v ≡ sender Back (map (mail Back) (map step_said ss ++ step_said s ∷ [])) → v ≡ sender Back (map (mail Back) (map step_said (ss ++ s ∷ [])))
 said_step ss s v e = e ∙ ap (λ (ms : List Message). sender Back (map (mail Back) ms)) (sym (map-push step_said ss s))
 
-pub closes_left : {J : Type 0} (fresh : J → Type 0) (steps : J → Reaction → J → Type 0) (ids : List ℕ) (ss : List Said) (line : List (Runner J)) (v : View) → Running fresh steps ids ss line → v ≡ sender Back (map (mail Back) (map step_said ss ++ Left ∷ [])) → AreSteps {J = J} fresh steps ids v
-closes_left fresh steps ids ss line v r e = (ss, Left ∷ [], inl refl, e, r.by, r.each)
+pub closes_left : {J : Type 0} (fresh : J → Type 0) (steps : J → Reaction → J → Type 0) (tostop : Bool) (ids : List ℕ) (ss : List Said) (line : List (Runner J)) (v : View) → Running fresh steps tostop ids ss line → v ≡ sender Back (map (mail Back) (map step_said ss ++ Left ∷ [])) → AreSteps {J = J} fresh steps (record { ids = ids; tostop = tostop }) v
+closes_left fresh steps tostop ids ss line v r e = (ss, Left ∷ [], inl refl, e, r.by, r.each, r.leave)
 
-pub closes_refused : {J : Type 0} (fresh : J → Type 0) (steps : J → Reaction → J → Type 0) (ids : List ℕ) (ss : List Said) (line : List (Runner J)) (v : View) → Running fresh steps ids ss line → v ≡ sender Back (map (mail Back) ((map step_said ss ++ Refused ∷ []) ++ Left ∷ [])) → AreSteps {J = J} fresh steps ids v
-closes_refused fresh steps ids ss line v r e =
-    (ss, Refused ∷ Left ∷ [], inr refl, e ∙ ap (λ (ms : List Message). sender Back (map (mail Back) ms)) (append_assoc (map step_said ss) (Refused ∷ []) (Left ∷ [])), r.by, r.each)
+pub closes_refused : {J : Type 0} (fresh : J → Type 0) (steps : J → Reaction → J → Type 0) (tostop : Bool) (ids : List ℕ) (ss : List Said) (line : List (Runner J)) (v : View) → Running fresh steps tostop ids ss line → v ≡ sender Back (map (mail Back) ((map step_said ss ++ Refused ∷ []) ++ Left ∷ [])) → AreSteps {J = J} fresh steps (record { ids = ids; tostop = tostop }) v
+closes_refused fresh steps tostop ids ss line v r e =
+    (ss, Refused ∷ Left ∷ [], inr refl, e ∙ ap (λ (ms : List Message). sender Back (map (mail Back) ms)) (append_assoc (map step_said ss) (Refused ∷ []) (Left ∷ [])), r.by, r.each, r.leave)
 
 pub if_some : {A : Type 0} (P Q : A → Type 0) (o : Option A) → IfSome o P → ((x : A) → P x → Q x) → IfSome o Q
 if_some P Q (Some x) h f = f x h
 if_some P Q None h f = tt
 
-pub kept_or_gone : {J : Type 0} (b : Bool) (xs new : List (Runner J)) (r : Runner J) → new ≡ (if b then xs ++ r ∷ [] else xs) → (new ≡ xs) ⊎ (new ≡ xs ++ r ∷ [])
-kept_or_gone true xs new r e = inr e
-kept_or_gone false xs new r e = inl e
+-- a job that runs on stands last, if memory for that was found
+pub kept_on : {J : Type 0} (on found refused : Bool) (xs new : List (Runner J)) (r : Runner J) → on ≡ true → refused ≡ not found → new ≡ (if found then xs ++ r ∷ [] else xs) → StandsNext on refused xs r new
+kept_on on found refused xs new r e f n = rw (e, f) (by found n)
+  where
+    by : (b : Bool) → new ≡ (if b then xs ++ r ∷ [] else xs) → StandsNext true (not b) xs r new
+    by true m = m
+    by false m = m
+
+pub let_go : {J : Type 0} (on : Bool) (xs : List (Runner J)) (r : Runner J) → on ≡ false → StandsNext on false xs r xs
+let_go on xs r e = rw e (refl, refl)
+
+-- where none was first, the line is empty
+pub none_first : {A : Type 0} (old new : List A) → old ≡ new → new ≡ drop 1 old → old ≡ []
+none_first [] new e f = refl
+none_first (x ∷ xs) new e f =
+    let g = ap length (e ∙ f) in
+    let h = length-drop 1 (x ∷ xs) in
+    let some : 0 < length (x ∷ xs) = grind arith in
+    let none : ⊥ = omega (arith, g, h, some) in
+    absurd none
+
+text_is : (xs : List ℕ) → has_text xs ≡ not (length xs == 0)
+text_is [] = refl
+text_is (x ∷ xs) = grind arith
+
+-- whether the job stays, as it was judged
+pub stays_is : (tostop : Bool) (r : Reaction) (text : List ℕ) (empty on : Bool) → text ≡ r.text → empty ≡ (length text == 0) → on ≡ leaves_in_background (judged job.Background (not empty) r.after tostop) → stays tostop r ≡ on
+stays_is tostop r text empty on e f g = sym (g ∙ ap (λ (b : Bool). leaves_in_background (judged job.Background b r.after tostop)) (ap not f ∙ sym (text_is text) ∙ ap has_text e))
+
+pub err_not_ok : {A E : Type 0} (r : Result A E) → is_err r ≡ not (is_ok r)
+err_not_ok (Ok x) = refl
+err_not_ok (Err e) = refl

@@ -1,5 +1,5 @@
 -- A whole session: its passes joined, and what its threads did.
-use Rattle.std.proofs.Common.{◌≡◌, ℕ, ◌+◌, ◌≤◌, Bool, true, false, ◌&&◌, List, [], ◌∷◌, ◌++◌, Option, Some, None, IfSome, Result, Ok, Err, IfOk, refl, sym, ap, ◌∙◌, ⊎_elim, map, subst, append-nil, append_assoc, arith}
+use Rattle.std.proofs.Common.{◌≡◌, ℕ, ◌+◌, ◌≤◌, Bool, true, false, ◌&&◌, List, [], ◌∷◌, ◌++◌, Option, Some, None, Result, Ok, Err, IfOk, refl, sym, ap, ◌∙◌, ⊎_elim, map, subst, append-nil, append_assoc, arith}
 use Rattle.std.specs.Io.KnownBytes.{Appends}
 use Rattle.tn_discipline.specs.Canon.{Canon}
 use Rattle.tn_discipline.specs.declared.reads.Entry.{Entry}
@@ -18,7 +18,7 @@ use Rattle.tn_session.specs.Mailbox.{Interleaves, from, four, sender, share, uni
 use Rattle.tn_session.specs.Queue.{putter, taker, joined_hands, both_hands, no_hand, LeftOver}
 use Rattle.tn_session.specs.Reading.{NetSends}
 use Rattle.tn_session.specs.Session.{IsOpening, Schedule, report_of}
-use Rattle.tn_session.specs.Stepping.{AreSteps, step_said}
+use Rattle.tn_session.specs.Stepping.{BackJobs, AreSteps, step_said}
 use Rattle.tn_session.specs.Talk.{IsTalk, Closes, turns_said}
 use Rattle.tn_session.specs.Turns.{HandlesAll, Writes, most_writes, lefts_of}
 use Rattle.tn_session.specs.declared.channels.View.{View}
@@ -106,7 +106,7 @@ desk_sent id fresh reacts v w talked = closed talked.0 talked.5
         y)
         c
 
-pub back_sent : {J : Type 0} (fresh : J → Type 0) (steps : J → Reaction → J → Type 0) (ids : List ℕ) (v : View) → AreSteps {J = J} fresh steps ids v → Sent Back v
+pub back_sent : {J : Type 0} (fresh : J → Type 0) (steps : J → Reaction → J → Type 0) (jobs : BackJobs) (v : View) → AreSteps {J = J} fresh steps jobs v → Sent Back v
 back_sent fresh steps ids v s =
     let said = map step_said s.0 in
     let stay = steps_stay s.0 in
@@ -153,7 +153,7 @@ same_history true canon editing jobs = refl
 same_history false canon editing jobs = refl
 
 -- all of a session that ran
-pub scheduled : {J : Type 0} (fresh : J → Type 0) (reacts : J → Entry → Reaction → J → Type 0) (steps : J → Reaction → J → Type 0) (first : JobId) (others : List ℕ) (words : List ℕ) (given : Option (List ℕ)) (foretold : Option Failures) (x y z : Option (List ℕ)) (r s t : Option Calls) (term mid last : Term) (pass₀ pass₁ net desk back : View) (hand₀ hand₁ took : Hand) (n' d' b' t' : View) (p' k' : Hand) (report : Report)
+pub scheduled : {J : Type 0} (fresh : J → Type 0) (reacts : J → Entry → Reaction → J → Type 0) (steps : J → Reaction → J → Type 0) (first : JobId) (others : BackJobs) (words : List ℕ) (given : Option (List ℕ)) (foretold : Option Failures) (x y z : Option (List ℕ)) (r s t : Option Calls) (term mid last : Term) (pass₀ pass₁ net desk back : View) (hand₀ hand₁ took : Hand) (n' d' b' t' : View) (p' k' : Hand) (report : Report)
     → pass₀ ≡ handler [] → hand₀ ≡ putter [] → IsOpening term words x y r s mid → HandlesAll mid pass₀ pass₁ hand₀ hand₁ y z s t last
     → NetSends given foretold net → IsTalk {J = J} first fresh reacts desk took → AreSteps {J = J} fresh steps others back
     → AreSettled pass₁ net desk back hand₁ took n' d' b' t' p' k' → report ≡ report_of last.progress

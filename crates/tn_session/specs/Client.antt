@@ -2,7 +2,7 @@
 use Rattle.std.specs.Prelude.{◌≡◌, ◌⊎◌, ℕ, true, Option, Some, None, List, [], ◌++◌, length, map}
 use Rattle.std.specs.Io.KnownBytes.{Appends, Consumes}
 use Rattle.crossbeam_channel.specs.Claims.{view, IsSeatAt}
-use Rattle.crossbeam_channel.specs.Ends.{sends_on, receives_on}
+use Rattle.crossbeam_channel.specs.Ends.{sends_on, receives_on, ruled_capacity}
 use Rattle.tn_client.specs.Replies.{items_said}
 use Rattle.tn_client.specs.Screen.{text_shown}
 use Rattle.tn_client_core.specs.Bringing.{brought, TakesInOrder}
@@ -37,9 +37,10 @@ use Rattle.tn_term.specs.declared.faults.SessionFault.TheVariants as fault
 abbrev pub core_view : List Mail → View
 core_view h = record { handled = Some h; net = None; desk = Some []; back = Some []; keys = None }
 
--- nothing was sent or handled
+-- nothing was sent or handled, and the mailbox holds 64 messages
 pub record IsReadyForTwo (m : Mailbox) : Type 0 where
   pub one_mailbox : receives_on m.from ≡ sends_on m.to
+  pub mails : ruled_capacity (sends_on m.to) ≡ 64
   pub net_to : sends_on m.net.to ≡ sends_on m.to
   pub keys_to : sends_on m.keys.to ≡ sends_on m.to
   pub pass : IsSeatAt (sends_on m.to) m.pass
@@ -79,7 +80,7 @@ pub record RunningClient (width height limit : ℕ) (keys_given net_given : Opti
   pub core_is : core.handled ≡ Some handled
   -- what was handled is an interleaving of all that was sent
   pub woven : Interleaves handled (four from_net [] [] from_keys)
-  -- the pieces are fronts of what the readers gave
+  -- the pieces are prefixes of what the readers gave
   pub typed : KeysSends keys_given keys_foretold keys
   pub read : NetSends net_given net_foretold net
   -- the run of the messages with their marks
@@ -87,7 +88,7 @@ pub record RunningClient (width height limit : ℕ) (keys_given net_given : Opti
   pub messages : map (λ m. m.0) marked ≡ all_told handled
   pub run : Run
   pub runs : Runs (start width height limit) marked run
-  -- what was typed, and the bytes from the network whose items came, are fronts of what the readers gave
+  -- what was typed, and the bytes from the network whose items came, are prefixes of what the readers gave
   pub keys_brought : IsFrontOf keys_given (brought origin.Keys (all_told handled))
   pub net_brought : IsFrontOf net_given (brought origin.Net (all_told handled))
   pub in_order : TakesInOrder (all_told handled) run
@@ -108,7 +109,8 @@ pub record RunningClient (width height limit : ℕ) (keys_given net_given : Opti
   -- the report
   pub report_is : report ≡ client_report run.progress
   -- a fault is told only where its cause was there
-  pub caused : (f : SessionFault) → report.ended ≡ Fault f → IsEndedAt marked (Fault f)
+  pub caused : (f : SessionFault) → report.ended ≡ Fault f
+      → IsEndedAt (start width height limit) marked (Fault f)
   -- that reading failed, only where a read fails, or after as many as are made
   pub read_failed : report.ended ≡ Fault fault.Read
       → WillFail most_reads (length typed.0) keys_foretold ⊎ WillFail most_reads (length read.0) net_foretold

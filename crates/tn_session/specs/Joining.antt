@@ -1,7 +1,7 @@
 -- The passes of a session, ready and put together.
 use Rattle.std.specs.Prelude.{◌≡◌, List, Option, Some, None, [], ◌++◌}
 use Rattle.crossbeam_channel.specs.Claims.{view, IsSeatAt}
-use Rattle.crossbeam_channel.specs.Ends.{sends_on, receives_on}
+use Rattle.crossbeam_channel.specs.Ends.{sends_on, receives_on, ruled_capacity}
 use Rattle.tn_discipline.specs.declared.reads.Entry.{Entry}
 use Rattle.tn_session.specs.Mailbox.{Interleaves, four, sender}
 use Rattle.tn_session.specs.Queue.{putter, taker}
@@ -10,18 +10,16 @@ use Rattle.tn_session.specs.declared.entries.Hand.{Hand}
 use Rattle.tn_session.specs.declared.mail.Mail.{Mail}
 use Rattle.tn_session.specs.declared.mail.Sender.TheVariants.{Net, Desk, Back}
 use Rattle.tn_session.specs.declared.session.Channels.{Channels}
-
--- the first of these, and then others
-abbrev pub IsPrefixOf : {A : Type 0} → List A → List A → Type 0
-IsPrefixOf {A} xs ys = (rest : List A) × (xs ++ rest ≡ ys)
+use Rattle.tn_streams.specs.Prefixes.{IsPrefixOf}
 
 -- the view of the one that handles, in a session of three senders; nobody sends as Keys
 abbrev pub handler : List Mail → View
 handler h = record { handled = Some h; net = None; desk = None; back = None; keys = Some [] }
 
--- nothing was sent, handled, put or taken
+-- nothing was sent, handled, put or taken; the mailbox holds 64 messages, and the channel of entries two
 pub record IsReady (c : Channels) : Type 0 where
   pub one_mailbox : receives_on c.ends.from ≡ sends_on c.ends.to
+  pub mails : ruled_capacity (sends_on c.ends.to) ≡ 64
   pub net_to : sends_on c.net.to ≡ sends_on c.ends.to
   pub desk_to : sends_on c.desk.to ≡ sends_on c.ends.to
   pub back_to : sends_on c.back.to ≡ sends_on c.ends.to
@@ -34,6 +32,7 @@ pub record IsReady (c : Channels) : Type 0 where
   pub desk_is : view c.desk.pass ≡ sender Desk []
   pub back_is : view c.back.pass ≡ sender Back []
   pub one_queue : receives_on c.take.from ≡ sends_on c.ends.put
+  pub entries : ruled_capacity (sends_on c.ends.put) ≡ 2
   pub hand : IsSeatAt (sends_on c.ends.put) c.hand
   pub took : IsSeatAt (sends_on c.ends.put) c.take.pass
   pub hand_is : view c.hand ≡ putter []

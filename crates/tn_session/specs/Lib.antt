@@ -7,6 +7,7 @@ pub mod Stepping
 pub mod Turning
 pub mod Turns
 pub mod Jobs
+pub mod Makers
 pub mod Joining
 pub mod Session
 pub mod Reader

@@ -1,9 +1,9 @@
 -- What a thread that reads sends, whichever it is.
-use Rattle.std.specs.Prelude.{◌≡◌, ◌≢◌, ℕ, Bool, true, List, Option, [], ◌∷◌, ◌++◌, ◌⊎◌, length, map}
+use Rattle.std.specs.Prelude.{◌≡◌, ◌≢◌, ℕ, Bool, true, List, Option, [], ◌∷◌, ◌++◌, ◌⊎◌, length, map, All}
 use Rattle.std.specs.Io.KnownBytes.{Consumes}
 use Rattle.std.specs.List.{concat}
 use Rattle.tn_session.specs.Mailbox.{mail, sender}
-use Rattle.tn_session.specs.Reading.{IsEnding, IsReadCause, pieces_of}
+use Rattle.tn_session.specs.Reading.{IsEnding, IsPiece, IsReadCause, pieces_of}
 use Rattle.tn_session.specs.declared.channels.View.{View}
 use Rattle.tn_session.specs.declared.mail.Sender.{Sender}
 use Rattle.tn_session.specs.declared.mail.Sender.TheVariants.{Keys}
@@ -22,12 +22,12 @@ Closes may_stop pieces left foretold close =
 abbrev pub sends : Sender → List Message → View
 sends who messages = sender who (map (mail who) messages)
 
--- the pieces joined are the first of the bytes that the reader gives
+-- the pieces joined are the first of the bytes that the reader gives, and each has some of them
 abbrev pub ReaderSends : Sender → Bool → Option (List ℕ) → Option Failures → View → Type 0
 ReaderSends who may_stop given foretold v =
     (pieces : List (List ℕ)) × (left : Option (List ℕ)) × (close : List Message)
     × Consumes given left (concat pieces) × Closes may_stop pieces left foretold close
-    × (v ≡ sends who (pieces_of pieces ++ close))
+    × (v ≡ sends who (pieces_of pieces ++ close)) × All IsPiece pieces
 
 -- the thread that reads a client's keys may be stopped
 abbrev pub KeysSends : Option (List ℕ) → Option Failures → View → Type 0

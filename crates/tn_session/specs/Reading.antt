@@ -1,5 +1,5 @@
 -- What the thread that reads sends.
-use Rattle.std.specs.Prelude.{◌≡◌, ℕ, List, Option, [], ◌∷◌, ◌++◌, length, map, ⊤}
+use Rattle.std.specs.Prelude.{◌≡◌, ℕ, ◌<◌, ◌≤◌, List, Option, [], ◌∷◌, ◌++◌, length, map, All, ⊤}
 use Rattle.std.specs.List.{concat}
 use Rattle.std.specs.Io.KnownBytes.{Consumes, IsAtEnd}
 use Rattle.tn_streams.specs.Foretelling.{Failures, HasCome, WillFail}
@@ -21,9 +21,13 @@ IsEnding ReadFailed left = ⊤
 IsEnding Refused left = ⊤
 IsEnding _ left = ⊥
 
+-- a piece has some bytes, and at most so many as one read asks for
+abbrev pub IsPiece : List ℕ → Type 0
+IsPiece piece = (0 < length piece) × (length piece ≤ 512)
+
 -- what one read gives
 abbrev pub Gives : Option (List ℕ) → Option (List ℕ) → Got → Type 0
-Gives old new (Bytes text) = Consumes old new text
+Gives old new (Bytes text) = Consumes old new text × IsPiece text
 Gives old new Again = Consumes old new []
 Gives old new (Last last) = Consumes old new [] × IsEnding last new
 
@@ -46,10 +50,10 @@ IsForetold old new (Bytes text) = HasCome 1 1 old new
 IsForetold old new Again = HasCome 1 0 old new
 IsForetold old new (Last last) = IsReadCause old 0 last
 
--- the pieces joined are the first of the bytes that the reader gives, and then comes how it ended,
--- for its cause
+-- the pieces joined are the first of the bytes that the reader gives, each has some of them, and then comes
+-- how it ended, for its cause
 abbrev pub NetSends : Option (List ℕ) → Option Failures → View → Type 0
 NetSends given foretold v =
     (pieces : List (List ℕ)) × (left : Option (List ℕ)) × (last : Message)
     × Consumes given left (concat pieces) × (IsEnding last left × IsReadCause foretold (length pieces) last)
-    × (v ≡ net_sends (pieces_of pieces ++ last ∷ Left ∷ []))
+    × (v ≡ net_sends (pieces_of pieces ++ last ∷ Left ∷ [])) × All IsPiece pieces

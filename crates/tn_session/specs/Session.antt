@@ -1,5 +1,5 @@
 -- The running session, of what its ports give back, for every schedule.
-use Rattle.std.specs.Prelude.{◌≡◌, ℕ, Bool, true, false, ◌&&◌, Option, Some, List, [], ◌++◌, length, map}
+use Rattle.std.specs.Prelude.{◌≡◌, ◌⊎◌, ℕ, Bool, true, false, ◌&&◌, Option, Some, List, [], ◌++◌, length, map}
 use Rattle.std.specs.Io.KnownBytes.{Appends, Consumes, IsAtEnd}
 use Rattle.crossbeam_channel.specs.Claims.{view}
 use Rattle.tn_discipline.specs.Canon.{Canon}
@@ -14,11 +14,11 @@ use Rattle.tn_server.specs.Lines.{entries}
 use Rattle.tn_server.specs.Replies.{items_said}
 use Rattle.tn_server.specs.declared.wishes.Editing.{Editing}
 use Rattle.tn_session.specs.Jobs.{Numbered}
-use Rattle.tn_session.specs.Joining.{IsPrefixOf}
+use Rattle.tn_streams.specs.Prefixes.{IsPrefixOf}
 use Rattle.tn_session.specs.Mailbox.{Interleaves, four, sender}
 use Rattle.tn_session.specs.Queue.{putter, taker}
 use Rattle.tn_session.specs.Reading.{NetSends, most_reads}
-use Rattle.tn_session.specs.Stepping.{AreSteps}
+use Rattle.tn_session.specs.Stepping.{BackJobs, AreSteps}
 use Rattle.tn_session.specs.Talk.{IsTalk}
 use Rattle.tn_session.specs.Turning.{IsLine, ids_of}
 use Rattle.tn_session.specs.Turns.{Writes, Tells, most_writes, messages_of}
@@ -50,7 +50,7 @@ use Rattle.tn_wire.specs.Fronts.{IsRead}
 abbrev pub report_of : Progress → Report
 report_of p = record { ended = p.ended; pieces = p.pieces; entries = p.entries; stops = p.stops }
 
--- why a session did not run to its report: memory is wanting, there is no first job or a thread could not be
+-- why a session did not run to its report: memory runs out, there is no first job or a thread could not be
 -- started, or a channel has no other end
 abbrev pub IsRefusal : SessionFault → Type 0
 IsRefusal fault.Memory = Unit {0}
@@ -60,6 +60,10 @@ IsRefusal fault.Read = ⊥
 IsRefusal fault.Write = ⊥
 IsRefusal (fault.Server f) = ⊥
 IsRefusal (fault.Client f) = ⊥
+
+-- once it has all that it runs on: a thread could not be started, or a channel has no other end
+abbrev pub IsOfThreads : SessionFault → Type 0
+IsOfThreads f = (f ≡ fault.Start) ⊎ (f ≡ fault.Channel)
 
 -- the opening words were written, or the first of them
 pub record IsOpening (old : Term) (words : List ℕ) (before after : Option (List ℕ))
@@ -74,7 +78,7 @@ pub record IsOpening (old : Term) (words : List ℕ) (before after : Option (Lis
 -- that these passes know, of what the terminal handled, put and wrote, and of what the foreground job took.
 pub record Schedule {J : Type 0} (fresh : J → Type 0) (reacts : J → Entry → Reaction → J → Type 0)
     (steps : J → Reaction → J → Type 0)
-    (first : JobId) (others : List ℕ) (canon : Canon) (editing : Editing) (jobs : Jobs)
+    (first : JobId) (others : BackJobs) (canon : Canon) (editing : Editing) (jobs : Jobs)
     (given : Option (List ℕ)) (foretold : Option Failures) (old new : Option (List ℕ))
     (told_old told_new : Option Calls)
     (report : Report) (net desk back term : View) (put took : Hand) : Type 0 where
@@ -89,7 +93,7 @@ pub record Schedule {J : Type 0} (fresh : J → Type 0) (reacts : J → Entry �
   pub term_is : term.handled ≡ Some handled
   -- one: what was handled is an interleaving of all that was sent
   pub woven : Interleaves handled (four from_net from_desk from_back [])
-  -- two: the pieces are a front of what the reader gave
+  -- two: the pieces are a prefix of what the reader gave
   pub read : NetSends given foretold net
   -- three: the run of the messages with their marks; what was written of what it sends, and what was put
   pub wrote_opening : Bool
@@ -115,7 +119,7 @@ pub record Schedule {J : Type 0} (fresh : J → Type 0) (reacts : J → Entry �
 
 -- wherever the terminal is at first
 abbrev pub IsRun : {J : Type 0} → (J → Type 0) → (J → Entry → Reaction → J → Type 0)
-    → (J → Reaction → J → Type 0) → JobId → List ℕ → Term → List ℕ → Option (List ℕ) → Option Failures
+    → (J → Reaction → J → Type 0) → JobId → BackJobs → Term → List ℕ → Option (List ℕ) → Option Failures
     → Option (List ℕ) → Option (List ℕ) → Option Calls → Option Calls → Report → Ports → Type 0
 IsRun fresh reacts steps first others term words given foretold old new told_old told_new report ports =
     (canon : Canon) (editing : Editing) (jobs : Jobs) → LeadsTo (start canon editing jobs) term
@@ -130,13 +134,14 @@ pub record IsBegun {J : Type 0} (fresh : J → Type 0) (canon : Canon) (editing 
   pub jobs : Jobs
   pub numbered : Numbered jobs b.posts.first (ids_of b.posts.line.items)
   pub line : IsLine fresh b.posts.line.items
+  pub tostop : b.posts.tostop ≡ canon.settings.flags.tostop
   pub job : fresh b.posts.job
   pub at : LeadsTo (start canon editing jobs) b.term
   pub words : b.out.items ≡ spells (items_said (opening canon editing))
 
 -- from after the opening words on, whatever these were
 abbrev pub RunsOn : {J : Type 0} → (J → Type 0) → (J → Entry → Reaction → J → Type 0)
-    → (J → Reaction → J → Type 0) → JobId → List ℕ → Option (List ℕ) → Option Failures
+    → (J → Reaction → J → Type 0) → JobId → BackJobs → Option (List ℕ) → Option Failures
     → Option (List ℕ) → Option (List ℕ) → Option Calls → Option Calls → Term → Report → Ports → Type 0
 RunsOn fresh reacts steps first others given foretold opened new told_opened told_new term report ports =
     (began : Term) (words : List ℕ) (old : Option (List ℕ)) (told_old : Option Calls)
@@ -169,12 +174,14 @@ pub record RunningSession {J : Type 0} (fresh : J → Type 0) (reacts : J → En
   pub first : JobId
   pub others : List ℕ
   pub numbered : Numbered jobs first others
-  pub schedule : Schedule fresh reacts steps first others canon editing jobs given foretold old new
-      told_old told_new report net desk back term put took
+  pub tostop : Bool
+  pub by_flag : tostop ≡ canon.settings.flags.tostop
+  pub schedule : Schedule fresh reacts steps first (record { ids = others; tostop = tostop }) canon editing jobs
+      given foretold old new told_old told_new report net desk back term put took
   -- two: what the run heard of the reader
   pub heard : HearsReader given report.ended schedule.run
-  -- five: what the foreground job took is a front of the run's entries, and all of them where a hang-up ended
-  -- the session; and so of those that the reader's bytes give
+  -- five: what the foreground job took is a prefix of the run's entries, and all of them where a hang-up
+  -- ended the session; and so of those that the reader's bytes give
   pub in_order : GivesFront schedule.taken schedule.run.history
   pub all_taken : report.ended ≡ HangUp → entries_put schedule.taken ≡ entries schedule.run.history
   pub by_bytes : TakesEntries canon editing given report.ended schedule.taken

@@ -1,11 +1,16 @@
 -- What the thread of the background jobs sends.
-use Rattle.std.specs.Prelude.{◌≡◌, ℕ, ◌==◌, List, [], ◌∷◌, ◌++◌, ◌⊎◌, map, if◌then◌else◌}
+use Rattle.std.specs.Prelude.{◌≡◌, ℕ, ◌==◌, Bool, true, false, Option, Some, None, List, [], ◌∷◌, ◌++◌, ◌⊎◌, map, if◌then◌else◌}
 use Rattle.std.specs.List.{FoldsTo}
+use Rattle.tn_jobs.specs.Judging.{judged}
 use Rattle.tn_jobs.specs.declared.held_jobs.JobId.{JobId}
 use Rattle.tn_jobs.specs.declared.reactions.Reaction.{Reaction}
+use Rattle.tn_jobs.specs.declared.verdicts.JobState.{JobState}
+use Rattle.tn_jobs.specs.declared.verdicts.JobState.TheVariants as job
+use Rattle.tn_jobs.specs.declared.verdicts.Verdict.{Verdict}
 use Rattle.tn_session.specs.declared.mail.Sender.TheVariants.{Back}
 use Rattle.tn_session.specs.declared.channels.View.{View}
 use Rattle.tn_session.specs.Mailbox.{mail, sender}
+use Rattle.tn_term.specs.Run.{has_text}
 use Rattle.tn_term.specs.declared.messages.Message.{Message}
 use Rattle.tn_term.specs.declared.messages.Message.TheVariants.{Said, Refused, Left}
 
@@ -36,9 +41,36 @@ abbrev pub AreBy : List ℕ → List (JobId × Reaction) → Type 0
 AreBy ids [] = Unit {0}
 AreBy ids (s ∷ ss) = IsIn s.0.0 ids × AreBy ids ss
 
--- of these jobs: each step is one of theirs, those of each go through its states, and then comes the close
-abbrev pub AreSteps : {J : Type 0} → (J → Type 0) → (J → Reaction → J → Type 0) → List ℕ → View → Type 0
-AreSteps {J} fresh steps ids v =
+abbrev pub is_background : JobState → Bool
+is_background job.Background = true
+is_background job.Foreground = false
+is_background (job.Stopped why) = false
+is_background job.Ended = false
+
+abbrev pub leaves_in_background : Option Verdict → Bool
+leaves_in_background None = false
+leaves_in_background (Some v) = is_background v.next
+
+-- a job that runs in the background still does after this reaction
+abbrev pub stays : Bool → Reaction → Bool
+stays tostop r = leaves_in_background (judged job.Background (has_text r.text) r.after tostop)
+
+-- none of a job's steps but the last may take it out of the background: it makes none after that
+abbrev pub LeavesLast : Bool → List Reaction → Type 0
+LeavesLast tostop [] = Unit {0}
+LeavesLast tostop (r ∷ []) = Unit {0}
+LeavesLast tostop (r ∷ next ∷ rs) = (stays tostop r ≡ true) × LeavesLast tostop (next ∷ rs)
+
+-- the background jobs by their numbers, and whether a text stops one (the flag TOSTOP of the terminal)
+pub record BackJobs : Type 0 where
+  pub ids : List ℕ
+  pub tostop : Bool
+
+-- of these jobs: each step is one of theirs, those of each go through its states, no job makes one after it was
+-- judged out of the background, and then comes the close
+abbrev pub AreSteps : {J : Type 0} → (J → Type 0) → (J → Reaction → J → Type 0) → BackJobs → View → Type 0
+AreSteps {J} fresh steps jobs v =
     (said : List (JobId × Reaction)) × (close : List Message) × IsClose close
     × (v ≡ sender Back (map (mail Back) (map step_said said ++ close)))
-    × AreBy ids said × ((id : ℕ) → IsIn id ids → Steps {J = J} fresh steps said id)
+    × AreBy jobs.ids said × ((id : ℕ) → IsIn id jobs.ids → Steps {J = J} fresh steps said id)
+    × ((id : ℕ) → IsIn id jobs.ids → LeavesLast jobs.tostop (reactions_of id said))

@@ -1,16 +1,19 @@
 -- The background jobs that run, in a line.
-use Rattle.std.specs.Prelude.{◌≡◌, ℕ, ◌⊎◌, List, [], ◌∷◌, ◌++◌}
+use Rattle.std.specs.Prelude.{◌≡◌, ℕ, Bool, true, false, List, [], ◌∷◌, ◌++◌}
 use Rattle.std.specs.List.{FoldsTo}
 use Rattle.tn_jobs.specs.declared.held_jobs.JobId.{JobId}
 use Rattle.tn_session.specs.declared.back.Runner.{Runner}
 use Rattle.tn_session.specs.declared.back.Turn.{Turn}
 use Rattle.tn_session.specs.declared.back.Turn.TheVariants.{Idle, Refused, Did}
 use Rattle.tn_jobs.specs.declared.reactions.Reaction.{Reaction}
-use Rattle.tn_session.specs.Stepping.{IsIn, AreBy, Steps, reactions_of}
+use Rattle.tn_session.specs.Stepping.{IsIn, AreBy, Steps, BackJobs, LeavesLast, reactions_of, stays}
 
 abbrev pub ids_of : {J : Type 0} → List (Runner J) → List ℕ
 ids_of [] = []
 ids_of (r ∷ rs) = r.id.0 ∷ ids_of rs
+
+abbrev pub line_of : {J : Type 0} → Bool → List (Runner J) → BackJobs
+line_of tostop line = record { ids = ids_of line; tostop = tostop }
 
 abbrev pub AreApart : List ℕ → Type 0
 AreApart [] = Unit {0}
@@ -35,26 +38,47 @@ EachRuns fresh steps ids said [] = Unit {0}
 EachRuns fresh steps ids said (r ∷ rs) =
     IsIn r.id.0 ids × Chain fresh steps said r.id.0 r.job × EachRuns fresh steps ids said rs
 
-pub record Running {J : Type 0} (fresh : J → Type 0) (steps : J → Reaction → J → Type 0) (ids : List ℕ)
-    (said : List (JobId × Reaction)) (line : List (Runner J)) : Type 0 where
+-- all of them left the job in the background
+abbrev pub AllStay : Bool → List Reaction → Type 0
+AllStay tostop [] = Unit {0}
+AllStay tostop (r ∷ rs) = (stays tostop r ≡ true) × AllStay tostop rs
+
+-- and so of each job that is still in the line
+abbrev pub EachStays : {J : Type 0} → Bool → List (JobId × Reaction) → List (Runner J) → Type 0
+EachStays tostop said [] = Unit {0}
+EachStays tostop said (r ∷ rs) = AllStay tostop (reactions_of r.id.0 said) × EachStays tostop said rs
+
+pub record Running {J : Type 0} (fresh : J → Type 0) (steps : J → Reaction → J → Type 0) (tostop : Bool)
+    (ids : List ℕ) (said : List (JobId × Reaction)) (line : List (Runner J)) : Type 0 where
   pub by : AreBy ids said
+  pub leave : (id : ℕ) → IsIn id ids → LeavesLast tostop (reactions_of id said)
+  pub stay : EachStays tostop said line
   pub each : (id : ℕ) → IsIn id ids → Steps {J = J} fresh steps said id
   pub runs : EachRuns fresh steps ids said line
   pub apart : AreApart (ids_of line)
 
--- The first of the line made a step, and stands last now or no more.
-pub record AdvancesLine {J : Type 0} (steps : J → Reaction → J → Type 0) (old : List (Runner J)) (id : JobId)
-    (reaction : Reaction) (new : List (Runner J)) : Type 0 where
+-- The job that made a step stands last as long as it runs in the background, unless memory for that was
+-- wanting; one that was judged out of it stands in the line no more.
+abbrev pub StandsNext : {J : Type 0} → Bool → Bool → List (Runner J) → Runner J → List (Runner J) → Type 0
+StandsNext true false rest runner new = new ≡ rest ++ runner ∷ []
+StandsNext true true rest runner new = new ≡ rest
+StandsNext false refused rest runner new = (refused ≡ false) × (new ≡ rest)
+
+-- The first of the line made a step.
+pub record AdvancesLine {J : Type 0} (steps : J → Reaction → J → Type 0) (tostop : Bool)
+    (old : List (Runner J)) (id : JobId) (reaction : Reaction) (refused : Bool) (new : List (Runner J)) : Type 0 where
   pub runner : Runner J
   pub rest : List (Runner J)
   pub job : J
   pub was : old ≡ runner ∷ rest
   pub number : id ≡ runner.id
   pub step : steps runner.job reaction job
-  pub left : (new ≡ rest) ⊎ (new ≡ rest ++ record { id = id; job = job } ∷ [])
+  pub left : StandsNext (stays tostop reaction) refused rest (record { id = id; job = job }) new
 
-abbrev pub TakesTurn : {J : Type 0} → (J → Reaction → J → Type 0) → List (Runner J) → Turn → List (Runner J)
-    → Type 0
-TakesTurn steps old Idle new = Unit {0}
-TakesTurn steps old Refused new = Unit {0}
-TakesTurn steps old (Did id reaction refused) new = AdvancesLine steps old id reaction new
+-- no job makes a step only where none runs; memory runs out only for one that does
+abbrev pub TakesTurn : {J : Type 0} → (J → Reaction → J → Type 0) → Bool → List (Runner J) → Turn
+    → List (Runner J) → Type 0
+TakesTurn steps tostop old Idle new = old ≡ []
+TakesTurn {J} steps tostop old Refused new = (runner : Runner J) × (old ≡ runner ∷ new)
+TakesTurn steps tostop old (Did id reaction refused) new =
+    AdvancesLine steps tostop old id reaction refused new

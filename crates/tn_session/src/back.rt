@@ -4,8 +4,10 @@ ghost use Rattle.std.specs.Prelude.{◌≡◌, List, [], ◌++◌, ◌∷◌, If
 ghost use Rattle.crossbeam_channel.specs.Claims.{view, IsSeatAt};
 ghost use Rattle.crossbeam_channel.specs.Ends.{sends_on};
 ghost use Rattle.tn_session.specs.Mailbox.{sender};
-ghost use Rattle.tn_session.specs.Stepping.{AreSteps};
-ghost use Rattle.tn_session.specs.Turning.{IsLine, ids_of, TakesTurn};
+ghost use Rattle.tn_session.specs.Stepping.{AreSteps, is_background, leaves_in_background};
+ghost use Rattle.tn_jobs.specs.Judging.{judged};
+ghost use Rattle.tn_jobs.specs.declared.verdicts.JobState.TheVariants as state;
+ghost use Rattle.tn_session.specs.Turning.{IsLine, line_of, TakesTurn};
 ghost use Rattle.tn_session.specs.declared.mail.Sender.TheVariants.{Back};
 
 use crate::channels::{MailPass, MailSender};
@@ -16,7 +18,7 @@ use std::alloc::Global;
 use std::collections::VecDeque;
 use std::sync::Wait;
 use std::sync::atomic::{AtomicBool, Ordering};
-use tn_jobs::{After, Job, JobId, JobState, Reaction, Verdict, judge};
+use tn_jobs::{After, Job, JobId, JobState, Reaction, judge};
 use tn_term::Message;
 
 /// A background job that runs.
@@ -27,15 +29,21 @@ pub(crate) struct Runner<J> {
 }
 
 // Whether the job still runs in the background after this reaction.
-fn goes_on(has_text: bool, after: After, tostop: bool) -> bool {
+fn goes_on(has_text: bool, after: After, tostop: bool) -> bool
+    ensures { result ≡ leaves_in_background (judged state.Background has_text after tostop) }
+{
     match judge(JobState::Background, has_text, after, tostop) {
-        Some(
-            Verdict {
-                write: _,
-                next: JobState::Background,
-            },
-        ) => true,
-        _ => false,
+        Some(verdict) => is_background(verdict.next),
+        None => false,
+    }
+}
+
+fn is_background(job: JobState) -> bool
+    ensures { result ≡ is_background job }
+{
+    match job {
+        JobState::Background => true,
+        JobState::Foreground | JobState::Stopped(_) | JobState::Ended => false,
     }
 }
 
@@ -46,7 +54,7 @@ enum Turn {
     Idle,
     // The first job found no memory.
     Refused,
-    // The first job made this step. Where it runs on and no memory for that is found, it is let go.
+    // The first job made this step. Where it runs on and memory for that runs out, it is dropped.
     Did {
         id: JobId,
         reaction: Reaction,
@@ -55,7 +63,7 @@ enum Turn {
 }
 
 fn advance<J: Job>(line: &mut VecDeque<Runner<J>>, alloc: Global, tostop: bool) -> Turn
-    ensures { TakesTurn J.steps line.old.items result line.new.items }
+    ensures { TakesTurn J.steps tostop line.old.items result line.new.items }
 {
     let Some(Runner { id, mut job }) = line.pop_front() else {
         return Turn::Idle;
@@ -93,7 +101,7 @@ pub(crate) fn run_back<R: Wait, J: Job, G: Gate>(
     requires mailbox { IsSeatAt (sends_on to.now) pass × (view pass ≡ sender Back []) }
     requires jobs { IsLine J.fresh line.items }
     ensures seat { IfSome result (λ p. IsSeatAt (sends_on to.now) p) }
-    ensures stepped { IfSome result (λ p. AreSteps J.fresh J.steps (ids_of line.items) (view p)) }
+    ensures stepped { IfSome result (λ p. AreSteps J.fresh J.steps (line_of tostop line.items) (view p)) }
 {
     for _ in rt.forever() {
         if stop.load(Ordering::SeqCst) {

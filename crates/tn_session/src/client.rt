@@ -1,9 +1,10 @@
 //! A running client session, from its first key to its report.
 
-ghost use Rattle.std.specs.Prelude.{◌≡◌, [], IfOk, IfSome};
+ghost use Rattle.std.specs.Prelude.{◌≡◌, [], IfOk, IfErr, IfSome};
 ghost use Rattle.crossbeam_channel.specs.Claims.{view, IsSeatAt};
 ghost use Rattle.crossbeam_channel.specs.Ends.{sends_on, receives_on};
 ghost use Rattle.tn_session.specs.Client.{core_view, IsReadyForTwo, AreTwoSettled, IsClientRun, RunningClient, client_report};
+ghost use Rattle.tn_session.specs.Session.{IsRefusal, IsOfThreads};
 
 use crate::channels::{
     AllRoles, CutKeys, CutNet, Knows, MailPass, MailReceiver, MailSeat, MailSender, Union, View,
@@ -33,7 +34,7 @@ struct Mailbox {
     keys: MailSeat,
 }
 
-// Makes the mailbox and cuts its passes. `None` where memory is wanting.
+// Makes the mailbox and splits its passes. `None` when out of memory.
 fn make_mailbox(alloc: Global) -> Option<Mailbox>
     ensures { IfSome result (λ mailbox. IsReadyForTwo mailbox) }
 {
@@ -91,7 +92,7 @@ fn share<G: Gate + Drop>(alloc: Global, gate: Arc<G, Global>) -> Option<Shared<G
     })
 }
 
-// Joins the passes, so that their lists are compared, and cuts them anew.
+// Joins the passes, so that their lists are compared, and splits them again.
 fn settle(to: &MailSender, mut pass: MailPass, net: MailPass, keys: MailPass) -> ClientPorts
     requires { IsSeatAt (sends_on to.now) pass × IsSeatAt (sends_on to.now) net ×
         IsSeatAt (sends_on to.now) keys }
@@ -145,7 +146,8 @@ where
         (view pass ≡ core_view []) }
     requires net { sends_on started.net.promise.to.value ≡ sends_on to }
     requires keys { sends_on started.keys.promise.to.value ≡ sends_on to }
-    ensures { IfOk result (λ r.
+    ensures fault { IfErr result (λ fault. fault ≡ SessionFault.Channel) }
+    ensures ran { IfOk result (λ r.
         IsClientRun core.old (K.remaining started.keys.promise.reader.value)
         (N.remaining started.net.promise.reader.value) (K.foretold started.keys.promise.reader.value)
         (N.foretold started.net.promise.reader.value) (W.contents writer.old) (W.contents writer.new)
@@ -192,7 +194,8 @@ where
     S: Drain,
     G: Gate + Drop + Send + Sync + 'static,
     requires { IsReadyForTwo mailbox }
-    ensures { IfOk result (λ r.
+    ensures fault { IfErr result IsOfThreads }
+    ensures ran { IfOk result (λ r.
         IsClientRun core.old (K.remaining keys_reader) (N.remaining net_reader) (K.foretold keys_reader)
         (N.foretold net_reader) (W.contents writer.old) (W.contents writer.new) (S.contents screen.old)
         (S.contents screen.new) (W.told writer.old) (W.told writer.new) (S.told screen.old)
@@ -210,7 +213,7 @@ where
         keys: watch,
         stop,
     } = shared;
-    let Some(net) = start_net(rt, alloc, net, net_reader, gate) else {
+    let Some(net) = start_net(rt, alloc, net, net_reader, None, gate) else {
         writer.finish();
         return Err(SessionFault::Start);
     };
@@ -245,7 +248,8 @@ where
     W: Finish,
     S: Drain,
     G: Gate + Drop + Send + Sync + 'static,
-    ensures { IfOk result (λ r.
+    ensures fault { IfErr result IsRefusal }
+    ensures ran { IfOk result (λ r.
         IsClientRun core.old (K.remaining keys_reader) (N.remaining net_reader) (K.foretold keys_reader)
         (N.foretold net_reader) (W.contents writer.old) (W.contents writer.new) (S.contents screen.old)
         (S.contents screen.new) (W.told writer.old) (W.told writer.new) (S.told screen.old)
@@ -292,7 +296,8 @@ where
     W: Finish,
     S: Drain,
     G: Gate + Drop + Send + Sync + 'static,
-    ensures { IfOk result (λ r.
+    ensures fault { IfErr result IsRefusal }
+    ensures ran { IfOk result (λ r.
         RunningClient width height limit (K.remaining keys_reader) (N.remaining net_reader)
         (K.foretold keys_reader) (N.foretold net_reader) (W.contents net_writer.old)
         (W.contents net_writer.new) (S.contents screen.old)

@@ -1,4 +1,4 @@
-//! The passes of a session are put together, compared, and cut anew.
+//! The passes of a session are joined, compared, and split again.
 
 ghost use Rattle.std.specs.Prelude.{◌≡◌, IfOk};
 ghost use Rattle.crossbeam_channel.specs.Claims.{view, IsSeatAt};
@@ -9,7 +9,7 @@ use crate::channels::{CutBack, CutDesk, CutNet, Knows, MailPass, MailSender, Uni
 use crate::entries::{CutTaker, EntryPass, EntrySender, JoinHands, Takes};
 use crate::parties::Ports;
 
-/// Joins the passes, so that their lists are compared, and cuts them anew.
+/// Joins the passes, so that their lists are compared, and splits them again.
 pub(crate) fn settle(
     to: &MailSender,
     put: &EntrySender,

@@ -14,6 +14,7 @@ mod back;
 mod channels;
 mod client;
 mod client_loop;
+mod credit;
 mod desk;
 mod entries;
 mod joining;

@@ -1,8 +1,9 @@
 //! The jobs of a session are made, and a table holds them.
 
-ghost use Rattle.std.specs.Prelude.{◌≡◌, IfOk, IfErr};
+ghost use Rattle.std.specs.Prelude.{◌≡◌, ◌+◌, [], length, IfOk, IfErr};
 ghost use Rattle.tn_session.specs.Jobs.{IsMade};
-ghost use Rattle.tn_session.specs.Session.{IsRefusal};
+ghost use Rattle.tn_session.specs.Makers.{AreAll, IsMakerFault};
+ghost use Rattle.tn_session.specs.Turning.{ids_of};
 
 use crate::back::Runner;
 use crate::parties::Maker;
@@ -28,7 +29,8 @@ pub(crate) struct Made<J> {
 fn make_first<J: Job>(alloc: Global, job: J) -> Result<Made<J>, SessionFault>
     requires { J.fresh job }
     ensures made { IfOk result (λ made. IsMade J.fresh made) }
-    ensures fault { IfErr result IsRefusal }
+    ensures alone { IfOk result (λ made. made.line.items ≡ []) }
+    ensures fault { IfErr result (λ fault. fault ≡ SessionFault.Memory) }
 {
     let mut table = Table::new(alloc);
     let Ok(first) = table.add() else {
@@ -51,7 +53,9 @@ fn make_more<J: Job>(mut made: Made<J>, job: J) -> Result<Made<J>, SessionFault>
     requires made { IsMade J.fresh made }
     requires fresh { J.fresh job }
     ensures more { IfOk result (λ more. IsMade J.fresh more) }
-    ensures fault { IfErr result IsRefusal }
+    ensures one { IfOk result (λ more.
+        length (ids_of more.line.items) ≡ length (ids_of made.line.items) + 1) }
+    ensures fault { IfErr result (λ fault. fault ≡ SessionFault.Memory) }
 {
     let Ok(id) = made.table.add() else {
         return Err(SessionFault::Memory);
@@ -62,13 +66,14 @@ fn make_more<J: Job>(mut made: Made<J>, job: J) -> Result<Made<J>, SessionFault>
     Ok(made)
 }
 
-/// Makes all jobs: `Start` where there is no first one, `Memory` where memory is wanting.
+/// Makes all jobs: `Start` where there is no first one, `Memory` when out of memory.
 pub(crate) fn make_jobs<M: Maker>(
     alloc: Global,
     maker: &mut M,
 ) -> Result<Made<M::Job>, SessionFault>
     ensures made { IfOk result (λ made. IsMade M.Job.fresh made) }
-    ensures fault { IfErr result IsRefusal }
+    ensures all { IfOk result (λ made. AreAll (M.left maker.old) (ids_of made.line.items)) }
+    ensures fault { IfErr result (IsMakerFault (M.left maker.old)) }
 {
     let job = match maker.next(alloc) {
         Ok(Some(job)) => job,
@@ -76,7 +81,7 @@ pub(crate) fn make_jobs<M: Maker>(
         Err(_) => return Err(SessionFault::Memory),
     };
     let mut made = make_first(alloc, job)?;
-    for _ in 0..MOST_OTHERS {
+    for _other in 0..MOST_OTHERS {
         match maker.next(alloc) {
             Ok(Some(job)) => made = make_more(made, job)?,
             Ok(None) => return Ok(made),

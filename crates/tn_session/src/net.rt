@@ -9,9 +9,11 @@ ghost use Rattle.tn_session.specs.Reading.{Gives, IsForetold, NetSends};
 ghost use Rattle.tn_session.specs.declared.mail.Sender.TheVariants.{Net, Keys};
 
 use crate::channels::{MailPass, MailSender};
+use crate::credit::{Credit, take_credit};
 use crate::mail::Sender;
 use crate::parties::{Gate, Place};
 use crate::sending::say;
+use crossbeam_channel::Receiver;
 use std::alloc::Global;
 use std::sync::Wait;
 use std::sync::atomic::{AtomicBool, Ordering};
@@ -59,8 +61,9 @@ fn is_stopped(stop: Option<&AtomicBool>) -> bool
     }
 }
 
-// Sends the pieces that the reader gives, and then how it ended: after 4,294,967,295 reads as if one had
-// failed. Where there is a flag and it is set after a piece, it leaves. `None` where the other end is gone.
+// Sends the pieces that the reader gives, each for a credit where these are, and then how it ended: after
+// 4,294,967,295 reads as if one had failed. Where there is a flag and it is set after a piece, it leaves.
+// `None` where the other end is gone.
 fn run_reader<R: Wait, Rd: Source + Drop, G: Gate>(
     rt: &R,
     alloc: Global,
@@ -68,6 +71,7 @@ fn run_reader<R: Wait, Rd: Source + Drop, G: Gate>(
     mut pass: MailPass,
     mut reader: Rd,
     who: Sender,
+    credits: Option<&Receiver<Credit>>,
     stop: Option<&AtomicBool>,
     gate: &G,
     place: Place,
@@ -80,6 +84,7 @@ fn run_reader<R: Wait, Rd: Source + Drop, G: Gate>(
     for _read in 0..u32::MAX {
         match read_piece(&mut reader, alloc) {
             Got::Bytes(text) => {
+                take_credit(rt, credits)?;
                 pass = say(rt, to, pass, who, Message::Piece(text))?;
                 gate.at(place);
                 if is_stopped(stop) {
@@ -97,13 +102,15 @@ fn run_reader<R: Wait, Rd: Source + Drop, G: Gate>(
     say(rt, to, pass, who, Message::Left)
 }
 
-/// Sends what comes from the network. `None` where the other end is gone.
+/// Sends what comes from the network, each piece for a credit where these are. `None` where the other end is
+/// gone.
 pub(crate) fn run_net<R: Wait, Rd: Source + Drop, G: Gate>(
     rt: &R,
     alloc: Global,
     to: &MailSender,
     pass: MailPass,
     reader: Rd,
+    credits: Option<&Receiver<Credit>>,
     gate: &G,
 ) -> Option<MailPass>
     requires mailbox { IsSeatAt (sends_on to.now) pass × (view pass ≡ sender Net []) }
@@ -111,7 +118,7 @@ pub(crate) fn run_net<R: Wait, Rd: Source + Drop, G: Gate>(
     ensures sent { IfSome result (λ p. NetSends (Rd.remaining reader) (Rd.foretold reader) (view p)) }
 {
     let (who, place) = (Sender::Net, Place::NetPiece);
-    run_reader(rt, alloc, to, pass, reader, who, None, gate, place)
+    run_reader(rt, alloc, to, pass, reader, who, credits, None, gate, place)
 }
 
 /// Sends the keys, until there are no more or the flag is set. `None` where the other end is gone.
@@ -129,5 +136,16 @@ pub(crate) fn run_keys<R: Wait, Rd: Source + Drop, G: Gate>(
     ensures sent { IfSome result (λ p. KeysSends (Rd.remaining reader) (Rd.foretold reader) (view p)) }
 {
     let (who, place) = (Sender::Keys, Place::KeysPiece);
-    run_reader(rt, alloc, to, pass, reader, who, Some(stop), gate, place)
+    run_reader(
+        rt,
+        alloc,
+        to,
+        pass,
+        reader,
+        who,
+        None,
+        Some(stop),
+        gate,
+        place,
+    )
 }

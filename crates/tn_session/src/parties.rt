@@ -1,7 +1,8 @@
 //! Who takes part in a session, and what it gives back.
 
-ghost use Rattle.std.specs.Prelude.{◌≡◌, IfOk, IfSome};
+ghost use Rattle.std.specs.Prelude.{◌≡◌, ℕ, Option, None, IfOk, IfSome};
 ghost use Rattle.std.specs.Io.KnownBytes.{Keeps};
+ghost use Rattle.tn_session.specs.Makers.{MakesJob};
 
 use crate::channels::MailPass;
 use crate::entries::EntryPass;
@@ -15,9 +16,14 @@ use tn_term::Ended;
 pub trait Maker {
     type Job: Job;
 
-    /// The next job, which has done nothing yet; `None` where there is no more.
+    // How many jobs are to come, where that is told.
+    ghost left: { Self → Option ℕ } = { λ _. None };
+
+    /// The next job, which has done nothing yet; `None` where there is no more. It may run out of memory
+    /// only where a job is to come.
     fn next(&mut self, alloc: Global) -> Result<Option<Self::Job>, AllocError>
-        ensures { IfOk result (λ next. IfSome next (λ job. Self.Job.fresh job)) };
+        ensures fresh { IfOk result (λ next. IfSome next (λ job. Self.Job.fresh job)) }
+        ensures makes { MakesJob (left self.old) (left self.new) result };
 }
 
 /// A place that a thread of a session comes by.

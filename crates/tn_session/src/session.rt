@@ -1,6 +1,6 @@
 //! A running session, from its first job to its report.
 
-ghost use Rattle.std.specs.Prelude.{◌≡◌, ◌++◌, [], true, false, IfOk, IfErr, IfSome};
+ghost use Rattle.std.specs.Prelude.{◌≡◌, ◌++◌, [], true, false, Some, IfOk, IfErr, IfSome, IsErrOf};
 ghost use Rattle.std.specs.Io.KnownBytes.{Keeps};
 ghost use Rattle.crossbeam_channel.specs.Claims.{view, IsSeatAt};
 ghost use Rattle.crossbeam_channel.specs.Ends.{sends_on, receives_on};
@@ -9,14 +9,16 @@ ghost use Rattle.tn_jobs.specs.Jobs.{Jobs};
 ghost use Rattle.tn_server.specs.declared.wishes.Editing.{Editing as EditingT};
 ghost use Rattle.tn_session.specs.Jobs.{IsMade};
 ghost use Rattle.tn_session.specs.Joining.{IsReady, handler};
+ghost use Rattle.tn_session.specs.Makers.{AreAll, IsMakerFault};
 ghost use Rattle.tn_session.specs.Queue.{putter};
-ghost use Rattle.tn_session.specs.Session.{IsBegun, IsOpening, IsRun, IsRefusal, RunsOn, RunningSession, report_of};
-ghost use Rattle.tn_session.specs.Turning.{IsLine, ids_of};
+ghost use Rattle.tn_session.specs.Session.{IsBegun, IsOpening, IsRun, IsRefusal, IsOfThreads, RunsOn, RunningSession, report_of};
+ghost use Rattle.tn_session.specs.Turning.{IsLine, ids_of, line_of};
 
 use crate::back::Runner;
 use crate::channels::{
     AllRoles, CutBack, CutDesk, CutNet, MailPass, MailReceiver, MailSeat, MailSender, View,
 };
+use crate::credit::{CREDITS, Credit};
 use crate::entries::{CutTaker, EntryPass, EntrySeat, EntrySender, Hand, InTurn};
 use crate::joining::settle;
 use crate::mail::Mail;
@@ -25,7 +27,7 @@ use crate::parties::{Finish, Gate, Maker, Ports, Report};
 use crate::term::run_term;
 use crate::threads::{Returned, Started, Watch, start_back, start_desk, start_net};
 use crate::writing::write_out;
-use crossbeam_channel::bounded_with;
+use crossbeam_channel::{Receiver, Sender, bounded, bounded_with};
 use std::alloc::Global;
 use std::collections::VecDeque;
 use std::sync::atomic::AtomicBool;
@@ -44,12 +46,13 @@ pub(crate) const MAILS: usize = 64;
 /// How many entries the channel of entries holds.
 const ENTRIES: usize = 2;
 
-// The terminal's ends of both channels.
+// The terminal's ends of the channels.
 #[derive(Drop)]
 struct Ends {
     to: MailSender,
     from: MailReceiver,
     put: EntrySender,
+    give: Sender<Credit>,
 }
 
 // The channels of a session, their ends and passes.
@@ -62,9 +65,10 @@ struct Channels {
     desk: MailSeat,
     back: MailSeat,
     take: EntrySeat,
+    credits: Receiver<Credit>,
 }
 
-// Makes both channels and cuts their passes. `None` where memory is wanting.
+// Makes the channels and splits their passes. `None` when out of memory.
 fn make_channels(alloc: Global) -> Option<Channels>
     ensures { IfSome result (λ channels. IsReady channels) }
 {
@@ -85,12 +89,20 @@ fn make_channels(alloc: Global) -> Option<Channels>
     ) else {
         return None;
     };
+    let Ok((give, credits)) = bounded(alloc, CREDITS) else {
+        return None;
+    };
     let net = to.another::<CutNet>(&mut pass);
     let desk = to.another::<CutDesk>(&mut pass);
     let back = to.another::<CutBack>(&mut pass);
     let took = put.another::<CutTaker>(&mut hand);
     Some(Channels {
-        ends: Ends { to, from, put },
+        ends: Ends {
+            to,
+            from,
+            put,
+            give,
+        },
         pass,
         hand,
         net: MailSeat {
@@ -109,6 +121,7 @@ fn make_channels(alloc: Global) -> Option<Channels>
             from: take,
             pass: took,
         },
+        credits,
     })
 }
 
@@ -173,9 +186,10 @@ fn begin<M: Maker + Drop>(
     editing: Editing,
     mut maker: M,
 ) -> Result<Begun<M::Job>, SessionFault>
-    ensures fault { IfErr result IsRefusal }
+    ensures fault { IfErr result (IsMakerFault (M.left maker)) }
     ensures begun { IfOk result (λ begun.
         IsBegun M.Job.fresh (record { settings = settings; limit = limit }) editing begun) }
+    ensures all { IfOk result (λ begun. AreAll (M.left maker) (ids_of begun.posts.line.items)) }
 {
     let tostop = settings.flags.tostop;
     let Made {
@@ -250,15 +264,16 @@ where
         (receives_on started.desk.promise.from.value ≡ sends_on ends.put) }
     requires back { sends_on started.back.promise.to.value ≡ sends_on ends.to }
     requires out { out.old.items ≡ [] }
-    ensures fault { IfErr result IsRefusal }
+    ensures fault { IfErr result (λ fault. fault ≡ SessionFault.Channel) }
     ensures ran { IfOk result (λ r.
-        RunsOn J.fresh J.reacts J.steps started.desk.promise.id (ids_of started.back.promise.line.value.items)
+        RunsOn J.fresh J.reacts J.steps started.desk.promise.id
+        (line_of started.back.promise.tostop started.back.promise.line.value.items)
         (Rd.remaining started.net.promise.reader.value) (Rd.foretold started.net.promise.reader.value)
         (W.contents writer.old) (W.contents writer.new) (W.told writer.old) (W.told writer.new)
         term.old r.0 r.1) }
 {
     let Some((pass, hand)) = run_term(
-        rt, &ends.from, &ends.put, pass, hand, term, out, writer, stop, gate,
+        rt, &ends.from, &ends.put, &ends.give, pass, hand, term, out, writer, stop, gate,
     ) else {
         writer.finish();
         drop(ends);
@@ -299,9 +314,9 @@ where
     requires ready { IsReady outfit.channels }
     requires fresh { J.fresh posts.job × IsLine J.fresh posts.line.items }
     requires out { out.old.items ≡ [] }
-    ensures fault { IfErr result IsRefusal }
+    ensures fault { IfErr result IsOfThreads }
     ensures ran { IfOk result (λ r.
-        RunsOn J.fresh J.reacts J.steps posts.first (ids_of posts.line.items) (Rd.remaining reader)
+        RunsOn J.fresh J.reacts J.steps posts.first (line_of posts.tostop posts.line.items) (Rd.remaining reader)
         (Rd.foretold reader) (W.contents writer.old) (W.contents writer.new) (W.told writer.old)
         (W.told writer.new) term.old r.0 r.1) }
 {
@@ -314,6 +329,7 @@ where
         desk,
         back,
         take,
+        credits,
     } = channels;
     let Posts {
         first,
@@ -327,7 +343,7 @@ where
         back: back_watch,
         term: watch,
     } = shared;
-    let Some(net) = start_net(rt, alloc, net, reader, net_gate) else {
+    let Some(net) = start_net(rt, alloc, net, reader, Some(credits), net_gate) else {
         writer.finish();
         return Err(SessionFault::Start);
     };
@@ -394,7 +410,7 @@ where
     requires fresh { J.fresh posts.job × IsLine J.fresh posts.line.items }
     ensures fault { IfErr result IsRefusal }
     ensures ran { IfOk result (λ r.
-        IsRun J.fresh J.reacts J.steps posts.first (ids_of posts.line.items) term.old out.old.items
+        IsRun J.fresh J.reacts J.steps posts.first (line_of posts.tostop posts.line.items) term.old out.old.items
         (Rd.remaining reader) (Rd.foretold reader) (W.contents writer.old) (W.contents writer.new)
         (W.told writer.old) (W.told writer.new) r.0 r.1) }
 {
@@ -427,11 +443,17 @@ where
     M::Job: Send + 'static,
     G: Gate + Drop + Send + Sync + 'static,
     ensures fault { IfErr result IsRefusal }
+    ensures none { M.left maker ≡ Some 0 → IsErrOf result SessionFault.Start }
     ensures ran { IfOk result (λ r.
         RunningSession M.Job.fresh M.Job.reacts M.Job.steps (record { settings = settings; limit = limit })
         editing (Rd.remaining reader) (Rd.foretold reader) (W.contents writer.old) (W.contents writer.new)
         (W.told writer.old) (W.told writer.new) r.0 (view r.1.net) (view r.1.desk)
         (view r.1.back) (view r.1.term) (view r.1.put) (view r.1.took)) }
+    ensures all { IfOk result (λ r. (s :
+        RunningSession M.Job.fresh M.Job.reacts M.Job.steps (record { settings = settings; limit = limit })
+        editing (Rd.remaining reader) (Rd.foretold reader) (W.contents writer.old) (W.contents writer.new)
+        (W.told writer.old) (W.told writer.new) r.0 (view r.1.net) (view r.1.desk)
+        (view r.1.back) (view r.1.term) (view r.1.put) (view r.1.took)) × AreAll (M.left maker) s.others) }
 {
     pieces_are_heard();
     all_goes_before_a_hang_up();

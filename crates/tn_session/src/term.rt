@@ -10,10 +10,12 @@ ghost use Rattle.tn_session.specs.Turns.{HandlesAll, TurnsMessage, left_one};
 ghost use Rattle.tn_term.specs.Marks.{is_whole};
 
 use crate::channels::{Handles, MailPass, MailReceiver};
+use crate::credit::{Credit, give_credit, is_piece};
 use crate::entries::{EntryPass, EntrySender, Puts};
 use crate::mail::Mail;
 use crate::parties::{Finish, Gate, Place};
 use crate::writing::write_out;
+use crossbeam_channel::Sender;
 use std::sync::Wait;
 use std::sync::atomic::{AtomicBool, Ordering};
 use tn_discipline::Entry;
@@ -142,11 +144,13 @@ fn finish_unless<W: Finish>(closed: bool, writer: &mut W)
     }
 }
 
-/// Handles the mails until all senders have left. `None` where the other end of a channel is gone.
+/// Handles the mails until all senders have left, and gives a credit for the next piece once it is welcome.
+/// `None` where the other end of a channel is gone.
 pub(crate) fn run_term<R: Wait, W: Finish, G: Gate>(
     rt: &R,
     from: &MailReceiver,
     entries: &EntrySender,
+    credits: &Sender<Credit>,
     mut pass: MailPass,
     mut hand: EntryPass,
     term: &mut Term,
@@ -167,6 +171,7 @@ pub(crate) fn run_term<R: Wait, W: Finish, G: Gate>(
 {
     let mut lefts = 0u64;
     let mut closed = close(writer, term.progress(), stop, false);
+    let mut owed = give_credit(rt, credits, true, term);
     for _ in rt.forever() {
         if lefts >= SENDERS {
             finish_unless(closed, writer);
@@ -178,11 +183,13 @@ pub(crate) fn run_term<R: Wait, W: Finish, G: Gate>(
         let Mail { from: _, message } = mail;
         let left = leaves(&message);
         let job = job_of(&message);
+        let piece = is_piece(&message);
         let before = term.progress().entries;
         hand = turn(rt, entries, hand, term, message, out, writer)?;
         tell_took(gate, before, term.progress().entries);
         tell_said(gate, job);
         closed = close(writer, term.progress(), stop, closed);
+        owed = give_credit(rt, credits, owed || piece, term);
         lefts += left;
     }
     unreachable!()

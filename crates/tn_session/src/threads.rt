@@ -9,15 +9,17 @@ ghost use Rattle.tn_session.specs.Reader.{KeysSends};
 ghost use Rattle.tn_session.specs.Reading.{NetSends};
 ghost use Rattle.tn_session.specs.Stepping.{AreSteps};
 ghost use Rattle.tn_session.specs.Talk.{IsTalk};
-ghost use Rattle.tn_session.specs.Turning.{IsLine, ids_of};
+ghost use Rattle.tn_session.specs.Turning.{IsLine, line_of};
 ghost use Rattle.tn_session.specs.declared.mail.Sender.TheVariants.{Net, Desk, Back, Keys};
 
 use crate::back::{Runner, run_back};
 use crate::channels::{MailPass, MailSeat, MailSender};
+use crate::credit::Credit;
 use crate::desk::run_desk;
 use crate::entries::{EntryPass, EntryReceiver, EntrySeat};
 use crate::net::{run_keys, run_net};
 use crate::parties::Gate;
+use crossbeam_channel::Receiver;
 use std::alloc::Global;
 use std::collections::VecDeque;
 use std::marker::PhantomData;
@@ -90,6 +92,7 @@ impl<J: Job> Promise<Option<(MailPass, EntryPass)>> for DeskSays<J> {
 pub(crate) struct BackSays<J> {
     to: Snapshot<MailSender>,
     line: Snapshot<VecDeque<Runner<J>>>,
+    tostop: bool,
     of: PhantomData<J>,
 }
 
@@ -98,11 +101,11 @@ impl<J: Job> Promise<Option<MailPass>> for BackSays<J> {
     ghost use Rattle.crossbeam_channel.specs.Claims.{view, IsSeatAt};
     ghost use Rattle.crossbeam_channel.specs.Ends.{sends_on};
     ghost use Rattle.tn_session.specs.Stepping.{AreSteps};
-    ghost use Rattle.tn_session.specs.Turning.{ids_of};
+    ghost use Rattle.tn_session.specs.Turning.{line_of};
 
     ghost kept_by = { λ p r.
         IfSome r (λ pass. IsSeatAt (sends_on p.to.value) pass ×
-        AreSteps J.fresh J.steps (ids_of p.line.value.items) (view pass)) };
+        AreSteps J.fresh J.steps (line_of p.tostop p.line.value.items) (view pass)) };
 }
 
 /// The gate, and the flag that tells to stop.
@@ -112,7 +115,8 @@ pub(crate) struct Watch<G> {
     pub(crate) stop: Arc<AtomicBool, Global>,
 }
 
-/// Starts the thread that reads. `None` where it can't be started.
+/// Starts the thread that reads, which sends each piece for a credit where these are. `None` where it can't
+/// be started.
 pub(crate) fn start_net<
     R: Threads + Wait + Copy + Send + 'static,
     Rd: Source + Drop + Send + 'static,
@@ -122,6 +126,7 @@ pub(crate) fn start_net<
     alloc: Global,
     seat: MailSeat,
     reader: Rd,
+    credits: Option<Receiver<Credit>>,
     gate: Arc<G, Global>,
 ) -> Option<PromisedHandle<Option<MailPass>, NetSays<Rd>>>
     requires mailbox { IsSeatAt (sends_on seat.to) seat.pass × (view seat.pass ≡ sender Net []) }
@@ -137,7 +142,7 @@ pub(crate) fn start_net<
         requires { IsSeatAt (sends_on to) pass × (view pass ≡ sender Net []) }
         ensures { IfSome result (λ p. IsSeatAt (sends_on to) p ×
             NetSends (Rd.remaining reader) (Rd.foretold reader) (view p)) }
-    { run_net(&rt, alloc, &to, pass, reader, &*gate) };
+    { run_net(&rt, alloc, &to, pass, reader, credits.as_ref(), &*gate) };
     match thread::spawn_with(&rt, promise, work) {
         Ok(handle) => Some(handle),
         Err(_) => None,
@@ -234,19 +239,20 @@ pub(crate) fn start_back<
     requires mailbox { IsSeatAt (sends_on seat.to) seat.pass × (view seat.pass ≡ sender Back []) }
     requires jobs { IsLine J.fresh line.items }
     ensures { IfSome result (λ h. (sends_on h.promise.to.value ≡ sends_on seat.to) ×
-        (ids_of h.promise.line.value.items ≡ ids_of line.items)) }
+        (line_of h.promise.tostop h.promise.line.value.items ≡ line_of tostop line.items)) }
 {
     let MailSeat { to, pass } = seat;
     let Watch { gate, stop } = watch;
     let promise = BackSays {
         to: Snapshot::of(&to),
         line: Snapshot::of(&line),
+        tostop,
         of: PhantomData,
     };
     let work = move || -> Option<MailPass>
         requires { IsSeatAt (sends_on to) pass × (view pass ≡ sender Back []) × IsLine J.fresh line.items }
         ensures { IfSome result (λ p. IsSeatAt (sends_on to) p ×
-            AreSteps J.fresh J.steps (ids_of line.items) (view p)) }
+            AreSteps J.fresh J.steps (line_of tostop line.items) (view p)) }
     { run_back(&rt, alloc, &to, pass, line, tostop, &*stop, &*gate) };
     match thread::spawn_with(&rt, promise, work) {
         Ok(handle) => Some(handle),
@@ -271,7 +277,7 @@ pub(crate) struct Returned {
 }
 
 impl<Rd: Source, J: Job> Started<Rd, J> {
-    /// Joins them all. `None` where a channel of one had no other end.
+    /// Joins them all. `None` where a channel of one was disconnected.
     pub(crate) fn join<R: Threads + Wait>(self, rt: &R) -> Option<Returned>
         ensures net { IfSome result (λ r. IsSeatAt (sends_on self.net.promise.to.value) r.net ×
             NetSends (Rd.remaining self.net.promise.reader.value) (Rd.foretold self.net.promise.reader.value)
@@ -280,7 +286,8 @@ impl<Rd: Source, J: Job> Started<Rd, J> {
             IsSeatAt (receives_on self.desk.promise.from.value) r.took ×
             IsTalk self.desk.promise.id J.fresh J.reacts (view r.desk) (view r.took)) }
         ensures back { IfSome result (λ r. IsSeatAt (sends_on self.back.promise.to.value) r.back ×
-            AreSteps J.fresh J.steps (ids_of self.back.promise.line.value.items) (view r.back)) }
+            AreSteps J.fresh J.steps
+            (line_of self.back.promise.tostop self.back.promise.line.value.items) (view r.back)) }
     {
         let Started { net, desk, back } = self;
         let net = net.join(rt);
@@ -318,7 +325,7 @@ pub(crate) struct ClientReturned {
 }
 
 impl<N: Source, K: Source> ClientStarted<N, K> {
-    /// Joins them both. `None` where the mailbox had no other end for one.
+    /// Joins them both. `None` where the mailbox of one was disconnected.
     pub(crate) fn join<R: Threads + Wait>(self, rt: &R) -> Option<ClientReturned>
         ensures net { IfSome result (λ r. IsSeatAt (sends_on self.net.promise.to.value) r.net ×
             NetSends (N.remaining self.net.promise.reader.value) (N.foretold self.net.promise.reader.value)

@@ -1,7 +1,14 @@
-use Rattle.std.proofs.Common.{refl, inl, ap, ◌∙◌, ◌++◌, option_to_list}
+use Rattle.std.proofs.Common.{refl, ap, ◌∙◌, ◌++◌, option_to_list}
 use Rattle.std.specs.Result.{is_ok}
-use Rattle.tn_session.proofs.Turning.{kept_or_gone}
+use Rattle.tn_session.proofs.Turning.{kept_on, let_go, none_first, stays_is, err_not_ok}
+use Rattle.tn_session.specs.Stepping.{stays}
 use Rattle.tn_session.proofs.back.advance.Goals as goal
+
+pub returns-in_default : goal.returns-in_default
+returns-in_default g c = none_first c.args.line.now.items c.pop_front.new.self.items c.in_default.ensures.items c.in_default.ensures.rest
+
+pub returns-in_default-step : goal.returns-in_default-step
+returns-in_default-step g c = (c.in-Some.field-0, c.pop_front.ensures.items ∙ ap (λ o. option_to_list o ++ c.pop_front.new.self.items) c.in-Some.is)
 
 pub returns-then-not-on : goal.returns-then-not-on
 returns-then-not-on g c = record {
@@ -11,7 +18,7 @@ returns-then-not-on g c = record {
   was = c.pop_front.ensures.items ∙ ap (λ o. option_to_list o ++ c.pop_front.new.self.items) c.in-Some.is;
   number = refl;
   step = c.in-Ok.ensures;
-  left = inl refl;
+  left = let_go (stays c.args.tostop c.in-Ok.reaction) c.pop_front.new.self.items (record { id = c.in-Some.field-0.id; job = c.step.new.self }) (stays_is c.args.tostop c.in-Ok.reaction c.as_slice.result.now c.is_empty.result c.goes_on-on.result c.as_slice.ensures c.is_empty.ensures c.goes_on-on.ensures ∙ c.if-not-on.true);
 }
 
 pub returns : goal.returns
@@ -22,5 +29,5 @@ returns g c = record {
   was = c.pop_front.ensures.items ∙ ap (λ o. option_to_list o ++ c.pop_front.new.self.items) c.in-Some.is;
   number = refl;
   step = c.in-Ok.ensures;
-  left = kept_or_gone (is_ok c.push_back.result) c.pop_front.new.self.items c.push_back.new.self.items (record { id = c.in-Some.field-0.id; job = c.step.new.self }) c.push_back.ensures.items;
+  left = kept_on (stays c.args.tostop c.in-Ok.reaction) (is_ok c.push_back.result) c.is_err-refused.result c.pop_front.new.self.items c.push_back.new.self.items (record { id = c.in-Some.field-0.id; job = c.step.new.self }) (stays_is c.args.tostop c.in-Ok.reaction c.as_slice.result.now c.is_empty.result c.goes_on-on.result c.as_slice.ensures c.is_empty.ensures c.goes_on-on.ensures ∙ c.if-not-on.false) (c.is_err-refused.ensures.value ∙ err_not_ok c.push_back.result) c.push_back.ensures.items;
 }

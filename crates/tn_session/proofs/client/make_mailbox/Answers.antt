@@ -18,6 +18,7 @@ returns c =
     let v = ready_two (view c.in-Ok.pass) (view c.another-net.new.pass) (view c.another-keys.new.pass) (view c.another-net.result) (view c.another-keys.result) b.3 c.another-net.ensures.rule.0 c.another-net.ensures.rule.1 c.another-keys.ensures.rule.0 c.another-keys.ensures.rule.1 in
     record {
       one_mailbox = b.0;
+      mails = b.1;
       net_to = c.in-Ok-try_clone.ensures;
       keys_to = c.in-Ok-try_clone-2.ensures;
       pass = c.another-keys.ensures.channel.0;

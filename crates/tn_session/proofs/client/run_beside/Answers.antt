@@ -4,8 +4,8 @@ use Rattle.tn_session.proofs.ClientWhole.{client_ran}
 use Rattle.tn_session.specs.Client.{client_report}
 use Rattle.tn_session.proofs.client.run_beside.Goals as goal
 
-pub returns : goal.returns
-returns g c =
+pub returns-clause-ran : goal.returns-clause-ran
+returns-clause-ran g c =
     let ports = c.settle-ports.result in
     let started = c.args.started in
     let join = c.in-Some-join in

@@ -1,10 +1,10 @@
-use Rattle.std.proofs.Common.{◌≡◌, List, ℕ, length}
+use Rattle.std.proofs.Common.{◌≡◌, List, ℕ, length, All}
 use Rattle.std.specs.Io.KnownBytes.{Consumes}
 use Rattle.std.specs.List.{concat}
 use Rattle.crossbeam_channel.specs.Claims.{view, IsSeatAt}
 use Rattle.crossbeam_channel.specs.Ends.{sends_on}
 use Rattle.tn_session.specs.Reader.{sends}
-use Rattle.tn_session.specs.Reading.{pieces_of}
+use Rattle.tn_session.specs.Reading.{IsPiece, pieces_of}
 use Rattle.tn_streams.specs.Foretelling.{HasCome}
 use Rattle.tn_session.proofs.net.run_reader.Given as goal
 
@@ -15,4 +15,4 @@ invariant-loop-read g l =
     IsSeatAt (sends_on l.to) l.pass
     × ((pieces : List (List ℕ)) × Consumes (remaining l.fn.reader) (remaining l.reader) (concat pieces)
     × (view l.pass ≡ sends l.who (pieces_of pieces))
-    × HasCome l._read (length pieces) (foretold l.fn.reader) (foretold l.reader))
+    × HasCome l._read (length pieces) (foretold l.fn.reader) (foretold l.reader) × All IsPiece pieces)

@@ -30,6 +30,7 @@ returns c =
     let h = ready_hands (view c.in-Ok-bounded_with.hand) (view c.another-took.new.pass) (view c.another-took.result) q.3 c.another-took.ensures.rule.0 c.another-took.ensures.rule.1 in
     record {
       one_mailbox = b.0;
+      mails = b.1;
       net_to = c.in-Ok-try_clone.ensures;
       desk_to = c.in-Ok-try_clone-2.ensures;
       back_to = c.in-Ok-try_clone-3.ensures;
@@ -42,6 +43,7 @@ returns c =
       desk_is = v.2;
       back_is = v.3;
       one_queue = q.0;
+      entries = q.1;
       hand = c.another-took.ensures.channel.0;
       took = c.another-took.ensures.channel.2;
       hand_is = h.0;

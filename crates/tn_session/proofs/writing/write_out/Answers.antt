@@ -1,9 +1,9 @@
-use Rattle.std.proofs.Common.{◌≡◌, ◌<◌, Ok, Err, refl, arith, take, drop, length, ◌-◌, length-drop}
+use Rattle.std.proofs.Common.{◌≡◌, Ok, Err, refl, arith, take, drop, length, ◌-◌, length-drop}
 use Rattle.std.proofs.Math.Seq.{take-add}
 use Rattle.tn_session.proofs.Going.{appends_more, appends_kept, take_all, stops_at, stops_now, writes_all, writes_so_many, ok_writes}
 use Rattle.tn_session.specs.Turns.{most_writes}
-use Rattle.tn_streams.proofs.lemmas.Telling.{made_none, made_more, accounts_made, accounts_failed, accounts_passed, write_stays, write_again, write_fails, write_takes_none}
-use Rattle.tn_streams.specs.Telling.{CountsWrite, TellsCall}
+use Rattle.tn_streams.proofs.lemmas.Telling.{made_more, accounts_made, accounts_failed, accounts_passed, write_stays, write_fails}
+use Rattle.tn_streams.specs.Telling.{CountsWrite}
 use Rattle.tn_session.proofs.writing.write_out.Goals as goal
 
 pub loop-write-preserved : goal.loop-write-preserved

@@ -1,0 +1,71 @@
+-- How many jobs were made.
+use Rattle.std.proofs.Common.{◌≡◌, ℕ, ◌+◌, ◌≤◌, Option, Some, None, Ok, Err, List, [], ◌∷◌, ◌++◌, length, refl, ap, ◌∙◌, subst, arith}
+use Rattle.tn_session.specs.Turning.{ids_of}
+use Rattle.tn_session.specs.declared.back.Runner.{Runner}
+use Rattle.tn_session.specs.Makers.{HasMade, MayBeDone, MayGoOn, MakesJob, AreAll, IsMakerFault}
+use Rattle.tn_term.specs.declared.faults.SessionFault.{SessionFault}
+use Rattle.tn_term.specs.declared.faults.SessionFault.TheVariants as fault
+
+pub none_came : (J E : Type 0) (old new : Option ℕ) → MakesJob {J = J} {E = E} old new (Ok None) → MayBeDone old
+none_came J E None new m = tt
+none_came J E (Some n) new m = m
+
+pub one_refused : (J E : Type 0) (old new : Option ℕ) (e : E) → MakesJob {J = J} {E = E} old new (Err e) → MayGoOn old
+one_refused J E None new e m = tt
+one_refused J E (Some n) new e m = m
+
+pub one_came : (J E : Type 0) (old new : Option ℕ) (o : Option J) (job : J) → o ≡ Some job → MakesJob {J = J} {E = E} old new (Ok o) → HasMade 1 old new
+one_came J E old new o job e m = by old (subst (λ (x : Option J). MakesJob {J = J} {E = E} old new (Ok x)) e m)
+  where
+    by : (a : Option ℕ) → MakesJob {J = J} {E = E} a new (Ok (Some job)) → HasMade 1 a new
+    by None h = h
+    by (Some n) h = h
+
+-- one was made, so one was to come
+pub one_was : (made : ℕ) (old new : Option ℕ) → HasMade (made + 1) old new → MayGoOn old
+one_was made None new h = tt
+one_was made (Some n) new h = λ e. let s = h.1 in omega (arith, s, e)
+
+pub made_more : (made : ℕ) (a b c : Option ℕ) → HasMade made a b → HasMade 1 b c → HasMade (made + 1) a c
+made_more made None b c one two = let P : Option ℕ → Type 0 = λ o. HasMade 1 o c in subst P one two
+made_more made (Some n) b c (left, e, is) two =
+    let P : Option ℕ → Type 0 = λ o. HasMade 1 o c in
+    let more : HasMade 1 (Some left) c = subst P is two in
+    let f = more.1 in
+    (more.0, omega (arith, e, f), more.2)
+
+-- no more came
+pub all_made : (made : ℕ) (a b : Option ℕ) (ids : List ℕ) → HasMade (made + 1) a b → MayBeDone b → length ids ≡ made → made ≤ 15 → AreAll a ids
+all_made made None b ids h done e small = tt
+all_made made (Some n) b ids (left, is, to) done e small =
+    let none : left ≡ 0 = subst MayBeDone to done in
+    omega (arith, is, none, e, small)
+
+-- as many as there may be
+pub most_made : (a b : Option ℕ) (ids : List ℕ) → HasMade 16 a b → length ids ≡ 15 → AreAll a ids
+most_made None b ids h e = tt
+most_made (Some n) b ids (left, is, to) e = omega (arith, is, e)
+
+pub some_are : (left : Option ℕ) (ids : List ℕ) → AreAll left ids → MayGoOn left
+some_are None ids all = tt
+some_are (Some n) ids all = λ e. omega (arith, all, e)
+
+pub no_first : (left : Option ℕ) → left ≡ Some 0 → MayGoOn left → ⊥
+no_first left e on = let P : Option ℕ → Type 0 = λ o. MayGoOn o in subst P e on refl
+
+pub only_start : (left : Option ℕ) (f : SessionFault) → left ≡ Some 0 → IsMakerFault left f → f ≡ fault.Start
+only_start left fault.Start none why = refl
+only_start left fault.Memory none why = absurd (no_first left none why)
+only_start left fault.Read none why = absurd why
+only_start left fault.Write none why = absurd why
+only_start left (fault.Server f) none why = absurd why
+only_start left (fault.Client f) none why = absurd why
+only_start left fault.Channel none why = absurd why
+
+one_longer : {J : Type 0} (line : List (Runner J)) (r : Runner J) → length (ids_of (line ++ r ∷ [])) ≡ length (ids_of line) + 1
+one_longer [] r = refl
+one_longer (x ∷ line) r = let ih = one_longer line r in omega (arith, ih)
+
+-- one job more stands in the line
+pub one_more : {J : Type 0} (line later : List (Runner J)) (r : Runner J) → later ≡ line ++ r ∷ [] → length (ids_of later) ≡ length (ids_of line) + 1
+one_more line later r e = ap (λ l. length (ids_of l)) e ∙ one_longer line r

@@ -1,0 +1,37 @@
+-- The jobs that a maker makes, as it tells how many are to come.
+use Rattle.std.specs.Prelude.{◌≡◌, ◌≢◌, ℕ, ◌+◌, min, Option, Some, None, Result, Ok, Err, List, length}
+use Rattle.tn_term.specs.declared.faults.SessionFault.{SessionFault}
+use Rattle.tn_term.specs.declared.faults.SessionFault.TheVariants.{Memory, Start}
+
+-- so many jobs were made; whoever tells nothing goes on to tell nothing
+abbrev pub HasMade : ℕ → Option ℕ → Option ℕ → Type 0
+HasMade made None new = new ≡ None
+HasMade made (Some old) new = (left : ℕ) × (old ≡ made + left) × (new ≡ Some left)
+
+-- if it is told: there is no job to come
+abbrev pub MayBeDone : Option ℕ → Type 0
+MayBeDone None = Unit {0}
+MayBeDone (Some left) = left ≡ 0
+
+-- if it is told: there is one
+abbrev pub MayGoOn : Option ℕ → Type 0
+MayGoOn None = Unit {0}
+MayGoOn (Some left) = left ≢ 0
+
+-- what it answers: a job as long as one is to come, and out of memory only then
+abbrev pub MakesJob : {J E : Type 0} → Option ℕ → Option ℕ → Result (Option J) E → Type 0
+MakesJob None new answer = new ≡ None
+MakesJob (Some old) new (Ok (Some job)) = HasMade 1 (Some old) new
+MakesJob (Some old) new (Ok None) = old ≡ 0
+MakesJob (Some old) new (Err e) = old ≢ 0
+
+-- the first job and these others are all that were to come, up to sixteen
+abbrev pub AreAll : Option ℕ → List ℕ → Type 0
+AreAll None others = Unit {0}
+AreAll (Some left) others = length others + 1 ≡ min left 16
+
+-- why a session has no jobs: there is no first one; or memory runs out for one
+abbrev pub IsMakerFault : Option ℕ → SessionFault → Type 0
+IsMakerFault left Start = MayBeDone left
+IsMakerFault left Memory = MayGoOn left
+IsMakerFault left _ = ⊥
