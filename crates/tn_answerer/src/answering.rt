@@ -1,4 +1,4 @@
-//! What a served session's job answers to what its user types.
+//! What a served session's job writes in answer to what its user types.
 
 ghost use Rattle.std.specs.Prelude.{◌≡◌, IfOk};
 ghost use Rattle.tn_answerer.specs.Answering.{say, answer_line};
@@ -11,19 +11,30 @@ use tn_jobs::{After, Job, Reaction};
 /// of file end it with `bye`, and a signal is named. In the background it ticks as often as is left.
 #[derive(Drop)]
 pub struct Answerer {
-    /// How many ticks are left to a job in the background; a job in the foreground has no use of it.
-    pub left: u16,
+    // How many ticks it was made for, and how many of them are left.
+    ticks: u16,
+    left: u16,
+}
+
+impl Answerer {
+    /// A job that makes so many ticks, one at each step in the background. In the foreground it makes none.
+    pub fn new(ticks: u16) -> Self
+        ensures ticks { result.ticks ≡ ticks }
+        ensures left { result.left ≡ ticks }
+    {
+        Answerer { ticks, left: ticks }
+    }
 }
 
 impl Job for Answerer {
-    ghost use Rattle.std.specs.Prelude.{◌≡◌, ◌<◌, ⊤};
-    ghost use Rattle.tn_answerer.specs.Answering.{answer, Ticks};
+    ghost use Rattle.std.specs.Prelude.{◌≡◌};
+    ghost use Rattle.tn_answerer.specs.Answering.{answer, IsFresh, IsStep};
 
-    ghost fresh = { λ job. ⊤ };
+    ghost fresh = { λ job. IsFresh job };
 
     ghost reacts = { λ old entry reaction new. (reaction ≡ answer entry) × (new ≡ old) };
 
-    ghost steps = { λ old reaction new. 0 < old.left → Ticks old.left reaction new.left };
+    ghost steps = { λ old reaction new. IsStep old reaction new };
 
     fn entry(&mut self, alloc: Global, entry: Entry) -> Result<Reaction, AllocError> {
         match entry {

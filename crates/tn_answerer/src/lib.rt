@@ -2,7 +2,7 @@
 //! its user makes, and ticks in the background.
 //!
 //! ```
-//! let reaction = Answerer { left: 0 }.entry(alloc, Entry::Eof)?;
+//! let reaction = Answerer::new(0).entry(alloc, Entry::Eof)?;
 //! ```
 //!
 //! It knows of no terminal and of no connection: a session hands it what was typed.
@@ -11,3 +11,4 @@
 pub use answering::Answerer;
 
 mod answering;
+pub mod laws;

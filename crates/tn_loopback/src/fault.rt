@@ -1,5 +1,7 @@
 //! Why there was nothing to serve or to connect to.
 
+ghost use Rattle.std.specs.Prelude.{◌≡◌};
+
 use std::alloc::AllocError;
 use std::io;
 use thiserror::Error;
@@ -22,12 +24,20 @@ pub enum LoopbackFault {
 }
 
 impl From<AllocError> for LoopbackFault {
+    ghost use Rattle.tn_loopback.specs.declared.fault.LoopbackFault.TheVariants as fault;
+
+    ghost from_gives = { λ _ told. told ≡ fault.Memory };
+
     fn from(_error: AllocError) -> LoopbackFault {
         LoopbackFault::Memory
     }
 }
 
 impl From<RosterFault> for LoopbackFault {
+    ghost use Rattle.tn_loopback.specs.Faults.{told_as};
+
+    ghost from_gives = { λ fault told. told ≡ told_as fault };
+
     fn from(fault: RosterFault) -> LoopbackFault {
         match fault {
             RosterFault::BadLimit | RosterFault::Full => LoopbackFault::Limit,
@@ -37,6 +47,10 @@ impl From<RosterFault> for LoopbackFault {
 }
 
 impl From<io::Error> for LoopbackFault {
+    ghost use Rattle.tn_loopback.specs.Faults.{IsOfNetwork};
+
+    ghost from_gives = { λ _ told. IsOfNetwork told };
+
     fn from(error: io::Error) -> LoopbackFault {
         if error.kind() == io::ErrorKind::OutOfMemory {
             LoopbackFault::Memory

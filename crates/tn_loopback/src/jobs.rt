@@ -24,13 +24,13 @@ impl Maker for Jobs {
     fn next(&mut self, _alloc: Global) -> Result<Option<Answerer>, AllocError> {
         if self.first {
             self.first = false;
-            return Ok(Some(Answerer { left: 0 }));
+            return Ok(Some(Answerer::new(0)));
         }
         if self.ticks == 0 {
             return Ok(None);
         }
         let left = self.ticks;
         self.ticks = 0;
-        Ok(Some(Answerer { left }))
+        Ok(Some(Answerer::new(left)))
     }
 }

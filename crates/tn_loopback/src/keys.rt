@@ -1,5 +1,7 @@
 //! Keys that end with the connection.
 
+ghost use Rattle.std.specs.Prelude.{◌≡◌};
+
 use std::alloc::Global;
 use std::env::{Env, FillError};
 use std::io;
@@ -47,7 +49,9 @@ pub(crate) struct Keys<K> {
 }
 
 impl<K> Keys<K> {
-    pub(crate) fn new<H: Env>(rt: &H, keys: K, closed: Arc<AtomicBool, Global>) -> Keys<K> {
+    pub(crate) fn new<H: Env>(rt: &H, keys: K, closed: Arc<AtomicBool, Global>) -> Keys<K>
+        ensures { result.keys ≡ keys }
+    {
         let mut value = [0; 1];
         let waits_for_a_time = !matches!(rt.var(TERMINAL, &mut value), Err(FillError::NotPresent));
         Keys {
@@ -59,6 +63,8 @@ impl<K> Keys<K> {
 }
 
 impl<K: Read> Read for Keys<K> {
+    ghost remaining = { λ k. K.remaining k.keys };
+
     fn read(&mut self, buf: &mut [u8]) -> io::Result<usize> {
         let count = self.keys.read(buf)?;
         if count == 0 && self.waits_for_a_time && !self.closed.load(Ordering::SeqCst) {

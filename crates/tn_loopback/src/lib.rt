@@ -12,6 +12,7 @@
 pub use connecting::connect;
 pub use fault::LoopbackFault;
 pub use host::Host;
+pub use served::Served;
 pub use serving::{serve, serve_connection, serve_on};
 
 mod connecting;
@@ -20,4 +21,6 @@ mod fault;
 mod host;
 mod jobs;
 mod keys;
+mod running;
+mod served;
 mod serving;

@@ -1,16 +1,22 @@
 //! `tn serve`: each connection has a session in threads of its own.
 
+ghost use Rattle.std.specs.Prelude.{◌≡◌, ◌≢◌, ◌<◌, ◌+◌, ◌^◌, ◌-◌, true, false, IfOk, IfErr, OnOk, IsErrOf, Err};
+ghost use Rattle.tn_loopback.specs.Ends.{EndsWhole, ServesAll};
+ghost use Rattle.tn_loopback.specs.Faults.{IsOfNetwork};
+ghost use Rattle.tn_roster.specs.Held.{IsLimit};
+
 use crate::connection::Connection;
 use crate::fault::LoopbackFault;
 use crate::host::Host;
 use crate::jobs::Jobs;
+use crate::running::{Running, tell_fault};
+use crate::served::Served;
 use std::alloc::Global;
 use std::io::{ErrorKind, Read, Write};
 use std::net::{Ipv4Addr, Net, Shutdown, TcpListener, TcpStream};
 use std::sync::{Arc, Mutex, Wait};
-use std::thread::{JoinHandle, Threads};
 use std::time::Duration;
-use std::{io, mem, thread};
+use std::{io, thread};
 use tn_discipline::Settings;
 use tn_roster::{Roster, RosterFault, note};
 use tn_server::Editing;
@@ -21,64 +27,12 @@ use tn_words::Serving;
 /// sent by then does not take that word from it.
 const LINGER: u64 = 50;
 
-/// Where nobody watches the threads.
+/// A gate that does nothing: no test watches the threads.
 #[derive(Drop)]
 pub(crate) struct Unwatched;
 
 impl Gate for Unwatched {
     fn at(&self, _place: Place) {}
-}
-
-/// The sessions that were started and not yet joined, by their numbers.
-#[derive(Drop)]
-struct Sessions<'a, H, E> {
-    rt: H,
-    alloc: Global,
-    errors: &'a mut E,
-    started: Vec<Option<JoinHandle<bool>>>,
-}
-
-impl<'a, H: Threads + Copy, E: Write> Sessions<'a, H, E> {
-    // Joins the session that had this number before, if there was one, and tells where it ended in a
-    // fault. False where there is no memory for the number.
-    fn make_way(&mut self, number: usize) -> bool {
-        if let Some(slot) = self.started.get_mut(number) {
-            let earlier = slot.take();
-            self.join(earlier);
-            return true;
-        }
-        for _ in self.started.len()..number.saturating_add(1) {
-            if self.started.push(None).is_err() {
-                return false;
-            }
-        }
-        true
-    }
-
-    fn keep(&mut self, number: usize, session: JoinHandle<bool>) {
-        if let Some(slot) = self.started.get_mut(number) {
-            *slot = Some(session);
-        }
-    }
-
-    fn join(&mut self, session: Option<JoinHandle<bool>>) {
-        if let Some(session) = session {
-            if !session.join(&self.rt) {
-                self.tell_fault();
-            }
-        }
-    }
-
-    fn tell_fault(&mut self) {
-        let _ = writeln!(self.errors, "tn: {}", LoopbackFault::Session);
-    }
-
-    fn join_all(&mut self) {
-        let started = mem::replace(&mut self.started, Vec::new(self.alloc));
-        for session in started {
-            self.join(session);
-        }
-    }
 }
 
 /// Serves a port of this machine until so many connections were accepted and each of their sessions
@@ -88,7 +42,11 @@ pub fn serve<H: Host + Net<Listener = TcpListener, Stream = TcpStream>, E: Write
     alloc: Global,
     serving: Serving,
     errors: &mut E,
-) -> Result<(), LoopbackFault> {
+) -> Result<Served, LoopbackFault>
+    ensures all { IfOk result (ServesAll serving) }
+    ensures limit { IsErrOf result LoopbackFault.Limit → ¬ IsLimit serving.limit }
+    ensures no_session { result ≢ Err LoopbackFault.Session }
+{
     let listener = TcpListener::bind(&rt, (Ipv4Addr::LOCALHOST, serving.port))?;
     serve_on(rt, alloc, &listener, serving, errors)
 }
@@ -100,20 +58,21 @@ pub fn serve_on<H: Host, E: Write>(
     listener: &TcpListener,
     serving: Serving,
     errors: &mut E,
-) -> Result<(), LoopbackFault> {
+) -> Result<Served, LoopbackFault>
+    ensures all { IfOk result (ServesAll serving) }
+    ensures limit { IsErrOf result LoopbackFault.Limit → ¬ IsLimit serving.limit }
+    ensures bad_limit { (¬ IsLimit serving.limit) → IsErrOf result LoopbackFault.Limit }
+    ensures no_session { result ≢ Err LoopbackFault.Session }
+{
     let roster = Roster::new(alloc, usize::from(serving.limit))?;
     let Ok(roster) = Arc::new(alloc, Mutex::new(roster)) else {
         return Err(LoopbackFault::Memory);
     };
-    let mut sessions = Sessions {
-        rt,
-        alloc,
-        errors,
-        started: Vec::new(alloc),
-    };
-    let served = accept_all(rt, alloc, &serving, listener, &roster, &mut sessions);
-    sessions.join_all();
-    served
+    let mut running = Running::new(alloc);
+    let accepted = accept_all(rt, alloc, &serving, listener, &roster, &mut running, errors);
+    let served = running.join_all(&rt, errors);
+    accepted?;
+    Ok(served)
 }
 
 fn accept_all<H: Host, E: Write>(
@@ -122,15 +81,20 @@ fn accept_all<H: Host, E: Write>(
     serving: &Serving,
     listener: &TcpListener,
     roster: &Arc<Mutex<Roster>, Global>,
-    sessions: &mut Sessions<'_, H, E>,
-) -> Result<(), LoopbackFault> {
-    for _ in 0..serving.count {
+    running: &mut Running,
+    errors: &mut E,
+) -> Result<(), LoopbackFault>
+    requires { running.old.accepted ≡ 0 }
+    ensures all { OnOk result (running.new.accepted ≡ serving.now.count) }
+    ensures fault { IfErr result IsOfNetwork }
+{
+    for _accepted in 0..serving.count {
         let stream = accept(&rt, listener)?;
         let entered = roster.lock(&rt).enter();
         if serving.verbose {
             note(&rt, &entered);
         }
-        admit(rt, alloc, serving, stream, entered, roster, sessions);
+        admit(rt, alloc, serving, stream, entered, roster, running, errors);
     }
     Ok(())
 }
@@ -143,17 +107,20 @@ fn admit<H: Host, E: Write>(
     stream: TcpStream,
     entered: Result<usize, RosterFault>,
     roster: &Arc<Mutex<Roster>, Global>,
-    sessions: &mut Sessions<'_, H, E>,
-) {
-    if let Ok(number) = entered {
-        return start(rt, alloc, serving, stream, number, roster, sessions);
-    }
-    if entered == Err(RosterFault::Full) {
+    running: &mut Running,
+    errors: &mut E,
+)
+    requires { running.old.accepted < 2 ^ 32 - 1 }
+    ensures { running.new.accepted ≡ running.old.accepted + 1 }
+{
+    let Ok(number) = entered else {
         turn_away(stream);
-    }
+        return running.refuse();
+    };
+    start(rt, alloc, serving, stream, number, roster, running, errors);
 }
 
-// The next connection. One that its peer gave up before it was accepted is passed over.
+// The next connection. One that its peer closed before it was accepted is skipped.
 fn accept<H: Wait>(rt: &H, listener: &TcpListener) -> io::Result<TcpStream> {
     for _ in rt.forever() {
         match listener.accept() {
@@ -192,9 +159,13 @@ fn start<H: Host, E: Write>(
     stream: TcpStream,
     number: usize,
     roster: &Arc<Mutex<Roster>, Global>,
-    sessions: &mut Sessions<'_, H, E>,
-) {
-    if sessions.make_way(number) {
+    running: &mut Running,
+    errors: &mut E,
+)
+    requires { running.old.accepted < 2 ^ 32 - 1 }
+    ensures { running.new.accepted ≡ running.old.accepted + 1 }
+{
+    if running.make_way(&rt, number, errors) {
         if let Ok(shared) = Arc::try_clone(roster) {
             let serving = *serving;
             let work = move || -> bool {
@@ -203,12 +174,13 @@ fn start<H: Host, E: Write>(
                 whole
             };
             if let Ok(session) = thread::spawn(&rt, work) {
-                return sessions.keep(number, session);
+                return running.keep(number, session);
             }
         }
     }
     roster.lock(&rt).leave(number);
-    sessions.tell_fault();
+    running.fail();
+    tell_fault(errors);
 }
 
 /// Runs one session over a connection that was accepted, in threads of its own, until it has ended.
@@ -246,6 +218,17 @@ pub fn serve_connection<H: Host>(
 }
 
 // The session ended in no fault.
-pub(crate) fn is_whole(ended: &Result<Report, SessionFault>) -> bool {
-    matches!(ended, Ok(report) if matches!(report.ended, Ended::HangUp | Ended::Done))
+fn is_whole(ended: &Result<Report, SessionFault>) -> bool {
+    matches!(ended, Ok(report) if ends_whole(report))
+}
+
+/// The report is of a session that ended in no fault.
+pub(crate) fn ends_whole(report: &Report) -> bool
+    ensures whole { result ≡ true → EndsWhole report.now }
+    ensures faulted { result ≡ false → ¬ EndsWhole report.now }
+{
+    match report.ended {
+        Ended::HangUp | Ended::Done => true,
+        Ended::Fault(_) => false,
+    }
 }

@@ -7,6 +7,8 @@
 //! It sets no terminal to raw mode: whoever starts it does.
 #![tactic(auto)]
 
-pub use program::run_words;
+pub use outcome::Outcome;
+pub use program::{outcome_of_words, run_words};
 
+mod outcome;
 mod program;

@@ -1,26 +1,22 @@
 //! The program: words and streams in, a status out.
 
-ghost use Rattle.std.specs.Prelude.{◌≡◌, ◌≢◌, IfErr, IfOk, IsOk, OnOk, map, string_bytes};
+ghost use Rattle.std.specs.Prelude.{◌≡◌, ◌≢◌, ◌⊎◌, IfErr, IfOk, IsOk, OnErr, map, string_bytes};
 ghost use Rattle.std.specs.IoError.{error_kind};
-ghost use Rattle.tn_cli.specs.Faults.{status_after};
-ghost use Rattle.tn_program.specs.Runs.{RunsAsked, DoesAsAsked};
-ghost use Rattle.tn_program.specs.Statuses.{status_after_sessions};
+ghost use Rattle.tn_program.specs.Outcomes.{ComesOf, ComesOfRun, EndsWith, AskForNothing};
+ghost use Rattle.tn_program.specs.Runs.{DoesAsAsked};
 
+use crate::outcome::Outcome;
 use std::alloc::{AllocError, Global};
-use std::fmt::Display;
 use std::io;
 use std::io::{ErrorKind, Read, Write};
 use std::net::{Net, TcpListener, TcpStream};
 use tn_cli::{CliFault, run_local, run_replay, run_world};
-use tn_loopback::{Host, LoopbackFault, connect, serve};
+use tn_loopback::{Host, connect, serve};
 use tn_words::{Asked, WordsFault, read_words};
 
-/// The status of a process whose words were not accepted.
-const USAGE: u8 = 2;
-
 /// Runs what the words of the command line ask for, the program's name first, where they could be had,
-/// and gives the status to end with: 0 only where that was done. A fault is told in one line on
-/// `errors`; a line that cannot be written there is dropped.
+/// and gives the status to end with: 0 where that was done, and else the status of the fault that met it
+/// (`EndsWith`). A fault is told in one line on `errors`; a line that cannot be written there is dropped.
 pub fn run_words<
     H: Host + Net<Listener = TcpListener, Stream = TcpStream>,
     R: Read + Drop + Send + 'static,
@@ -37,13 +33,58 @@ pub fn run_words<
     ensures had { result ≡ 0 → IsOk words }
     ensures memory { IfErr words (λ error. error_kind error ≡ ErrorKind.OutOfMemory → result ≡ 1) }
     ensures usage { IfErr words (λ error. error_kind error ≢ ErrorKind.OutOfMemory → result ≡ 2) }
+    ensures unwritten { OnErr words (W.contents writer.new ≡ W.contents writer.old) }
     ensures done { result ≡ 0 → IfOk words (λ words. DoesAsAsked (map string_bytes words.items)
         (R.remaining reader) (W.contents writer.old) (W.contents writer.new)) }
+    ensures ended { IfOk words (λ words. EndsWith (map string_bytes words.items)
+        (R.remaining reader) (W.contents writer.old) (W.contents writer.new) result) }
+    // 1 when out of memory
+    ensures refused { IfOk words (λ words. AskForNothing (map string_bytes words.items) →
+        ((result ≡ 2) ⊎ (result ≡ 1)) × (W.contents writer.new ≡ W.contents writer.old)) }
+{
+    let outcome = outcome_of_words(rt, alloc, words, reader, writer, errors);
+    outcome.tell(errors);
+    outcome.status()
+}
+
+/// The same, but for the status and the line: what comes of the words.
+pub fn outcome_of_words<
+    H: Host + Net<Listener = TcpListener, Stream = TcpStream>,
+    R: Read + Drop + Send + 'static,
+    W: Write,
+    E: Write,
+>(
+    rt: H,
+    alloc: Global,
+    words: io::Result<Vec<String>>,
+    reader: R,
+    writer: &mut W,
+    errors: &mut E,
+) -> Outcome
+    ensures memory { IfErr words (λ error. error_kind error ≡ ErrorKind.OutOfMemory →
+        result ≡ Outcome.Memory) }
+    ensures usage { IfErr words (λ error. error_kind error ≢ ErrorKind.OutOfMemory →
+        result ≡ Outcome.Usage) }
+    ensures unwritten { OnErr words (W.contents writer.new ≡ W.contents writer.old) }
+    ensures comes { IfOk words (λ words. ComesOf (map string_bytes words.items) (R.remaining reader)
+        (W.contents writer.old) (W.contents writer.new) result) }
 {
     match words {
         Ok(words) => run_strings(rt, alloc, &words, reader, writer, errors),
-        Err(error) => refuse_words(error.kind(), errors),
+        Err(error) => refusal(error.kind()),
     }
+}
+
+// What comes of words that could not be had: out of memory, or words that are not accepted, as those that
+// are not text.
+fn refusal(kind: ErrorKind) -> Outcome
+    ensures memory { kind ≡ ErrorKind.OutOfMemory → result ≡ Outcome.Memory }
+    ensures usage { kind ≢ ErrorKind.OutOfMemory → result ≡ Outcome.Usage }
+{
+    if kind == ErrorKind::OutOfMemory {
+        return Outcome::Memory;
+    }
+    Outcome::Usage
 }
 
 fn run_strings<
@@ -51,13 +92,13 @@ fn run_strings<
     R: Read + Drop + Send + 'static,
     W: Write,
     E: Write,
->(rt: H, alloc: Global, words: &[String], reader: R, writer: &mut W, errors: &mut E) -> u8
-    ensures { result ≡ 0 → DoesAsAsked (map string_bytes words.now)
-        (R.remaining reader) (W.contents writer.old) (W.contents writer.new) }
+>(rt: H, alloc: Global, words: &[String], reader: R, writer: &mut W, errors: &mut E) -> Outcome
+    ensures { ComesOf (map string_bytes words.now) (R.remaining reader)
+        (W.contents writer.old) (W.contents writer.new) result }
 {
     match texts_of(alloc, words) {
         Ok(texts) => run_texts(rt, alloc, &texts, reader, writer, errors),
-        Err(_) => report(Err(CliFault::Memory), errors),
+        Err(_) => Outcome::Memory,
     }
 }
 
@@ -76,64 +117,18 @@ fn run_texts<
     R: Read + Drop + Send + 'static,
     W: Write,
     E: Write,
->(rt: H, alloc: Global, words: &[&str], reader: R, writer: &mut W, errors: &mut E) -> u8
-    ensures { result ≡ 0 → DoesAsAsked (map (λ word. word.now) words.now)
-        (R.remaining reader) (W.contents writer.old) (W.contents writer.new) }
+>(rt: H, alloc: Global, words: &[&str], reader: R, writer: &mut W, errors: &mut E) -> Outcome
+    ensures { ComesOf (map (λ word. word.now) words.now) (R.remaining reader)
+        (W.contents writer.old) (W.contents writer.new) result }
 {
     match read_words(alloc, words) {
         Ok(asked) => return run_asked(rt, alloc, asked, reader, writer, errors),
         Err(WordsFault::Help(text)) => {
-            let outcome = writer.write_all(text.as_bytes());
-            return report(outcome.map_err(|_| CliFault::Write), errors);
+            let written = writer.write_all(text.as_bytes());
+            return Outcome::Help(written.map_err(|_| CliFault::Write));
         },
-        Err(WordsFault::Memory) => return report(Err(CliFault::Memory), errors),
-        Err(WordsFault::Usage) => return refuse_words(ErrorKind::InvalidInput, errors),
-    }
-}
-
-// The status to end with where the words of the command line could not be had: want of memory, or
-// words that are not accepted, as those that are not text.
-fn refuse_words<E: Write>(kind: ErrorKind, errors: &mut E) -> u8
-    ensures memory { kind ≡ ErrorKind.OutOfMemory → result ≡ 1 }
-    ensures usage { kind ≢ ErrorKind.OutOfMemory → result ≡ 2 }
-    ensures failed { result ≢ 0 }
-{
-    if kind == ErrorKind::OutOfMemory {
-        return report(Err(CliFault::Memory), errors);
-    }
-    tell(errors, &WordsFault::Usage);
-    USAGE
-}
-
-// The status after a run, whose fault is told.
-fn report<E: Write>(outcome: Result<(), CliFault>, errors: &mut E) -> u8
-    ensures { result ≡ status_after outcome }
-{
-    match outcome {
-        Ok(()) => 0,
-        Err(fault) => {
-            tell(errors, &fault);
-            fault.status()
-        },
-    }
-}
-
-fn tell<E: Write, F: Display>(errors: &mut E, fault: &F) {
-    let _ = writeln!(errors, "tn: {fault}");
-}
-
-// The status after sessions over connections, whose fault is told.
-fn report_sessions<E: Write>(outcome: Result<(), LoopbackFault>, errors: &mut E) -> u8
-    ensures { result ≡ status_after_sessions outcome }
-{
-    let Err(fault) = outcome else {
-        return 0;
-    };
-    tell(errors, &fault);
-    match fault {
-        LoopbackFault::Limit => USAGE,
-        LoopbackFault::Session => 3,
-        LoopbackFault::Network | LoopbackFault::Memory => 1,
+        Err(WordsFault::Memory) => return Outcome::Memory,
+        Err(WordsFault::Usage) => return Outcome::Usage,
     }
 }
 
@@ -142,21 +137,16 @@ fn run_asked<
     R: Read + Drop + Send + 'static,
     W: Write,
     E: Write,
->(rt: H, alloc: Global, asked: Asked, mut reader: R, writer: &mut W, errors: &mut E) -> u8
-    ensures { result ≡ 0 →
-        RunsAsked asked (R.remaining reader) (W.contents writer.old) (W.contents writer.new) }
+>(rt: H, alloc: Global, asked: Asked, mut reader: R, writer: &mut W, errors: &mut E) -> Outcome
+    ensures { ComesOfRun asked (R.remaining reader) (W.contents writer.old) (W.contents writer.new) result }
 {
     match asked {
-        Asked::Local => report(run_local(alloc, &mut reader, writer), errors),
-        Asked::Replay => report(run_replay(alloc, &mut reader, writer), errors),
-        Asked::World => report(run_world(alloc, &mut reader, writer), errors),
-        Asked::Serve(serving) => {
-            let served = serve(rt, alloc, serving, errors);
-            report_sessions(served, errors)
-        },
+        Asked::Local => Outcome::Local(run_local(alloc, &mut reader, writer)),
+        Asked::Replay => Outcome::Replay(run_replay(alloc, &mut reader, writer)),
+        Asked::World => Outcome::World(run_world(alloc, &mut reader, writer)),
+        Asked::Serve(serving) => Outcome::Served(serve(rt, alloc, serving, errors)),
         Asked::Connect(connecting) => {
-            let connected = connect(rt, alloc, connecting, reader, writer);
-            report_sessions(connected, errors)
+            Outcome::Connected(connect(rt, alloc, connecting, reader, writer))
         },
     }
 }

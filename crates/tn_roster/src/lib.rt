@@ -26,9 +26,9 @@ pub const MOST_SESSIONS: usize = 64;
 /// Why a roster was not made, or took no session.
 #[derive(Clone, Copy, Debug, PartialEq, Eq, Error)]
 pub enum RosterFault {
-    #[error("the limit is none of 1 to 64")]
+    #[error("limit must be 1 to 64")]
     BadLimit,
-    #[error("as many sessions as there may be are held already")]
+    #[error("session limit reached")]
     Full,
     #[error("out of memory")]
     Memory,
@@ -67,7 +67,7 @@ impl Model for Roster {
 
 impl Roster {
     /// A roster without sessions, of which it may hold `limit`, 1 to 64: `BadLimit` for any other. It
-    /// takes the room for all of them, so that none is refused for want of memory later.
+    /// takes the room for all of them, so that none runs out of memory later.
     pub fn new(alloc: Global, limit: usize) -> Result<Roster, RosterFault>
         ensures limit { IfOk result (λ roster. roster.limit ≡ limit) }
         ensures empty { IfOk result (λ roster. roster.numbers ≡ []) }
@@ -82,7 +82,7 @@ impl Roster {
         Ok(Roster { sessions, limit })
     }
 
-    /// Takes in a session, and gives its number: `Full` where as many as there may be are held.
+    /// Takes in a session, and gives its number: `Full` when the session limit is reached.
     pub fn enter(&mut self) -> Result<usize, RosterFault>
         ensures enters { IfOk result (λ number. Enters self.old self.new number) }
         ensures room { OnOk result (held_count self.old < self.old.limit) }

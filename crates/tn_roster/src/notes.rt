@@ -1,4 +1,4 @@
-//! What is noted of a roster's answers.
+//! What is noted of the results of a roster's calls.
 
 use crate::RosterFault;
 use log::{Log, info};

@@ -77,7 +77,7 @@ AsksForHelp words = IsAmong kind.DisplayHelp (fault_of tn words)
 abbrev pub AreWrong : List Text → Type 0
 AreWrong words = (k : ErrorKind) × (k ≢ kind.DisplayHelp) × IsAmong k (fault_of tn words)
 
--- why words give no run: they are not taken, or name none; where memory is wanting, they may be any
+-- why words give no run: they are not taken, or name none; where memory runs out, they may be any
 abbrev pub Refuses : List Text → WordsFault → Type 0
 Refuses words fault.Usage = ((takes tn words ≡ false) × AreWrong words) ⊎ AsksNothing (subcommand_of tn words)
 Refuses words fault.Memory = ⊤

@@ -1,0 +1,43 @@
+//! How many connections were served.
+
+ghost use Rattle.std.specs.Prelude.{◌≡◌, ◌+◌};
+
+/// What became of the connections that were accepted. Only serving makes one.
+#[derive(Clone, Copy, Debug, PartialEq, Eq)]
+pub struct Served {
+    pub(crate) accepted: u32,
+    pub(crate) whole: u32,
+    pub(crate) faulted: u32,
+    pub(crate) refused: u32,
+    pub ghost counted: { whole + faulted + refused ≡ accepted },
+}
+
+impl Served {
+    /// How many connections were accepted. Each is counted once more below.
+    pub fn accepted(self) -> u32
+        ensures { result ≡ self.accepted }
+    {
+        self.accepted
+    }
+
+    /// How many of their sessions ended in no fault.
+    pub fn whole(self) -> u32
+        ensures { result ≡ self.whole }
+    {
+        self.whole
+    }
+
+    /// How many of their sessions ended in a fault, or could not be started.
+    pub fn faulted(self) -> u32
+        ensures { result ≡ self.faulted }
+    {
+        self.faulted
+    }
+
+    /// How many got no session, since as many as there may be ran already.
+    pub fn refused(self) -> u32
+        ensures { result ≡ self.refused }
+    {
+        self.refused
+    }
+}

@@ -1,0 +1,73 @@
+-- Where the status is 0, what was asked for was done.
+use Rattle.std.proofs.Common.{◌≡◌, ℕ, inl, inr, Option, List, Result, Ok, Err, IfOk, sym, subst, arith}
+use Rattle.tn_cli.specs.Faults as cli
+use Rattle.tn_cli.specs.declared.fault.CliFault.{CliFault}
+use Rattle.tn_cli.specs.declared.fault.CliFault.TheVariants.{Read, TooLong, Script, World, Write, Memory}
+use Rattle.tn_loopback.specs.declared.fault.LoopbackFault.{LoopbackFault}
+use Rattle.tn_loopback.specs.declared.fault.LoopbackFault.TheVariants as connection
+use Rattle.tn_program.specs.Outcomes.{ComesOf, ComesOfRun, ComesOfNoRun}
+use Rattle.tn_program.specs.Runs.{DoesAsAsked, RunsAsked}
+use Rattle.tn_program.specs.Statuses.{status_of_connection, status_of}
+use Rattle.tn_program.specs.declared.outcome.Outcome.{Outcome}
+use Rattle.tn_program.specs.declared.outcome.Outcome.TheVariants as outcome
+use Rattle.tn_words.specs.declared.words.Asked.{Asked}
+
+-- what follows of a value follows of it where it is there
+pub if_ok : {A E : Type 0} (r : Result A E) (P Q : A → Type 0) → ((x : A) → P x → Q x) → IfOk r P → IfOk r Q
+if_ok (Ok x) P Q follows h = follows x h
+if_ok (Err e) P Q follows h = h
+
+-- no fault has the status 0
+
+faulted : (f : CliFault) → cli.status_of f ≡ 0 → ⊥
+faulted Read zero = omega (arith, zero)
+faulted TooLong zero = omega (arith, zero)
+faulted (Script line) zero = omega (arith, zero)
+faulted (World line) zero = omega (arith, zero)
+faulted Write zero = omega (arith, zero)
+faulted Memory zero = omega (arith, zero)
+
+disconnected : (f : LoopbackFault) → status_of_connection f ≡ 0 → ⊥
+disconnected connection.Network zero = omega (arith, zero)
+disconnected connection.Session zero = omega (arith, zero)
+disconnected connection.Limit zero = omega (arith, zero)
+disconnected connection.Memory zero = omega (arith, zero)
+
+-- the run that was asked for
+
+ran : (a : Asked) (input old new : Option (List ℕ)) (came : Outcome) → ComesOfRun a input old new came
+    → status_of came ≡ 0 → RunsAsked a input old new
+ran a input old new (outcome.Local (Ok done)) (e, ends) zero = subst (λ a. RunsAsked a input old new) (sym e) ends.ok
+ran a input old new (outcome.Local (Err f)) h zero = absurd (faulted f zero)
+ran a input old new (outcome.Replay (Ok done)) (e, ends) zero = subst (λ a. RunsAsked a input old new) (sym e) ends.ok
+ran a input old new (outcome.Replay (Err f)) h zero = absurd (faulted f zero)
+ran a input old new (outcome.World (Ok done)) (e, ends) zero = subst (λ a. RunsAsked a input old new) (sym e) ends.ok
+ran a input old new (outcome.World (Err f)) h zero = absurd (faulted f zero)
+ran a input old new (outcome.Served (Ok served)) (serving, e, ends) zero =
+    subst (λ a. RunsAsked a input old new) (sym e) (served, ends.all, ends.unwritten)
+ran a input old new (outcome.Served (Err f)) h zero = absurd (disconnected f zero)
+ran a input old new (outcome.Connected (Ok r)) (connecting, e, ends) zero =
+    subst (λ a. RunsAsked a input old new) (sym e) (r.0, r.1, ends.ran, ends.whole)
+ran a input old new (outcome.Connected (Err f)) h zero = absurd (disconnected f zero)
+ran a input old new (outcome.Help ended) h zero = absurd h
+ran a input old new outcome.Usage h zero = absurd h
+ran a input old new outcome.Memory h zero = absurd h
+
+-- or the help
+
+helped : (words : List (List ℕ)) (input old new : Option (List ℕ)) (came : Outcome)
+    → ComesOfNoRun words old new came → status_of came ≡ 0 → DoesAsAsked words input old new
+helped words input old new (outcome.Help (Ok done)) (asks, ends) zero = inr (asks, ends.ok)
+helped words input old new (outcome.Help (Err f)) h zero = absurd (faulted f zero)
+helped words input old new outcome.Usage h zero = absurd (omega (arith, zero))
+helped words input old new outcome.Memory h zero = absurd (omega (arith, zero))
+helped words input old new (outcome.Local ended) h zero = absurd h
+helped words input old new (outcome.Replay ended) h zero = absurd h
+helped words input old new (outcome.World ended) h zero = absurd h
+helped words input old new (outcome.Served ended) h zero = absurd h
+helped words input old new (outcome.Connected ended) h zero = absurd h
+
+pub does : (words : List (List ℕ)) (input old new : Option (List ℕ)) (came : Outcome)
+    → status_of came ≡ 0 → ComesOf words input old new came → DoesAsAsked words input old new
+does words input old new came zero (inl (a, asks, h)) = inl (a, asks, ran a input old new came h zero)
+does words input old new came zero (inr h) = helped words input old new came h zero

@@ -1,0 +1,89 @@
+//! What comes of the words of a command line, and its status.
+
+ghost use Rattle.std.specs.Prelude.{◌≡◌};
+ghost use Rattle.tn_cli.specs.Faults.{status_after};
+ghost use Rattle.tn_program.specs.Statuses.{status_after_sessions, status_of};
+
+use std::fmt::Display;
+use std::io::Write;
+use tn_cli::CliFault;
+use tn_loopback::{LoopbackFault, Served};
+use tn_session::{ClientPorts, Report};
+use tn_words::WordsFault;
+
+/// The status of a process whose words were not accepted.
+const USAGE: u8 = 2;
+
+/// What comes of the words of a command line: what the run that they ask for returned, or why there was none.
+#[derive(Drop)]
+pub enum Outcome {
+    Local(Result<(), CliFault>),
+    Replay(Result<(), CliFault>),
+    World(Result<(), CliFault>),
+    Served(Result<Served, LoopbackFault>),
+    Connected(Result<(Report, ClientPorts), LoopbackFault>),
+    /// They ask for help, which was written or not.
+    Help(Result<(), CliFault>),
+    /// They are not accepted.
+    Usage,
+    /// Out of memory for the words.
+    Memory,
+}
+
+impl Outcome {
+    /// The status that a process ends with.
+    pub fn status(&self) -> u8
+        ensures { result ≡ status_of self.now }
+    {
+        match self {
+            Outcome::Local(ended) => after_run(ended),
+            Outcome::Replay(ended) => after_run(ended),
+            Outcome::World(ended) => after_run(ended),
+            Outcome::Served(ended) => after_sessions(ended),
+            Outcome::Connected(ended) => after_sessions(ended),
+            Outcome::Help(ended) => after_run(ended),
+            Outcome::Usage => USAGE,
+            Outcome::Memory => CliFault::Memory.status(),
+        }
+    }
+
+    /// Tells a fault in one line on `errors`. A line that cannot be written there is dropped.
+    pub(crate) fn tell<E: Write>(&self, errors: &mut E) {
+        match self {
+            Outcome::Local(Err(fault)) => tell(errors, fault),
+            Outcome::Replay(Err(fault)) => tell(errors, fault),
+            Outcome::World(Err(fault)) => tell(errors, fault),
+            Outcome::Served(Err(fault)) => tell(errors, fault),
+            Outcome::Connected(Err(fault)) => tell(errors, fault),
+            Outcome::Help(Err(fault)) => tell(errors, fault),
+            Outcome::Usage => tell(errors, &WordsFault::Usage),
+            Outcome::Memory => tell(errors, &CliFault::Memory),
+            _ => {},
+        }
+    }
+}
+
+fn after_run(ended: &Result<(), CliFault>) -> u8
+    ensures { result ≡ status_after ended.now }
+{
+    match ended {
+        Ok(()) => 0,
+        Err(fault) => fault.status(),
+    }
+}
+
+fn after_sessions<T>(ended: &Result<T, LoopbackFault>) -> u8
+    ensures { result ≡ status_after_sessions ended.now }
+{
+    match ended {
+        Ok(_) => 0,
+        Err(LoopbackFault::Network) => 1,
+        Err(LoopbackFault::Memory) => 1,
+        Err(LoopbackFault::Limit) => 2,
+        Err(LoopbackFault::Session) => 3,
+    }
+}
+
+fn tell<E: Write, F: Display>(errors: &mut E, fault: &F) {
+    let _ = writeln!(errors, "tn: {fault}");
+}
