@@ -7,8 +7,8 @@ use std::process::Abort;
 use tn_discipline::Limit;
 use tn_plain::chance::Dice;
 use tn_plain::payloads::mask;
-use tn_server::Editing;
-use tn_world::{Event, World, WorldFault};
+use tn_server::{Editing, ServerFault};
+use tn_world::{Cause, Event, World, WorldFault};
 
 const SCRIPTS: &[(&str, &str)] = &[
     (
@@ -56,6 +56,19 @@ fn chance(dice: &mut Dice) -> Event {
     }
 }
 
+// A forward mask is refused until LINEMODE is on, and then nothing changes.
+fn play_or_not(world: &mut World, event: Event) -> Result<(), WorldFault> {
+    match play(world, event) {
+        Err(
+            WorldFault {
+                cause: Cause::Server(ServerFault::NotOn),
+                ..
+            },
+        ) => Ok(()),
+        done => done,
+    }
+}
+
 // What happens seldom: a line that may be longer than there is room for, ends that stop late, and rest.
 fn rarely(world: &mut World, roll: usize, late: bool) -> Result<(), WorldFault> {
     match roll {
@@ -75,7 +88,7 @@ fn happen(
     late: bool,
     most: usize,
 ) -> Result<(), WorldFault> {
-    play(world, chance(dice))?;
+    play_or_not(world, chance(dice))?;
     let roll = dice.roll(60);
     rarely(world, roll, late)?;
     if (3..=10).contains(&roll) {
@@ -91,7 +104,6 @@ fn live(
     dice: &mut Dice,
     most: usize,
 ) -> Result<(), WorldFault> {
-    assert!(rt; rests(world)?);
     for step in 0..160 {
         happen(rt, alloc, world, dice, step > 120, most)?;
     }
@@ -100,9 +112,19 @@ fn live(
     Ok(())
 }
 
-fn live_by(rt: &impl Abort, alloc: Global, seed: u32, limit: Limit) -> Result<(), WorldFault> {
+// From a settled moment on, or from the opening.
+fn live_by(
+    rt: &impl Abort,
+    alloc: Global,
+    seed: u32,
+    limit: Limit,
+    settled: bool,
+) -> Result<(), WorldFault> {
     let most = usize::from(limit.bytes().saturating_sub(1));
     let mut world = open(alloc, limit)?;
+    if settled {
+        assert!(rt; rests(&mut world)?);
+    }
     live(rt, alloc, &mut world, &mut Dice::new(seed), most)
 }
 
@@ -111,7 +133,33 @@ fn random_worlds_agree_with_one_local_line(rt: HostRuntime) -> Result<(), WorldF
     let long = Limit::new(300).unwrap_or(Limit::standard());
     for seed in 0..100 {
         let limit = if seed < 50 { Limit::standard() } else { long };
-        live_by(&rt, rt.alloc(), seed, limit)?;
+        live_by(&rt, rt.alloc(), seed, limit, true)?;
+    }
+    Ok(())
+}
+
+const OPENINGS: &[(&str, &str)] = &[
+    // A line is begun, and a wish uttered, before a word of the opening has arrived.
+    (
+        "key 6162\nwish local\nsettle\nkey 7f630d\nflight\nsettle\ntake\n",
+        "to-server fff7630d0a\nto-client -\ntext 61630a\n",
+    ),
+    // The client has LINEMODE on, and the server has not heard of it.
+    (
+        "key 61\nto-client 3\nkey 62\nwish local\nflight\nsettle\nkey 7f630d\nsettle\ntake\n",
+        "to-server 61fffb2262\nto-client fffd1ffffb03fffd03fffb01\ntext 61630a\n",
+    ),
+];
+
+#[test]
+fn a_line_is_begun_at_the_opening(rt: HostRuntime) {
+    print_all(&rt, rt.alloc(), OPENINGS);
+}
+
+#[test]
+fn random_worlds_agree_from_the_opening_on(rt: HostRuntime) -> Result<(), WorldFault> {
+    for seed in 100..200 {
+        live_by(&rt, rt.alloc(), seed, Limit::standard(), false)?;
     }
     Ok(())
 }

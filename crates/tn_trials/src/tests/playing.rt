@@ -48,16 +48,12 @@ fn is_silent(world: &World) -> bool {
     world.in_flight(ToWhom::Server).is_empty() && world.in_flight(ToWhom::Client).is_empty()
 }
 
-// All to the client and then all to the server, while anything is in flight.
+// All to the client and then all to the server, while anything is in flight: two rounds are enough.
 pub(super) fn settle(world: &mut World) -> Result<(), WorldFault> {
-    for _ in 0..64 {
-        if is_silent(world) {
-            return Ok(());
-        }
-        play(world, Event::ToClient(ALL))?;
-        play(world, Event::ToServer(ALL))?;
+    if is_silent(world) {
+        return Ok(());
     }
-    Ok(())
+    world.settle()
 }
 
 pub(super) fn settle_with(world: &mut World, event: Event) -> Result<(), WorldFault> {

@@ -3,6 +3,7 @@
 mod connections;
 mod cores;
 mod gates;
+mod lines;
 mod programs;
 mod refusals;
 mod sessions;

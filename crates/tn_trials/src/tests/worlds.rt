@@ -11,7 +11,7 @@ fn world(alloc: Global, script: &[u8], output: &mut Vec<u8>) -> Result<(), CliFa
     run_world(alloc, &mut reader, output)
 }
 
-// Where an allocation is refused, nothing is printed, or a front of what would have been, up to the
+// Where an allocation is refused, nothing is printed, or a prefix of what would have been, up to the
 // line whose event was refused.
 fn is_refused(ended: Result<(), CliFault>, printed: &[u8], text: &[u8]) -> bool {
     match ended {

@@ -21,18 +21,18 @@ fn reads<T: Display>(rt: &impl Abort, alloc: Global, fault: &T, wanted: &str) {
 fn faults_of_the_lower_crates_have_their_texts(rt: HostRuntime) {
     let alloc = rt.alloc();
     for (fault, text) in [
+        (AskFault::UnknownOption, "option not supported"),
         (
-            AskFault::UnknownOption,
-            "this option is none that can be asked for",
+            AskFault::AlreadySo,
+            "the option is already in the requested state",
         ),
-        (AskFault::AlreadySo, "the option stands as wished already"),
         (
             AskFault::AlreadyAsked,
-            "this was asked for already, and the answer is still to come",
+            "already requested, awaiting the answer",
         ),
         (
             AskFault::AlreadyQueued,
-            "this was wished already, behind an answer that is still to come",
+            "already queued behind an outstanding answer",
         ),
     ] {
         reads(&rt, alloc, &fault, text);
@@ -54,7 +54,7 @@ fn faults_of_the_lower_crates_have_their_texts(rt: HostRuntime) {
         &rt,
         alloc,
         &PayloadFault::BadLength,
-        "too few parameters, or too many",
+        "wrong number of parameters",
     );
 }
 
@@ -62,32 +62,21 @@ fn faults_of_the_lower_crates_have_their_texts(rt: HostRuntime) {
 fn faults_of_terminals_and_ends_have_their_texts(rt: HostRuntime) {
     let alloc = rt.alloc();
     for (fault, text) in [
-        (JobFault::NoSuchJob, "there is no job of this number"),
-        (
-            JobFault::WrongState,
-            "the job can't change from its state to this one",
-        ),
-        (
-            JobFault::Full,
-            "as many jobs as there may be are held already",
-        ),
+        (JobFault::NoSuchJob, "no such job"),
+        (JobFault::WrongState, "the job cannot change to this state"),
+        (JobFault::Full, "job limit reached"),
         (JobFault::Memory, "out of memory"),
     ] {
         reads(&rt, alloc, &fault, text);
     }
     reads(&rt, alloc, &PtyFault::Memory, "out of memory");
-    reads(&rt, alloc, &PtyFault::Closed, "the pair takes no more keys");
+    reads(&rt, alloc, &PtyFault::Closed, "the pair is closed to input");
     let behind = ServerFault::Pty(PtyFault::TooFarAhead);
     reads(
         &rt,
         alloc,
         &behind,
-        "pseudoterminal: the slave is too far behind",
+        "pseudoterminal: too many entries are waiting",
     );
-    reads(
-        &rt,
-        alloc,
-        &ServerFault::Failed,
-        "the end has failed before",
-    );
+    reads(&rt, alloc, &ServerFault::Failed, "the end has failed");
 }

@@ -42,7 +42,7 @@ const AT_A_SERVER: &[(&str, &str)] = &[
          feed 610802; feed fffa22030a0204fff0; half; feed 6209; half",
         "true; sent fffa22030a0209fff0; half 610802; half 610802",
     ),
-    // Payloads of wrong lengths are passed over.
+    // Payloads of wrong lengths are skipped.
     (
         "join; says fffa22030a02fff0fffa1f0050fff0 ; size; \
          says fffa22fff0fffa2201fff0fffa22010303fff0 ; mode",
@@ -66,7 +66,7 @@ fn a_server_bears_a_client_that_means_harm(rt: HostRuntime) {
 }
 
 const AT_A_CLIENT: &[(&str, &str)] = &[
-    // Payloads of wrong lengths are passed over.
+    // Payloads of wrong lengths are skipped.
     (
         "join; feed fffa22fd02.33x01.fff0; feed fffa1f00500018fff0; feed fffa2201fff0; mode",
         "0",

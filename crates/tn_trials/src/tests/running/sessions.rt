@@ -144,6 +144,17 @@ fn a_session_answers_what_is_typed(rt: HostRuntime) -> Result<(), Fail> {
     Ok(())
 }
 
+/// More lines than may wait.
+const PASTED: &[u8; 4096] = &[10; 4096];
+
+#[test]
+fn a_session_holds_back_what_is_pasted(rt: HostRuntime) -> Result<(), Fail> {
+    let mut out = Vec::new(rt.alloc());
+    let report = served(rt, rt.alloc(), PASTED, &mut out, Editing::Remote, false, 1)?;
+    assert!(rt; report == ended(Ended::HangUp, 8, 4096, 0));
+    Ok(())
+}
+
 #[test]
 fn a_session_stops_what_writes_in_the_background(rt: HostRuntime) -> Result<(), Fail> {
     let mut out = Vec::new(rt.alloc());

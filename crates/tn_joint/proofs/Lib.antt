@@ -1,0 +1,11 @@
+pub mod Fronts
+pub mod Hearing
+pub mod ServerTurns
+pub mod ClientTurns
+pub mod Walking
+pub mod Tying
+pub mod Closing
+pub mod Sessions
+pub mod Law
+pub mod Example
+pub mod Whole

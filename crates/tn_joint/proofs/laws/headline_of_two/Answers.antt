@@ -1,0 +1,6 @@
+use Rattle.tn_joint.proofs.Law.{law}
+use Rattle.tn_joint.proofs.Sessions.{headline_of_two}
+use Rattle.tn_joint.proofs.laws.headline_of_two.Goals as goal
+
+pub returns : goal.returns
+returns g c = headline_of_two g.M.Job.Job.fresh g.M.Job.Job.reacts g.M.Job.Job.steps law

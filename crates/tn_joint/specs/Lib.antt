@@ -1,0 +1,3 @@
+pub mod Example
+pub mod Joint
+pub mod Sessions
