@@ -1,1 +1,2 @@
+pub mod Answerers
 pub mod Answering

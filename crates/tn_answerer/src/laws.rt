@@ -5,8 +5,8 @@ ghost use Rattle.tn_jobs.specs.declared.reactions.Reaction.{Reaction};
 ghost use Rattle.tn_answerer.specs.Answering.{AreTicks, IsFresh, AreSteps, ticks};
 ghost use Rattle.tn_answerer.specs.declared.answering.Answerer.{Answerer};
 
-/// A job with N ticks left makes N ticks, one at each step, and then none is left. A fresh job has as many left as
-/// it was made for.
+/// A job with N ticks left makes N ticks, one at each step, and then none is left. A fresh job has as many
+/// left as it was made for.
 pub fn ticks_are_counted()
     ensures number { (left : ℕ) → length (ticks left) ≡ left }
     ensures steps { (left after : ℕ) (reactions : List Reaction) → AreTicks left reactions after →

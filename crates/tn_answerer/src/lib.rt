@@ -1,14 +1,16 @@
-//! The job that `tn serve` gives each session: it answers the lines, the ends of file and the signals that
-//! its user makes, and ticks in the background.
+//! The jobs that `tn serve` gives each session: one answers the lines, the ends of file and the signals that
+//! its user makes, and another ticks in the background.
 //!
 //! ```
 //! let reaction = Answerer::new(0).entry(alloc, Entry::Eof)?;
 //! ```
 //!
-//! It knows of no terminal and of no connection: a session hands it what was typed.
+//! They know of no terminal and of no connection: a session hands them what was typed.
 #![tactic(auto)]
 
+pub use answerers::Answerers;
 pub use answering::Answerer;
 
+mod answerers;
 mod answering;
 pub mod laws;

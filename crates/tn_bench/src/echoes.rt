@@ -1,4 +1,4 @@
-//! Keys and lines over a connection of this machine, whose echo and answer are waited for.
+//! Keys and lines over a connection on this machine, with a wait for the echo and the answer of each.
 
 use crate::measure::{Bench, Done, Stuck, Workload};
 use std::alloc::Global;
@@ -6,9 +6,10 @@ use std::io::{Read, Write};
 use std::net::{Ipv4Addr, Net, TcpListener, TcpStream};
 use std::thread;
 use std::time::Clock;
+use tn_answerer::Answerers;
 use tn_discipline::Limit;
-use tn_loopback::{Host, serve_connection};
-use tn_words::Serving;
+use tn_loopback::{Host, SessionOptions, serve_connection};
+use tn_server::Editing;
 
 /// The length of a server's opening words.
 const OPENING: usize = 15;
@@ -22,18 +23,18 @@ type Question = (&'static [u8], usize);
 /// A byte that comes back.
 const BYTE: &[Question; 1] = &[(b"x", 1)];
 
-/// A key and its echo; and ERASE, which leaves the line as it was.
+/// A key and its echo, and ERASE, which leaves the line as it was.
 const KEYS: &[Question; 2] = &[(b"x", 1), (b"\x7f", 3)];
 
-/// A line, its echo and the answer of the job, which is the line.
+/// A line, its echo, and the job's answer, which is the line.
 const LINE: &[Question; 1] = &[(b"x\r\0", 6)];
 
 /// Who answers at the other end of a connection.
 #[derive(Clone, Copy)]
 enum Who {
-    /// A thread that sends back what comes.
+    /// A thread that sends back what arrives.
     Thread,
-    /// The session of a server, as `tn serve` runs it.
+    /// A server's session, as `tn serve` runs it.
     Session,
 }
 
@@ -64,7 +65,7 @@ impl Workload for Asking {
     }
 }
 
-// Sends back each byte that comes, until there is none.
+// Sends back each byte that arrives, until the input ends.
 fn send_back(mut stream: TcpStream) -> bool {
     let mut piece = [0; 512];
     for _ in 0..u64::MAX {
@@ -114,7 +115,7 @@ fn ask_thread<H: Clock, W: Write>(
     )
 }
 
-// Both agree that the server echoes; then keys are typed, and lines.
+// Both ends agree that the server echoes; then keys and lines are typed.
 fn ask_session<H: Clock, W: Write>(
     alloc: Global,
     bench: &mut Bench<'_, H, W>,
@@ -137,7 +138,14 @@ fn ask_session<H: Clock, W: Write>(
 fn answer<H: Host>(rt: H, alloc: Global, peer: TcpStream, who: Who) -> bool {
     match who {
         Who::Thread => send_back(peer),
-        Who::Session => serve_connection(rt, alloc, peer, &one_connection()).is_ok(),
+        Who::Session => {
+            let options = SessionOptions {
+                line_limit: Limit::standard(),
+                editing: Editing::Remote,
+                idle: 0,
+            };
+            serve_connection(rt, alloc, peer, options, Answerers::new(0)).is_ok()
+        },
     }
 }
 
@@ -159,18 +167,6 @@ where
     };
     thread.join(&rt);
     told
-}
-
-fn one_connection() -> Serving {
-    Serving {
-        port: 0,
-        limit: 1,
-        count: 1,
-        ticks: 0,
-        line: Limit::standard(),
-        local: false,
-        verbose: false,
-    }
 }
 
 pub(crate) fn run<H, W: Write>(

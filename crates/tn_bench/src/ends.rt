@@ -1,4 +1,4 @@
-//! Streams into either end.
+//! Streams into the server end and into the client end.
 
 use crate::measure::{Bench, Done, Stuck, Workload, repeated};
 use std::alloc::Global;
@@ -70,7 +70,7 @@ pub(crate) struct Serving {
     out: Vec<u8>,
 }
 
-// Takes all lines that wait, and counts them.
+// Takes and counts all waiting lines.
 fn take_all(end: &mut ServerEnd, out: &mut Vec<u8>) -> Result<u64, Stuck> {
     let mut taken: u64 = 0;
     for _ in 0..PIECE {
@@ -99,7 +99,7 @@ impl Workload for Serving {
     }
 }
 
-// The client has agreed to all, and edits where that is asked for.
+// The client agrees to everything, and edits where that is asked for.
 fn agree(end: &mut ServerEnd, editing: Editing, out: &mut Vec<u8>) -> Result<(), Stuck> {
     end.feed(ANSWERS, out)?;
     if let Editing::Local = editing {
@@ -109,7 +109,7 @@ fn agree(end: &mut ServerEnd, editing: Editing, out: &mut Vec<u8>) -> Result<(),
     Ok(())
 }
 
-/// A server whose client sends these bytes so many times.
+/// A server whose client sends these bytes so many times over.
 pub(crate) fn make_server(
     alloc: Global,
     bytes: &[u8],

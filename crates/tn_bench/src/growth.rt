@@ -1,5 +1,5 @@
-//! How cost grows: the same work at few and at many sessions, at short and at long lines, and with few
-//! and many entries that wait. The cost of a byte is to stay what it is.
+//! How cost grows: the same work with few and many sessions, with short and long lines, and with few and
+//! many waiting entries. The cost of a byte should stay the same.
 
 use crate::ends::{KEYS, Serving, make_server};
 use crate::measure::{Bench, Done, Stuck, Workload};
@@ -10,13 +10,13 @@ use std::time::Clock;
 use tn_discipline::Limit;
 use tn_server::Editing;
 
-/// How often each of the sessions is fed, counted together.
+/// How often the sessions are fed, all together.
 const TURNS: usize = 256;
 
 /// How many lines of 64 keys a piece has.
 const LINES: u32 = 16;
 
-/// Servers side by side, each of which is fed in its turn.
+/// Servers side by side, fed in turn.
 #[derive(Drop)]
 struct Many {
     servers: Vec<Serving>,

@@ -1,6 +1,6 @@
-//! How fast each part of `tn` is. Each workload makes its own input. Without words a little of each is done,
-//! and what was done is printed; with the word `long`, much of each, and how fast that was; and with `echoes`
-//! that of what goes over connections alone.
+//! How fast each part of `tn` is. Each workload makes its own input. Without arguments a little of each is
+//! done, and what was done is printed. With `long` much of each is done, and its speed is printed; with
+//! `echoes` the same, but only of the workloads over connections.
 #![tactic(auto)]
 
 use crate::measure::{Bench, Stuck};
@@ -33,7 +33,7 @@ fn main(rt: HostRuntime) -> ExitCode {
 /// What is to be measured.
 #[derive(Clone, Copy, PartialEq, Eq)]
 enum Wanted {
-    /// A little of each, whose counts are told.
+    /// A little of each workload; its counts are printed.
     Counts,
     All,
     /// What goes over connections.

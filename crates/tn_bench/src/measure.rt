@@ -6,16 +6,16 @@ use std::io::Write;
 use std::thread::SpawnError;
 use std::time::{Clock, Duration};
 
-/// How many rounds a long run has; the fastest is told.
+/// How many rounds a long run has; the fastest is printed.
 const ROUNDS: u32 = 8;
 
-/// How long a round takes at least, in nanoseconds.
+/// The least time that a round takes, in nanoseconds.
 const ROUND: u128 = 60_000_000;
 
-/// How many times something is asked for in a long run, whose answer is waited for.
+/// How many questions a long run asks where each answer is waited for.
 const ASKED: u64 = 4_000;
 
-/// A workload could not be done, or not be told.
+/// A workload could not be done, or its line could not be printed.
 #[derive(Clone, Copy, Debug)]
 pub(crate) struct Stuck;
 
@@ -43,7 +43,7 @@ impl From<io::Error> for Stuck {
     }
 }
 
-/// So many bytes were handed in, and so many wholes came out: lines, items, or runs of plain bytes.
+/// How many bytes were handed in, and how many units came out: lines, items, or runs of plain bytes.
 #[derive(Clone, Copy)]
 pub(crate) struct Done {
     pub(crate) bytes: u64,
@@ -58,7 +58,7 @@ impl Done {
         }
     }
 
-    /// Both together.
+    /// The sum of both.
     pub(crate) fn and(self, more: Done) -> Done {
         Done {
             bytes: self.bytes.saturating_add(more.bytes),
@@ -90,7 +90,7 @@ pub(crate) trait Workload {
     fn once(&mut self) -> Result<Done, Stuck>;
 }
 
-/// Runs workloads, and tells a line of each.
+/// Runs workloads, and prints a line for each.
 #[derive(Drop)]
 pub(crate) struct Bench<'a, H, W> {
     rt: H,
@@ -103,8 +103,8 @@ impl<'a, H: Clock, W: Write> Bench<'a, H, W> {
         Bench { rt, out, long }
     }
 
-    /// Does a workload as often as is asked for, and tells it under this name: in a long run how fast
-    /// the fastest of its rounds was.
+    /// Does a workload as often as asked, and prints its counts under this name, or in a long run the
+    /// speed of its fastest round.
     pub(crate) fn tell<L: Workload>(&mut self, name: &str, load: &mut L) -> Result<(), Stuck> {
         if !self.long {
             let done = load.once()?;
@@ -153,8 +153,8 @@ impl<'a, H: Clock, W: Write> Bench<'a, H, W> {
         Ok(())
     }
 
-    /// Does a workload whose answer is waited for, and tells under this name how long it took in the
-    /// middle: as many times took longer as took less.
+    /// Does a workload that waits for an answer, and prints under this name the median of the times that
+    /// it took.
     pub(crate) fn tell_middle<L: Workload>(
         &mut self,
         alloc: Global,

@@ -1,9 +1,9 @@
 -- A text that was made of a whole input, and written.
 use Rattle.std.proofs.Common.{◌≡◌, ℕ, List, [], ◌++◌, Option, Some, None, IfSome, sym, ap, ◌∙◌, subst, append-nil}
 use Rattle.std.specs.Io.KnownBytes.{Consumes, IsAtEnd, Appends}
-use Rattle.tn_cli.specs.Playing.{AppendsPrint, AppendsText, AppendsFrontOfText, EndsWith, PrintsSome}
+use Rattle.tn_cli.specs.Playing.{AppendsPrint, AppendsText, AppendsPrefixOfText, EndsWith, PrintsSome}
 use Rattle.tn_cli.specs.declared.fault.CliFault.{CliFault}
-use Rattle.tn_cli.specs.Streams.{AppendsFront}
+use Rattle.tn_cli.specs.Streams.{AppendsPrefix}
 
 -- what was read up to the end is all that the reader had
 pub whole_input : (P : List ℕ → Type 0) (old new : Option (List ℕ)) (input : List ℕ) → Consumes old new input → IsAtEnd new → P input → IfSome old P
@@ -15,9 +15,9 @@ pub appends_text : (is : List ℕ → Type 0) (none some out : List ℕ) (old ne
 appends_text is none some out old new empty same (text, fact, added) appended =
     (text, fact, subst (λ (xs : List ℕ). Appends old new xs) (same ∙ added ∙ ap (λ (xs : List ℕ). xs ++ text) empty) appended)
 
-pub appends_front : (is : List ℕ → Type 0) (none some out : List ℕ) (old new : Option (List ℕ)) → none ≡ [] → out ≡ some → AppendsPrint is none some → AppendsFront old new out → AppendsFrontOfText is old new
+pub appends_front : (is : List ℕ → Type 0) (none some out : List ℕ) (old new : Option (List ℕ)) → none ≡ [] → out ≡ some → AppendsPrint is none some → AppendsPrefix old new out → AppendsPrefixOfText is old new
 appends_front is none some out old new empty same (text, fact, added) appended =
-    (text, fact, subst (λ (xs : List ℕ). AppendsFront old new xs) (same ∙ added ∙ ap (λ (xs : List ℕ). xs ++ text) empty) appended)
+    (text, fact, subst (λ (xs : List ℕ). AppendsPrefix old new xs) (same ∙ added ∙ ap (λ (xs : List ℕ). xs ++ text) empty) appended)
 
 pub ended : (lines : List (List ℕ)) (end : Option CliFault) (before after : List ℕ) → AppendsPrint (EndsWith lines end) before after → AppendsPrint (PrintsSome lines) before after
 ended lines end before after (text, ends, added) = (text, (end, ends), added)

@@ -1,5 +1,5 @@
 -- Lines that are done one after another.
-use Rattle.std.proofs.Common.{◌≡◌, ◌⊎◌, inl, inr, ℕ, zero, suc, ◌+◌, ◌*◌, ◌<◌, ◌≤◌, List, [], ◌∷◌, ◌++◌, length, take, drop, get_or, refl, sym, ap, ◌∙◌, subst, subst₂, Some, append_assoc, append-nil, add-one, arith, take-append-drop, drop-cons, length-take, map, Bor}
+use Rattle.std.proofs.Common.{◌≡◌, ◌⊎◌, inl, inr, ℕ, zero, suc, ◌+◌, ◌*◌, ◌<◌, ◌≤◌, List, [], ◌∷◌, ◌++◌, length, take, drop, get_or, refl, sym, ap, ◌∙◌, subst, subst₂, Some, append_assoc, append-nil, arith, take-append-drop, drop-cons, length-take, map, Bor}
 use Rattle.std.proofs.lemmas.List.{take_more, map-append, take-map, get_or-map, length-map}
 use Rattle.tn_world.specs.Headline.{NothingInFlight}
 use Rattle.tn_world.specs.Settling as world_settling

@@ -12,8 +12,8 @@ use Rattle.tn_world.specs.declared.events.Event.{Event}
 use Rattle.tn_world.specs.declared.events.Event.TheVariants as event
 use Rattle.tn_world.specs.declared.faults.Cause.{Cause}
 use Rattle.tn_cli.specs.Printed.{printed_entry}
-use Rattle.tn_cli.specs.Scripts.{command_of}
-use Rattle.tn_cli.specs.Streams.{AppendsFront}
+use Rattle.tn_cli.specs.Scripts.{command_of, lines_of}
+use Rattle.tn_cli.specs.Streams.{AppendsPrefix}
 use Rattle.tn_cli.specs.Typing.{standard}
 use Rattle.tn_cli.specs.declared.fault.CliFault.{CliFault}
 use Rattle.tn_cli.specs.declared.fault.CliFault.TheVariants as fault
@@ -166,5 +166,13 @@ abbrev pub AppendsText : (List ℕ → Type 0) → Option (List ℕ) → Option 
 AppendsText is old new = (text : List ℕ) × is text × Appends old new text
 
 -- a prefix of such a text was appended
-abbrev pub AppendsFrontOfText : (List ℕ → Type 0) → Option (List ℕ) → Option (List ℕ) → Type 0
-AppendsFrontOfText is old new = (text : List ℕ) × is text × AppendsFront old new text
+abbrev pub AppendsPrefixOfText : (List ℕ → Type 0) → Option (List ℕ) → Option (List ℕ) → Type 0
+AppendsPrefixOfText is old new = (text : List ℕ) × is text × AppendsPrefix old new text
+
+-- what a whole script prints was appended
+abbrev pub PlaysScript : List ℕ → Option (List ℕ) → Option (List ℕ) → Type 0
+PlaysScript script = AppendsText (PrintsWhole (lines_of script))
+
+-- a prefix was appended of what a script prints, whole or up to where it stops
+abbrev pub PlaysScriptPrefix : List ℕ → Option (List ℕ) → Option (List ℕ) → Type 0
+PlaysScriptPrefix script = AppendsPrefixOfText (PrintsSome (lines_of script))

@@ -5,7 +5,7 @@ use Rattle.std.specs.Io.KnownBytes.{Appends}
 use Rattle.tn_nvt.specs.declared.items.Item.{Item}
 use Rattle.tn_nvt.specs.declared.items.Item.TheVariants.{Byte, Newline, Cmd, Neg, Sub}
 use Rattle.tn_nvt.specs.Stream.{Reading}
-use Rattle.tn_cli.specs.Streams.{AppendsFront}
+use Rattle.tn_cli.specs.Streams.{AppendsPrefix}
 use Rattle.tn_cli.specs.Typing.{Types, local_output}
 use Rattle.tn_cli.specs.declared.typing.Typing.{Typing}
 
@@ -25,7 +25,7 @@ keys_of items = filter_map key_of items
 abbrev pub TypesItems : Typing → List Item → Typing → Type 0
 TypesItems old items new = Types (keys_of items) old new
 
--- of these keys some were typed, or none
+-- some of these keys were typed, or none
 abbrev pub TypesSome : Typing → List Item → Typing → Type 0
 TypesSome old items new = Unit {0}
 
@@ -41,5 +41,5 @@ abbrev pub Replays : List ℕ → Option (List ℕ) → Option (List ℕ) → Ty
 Replays stream old new = (output : List ℕ) × IsReplayOf stream output × Appends old new output
 
 -- a prefix of the output was appended
-abbrev pub ReplaysFront : List ℕ → Option (List ℕ) → Option (List ℕ) → Type 0
-ReplaysFront stream old new = (output : List ℕ) × IsReplayOf stream output × AppendsFront old new output
+abbrev pub ReplaysPrefix : List ℕ → Option (List ℕ) → Option (List ℕ) → Type 0
+ReplaysPrefix stream old new = (output : List ℕ) × IsReplayOf stream output × AppendsPrefix old new output

@@ -14,12 +14,12 @@ use Rattle.tn_world.specs.declared.events.Event.TheVariants as event
 use Rattle.tn_cli.specs.declared.scripts.Command.{Command}
 use Rattle.tn_cli.specs.declared.scripts.Command.TheVariants.{Keys, Happen, Settle, Take, Mark, Flight, Shown}
 
--- the lines of a script, which line feeds separate; an empty one after the last line feed is skipped like any
--- other
+-- the lines of a script, which line feeds separate; the empty one after the last line feed is skipped like
+-- any other
 abbrev pub lines_of : List ℕ → List (List ℕ)
 lines_of script = slice_split (λ byte. byte == 10) script
 
--- the words of a line, which single spaces part
+-- the words of a line, which single spaces separate
 abbrev pub words_of : List ℕ → List (List ℕ)
 words_of line = slice_split (λ byte. byte == 32) line
 

@@ -4,6 +4,18 @@ use Rattle.std.specs.Io.KnownBytes.{Appends}
 use Rattle.tn_cli.specs.declared.fault.CliFault.{CliFault}
 use Rattle.tn_cli.specs.declared.fault.CliFault.TheVariants.{Read, TooLong, Script, World, Write, Memory}
 
+-- how long an input may be, in bytes
+abbrev pub max_input : ℕ
+max_input = 1048576
+
+-- how many reads an input may take
+abbrev pub max_reads : ℕ
+max_reads = 2097152
+
+-- how many writes an output may take
+abbrev pub max_writes : ℕ
+max_writes = 18446744073709551615
+
 -- what reading an input can fail by
 abbrev pub IsReadFault : CliFault → Type 0
 IsReadFault Read = Unit {0}
@@ -20,5 +32,5 @@ KeepsPiece count piece old new =
     ((length old ≡ count) × (new ≡ old ++ piece)) ⊎ (length new < count + length piece)
 
 -- a prefix of the output was appended
-abbrev pub AppendsFront : Option (List ℕ) → Option (List ℕ) → List ℕ → Type 0
-AppendsFront old new output = (count : ℕ) × Appends old new (take count output)
+abbrev pub AppendsPrefix : Option (List ℕ) → Option (List ℕ) → List ℕ → Type 0
+AppendsPrefix old new output = (count : ℕ) × Appends old new (take count output)

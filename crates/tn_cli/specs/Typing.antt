@@ -1,11 +1,13 @@
 -- What `tn local` prints of keys.
-use Rattle.std.specs.Prelude.{◌≡◌, ℕ, List, ◌++◌}
+use Rattle.std.specs.Prelude.{◌≡◌, ℕ, Option, List, ◌++◌}
+use Rattle.std.specs.Io.KnownBytes.{Appends}
 use Rattle.tn_discipline.specs.Canon.{Canon, typed_entries}
 use Rattle.tn_discipline.specs.Characters.{standard_characters}
 use Rattle.tn_discipline.specs.Keys.{roles_of, standard_flags}
 use Rattle.tn_discipline.specs.Advancing as discipline
 use Rattle.tn_discipline.specs.Limits.{standard_limit}
 use Rattle.tn_cli.specs.Printed.{printed}
+use Rattle.tn_cli.specs.Streams.{AppendsPrefix}
 use Rattle.tn_cli.specs.declared.typing.Typing.{Typing}
 
 -- a terminal with standard settings and lines of the standard limit
@@ -18,6 +20,14 @@ standard = record {
 -- the printed entries of keys that are typed at one such terminal
 abbrev pub local_output : List ℕ → List ℕ
 local_output keys = printed (typed_entries standard keys)
+
+-- they were appended, where the writer tells what it holds
+abbrev pub PrintsKeys : List ℕ → Option (List ℕ) → Option (List ℕ) → Type 0
+PrintsKeys keys old new = Appends old new (local_output keys)
+
+-- a prefix of them was appended
+abbrev pub PrintsKeysPrefix : List ℕ → Option (List ℕ) → Option (List ℕ) → Type 0
+PrintsKeysPrefix keys old new = AppendsPrefix old new (local_output keys)
 
 -- these keys were typed
 pub record LeadsTo (keys : List ℕ) (typing : Typing) : Type 0 where

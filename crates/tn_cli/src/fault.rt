@@ -3,6 +3,7 @@
 ghost use Rattle.std.specs.Prelude.{◌≡◌};
 ghost use Rattle.tn_cli.specs.Faults.{status_of};
 
+use std::alloc::AllocError;
 use thiserror::Error;
 
 /// Why a subcommand ended early. Its text is what standard error shows after `tn: `.
@@ -25,6 +26,16 @@ pub enum CliFault {
     Write,
     #[error("memory")]
     Memory,
+}
+
+impl From<AllocError> for CliFault {
+    ghost use Rattle.tn_cli.specs.declared.fault.CliFault.TheVariants as fault;
+
+    ghost from_gives = { λ _ told. told ≡ fault.Memory };
+
+    fn from(_error: AllocError) -> CliFault {
+        CliFault::Memory
+    }
 }
 
 impl CliFault {

@@ -4,9 +4,8 @@
 //! run_local(alloc, &mut b"ab\x7fc\r".as_slice(), &mut output)?; // text 61630a
 //! ```
 //!
-//! Each reads its input whole before it writes, so none is a filter in a pipe that never ends. What
-//! serves and connects stands in `tn_loopback`, and the program that runs what its words ask for in
-//! `tn_program`.
+//! Each reads all of its input before it writes, so none can filter a pipe that never ends. `tn_loopback`
+//! serves and connects, and `tn_program` is the program that runs what its words ask for.
 #![tactic(auto)]
 
 pub use fault::CliFault;

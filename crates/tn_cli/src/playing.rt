@@ -1,4 +1,4 @@
-//! The commands of a script, done in a world.
+//! Runs the commands of a script in a world.
 
 ghost use Rattle.std.specs.Prelude.{◌≡◌, ◌≢◌, ◌++◌, [], ◌∷◌, ◌↔◌, IfOk, OnOk, OnErr, IfErr, IsErrOf, Err, map, IsTrue};
 ghost use Rattle.tn_world.specs.Headline.{NothingInFlight};
@@ -13,17 +13,17 @@ use std::alloc::{AllocError, Global};
 use std::slice;
 use tn_world::{Event, ToWhom, World};
 
-/// How often a world settles, in two rounds of deliveries each.
-const MOST_SETTLINGS: u32 = 32;
+/// How often a world settles at most, in two rounds of deliveries each time.
+const MAX_SETTLINGS: u32 = 32;
 
-/// Why a line was not done.
+/// Why a line was not run.
 #[derive(Clone, Copy)]
 pub(crate) enum Stop {
     /// The line is no command.
     Bad,
     /// The world refused an event.
     Refused,
-    /// There was no memory for what it needs outside the world.
+    /// There was no memory for what the line needs outside the world.
     Memory,
 }
 
@@ -35,7 +35,7 @@ impl From<AllocError> for Stop {
     }
 }
 
-/// Does a line, and appends what it prints. An empty line is skipped.
+/// Runs a line, and appends what it prints. An empty line is skipped.
 pub(crate) fn play_line(
     alloc: Global,
     world: &mut World,
@@ -57,7 +57,7 @@ pub(crate) fn play_line(
     }
 }
 
-// Does a command, and appends what it prints.
+// Runs a command, and appends what it prints.
 fn perform(
     alloc: Global,
     world: &mut World,
@@ -119,13 +119,13 @@ fn run(world: &mut World, events: &[Event]) -> Result<(), Stop>
     }
 }
 
-// Delivers all that is in flight, until nothing is. Once is enough, unless an end was stopped.
+// Delivers what is in flight until nothing is. Once is enough, unless an end was stopped.
 fn settle(world: &mut World) -> Result<(), Stop>
     ensures ok { OnOk result (play.Settles world.old world.new) }
     ensures err { OnErr result (play.RefusesToSettle world.old) }
     ensures refused { IfErr result (λ stop. stop ≡ Refused) }
 {
-    for _settling in 0..MOST_SETTLINGS {
+    for _settling in 0..MAX_SETTLINGS {
         if is_flight_empty(world) {
             return Ok(());
         }
@@ -195,8 +195,6 @@ fn append(out: &mut Vec<u8>, text: &[u8]) -> Result<(), Stop>
     ensures ok { OnOk result (out.new.items ≡ out.old.items ++ text.now) }
     ensures memory { IfErr result (λ stop. stop ≡ Memory) }
 {
-    match out.extend_from_slice(text) {
-        Ok(()) => Ok(()),
-        Err(_) => Err(Stop::Memory),
-    }
+    out.extend_from_slice(text)?;
+    Ok(())
 }

@@ -1,4 +1,4 @@
-//! Entries as lines of text.
+//! Prints entries as lines of text.
 
 ghost use Rattle.std.specs.Prelude.{◌≡◌, ◌++◌, ◌∷◌, OnOk, codes};
 ghost use Rattle.hex.specs.Hex.{encode_lower};
@@ -7,7 +7,7 @@ ghost use Rattle.tn_cli.specs.Printed.{printed_entry, signal_line};
 use std::alloc::{AllocError, Global};
 use tn_discipline::{Entry, Sig};
 
-/// Appends the line of an entry, its line feed with it.
+/// Appends the line of an entry, with its line feed.
 pub(crate) fn print_entry(alloc: Global, entry: &Entry, out: &mut Vec<u8>) -> Result<(), AllocError>
     ensures { OnOk result (out.new.items ≡ out.old.items ++ printed_entry entry.now) }
 {

@@ -1,8 +1,8 @@
-//! `tn replay`: a client's byte stream in, entries out.
+//! `tn replay`: reads a client's byte stream, and prints entries.
 
-ghost use Rattle.std.specs.Prelude.{◌≡◌, ◌≢◌, ℕ, ◌<◌, ◌≤◌, length, IfSome, OnOk, OnErr, IfOk, IsErrOf, Err};
-ghost use Rattle.tn_cli.specs.Replay.{key_of, IsReplayOf, Replays, ReplaysFront};
-ghost use Rattle.tn_streams.specs.Telling.{HasFailed};
+ghost use Rattle.std.specs.Prelude.{◌≡◌, IfOk};
+ghost use Rattle.tn_cli.specs.Ends.{EndsByCalls, EndsReplay};
+ghost use Rattle.tn_cli.specs.Replay.{IsReplayOf, key_of};
 
 use crate::fault::CliFault;
 use crate::streams::{read_whole, write_whole};
@@ -11,7 +11,7 @@ use std::alloc::{AllocError, Global};
 use tn_nvt::{Decoder, Item, Params, Refused, Sink};
 use tn_streams::{Drain, Source};
 
-/// Reads a client's whole byte stream, types its data bytes and new lines as keys at one line with
+/// Reads a client's byte stream to its end, types its data bytes and new lines as keys at one line with
 /// standard settings, and writes the entries that they give, one a line. Commands, option words and
 /// subnegotiations are skipped. Nothing is written before the input has ended.
 pub fn run_replay<R: Source, W: Drain>(
@@ -19,34 +19,13 @@ pub fn run_replay<R: Source, W: Drain>(
     reader: &mut R,
     writer: &mut W,
 ) -> Result<(), CliFault>
-    ensures ok { OnOk result (IfSome (R.remaining reader.old) (λ stream.
-        Replays stream (W.contents writer.old) (W.contents writer.new))) }
-
-    // Of a reader and a writer that tell how many of their calls failed: `Read` only where a read failed or
-    // 2,097,152 were made, and `Write` only where a write failed, or took none of its bytes, or 2^64 - 1 were
-    // made.
-    ensures read_failed { IsErrOf result CliFault.Read →
-        HasFailed 2097152 (R.told reader.old) (R.told reader.new) }
-    ensures write_failed { IsErrOf result CliFault.Write →
-        HasFailed 18446744073709551615 (W.told writer.old) (W.told writer.new) }
-
-    // Too long an input is answered `TooLong`, unless a read fails; whether it is, is looked at before
-    // anything else can be answered.
-    ensures short { result ≢ Err CliFault.TooLong → result ≢ Err CliFault.Read →
-        IfSome (R.remaining reader.old) (λ stream. length stream ≤ 1048576) }
-    ensures too_long { IsErrOf result CliFault.TooLong →
-        IfSome (R.remaining reader.old) (λ stream. 1048576 < length stream) }
-    ensures write { IsErrOf result CliFault.Write → IfSome (R.remaining reader.old) (λ stream.
-        ReplaysFront stream (W.contents writer.old) (W.contents writer.new)) }
-    ensures unwritten { OnErr result (result ≢ Err CliFault.Write →
-        W.contents writer.new ≡ W.contents writer.old) }
-    ensures no_script { (line : ℕ) → result ≢ Err (CliFault.Script line) }
-    ensures no_world { (line : ℕ) → result ≢ Err (CliFault.World line) }
+    ensures ends { EndsReplay result (R.remaining reader.old)
+        (W.contents writer.old) (W.contents writer.new) }
+    ensures calls { EndsByCalls result (R.told reader.old) (R.told reader.new)
+        (W.told writer.old) (W.told writer.new) }
 {
     let stream = read_whole(alloc, reader)?;
-    let Ok(output) = entries_of_stream(alloc, &stream) else {
-        return Err(CliFault::Memory);
-    };
+    let output = entries_of_stream(alloc, &stream)?;
     write_whole(writer, &output)
 }
 
@@ -91,7 +70,7 @@ impl Sink for Typing {
     }
 }
 
-// The key that an item is, where it is one.
+// The key that an item stands for, if it stands for one.
 fn key_of_item(item: &Item) -> Option<u8>
     ensures { result ≡ key_of item.now }
 {

@@ -1,4 +1,4 @@
-//! The lines of a world's script.
+//! Reads the lines of a world's script.
 
 ghost use Rattle.std.specs.Prelude.{◌≡◌, ◌==◌, IfOk, bytes_eq, map, option_and_then};
 ghost use Rattle.std.specs.List.{slice_split, list_all};
@@ -12,13 +12,13 @@ use tn_server::Editing;
 use tn_world::Event;
 
 /// The greatest count of bytes or symbols in a line.
-const MOST_COUNTED: u32 = 1_000_000;
+const MAX_COUNTED: u32 = 1_000_000;
 
 /// The greatest width or height in a line.
-const MOST_SIZE: u32 = 65_535;
+const MAX_SIZE: u32 = 65_535;
 
 /// The most octets of a forward mask.
-const MOST_OCTETS: usize = 32;
+const MAX_OCTETS: usize = 32;
 
 /// What one line of a script asks for.
 #[derive(Drop)]
@@ -27,7 +27,7 @@ pub(crate) enum Command {
     Keys(Text),
     /// One event, which prints nothing.
     Happen(Event),
-    /// All that is in flight is delivered, again and again.
+    /// All that is in flight is delivered, until nothing is.
     Settle,
     /// The job asks for an entry, which is printed.
     Take,
@@ -39,7 +39,7 @@ pub(crate) enum Command {
     Shown,
 }
 
-/// The parts of some bytes between the places where this byte stands.
+/// The parts of some bytes that this byte separates.
 pub(crate) fn parts<'a>(
     alloc: Global,
     bytes: &'a [u8],
@@ -51,7 +51,7 @@ pub(crate) fn parts<'a>(
     bytes.split(|byte| *byte == mark).collect(alloc)
 }
 
-/// The command that a line is, where it is one.
+/// The command in a line, if it is one.
 pub(crate) fn read_command(alloc: Global, line: &[u8]) -> Result<Option<Command>, AllocError>
     ensures { IfOk result (λ command. command ≡ script.command_of line.now) }
 {
@@ -72,7 +72,7 @@ fn command_of_words(alloc: Global, words: &[&[u8]]) -> Result<Option<Command>, A
     }
 }
 
-// The value beside the word that this one is, where it is one of them.
+// The value beside the name that this word equals, if it equals one.
 macro_rules! value_of_word {
     ($word:expr; $($name:literal => $value:expr,)+) => {{
         $(if is_word($word, $name) {
@@ -161,7 +161,7 @@ fn unmasked(name: &[u8]) -> Option<Command>
 fn counted(verb: &[u8], word: &[u8]) -> Option<Command>
     ensures { result ≡ option_and_then (script.with_number verb.now) (script.number_within 1000000 word.now) }
 {
-    let number = number_within(MOST_COUNTED, word)?;
+    let number = number_within(MAX_COUNTED, word)?;
     with_number(verb, number as usize)
 }
 
@@ -193,7 +193,7 @@ fn with_bytes(verb: &[u8], bytes: Text) -> Option<Command>
 fn masked(octets: &[u8]) -> Option<Command>
     ensures { result ≡ script.forward_command octets.now }
 {
-    if octets.len() > MOST_OCTETS {
+    if octets.len() > MAX_OCTETS {
         return None;
     }
     Some(Command::Happen(Event::Mask(Some(Mask::from_octets(octets)))))
@@ -222,8 +222,8 @@ fn with_words(
 fn resized(verb: &[u8], first: &[u8], second: &[u8]) -> Option<Command>
     ensures { result ≡ script.resize_command verb.now first.now second.now }
 {
-    let width = number_within(MOST_SIZE, first)?;
-    let height = number_within(MOST_SIZE, second)?;
+    let width = number_within(MAX_SIZE, first)?;
+    let height = number_within(MAX_SIZE, second)?;
     with_size(verb, width as u16, height as u16)
 }
 
@@ -266,7 +266,7 @@ fn func_named(name: &[u8]) -> Option<Func>
     }
 }
 
-// One byte is a special character, of which 255 stands for none.
+// A special character is one byte; 255 disables the character.
 fn character(bytes: &[u8]) -> Option<Option<u8>>
     ensures { result ≡ script.character bytes.now }
 {
@@ -277,7 +277,7 @@ fn character(bytes: &[u8]) -> Option<Option<u8>>
     }
 }
 
-// What decimal digits spell, without a sign, where it is within a limit. Zeros may lead.
+// The number that decimal digits spell, if it is within a limit. No sign is allowed; leading zeros are.
 fn number_within(most: u32, word: &[u8]) -> Option<u32>
     ensures { result ≡ script.number_within most word.now }
 {
@@ -297,7 +297,7 @@ fn number_within(most: u32, word: &[u8]) -> Option<u32>
     Some(number as u32)
 }
 
-// The bytes that pairs of hexadecimal digits in lower case spell, at least one of them.
+// The bytes that pairs of lower-case hexadecimal digits spell; at least one byte.
 fn hex_bytes(alloc: Global, word: &[u8]) -> Result<Option<Text>, AllocError>
     ensures { IfOk result (λ bytes. bytes ≡ script.hex_bytes word.now) }
 {

@@ -1,41 +1,42 @@
-//! Whole inputs and whole outputs.
+//! Reads an input to its end, and writes all of an output.
 
 ghost use Rattle.std.specs.Prelude.{◌≡◌, ◌+◌, ◌-◌, ◌<◌, ◌≤◌, ◌≢◌, ℕ, List, length, vec_len, IfOk, IfErr, IfSome, OnOk, OnErr, IsErrOf, Ok, Err, take, drop};
 ghost use Rattle.std.specs.Io.KnownBytes.{Consumes, IsAtEnd, Appends, Keeps};
 ghost use Rattle.tn_streams.specs.Telling.{HasFailed};
-ghost use Rattle.tn_cli.specs.Streams.{AppendsFront, IsReadFault, KeepsPiece};
+ghost use Rattle.tn_cli.specs.Streams.{AppendsPrefix, IsReadFault, KeepsPiece, max_input, max_reads, max_writes};
 
 use crate::fault::CliFault;
 use std::alloc::Global;
 use tn_streams::{Drain, Source, is_interrupted};
 
 /// How long an input may be, in bytes.
-const MOST_BYTES: usize = 1_048_576;
+const MAX_BYTES: usize = 1_048_576;
 
 /// How many reads an input may take.
-const MOST_READS: u32 = 2_097_152;
+const MAX_READS: u32 = 2_097_152;
 
 /// How many bytes one read asks for.
 const PIECE_BYTES: usize = 4_096;
 
-/// Reads to the end of the input. Whether it is too long is reported even when out of memory.
+/// Reads to the end of the input. An input that is too long is reported as such even when out of memory.
 pub(crate) fn read_whole<R: Source>(alloc: Global, reader: &mut R) -> Result<Vec<u8>, CliFault>
     ensures whole { IfOk result (λ input.
         Consumes (R.remaining reader.old) (R.remaining reader.new) input.items) }
     ensures end { OnOk result (IsAtEnd (R.remaining reader.new)) }
-    ensures fits { IfOk result (λ input. length input.items ≤ 1048576) }
+    ensures fits { IfOk result (λ input. length input.items ≤ max_input) }
 
     ensures too_long { IsErrOf result CliFault.TooLong →
-        IfSome (R.remaining reader.old) (λ input. 1048576 < length input) }
+        IfSome (R.remaining reader.old) (λ input. max_input < length input) }
     ensures memory { IsErrOf result CliFault.Memory →
-        IfSome (R.remaining reader.old) (λ input. length input ≤ 1048576) }
+        IfSome (R.remaining reader.old) (λ input. length input ≤ max_input) }
     ensures fault { IfErr result IsReadFault }
-    ensures read { IsErrOf result CliFault.Read → HasFailed 2097152 (R.told reader.old) (R.told reader.new) }
+    ensures read { IsErrOf result CliFault.Read →
+        HasFailed max_reads (R.told reader.old) (R.told reader.new) }
 {
     let mut input = Vec::new(alloc);
     let mut total = 0;
     let mut piece = [0; PIECE_BYTES];
-    for _read in 0..MOST_READS {
+    for _read in 0..MAX_READS {
         let count = match reader.read_some(&mut piece) {
             Ok(count) => count,
             Err(error) if is_interrupted(&error) => continue,
@@ -44,7 +45,7 @@ pub(crate) fn read_whole<R: Source>(alloc: Global, reader: &mut R) -> Result<Vec
         if count == 0 {
             return if_whole(input, total);
         }
-        if count > MOST_BYTES - total {
+        if count > MAX_BYTES - total {
             return Err(CliFault::TooLong);
         }
         keep(&mut input, total, &piece[..count]);
@@ -53,8 +54,8 @@ pub(crate) fn read_whole<R: Source>(alloc: Global, reader: &mut R) -> Result<Vec
     Err(CliFault::Read)
 }
 
-// Keeps a piece of an input of which so many bytes were read before. Once memory ran out, fewer
-// are kept than were read, and no piece after that is.
+// Keeps the next piece of an input, after so many bytes. Once memory has run out, fewer bytes are kept
+// than were read, and no later piece is kept.
 fn keep(input: &mut Vec<u8>, count: usize, piece: &[u8])
     requires within { vec_len input.now ≤ count }
     requires some { 0 < length piece.now }
@@ -67,7 +68,7 @@ fn keep(input: &mut Vec<u8>, count: usize, piece: &[u8])
     }
 }
 
-// An input of which so many bytes were read, if all of them were kept.
+// The input, if all bytes that were read are kept.
 fn if_whole(input: Vec<u8>, count: usize) -> Result<Vec<u8>, CliFault>
     ensures whole { IfOk result (λ whole. whole ≡ input) }
     ensures ok { OnOk result (vec_len input ≡ count) }
@@ -80,12 +81,12 @@ fn if_whole(input: Vec<u8>, count: usize) -> Result<Vec<u8>, CliFault>
     }
 }
 
-/// Writes all of the output. After a fault a prefix of it was written.
+/// Writes all of the output. After a fault, a prefix of it was written.
 pub(crate) fn write_whole<W: Drain>(writer: &mut W, output: &[u8]) -> Result<(), CliFault>
     ensures ok { OnOk result (Appends (W.contents writer.old) (W.contents writer.new) output.now) }
-    ensures err { OnErr result (AppendsFront (W.contents writer.old) (W.contents writer.new) output.now) }
+    ensures err { OnErr result (AppendsPrefix (W.contents writer.old) (W.contents writer.new) output.now) }
     ensures fault { IfErr result (λ fault. fault ≡ CliFault.Write) }
-    ensures failed { OnErr result (HasFailed 18446744073709551615 (W.told writer.old) (W.told writer.new)) }
+    ensures failed { OnErr result (HasFailed max_writes (W.told writer.old) (W.told writer.new)) }
 {
     let mut written = 0;
     for _write in 0..u64::MAX {

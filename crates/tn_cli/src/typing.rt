@@ -1,4 +1,4 @@
-//! Keys typed at one line, and the printed entries that they give.
+//! Types keys at one line, and prints the entries that they give.
 
 ghost use Rattle.std.specs.Prelude.{◌≡◌, ◌<◌, ◌≤◌, ℕ, List, [], ◌∷◌, length, take, IfOk, OnOk};
 ghost use Rattle.tn_cli.specs.Typing.{LeadsTo, Types, local_output};
@@ -7,7 +7,7 @@ use crate::printed::print_entry;
 use std::alloc::{AllocError, Global};
 use tn_discipline::{Effect, Limit, Line, Roles, Settings};
 
-/// A line with standard settings, and the lines of the entries that it has given.
+/// A line with standard settings, and the printed entries that it has given.
 #[derive(Drop)]
 pub(crate) struct Typing {
     alloc: Global,
@@ -38,16 +38,13 @@ impl Typing {
         Ok(())
     }
 
-    /// Types keys, one after another. After a fault some of them were typed.
+    /// Types keys in turn. After a fault, some of them were typed.
     pub(crate) fn keys(&mut self, keys: &[u8]) -> Result<(), AllocError>
         ensures { OnOk result (Types keys.now self.old self.new) }
     {
         let mut typed = 0;
         while typed < keys.len() {
-            match self.front(&keys[typed..]) {
-                Ok(count) => typed += count,
-                Err(fault) => return Err(fault),
-            }
+            typed += self.front(&keys[typed..])?;
         }
         Ok(())
     }
@@ -62,10 +59,8 @@ impl Typing {
     {
         let count = self.roles.ordinary_front(keys);
         if count == 0 {
-            return match self.key(keys[0]) {
-                Ok(()) => Ok(1),
-                Err(fault) => Err(fault),
-            };
+            self.key(keys[0])?;
+            return Ok(1);
         }
         let _kept = self.line.keep_run(&keys[..count]);
         Ok(count)

@@ -21,10 +21,10 @@ use Rattle.tn_nvt.specs.declared.items.Item.{Item}
 use Rattle.tn_nvt.specs.declared.items.Item.TheVariants.{Byte, Newline, Cmd, Neg, Sub}
 use Rattle.tn_nvt.proofs.lemmas.Sizes.{doubled_within, total, total-append, weighs_at_most}
 use Rattle.tn_option.specs.Options.{Options, options_after_word, reply_to}
-use Rattle.tn_wire.specs.Fronts.{IsRead}
+use Rattle.tn_wire.specs.Prefixes.{IsRead}
 use Rattle.tn_wire.specs.Words.{word_items, payload_items, mode_items, payload_under}
 use Rattle.tn_wire.proofs.lemmas.Sizes.{size, size-append, size-one, size-word, size-mode, size-list, size-triple, answers-size, says_under, size-came, size-least, size-params}
-use Rattle.tn_client.specs.Bounds.{held_sent, most_answered, most_of_calls, bytes_due}
+use Rattle.tn_client.specs.Bounds.{held_sent, max_answered, max_of_calls, bytes_due}
 use Rattle.tn_client.specs.Events.{History, typed, got, resized, proposed, begun, next, items}
 use Rattle.tn_client.specs.Lines.{role_at, held_bytes, count_under, line}
 use Rattle.tn_client.specs.Replies.{byte_items, command_of, command_items, raw_key_items, edited_key_items, sent_ahead_items, key_items, size_items, new_size_items, payload_answers, answer_items, end_of_edit_items, is_same_size, resize_items, replies, items_said}
@@ -92,7 +92,7 @@ size-payload m c on option params None e names = omega arith
 
 -- AN ITEM
 module _ (names : (c : Characters) (t a : Triple) → client_answer c t ≡ Some a → Answers t a) where
-  size-answer : (o : Options) (m : ℕ) (c : Characters) (z : ℕ × ℕ) (item : Item) → size (answer_items o m c z item) ≤ most_answered item
+  size-answer : (o : Options) (m : ℕ) (c : Characters) (z : ℕ × ℕ) (item : Item) → size (answer_items o m c z item) ≤ max_answered item
   size-answer o m c z (Byte b) = omega arith
   size-answer o m c z Newline = omega arith
   size-answer o m c z (Cmd command) = omega arith
@@ -107,7 +107,7 @@ module _ (names : (c : Characters) (t a : Triple) → client_answer c t ≡ Some
   size-answer o m c z (Sub option params) =
       size-payload m c ((option == 34) && linemode o) option params (payload_at o (Sub option params)) refl names
 
-  pub said_at_most : (h : History) (item : Item) → size (replies h (got item)) ≤ size (held_sent h item) + most_answered item
+  pub said_at_most : (h : History) (item : Item) → size (replies h (got item)) ≤ size (held_sent h item) + max_answered item
   said_at_most h item =
       let answers : List Item = answer_items (options h) (mode h) (chars h) (window h) item in
       omega (arith, size-append (held_sent h item) answers, size-answer (options h) (mode h) (chars h) (window h) item)
@@ -262,7 +262,7 @@ resized_pays on old new = size-window_if (on && not (is_same_size old new)) new
 
 -- THE WHOLE HISTORY
 abbrev Bounded : History → Type 0
-Bounded h = bytes_due h + credit (tells_size (options h)) ≤ total weight (items h) + most_of_calls h + 4
+Bounded h = bytes_due h + credit (tells_size (options h)) ≤ total weight (items h) + max_of_calls h + 4
 
 credit_most : (on : Bool) → credit on ≤ 4
 credit_most true = omega arith
@@ -289,6 +289,6 @@ weight-most (Neg verb option) fits = omega arith
 weight-most (Sub option params) fits = omega arith
 
 -- what is sent, or held, for the bytes of a stream
-pub sent_at_most : ((c : Characters) (t a : Triple) → client_answer c t ≡ Some a → Answers t a) → (h : History) (bytes : List ℕ) → IsRead bytes (items h) → bytes_due h ≤ 4 * length bytes + most_of_calls h + 4
+pub sent_at_most : ((c : Characters) (t a : Triple) → client_answer c t ≡ Some a → Answers t a) → (h : History) (bytes : List ℕ) → IsRead bytes (items h) → bytes_due h ≤ 4 * length bytes + max_of_calls h + 4
 sent_at_most names h bytes (rest, reading) =
     omega (arith, bounded names h, weighs_at_most weight 4 (record { spelled = weight-most; alone = omega arith }) bytes rest (items h) reading)

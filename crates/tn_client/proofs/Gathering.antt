@@ -13,7 +13,7 @@ use Rattle.tn_client.specs.Screen.{text_shown, item_shown}
 use Rattle.tn_client.specs.Calls.{End, LeadsTo, ReadsNothing, AdvancesAll}
 use Rattle.tn_client.specs.Steps.{line_left, count_left, count_told, end_after_item, says_got}
 use Rattle.tn_client.proofs.lemmas.Histories.{gets-append}
-use Rattle.tn_wire.proofs.lemmas.Cutting.{spelled_on}
+use Rattle.tn_wire.proofs.lemmas.Cutting.{added_on, spelled_on}
 use Rattle.tn_client.proofs.Standings.{stands_got, replies_got}
 
 pub keeps_same : (old : End) → ReadsNothing old old
@@ -51,17 +51,9 @@ gets_both old mid new xs ys before between after seen then now g k = record {
   said = g.said ++ k.said;
   text = g.text ++ k.text;
   appended = spelled_on g.said k.said before between after g.appended k.appended;
-  displayed = k.displayed ∙ ap (λ (zs : List ℕ). zs ++ k.text) g.displayed ∙ append_assoc seen g.text k.text;
-  sends = λ h s.
-      ap items_said (gets-append h xs ys)
-      ∙ k.sends (gets h xs) (g.leads h s)
-      ∙ ap (λ (zs : List Item). zs ++ k.said) (g.sends h s)
-      ∙ append_assoc (items_said h) g.said k.said;
-  shows = λ h s.
-      ap text_shown (gets-append h xs ys)
-      ∙ k.shows (gets h xs) (g.leads h s)
-      ∙ ap (λ (zs : List ℕ). zs ++ k.text) (g.shows h s)
-      ∙ append_assoc (text_shown h) g.text k.text;
+  displayed = added_on g.text k.text seen _ _ g.displayed k.displayed;
+  sends = λ h s. ap items_said (gets-append h xs ys) ∙ added_on g.said k.said (items_said h) _ _ (g.sends h s) (k.sends (gets h xs) (g.leads h s));
+  shows = λ h s. ap text_shown (gets-append h xs ys) ∙ added_on g.text k.text (text_shown h) _ _ (g.shows h s) (k.shows (gets h xs) (g.leads h s));
   leads = λ h s.
       let P : History → Type 0 = λ k. LeadsTo k new in
       subst P (sym (gets-append h xs ys)) (k.leads (gets h xs) (g.leads h s));

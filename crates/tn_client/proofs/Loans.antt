@@ -15,7 +15,7 @@ use Rattle.tn_client.specs.Replies.{items_said}
 use Rattle.tn_client.specs.Screen.{text_shown, item_shown}
 use Rattle.tn_client.specs.Calls.{End, LeadsTo, ReadsNothing, AdvancesAll, Feeds, IsStopCause, StopsWithin, ReadsList}
 use Rattle.tn_client.specs.Steps.{end_after_item, says_got, says_sub, MayWantMemoryNow}
-use Rattle.tn_wire.specs.Fronts.{AppendsFront}
+use Rattle.tn_wire.specs.Prefixes.{AppendsPrefix}
 use Rattle.tn_client.specs.Lending.{IsSameLoan, TakesItems, RefusesItems}
 use Rattle.tn_client.specs.declared.taking.Lent.{Lent}
 use Rattle.tn_wire.proofs.lemmas.Cutting.{spelled_on, cons_some}
@@ -49,7 +49,7 @@ took_item a b item same end out screen = record {
   gets = gets_one a.end.now b.end.now item a.out.now.items b.out.now.items a.screen.now.items b.screen.now.items end out screen;
 }
 
-pub refused_item : (a b : Lent) (item : Item) → IsSameLoan a b → AppendsFront (says_got a.end.now item) a.out.now.items b.out.now.items → b.screen.now.items ≡ a.screen.now.items → MayWantMemoryNow a.end.now item → RefusesItems a (item ∷ []) b
+pub refused_item : (a b : Lent) (item : Item) → IsSameLoan a b → AppendsPrefix (says_got a.end.now item) a.out.now.items b.out.now.items → b.screen.now.items ≡ a.screen.now.items → MayWantMemoryNow a.end.now item → RefusesItems a (item ∷ []) b
 refused_item a b item same cut screen grows = record {
   same = same;
   item = item;

@@ -21,7 +21,7 @@ use Rattle.tn_client.specs.Replies.{replies, key_items, item_replies}
 use Rattle.tn_client.specs.Screen.{shows, key_shown}
 use Rattle.tn_client.specs.Calls.{End, LeadsTo, ReadsNothing, Advances, Sends, LacksMemoryFor, Shows, SaysOrShows, ReadsList, MayWantMemory, RefusesItem}
 use Rattle.tn_client.specs.Steps.{role_now, is_sent_now, line_sent, line_typed, count_typed, end_after_key, says_key, shows_key, LacksMemoryNow, line_left, count_left, count_told, end_after_item, says_got, MayWantMemoryNow}
-use Rattle.tn_wire.specs.Fronts.{AppendsFront}
+use Rattle.tn_wire.specs.Prefixes.{AppendsPrefix}
 use Rattle.tn_client.proofs.lemmas.Histories.{unedited, unedited-ahead, edited-typed, edited-stays, edited-begins, under-typed, under-ends, under-stays, count-none, count-is, ahead-typed, ahead-stays, ahead-begins}
 use Rattle.tn_client.proofs.lemmas.Ends.{line_is}
 
@@ -253,7 +253,7 @@ grows_got h old item s (inl says) = inl (λ e. says (sym (replies_got h old item
 grows_got h old item s (inr (inl shows')) = inr (inl shows')
 grows_got h old item s (inr (inr reads)) = inr (inr (subst (λ (o : Options). ReadsList o item) s.options reads))
 
-pub refuses_got : (old : End) (item : Item) (before after seen now : List ℕ) → AppendsFront (says_got old item) before after → now ≡ seen → MayWantMemoryNow old item → RefusesItem old item before after seen now
+pub refuses_got : (old : End) (item : Item) (before after seen now : List ℕ) → AppendsPrefix (says_got old item) before after → now ≡ seen → MayWantMemoryNow old item → RefusesItem old item before after seen now
 refuses_got old item before after seen now cut same grows = record {
   part = cut.part;
   appended = cut.appended;

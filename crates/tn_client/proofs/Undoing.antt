@@ -1,5 +1,5 @@
 -- A key whose line could not be sent ahead is taken back.
-use Rattle.std.proofs.Common.{◌≡◌, ◌≢◌, ℕ, Bool, true, false, not, ◌&&◌, Option, List, [], ◌∷◌, ◌++◌, map, refl, sym, ap, ◌∙◌, if◌then◌else◌}
+use Rattle.std.proofs.Common.{◌≡◌, ◌≢◌, ℕ, Bool, true, false, not, ◌&&◌, Option, List, [], ◌∷◌, ◌++◌, refl, sym, ap, ◌∙◌, if◌then◌else◌}
 use Rattle.tn_codes.specs.declared.masks.Mask.{Mask}
 use Rattle.tn_discipline.specs.HalfLine.{HalfLine, is_full, effect_of, line_after, line_erased}
 use Rattle.tn_discipline.specs.declared.half_line.Effect.{Effect}
@@ -7,7 +7,6 @@ use Rattle.tn_discipline.specs.declared.half_line.Effect.TheVariants as effect
 use Rattle.tn_discipline.specs.declared.keys.Role.{Role}
 use Rattle.tn_discipline.specs.declared.keys.Role.TheVariants as role
 use Rattle.tn_discipline.proofs.lemmas.Lines.{kept_erased}
-use Rattle.tn_nvt.specs.declared.items.Item.{Item}
 use Rattle.tn_nvt.specs.declared.items.Item.TheVariants.{Byte}
 use Rattle.tn_client.specs.Calls.{End}
 use Rattle.tn_client.specs.Lines.{is_forward}

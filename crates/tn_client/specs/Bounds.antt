@@ -15,22 +15,22 @@ held_sent h item = end_of_edit_items (edits (mode h)) (edits (mode (next h (got 
 
 -- What an item is answered by at most, beside that. An option word: by a word (3 bytes) and the window's size
 -- (13). A subnegotiation: by an answer that is no longer than it is.
-abbrev pub most_answered : Item → ℕ
-most_answered (Neg verb option) = 16
-most_answered (Sub option params) = length (spelling (Sub option params))
-most_answered _ = 0
+abbrev pub max_answered : Item → ℕ
+max_answered (Neg verb option) = 16
+max_answered (Sub option params) = length (spelling (Sub option params))
+max_answered _ = 0
 
 -- What a call of the owner adds at most to what is sent, or held: two bytes for a key; the window's size; a
 -- triple.
-abbrev pub most_of_call : Event → ℕ
-most_of_call (typed key) = 2
-most_of_call (got item) = 0
-most_of_call (resized width height) = 13
-most_of_call (proposed func value) = 10
+abbrev pub max_of_call : Event → ℕ
+max_of_call (typed key) = 2
+max_of_call (got item) = 0
+max_of_call (resized width height) = 13
+max_of_call (proposed func value) = 10
 
-abbrev pub most_of_calls : History → ℕ
-most_of_calls (begun width height limit) = 0
-most_of_calls (next h e) = most_of_calls h + most_of_call e
+abbrev pub max_of_calls : History → ℕ
+max_of_calls (begun width height limit) = 0
+max_of_calls (next h e) = max_of_calls h + max_of_call e
 
 -- the bytes that were sent, and those that are held of a line
 abbrev pub bytes_due : History → ℕ

@@ -12,7 +12,7 @@ use Rattle.tn_nvt.specs.Feeding.{DecoderState}
 use Rattle.tn_nvt.specs.Feeding as nvt
 use Rattle.tn_nvt.specs.declared.items.Item.{Item}
 use Rattle.tn_option.specs.Options.{Options}
-use Rattle.tn_wire.specs.Fronts.{WantsMemory}
+use Rattle.tn_wire.specs.Prefixes.{WantsMemory}
 use Rattle.tn_wire.specs.Words.{IsList}
 use Rattle.tn_client.specs.Events.{History, Event, typed, got, next, gets}
 use Rattle.tn_client.specs.Terms.{options, mode, forward, chars, size, linemode, payload_at}

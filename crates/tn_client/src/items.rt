@@ -9,9 +9,9 @@ ghost use Rattle.tn_client.specs.Replies.{new_size_items};
 ghost use Rattle.tn_client.specs.Screen.{item_shown};
 ghost use Rattle.tn_client.specs.Calls.{ReadsList};
 ghost use Rattle.tn_client.specs.Steps.{MayWantMemoryNow, with_mode, end_handed_over, end_taken_over, says_mode, end_after_item, says_got, end_after_payload, says_sub};
-ghost use Rattle.tn_wire.specs.Fronts.{AppendsFront};
+ghost use Rattle.tn_wire.specs.Prefixes.{AppendsPrefix};
 ghost use Rattle.tn_wire.specs.Words.{payload_items};
-ghost use Rattle.tn_codes.specs.Payloads.{IsShort};
+ghost use Rattle.tn_codes.specs.Payloads.{IsShort, max_triples};
 
 use crate::end::ClientEnd;
 use crate::screen::{show_byte, show_new_line};
@@ -34,7 +34,7 @@ impl ClientEnd {
         ensures ok { OnOk result (self.new ≡ end_after_item self.old item) }
         ensures out { OnOk result (out.new.items ≡ out.old.items ++ spells (says_got self.old item)) }
         ensures screen { OnOk result (screen.new.items ≡ screen.old.items ++ item_shown item) }
-        ensures cut { OnErr result (AppendsFront (says_got self.old item) out.old.items out.new.items) }
+        ensures cut { OnErr result (AppendsPrefix (says_got self.old item) out.old.items out.new.items) }
         ensures err { OnErr result (screen.new.items ≡ screen.old.items) }
         ensures grows { OnErr result (MayWantMemoryNow self.old item) }
     {
@@ -98,7 +98,7 @@ impl ClientEnd {
         ensures out { OnOk result
             (out.new.items ≡ out.old.items ++ spells (says_got self.old (item.Neg verb option))) }
         ensures cut { OnErr result
-            (AppendsFront (says_got self.old (item.Neg verb option)) out.old.items out.new.items) }
+            (AppendsPrefix (says_got self.old (item.Neg verb option)) out.old.items out.new.items) }
         ensures grows { OnErr result (says_got self.old (item.Neg verb option) ≢ []) }
     {
         let mut options = self.options;
@@ -162,7 +162,7 @@ impl ClientEnd {
         ensures out { let payload = payload_at self.old.options (item.Sub option params.now) in
             OnOk result (out.new.items ≡ out.old.items ++ spells (says_sub self.old payload)) }
         ensures cut { let payload = payload_at self.old.options (item.Sub option params.now) in
-            OnErr result (AppendsFront (says_sub self.old payload) out.old.items out.new.items) }
+            OnErr result (AppendsPrefix (says_sub self.old payload) out.old.items out.new.items) }
         ensures grows { let sub = item.Sub option params.now in OnErr result
             ((says_sub self.old (payload_at self.old.options sub) ≢ []) ⊎ ReadsList self.old.options sub) }
     {
@@ -187,7 +187,7 @@ impl ClientEnd {
 
     // Payloads of this option are read: it is LINEMODE, and on.
     fn is_read(&self, option: u8) -> bool
-        ensures { result ≡ ((option == 34) && linemode self.now.options) }
+        ensures { result ≡ ((option == LINEMODE) && linemode self.now.options) }
     {
         option == LINEMODE && self.options.is_on(Side::Us, LINEMODE)
     }
@@ -198,7 +198,7 @@ impl ClientEnd {
         ensures out { OnOk result
             (out.new.items ≡ out.old.items ++ spells (says_sub self.old (Some (payload.Mode mask)))) }
         ensures cut { OnErr result
-            (AppendsFront (says_sub self.old (Some (payload.Mode mask))) out.old.items out.new.items) }
+            (AppendsPrefix (says_sub self.old (Some (payload.Mode mask))) out.old.items out.new.items) }
         ensures grows { OnErr result (says_sub self.old (Some (payload.Mode mask)) ≢ []) }
     {
         let mut mode = self.mode;
@@ -228,12 +228,12 @@ impl ClientEnd {
 
     // A list of local characters: the answers in one list.
     fn list(&mut self, triples: &Triples, out: &mut Vec<u8>) -> Result<(), AllocError>
-        requires { length triples.now ≤ 170 }
+        requires { length triples.now ≤ max_triples }
         ensures ok { OnOk result (self.new ≡ end_after_payload self.old (Some (payload.Slc triples.now))) }
         ensures out { OnOk result
             (out.new.items ≡ out.old.items ++ spells (says_sub self.old (Some (payload.Slc triples.now)))) }
         ensures cut { OnErr result
-            (AppendsFront (says_sub self.old (Some (payload.Slc triples.now))) out.old.items out.new.items) }
+            (AppendsPrefix (says_sub self.old (Some (payload.Slc triples.now))) out.old.items out.new.items) }
         ensures grows { OnErr result (triples.now ≢ []) }
     {
         let mut table = self.table;

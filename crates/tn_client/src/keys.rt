@@ -26,9 +26,9 @@ fn count_after(limit: Limit, count: u16, role: Role) -> u16
     ensures value { result ≡ count_after limit count (roles_from role) }
     ensures within { result < limit }
 {
-    let most_counted = limit.bytes() - 1;
+    let max_counted = limit.bytes() - 1;
     match role {
-        Role::Ordinary(_) if count == most_counted => count,
+        Role::Ordinary(_) if count == max_counted => count,
         Role::Ordinary(_) => count + 1,
         Role::Erase => count.saturating_sub(1),
         Role::Signal(_) | Role::Ignored => count,

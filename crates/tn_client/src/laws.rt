@@ -1,7 +1,7 @@
 //! Laws of the definitions alone.
 
 ghost use Rattle.std.specs.Prelude.{◌≡◌, ◌↔◌, ◌<◌, ◌≤◌, ◌+◌, ◌*◌, ◌++◌, ℕ, Bool, true, List, All, false, None, [], length, take};
-ghost use Rattle.tn_discipline.specs.Limits.{most_counted};
+ghost use Rattle.tn_discipline.specs.Limits.{max_counted};
 ghost use Rattle.tn_linemode.specs.Modes.{edits};
 ghost use Rattle.tn_nvt.specs.Feeding as nvt;
 ghost use Rattle.tn_nvt.specs.Spelling.{spelling, spells};
@@ -9,8 +9,8 @@ ghost use Rattle.tn_nvt.specs.declared.items.Item.TheVariants.{Neg, Sub};
 ghost use Rattle.tn_codes.specs.declared.codes.Verb.{Verb};
 ghost use Rattle.tn_nvt.specs.declared.items.Item.{Item};
 ghost use Rattle.tn_client.specs.Events.{Event, got, History, begun, items, keys, gets};
-ghost use Rattle.tn_client.specs.Bounds.{held_sent, most_answered, most_of_calls, bytes_due};
-ghost use Rattle.tn_wire.specs.Fronts.{IsRead};
+ghost use Rattle.tn_client.specs.Bounds.{held_sent, max_answered, max_of_calls, bytes_due};
+ghost use Rattle.tn_wire.specs.Prefixes.{IsRead};
 ghost use Rattle.tn_client.specs.Terms.{options, mode, forward, linemode};
 ghost use Rattle.tn_client.specs.Lines.{line_limit, ahead, held_bytes, half_line, count_under};
 ghost use Rattle.tn_client.specs.Replies.{replies, items_said};
@@ -36,8 +36,8 @@ pub fn ahead_is_a_front()
 
 /// The half line has at most as many bytes as a line counts before its closing byte, whichever end edits it.
 pub fn half_lines_fit()
-    ensures here { (h : History) → length (half_line h) ≤ most_counted (line_limit h) }
-    ensures there { (isig : Bool) (h : History) → count_under isig h ≤ most_counted (line_limit h) }
+    ensures here { (h : History) → length (half_line h) ≤ max_counted (line_limit h) }
+    ensures there { (isig : Bool) (h : History) → count_under isig h ≤ max_counted (line_limit h) }
 {}
 
 /// Without EDIT no half line is here, and with it none is counted; without LINEMODE there are no mode and
@@ -107,7 +107,7 @@ pub fn nothing_is_accepted()
 /// word by 16 bytes, a subnegotiation by as many as it has itself, and any other by none.
 pub fn replies_bounded()
     ensures { (h : History) (item : Item) →
-        length (spells (replies h (got item))) ≤ length (spells (held_sent h item)) + most_answered item }
+        length (spells (replies h (got item))) ≤ length (spells (held_sent h item)) + max_answered item }
 {
     answers_name_their_function();
 }
@@ -125,7 +125,7 @@ pub fn bounds_are_met()
 /// besides those that the owner's own keys and calls add.
 pub fn sending_bounded()
     ensures { (h : History) (bytes : List ℕ) → IsRead bytes (items h) →
-        bytes_due h ≤ 4 * length bytes + most_of_calls h + 4 }
+        bytes_due h ≤ 4 * length bytes + max_of_calls h + 4 }
 {
     answers_name_their_function();
 }

@@ -11,21 +11,21 @@ use Rattle.tn_client.specs.declared.faults.ClientFault.{ClientFault}
 use Rattle.tn_client.specs.declared.faults.ClientFault.TheVariants as client_fault
 use Rattle.tn_client_core.proofs.Typing.{items-types, said_front, shown_front}
 use Rattle.tn_client_core.specs.Counting.{nothing_yet, after_piece, after_message}
-use Rattle.tn_client_core.specs.Reaching.{LeadsTo, TypesAll, TypesFront, DoesWhole, StopsWithin}
-use Rattle.tn_client_core.specs.Run.{Run, Acts, ActsUnless, Handles, types, type_keys, feed, turns, start, sent_after}
+use Rattle.tn_client_core.specs.Reaching.{LeadsTo, TypesAll, TypesPrefix, DoesWhole, StopsWithin}
+use Rattle.tn_client_core.specs.Run.{Run, Reads, Acts, ActsUnless, Handles, types, type_keys, feed, turns, start, sent_after}
 use Rattle.tn_client_core.specs.declared.machine.Core.{Core}
 use Rattle.tn_client_core.specs.declared.messages.Origin.{Origin}
 use Rattle.tn_client_core.specs.declared.messages.Origin.TheVariants.{Keys, Net}
 use Rattle.tn_client_core.specs.declared.messages.Told.{Told}
 use Rattle.tn_client_core.specs.declared.progress.Progress.{Progress}
-use Rattle.tn_nvt.proofs.lemmas.Reading.{has_reading, reads_on, spells-append}
+use Rattle.tn_messages.proofs.lemmas.Pieces.{read_on, read_as}
+use Rattle.tn_nvt.proofs.lemmas.Reading.{spells-append}
 use Rattle.tn_nvt.specs.Feeding.{DecoderState}
 use Rattle.tn_nvt.specs.Feeding as nvt
 use Rattle.tn_nvt.specs.Spelling.{spells}
-use Rattle.tn_nvt.specs.Stream.{Reading}
 use Rattle.tn_nvt.specs.declared.items.Item.{Item}
-use Rattle.tn_term.specs.declared.messages.Message.{Message}
-use Rattle.tn_term.specs.declared.messages.Message.TheVariants.{Piece, HangUp, ReadFailed, Take, Said, Refused, Left}
+use Rattle.tn_messages.specs.declared.messages.Message.{Message}
+use Rattle.tn_messages.specs.declared.messages.Message.TheVariants.{Piece, HangUp, ReadFailed, Take, Said, Refused, Left}
 
 -- the core is over: nothing is known of its end
 pub is_over : (c : Run) (core : Core) → core.progress.over ≡ true → core.progress ≡ c.progress → LeadsTo c core
@@ -52,12 +52,6 @@ sent_open : (b : Bool) (sent h : History) → b ≡ false → sent_after b sent 
 sent_open true sent h e = cc
 sent_open false sent h e = refl
 
-read_on : (old new : DecoderState) (stream : List ℕ) (had now : List Item) → new ≡ old → now ≡ had → nvt.LeadsTo stream had old → nvt.LeadsTo stream now new
-read_on old new stream had now e f r =
-    let P : DecoderState → Type 0 = λ d. nvt.LeadsTo stream now d in
-    let Q : List Item → Type 0 = λ xs. nvt.LeadsTo stream xs old in
-    subst P (sym e) (subst Q (sym f) r)
-
 -- KEYS
 typed_leads : (keys : List ℕ) (old new : Core) (end : End) (x y u v : List ℕ) → old.progress.over ≡ false → new ≡ record { end = end; progress = after_piece old.progress } → TypesAll old.end keys x y u v end → (c : Run) → LeadsTo c old → LeadsTo (type_keys keys c) new
 typed_leads keys old new end x y u v on is t c at = rw is (record {
@@ -65,7 +59,7 @@ typed_leads keys old new end x y u v on is t c at = rw is (record {
       let l = at.live on in
       record {
         leads = t.leads c.history l.leads;
-        read = read_on old.end.decoder end.decoder c.stream (items c.history) (items (types c.history keys)) t.keeps.decoder (items-types c.history keys) l.read;
+        read = read_as old.end.decoder end.decoder c.stream (items c.history) (items (types c.history keys)) t.keeps.decoder (items-types c.history keys) l.read;
         bytes = l.bytes;
         failed = t.keeps.failed ∙ l.failed;
         latest = λ e. sent_open c.progress.closed c.sent (types c.history keys) e;
@@ -90,7 +84,7 @@ does_keys keys old new end x y u v on is t = record {
       );
 }
 
-pub stops_keys : (keys : List ℕ) (old new : Core) (end : End) (x y u v : List ℕ) → old.progress.over ≡ false → new ≡ record { end = end; progress = after_piece old.progress } → TypesFront old.end keys x y u v end → StopsWithin old (record { from = Keys; message = Piece keys }) x y u v new
+pub stops_keys : (keys : List ℕ) (old new : Core) (end : End) (x y u v : List ℕ) → old.progress.over ≡ false → new ≡ record { end = end; progress = after_piece old.progress } → TypesPrefix old.end keys x y u v end → StopsWithin old (record { from = Keys; message = Piece keys }) x y u v new
 stops_keys keys old new end x y u v on is (front, back, e, t) = record {
   part = spells t.said;
   text = t.text;
@@ -155,6 +149,13 @@ first_said k (item ∷ left) more part here back why =
       m.1 ∙ append_assoc (items_said k) (replies k (got item)) m.0 ∙ ap (λ (xs : List Item). items_said k ++ (xs ++ m.0)) why.whole ∙ ap (λ (xs : List Item). items_said k ++ xs) (append_assoc part why.rest m.0),
     )
 
+-- the items of the whole piece go on from those of its front
+pub read_past : (piece : List ℕ) (old : Core) (x y u v : List ℕ) → All (λ b. b < 256) piece → old.progress.over ≡ false → (f : client.StopsWithin old.end piece x y u v) → (c : Run) → LeadsTo c old → (more : List Item) × Reads c piece (f.done ++ (f.left ++ more))
+read_past piece old x y u v small on f c at =
+    let l = at.live on in
+    let before = f.reads c.stream (items c.history) l.read in
+    read_on c.stream piece f.front f.back (items c.history) f.done f.left l.bytes small f.whole (before.rest, before.reading)
+
 pub stops_feed : (piece : List ℕ) (old new : Core) (end : End) (x y u v : List ℕ) → All (λ b. b < 256) piece → old.progress.over ≡ false → new ≡ record { end = end; progress = after_piece old.progress } → client.StopsWithin old.end piece x y u v → StopsWithin old (record { from = Net; message = Piece piece }) x y u v new
 stops_feed piece old new end x y u v small on is f = record {
   part = spells (f.said ++ f.part);
@@ -165,15 +166,9 @@ stops_feed piece old new end x y u v small on is f = record {
       let told : Told = record { from = Net; message = Piece piece } in
       let l = at.live on in
       let h = c.history in
-      let before = f.reads c.stream (items h) l.read in
-      let all = has_reading (c.stream ++ piece) (All-append (λ b. b < 256) c.stream piece l.bytes small) in
-      let split : c.stream ++ piece ≡ (c.stream ++ f.front) ++ f.back = ap (λ (bs : List ℕ). c.stream ++ bs) f.whole ∙ sym (append_assoc c.stream f.front f.back) in
-      let P : List ℕ → Type 0 = λ bs. Reading bs all.0 all.1 in
-      let on_from = reads_on (c.stream ++ f.front) f.back before.rest all.1 (items h ++ (f.done ++ f.left)) all.0 before.reading (subst P split all.2) in
-      let more : List Item = on_from.0 in
+      let past = read_past piece old x y u v small on f c at in
+      let more : List Item = past.0 in
       let xs : List Item = f.done ++ (f.left ++ more) in
-      let is_all : all.0 ≡ items h ++ xs = on_from.1 ∙ append_assoc (items h) (f.done ++ f.left) more ∙ ap (λ (ys : List Item). items h ++ ys) (append_assoc f.done f.left more) in
-      let Q : List Item → Type 0 = λ ys. Reading (c.stream ++ piece) ys all.1 in
       let k = gets h f.done in
       let r = first_said k f.left more f.part f.here f.back (f.cause h c.stream (items h) l.leads l.read) in
       let s = shown-gets k (f.left ++ more) in
@@ -181,7 +176,7 @@ stops_feed piece old new end x y u v small on is f = record {
       ap items_said (gets-append h f.done (f.left ++ more)) ∙ r.1 ∙ ap (λ (ys : List Item). ys ++ (f.part ++ r.0)) (f.sends h l.leads)
       ∙ append_assoc (items_said h) f.said (f.part ++ r.0) ∙ ap (λ (ys : List Item). items_said h ++ ys) (sym (append_assoc f.said f.part r.0)) in (
         feed piece xs c,
-        handled c (feed piece xs c) old told on at (xs, (all.1, subst Q is_all all.2), refl),
+        handled c (feed piece xs c) old told on at (xs, past.1, refl),
         ap (λ (core : Core). core.progress) is ∙ ap after_piece at.progress,
         refl,
         (spells r.0, ap spells said ∙ spells-append (items_said h) ((f.said ++ f.part) ++ r.0) ∙ ap (λ (bs : List ℕ). spells (items_said h) ++ bs) (spells-append (f.said ++ f.part) r.0)),

@@ -6,16 +6,15 @@ use Rattle.tn_client.specs.Screen.{text_shown}
 use Rattle.tn_client.specs.declared.faults.ClientFault.{ClientFault}
 use Rattle.tn_client_core.proofs.Doing.{is_over}
 use Rattle.tn_client_core.specs.Counting.{after_failure}
-use Rattle.tn_client_core.specs.Reaching.{DoesWhole, StopsWithin, RefusesFor, SendsFront, IsTurn, sent_bytes}
+use Rattle.tn_client_core.specs.Reaching.{DoesWhole, StopsWithin, RefusesFor, SendsPrefix, IsTurn, sent_bytes}
 use Rattle.tn_client_core.specs.Run.{Run, ActsUnless, fail, sent_after}
 use Rattle.tn_client_core.specs.declared.machine.Core.{Core}
 use Rattle.tn_client_core.specs.declared.messages.Mark.TheVariants.{Whole, Refused}
 use Rattle.tn_client_core.specs.declared.messages.Told.{Told}
 use Rattle.tn_client_core.specs.declared.progress.Progress.{Progress}
-use Rattle.tn_nvt.proofs.lemmas.Reading.{spells-append}
+use Rattle.tn_messages.proofs.lemmas.Pieces.{from_none, all_spelled}
 use Rattle.tn_nvt.specs.Spelling.{spells}
-use Rattle.tn_nvt.specs.declared.items.Item.{Item}
-use Rattle.tn_term.specs.declared.faults.SessionFault.TheVariants as fault
+use Rattle.tn_messages.specs.declared.faults.SessionFault.TheVariants as fault
 
 true_false : true ≡ false → ⊥
 true_false e = cc
@@ -43,7 +42,7 @@ turn_idle old told bytes text none blank off = record {
     nothing_more xs ys e = sym (append-nil xs) ∙ ap (λ (zs : List ℕ). xs ++ zs) (sym (append-nil ys ∙ e))
 
 -- what goes to the network is what the history says, up to where that was closed
-sends_as : (b all : Bool) (c next : Run) (bytes part rest : List ℕ) → next.sent ≡ sent_after b c.sent next.history → (b ≡ false → c.sent ≡ c.history) → bytes ≡ sent_bytes b part → spells (items_said next.history) ≡ spells (items_said c.history) ++ (part ++ rest) → (all ≡ true → rest ≡ []) → SendsFront c next bytes all
+sends_as : (b all : Bool) (c next : Run) (bytes part rest : List ℕ) → next.sent ≡ sent_after b c.sent next.history → (b ≡ false → c.sent ≡ c.history) → bytes ≡ sent_bytes b part → spells (items_said next.history) ≡ spells (items_said c.history) ++ (part ++ rest) → (all ≡ true → rest ≡ []) → SendsPrefix c next bytes all
 sends_as true all c next bytes part rest is latest e said none =
     let S : List ℕ = spells (items_said c.sent) in (
       [],
@@ -56,13 +55,6 @@ sends_as false all c next bytes part rest is latest e said none = (
   none,
 )
 
--- where nothing was appended before
-from_none : (x y part : List ℕ) → x ≡ [] → y ≡ x ++ part → y ≡ part
-from_none x y part none is = is ∙ ap (λ (bs : List ℕ). bs ++ part) none
-
-all_said : (h k : History) (said : List Item) → items_said k ≡ items_said h ++ said → spells (items_said k) ≡ spells (items_said h) ++ (spells said ++ [])
-all_said h k said e = ap spells e ∙ spells-append (items_said h) said ∙ ap (λ (bs : List ℕ). spells (items_said h) ++ bs) (sym (append-nil (spells said)))
-
 pub turn_whole : (old new : Core) (told : Told) (x y u v bytes : List ℕ) → x ≡ [] → u ≡ [] → old.progress.over ≡ false → bytes ≡ sent_bytes old.progress.closed y → DoesWhole old told x y u v new → IsTurn Whole old told bytes v new
 turn_whole old new told x y u v bytes none blank on drops h = record {
   leads = λ c at.
@@ -73,7 +65,7 @@ turn_whole old new told x y u v bytes none blank on drops h = record {
         l.0,
         l.1,
         l.2,
-        sends_as c.progress.closed true c l.0 bytes (spells h.said) [] l.3 (at.live on).latest gives (all_said c.history l.0.history h.said l.4) (λ w. refl),
+        sends_as c.progress.closed true c l.0 bytes (spells h.said) [] l.3 (at.live on).latest gives (all_spelled (items_said c.history) (items_said l.0.history) h.said l.4) (λ w. refl),
         ([], l.5 ∙ ap (λ (bs : List ℕ). text_shown c.history ++ bs) (sym (append-nil v ∙ from_none u v h.text blank h.displayed)), λ w. refl),
       );
   over = λ e. absurd (true_false e);

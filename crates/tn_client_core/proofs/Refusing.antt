@@ -1,24 +1,22 @@
 -- Each call is refused for its cause.
-use Rattle.std.proofs.Common.{◌≡◌, ◌⊎◌, inl, inr, ℕ, ◌+◌, ◌<◌, All, Bool, true, false, if◌then◌else◌, Some, None, List, [], ◌∷◌, ◌++◌, length, take, drop, refl, sym, ap, ◌∙◌, subst, append_assoc}
+use Rattle.std.proofs.Common.{◌≡◌, ◌⊎◌, inl, inr, ℕ, ◌+◌, ◌<◌, All, Bool, true, false, if◌then◌else◌, Some, None, List, [], ◌∷◌, ◌++◌, length, take, drop, sym, ap, ◌∙◌}
 use Rattle.std.proofs.lemmas.List.{drop_more, take-append-drop}
-use Rattle.std.proofs.lemmas.List.Elements.{All-append}
 use lib.ListN.{get_or}
 use Rattle.tn_client.specs.Calls.{End, IsStopCause, IsFault, SaysOrShows, call_fault}
 use Rattle.tn_client.specs.Calls as client
 use Rattle.tn_client.specs.Events.{History, typed, gets, items}
 use Rattle.tn_client.specs.declared.faults.ClientFault.{ClientFault}
 use Rattle.tn_client.specs.declared.faults.ClientFault.TheVariants as client_fault
-use Rattle.tn_client_core.specs.Reaching.{LeadsTo, TypesAll, RefusesFor}
+use Rattle.tn_client_core.proofs.Doing.{read_past}
+use Rattle.tn_client_core.specs.Reaching.{TypesAll, RefusesFor}
 use Rattle.tn_client_core.specs.Refusing.{RefusesAtKey, RefusesAtItem, RefusesAtByte}
 use Rattle.tn_client_core.specs.Run.{Run, Reads, types}
 use Rattle.tn_client_core.specs.declared.machine.Core.{Core}
 use Rattle.tn_client_core.specs.declared.messages.Origin.TheVariants.{Net}
-use Rattle.tn_nvt.proofs.lemmas.Reading.{has_reading, reads_on}
 use Rattle.tn_nvt.specs.Feeding.{DecoderState}
 use Rattle.tn_nvt.specs.Feeding as nvt
-use Rattle.tn_nvt.specs.Stream.{Reading}
 use Rattle.tn_nvt.specs.declared.items.Item.{Item}
-use Rattle.tn_term.specs.declared.messages.Message.TheVariants.{Piece}
+use Rattle.tn_messages.specs.declared.messages.Message.TheVariants.{Piece}
 
 -- an end that has not failed refuses only when out of memory
 only_memory : (end : End) (f : ClientFault) → end.failed ≡ false → IsFault (call_fault end) f → f ≡ client_fault.Memory
@@ -44,20 +42,6 @@ key_cause old end keys i f x y u v lt t why grows h at runs =
         grows is (types h (take i keys)) (t.leads h at),
       ),
     )
-
--- the items of the whole piece go on from those of its front
-read_past : (piece : List ℕ) (old : Core) (x y u v : List ℕ) → All (λ b. b < 256) piece → old.progress.over ≡ false → (f : client.StopsWithin old.end piece x y u v) → (c : Run) → LeadsTo c old → (more : List Item) × Reads c piece (f.done ++ (f.left ++ more))
-read_past piece old x y u v small on f c at =
-    let l = at.live on in
-    let before = f.reads c.stream (items c.history) l.read in
-    let all = has_reading (c.stream ++ piece) (All-append (λ b. b < 256) c.stream piece l.bytes small) in
-    let split : c.stream ++ piece ≡ (c.stream ++ f.front) ++ f.back = ap (λ (bs : List ℕ). c.stream ++ bs) f.whole ∙ sym (append_assoc c.stream f.front f.back) in
-    let P : List ℕ → Type 0 = λ bs. Reading bs all.0 all.1 in
-    let on_from = reads_on (c.stream ++ f.front) f.back before.rest all.1 (items c.history ++ (f.done ++ f.left)) all.0 before.reading (subst P split all.2) in
-    let more : List Item = on_from.0 in
-    let is_all : all.0 ≡ items c.history ++ (f.done ++ (f.left ++ more)) = on_from.1 ∙ append_assoc (items c.history) (f.done ++ f.left) more ∙ ap (λ (ys : List Item). items c.history ++ ys) (append_assoc f.done f.left more) in
-    let Q : List Item → Type 0 = λ ys. Reading (c.stream ++ piece) ys all.1 in
-    (more, (all.1, subst Q is_all all.2))
 
 -- one of the items was refused, or the decoder was
 at_stop : (c : Run) (piece front back : List ℕ) (done left more part : List Item) (here : DecoderState) → piece ≡ front ++ back → nvt.LeadsTo (c.stream ++ front) (items c.history ++ (done ++ left)) here → Reads c piece (done ++ (left ++ more)) → IsStopCause (gets c.history done) left part here back → RefusesAtItem c piece ⊎ RefusesAtByte c piece

@@ -1,15 +1,16 @@
 -- What a run ends by: the message that brought the fault, or the mark that it left.
-use Rattle.std.specs.Prelude.{◌≡◌, List, ◌∷◌, ◌++◌, ◌⊎◌}
-use Rattle.tn_client_core.specs.Marks.{Runs}
+use Rattle.std.specs.Prelude.{◌≡◌, List, ◌⊎◌}
+use Rattle.tn_client_core.specs.Marks.{Turns}
 use Rattle.tn_client_core.specs.Refusing.{IsRefusalCause}
 use Rattle.tn_client_core.specs.Run.{Run}
 use Rattle.tn_client_core.specs.declared.messages.Mark.{Mark}
 use Rattle.tn_client_core.specs.declared.messages.Mark.TheVariants as mark
 use Rattle.tn_client_core.specs.declared.messages.Told.{Told}
-use Rattle.tn_term.specs.declared.faults.Ended.{Ended}
-use Rattle.tn_term.specs.declared.faults.Ended.TheVariants.{HangUp, Done, Fault}
-use Rattle.tn_term.specs.declared.faults.SessionFault.TheVariants.{Read, Write, Server, Client, Memory, Start, Channel}
-use Rattle.tn_term.specs.declared.messages.Message.TheVariants as message
+use Rattle.tn_messages.specs.Ending as run
+use Rattle.tn_messages.specs.declared.faults.Ended.{Ended}
+use Rattle.tn_messages.specs.declared.faults.Ended.TheVariants.{HangUp, Done, Fault}
+use Rattle.tn_messages.specs.declared.faults.SessionFault.TheVariants.{Read, Write, Server, Client, Memory, Start, Channel}
+use Rattle.tn_messages.specs.declared.messages.Message.TheVariants as message
 
 -- this message with this mark is why the run ended so
 abbrev pub EndsAt : Run → Told → Mark → Ended → Type 0
@@ -23,12 +24,6 @@ EndsAt c m k (Fault Memory) = m.message ≡ message.Refused
 EndsAt c m k (Fault Start) = ⊥
 EndsAt c m k (Fault Channel) = ⊥
 
--- at one of these messages, with its mark, and where the run was when it came
-pub record IsEndedAt (c : Run) (marked : List (Told × Mark)) (ended : Ended) : Type 0 where
-  pub before : List (Told × Mark)
-  pub last : Told × Mark
-  pub after : List (Told × Mark)
-  pub whole : marked ≡ before ++ last ∷ after
-  pub mid : Run
-  pub runs : Runs c before mid
-  pub ends : EndsAt mid last.0 last.1 ended
+-- at one of these messages, with its mark
+abbrev pub IsEndedAt : Run → List (Told × Mark) → Ended → Type 0
+IsEndedAt c marked ended = run.IsEndedAt Turns (λ at m e. EndsAt at m.0 m.1 e) c marked ended

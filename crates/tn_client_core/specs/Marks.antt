@@ -6,7 +6,7 @@ use Rattle.tn_client_core.specs.Run.{Run, Handles, fail}
 use Rattle.tn_client_core.specs.declared.messages.Mark.{Mark}
 use Rattle.tn_client_core.specs.declared.messages.Mark.TheVariants as mark
 use Rattle.tn_client_core.specs.declared.messages.Told.{Told}
-use Rattle.tn_term.specs.declared.faults.SessionFault.TheVariants as fault
+use Rattle.tn_messages.specs.declared.faults.SessionFault.TheVariants as fault
 
 -- A message with its mark. None is written, and no call is made, once nothing has any effect. A call that was
 -- refused was so for its cause.

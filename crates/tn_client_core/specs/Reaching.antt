@@ -41,8 +41,8 @@ pub record TypesAll (old : End) (keys before after seen now : List ℕ) (new : E
   pub keeps : ReadsNothing old new
 
 -- a prefix of the keys was typed
-abbrev pub TypesFront : End → List ℕ → List ℕ → List ℕ → List ℕ → List ℕ → End → Type 0
-TypesFront old keys before after seen now new =
+abbrev pub TypesPrefix : End → List ℕ → List ℕ → List ℕ → List ℕ → List ℕ → End → Type 0
+TypesPrefix old keys before after seen now new =
     (front : List ℕ) × (back : List ℕ) × (keys ≡ front ++ back)
     × TypesAll old front before after seen now new
 
@@ -81,14 +81,14 @@ sent_bytes true bytes = []
 sent_bytes false bytes = bytes
 
 -- these bytes are a prefix of what the longer run sends more
-abbrev pub SendsFront : Run → Run → List ℕ → Bool → Type 0
-SendsFront c next bytes all =
+abbrev pub SendsPrefix : Run → Run → List ℕ → Bool → Type 0
+SendsPrefix c next bytes all =
     (rest : List ℕ) × (spells (items_said next.sent) ≡ spells (items_said c.sent) ++ (bytes ++ rest))
     × (all ≡ true → rest ≡ [])
 
 -- and these of what it shows more
-abbrev pub ShowsFront : Run → Run → List ℕ → Bool → Type 0
-ShowsFront c next text all =
+abbrev pub ShowsPrefix : Run → Run → List ℕ → Bool → Type 0
+ShowsPrefix c next text all =
     (rest : List ℕ) × (text_shown next.history ≡ text_shown c.history ++ (text ++ rest))
     × (all ≡ true → rest ≡ [])
 
@@ -98,7 +98,7 @@ ShowsFront c next text all =
 pub record IsTurn (mark : Mark) (old : Core) (told : Told) (bytes text : List ℕ) (new : Core) : Type 0 where
   pub leads : (c : Run) → LeadsTo c old →
       (next : Run) × Turns c (told, mark) next × LeadsTo next new
-      × SendsFront c next bytes (is_written mark) × ShowsFront c next text (is_whole mark)
+      × SendsPrefix c next bytes (is_written mark) × ShowsPrefix c next text (is_whole mark)
   pub over : is_whole mark ≡ false → new.progress.over ≡ true
   pub stays : old.progress.over ≡ true → new.progress.over ≡ true
   pub idle : old.progress.over ≡ true → (bytes ≡ []) × (text ≡ []) × (is_whole mark ≡ true)

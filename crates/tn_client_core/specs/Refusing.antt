@@ -7,12 +7,10 @@ use Rattle.tn_client.specs.declared.faults.ClientFault.TheVariants.{Memory}
 use Rattle.tn_client_core.specs.Run.{Run, Reads, types}
 use Rattle.tn_client_core.specs.declared.messages.Origin.{Origin}
 use Rattle.tn_client_core.specs.declared.messages.Origin.TheVariants.{Keys, Net}
-use Rattle.tn_nvt.specs.Feeding.{DecoderState}
-use Rattle.tn_nvt.specs.Feeding as nvt
 use Rattle.tn_nvt.specs.declared.items.Item.{Item}
-use Rattle.tn_term.specs.declared.messages.Message.{Message}
-use Rattle.tn_term.specs.declared.messages.Message.TheVariants.{Piece}
-use Rattle.tn_wire.specs.Fronts.{WantsMemory}
+use Rattle.tn_messages.specs.Pieces.{WantsMemoryWithin}
+use Rattle.tn_messages.specs.declared.messages.Message.{Message}
+use Rattle.tn_messages.specs.declared.messages.Message.TheVariants.{Piece}
 
 -- one of these keys says or shows something, once those before it were typed
 abbrev pub RefusesAtKey : History → List ℕ → Type 0
@@ -28,9 +26,7 @@ RefusesAtItem c piece =
 
 -- a byte of the piece is a parameter that is kept
 abbrev pub RefusesAtByte : Run → List ℕ → Type 0
-RefusesAtByte c piece =
-    (front : List ℕ) × (back : List ℕ) × (piece ≡ front ++ back) × (xs : List Item) × (here : DecoderState)
-    × nvt.LeadsTo (c.stream ++ front) (items c.history ++ xs) here × WantsMemory here back
+RefusesAtByte c piece = WantsMemoryWithin c.stream (items c.history) piece
 
 -- a piece is refused for lack of memory, and nothing else is refused
 abbrev pub IsRefusalCause : Run → Origin → Message → ClientFault → Type 0

@@ -7,10 +7,10 @@ use Rattle.tn_client_core.specs.declared.messages.Origin.TheVariants.{Keys, Net}
 use Rattle.tn_client_core.specs.declared.messages.Told.{Told}
 use Rattle.tn_client_core.specs.declared.progress.Progress.{Progress}
 use Rattle.tn_nvt.specs.declared.items.Item.{Item}
-use Rattle.tn_term.specs.declared.faults.SessionFault.{SessionFault}
-use Rattle.tn_term.specs.declared.messages.Message.{Message}
-use Rattle.tn_term.specs.declared.messages.Message.TheVariants.{Piece}
-use Rattle.tn_wire.specs.Fronts.{IsRead}
+use Rattle.tn_messages.specs.declared.faults.SessionFault.{SessionFault}
+use Rattle.tn_messages.specs.declared.messages.Message.{Message}
+use Rattle.tn_messages.specs.declared.messages.Message.TheVariants.{Piece}
+use Rattle.tn_wire.specs.Prefixes.{IsRead}
 
 -- All that has happened at the core: at its client end, with the network's pieces joined; the first part of
 -- that, whose replies go to the network; and how far the session is.

@@ -7,8 +7,8 @@ ghost use Rattle.tn_client_core.specs.Marks.{Runs};
 ghost use Rattle.tn_client_core.specs.Run.{Run, start};
 ghost use Rattle.tn_client_core.specs.declared.messages.Mark.{Mark};
 ghost use Rattle.tn_client_core.specs.declared.messages.Told.{Told};
-ghost use Rattle.tn_term.specs.declared.faults.Ended.TheVariants.{Fault};
-ghost use Rattle.tn_term.specs.declared.faults.SessionFault.{SessionFault};
+ghost use Rattle.tn_messages.specs.declared.faults.Ended.TheVariants.{Fault};
+ghost use Rattle.tn_messages.specs.declared.faults.SessionFault.{SessionFault};
 
 /// The keys that were typed, and the bytes from the network whose items came, are prefixes of what the
 /// messages brought, in order, each once, whatever failed; and all of it where nothing ended the session.

@@ -1,11 +1,20 @@
 //! The core of a running client session: the machine that alone uses the client end, one message at a time.
-//! It has no handle and never blocks.
 //!
 //! ```
 //! let mut core = Core::start(alloc, 80, 24, Limit::standard())?;
 //! let told = Told { from: Origin::Keys, message: Message::Piece(keys) };
 //! let mark = core.handle(told, &mut out, &mut screen); // to the network, and to the screen
 //! ```
+//!
+//! ```text
+//! Piece, ReadFailed, Left from the keys -------+
+//! Piece, HangUp, ReadFailed from the network --+--> Core --> bytes to the network
+//! Refused from each thread --------------------+     |
+//!                                                    +-----> bytes to the screen
+//! ```
+//!
+//! Once no more keys come it sends nothing more, and still shows what comes. It has no handle and never
+//! blocks: it reads and writes nothing itself, and opens no connection.
 #![tactic(auto)]
 
 pub use machine::Core;

@@ -5,7 +5,7 @@ ghost use Rattle.tn_client.specs.Calls as client;
 ghost use Rattle.tn_client.specs.Events.{History};
 ghost use Rattle.tn_client_core.specs.Counting as counting;
 ghost use Rattle.tn_client_core.specs.Marks.{no_write_failed, no_show_failed};
-ghost use Rattle.tn_client_core.specs.Reaching.{LeadsTo, TypesAll, TypesFront, DoesWhole, StopsWithin, RefusesFor, IsTurn, sent_bytes};
+ghost use Rattle.tn_client_core.specs.Reaching.{LeadsTo, TypesAll, TypesPrefix, DoesWhole, StopsWithin, RefusesFor, IsTurn, sent_bytes};
 ghost use Rattle.tn_client_core.specs.Refusing.{RefusesAtKey};
 ghost use Rattle.tn_client_core.specs.Run as run;
 ghost use Rattle.tn_client_core.specs.Run.{Run};
@@ -15,7 +15,7 @@ use crate::progress::Progress;
 use std::alloc::Global;
 use tn_client::{ClientEnd, ClientFault};
 use tn_discipline::Limit;
-use tn_term::{Message, SessionFault};
+use tn_messages::{Message, SessionFault};
 
 /// The core of a client session.
 #[derive(Drop)]
@@ -34,15 +34,12 @@ fn type_all(
     ensures ok { OnOk result
         (TypesAll end.old keys.now out.old.items out.new.items screen.old.items screen.new.items end.new) }
     ensures err { OnErr result
-        (TypesFront end.old keys.now out.old.items out.new.items screen.old.items screen.new.items end.new) }
+        (TypesPrefix end.old keys.now out.old.items out.new.items screen.old.items screen.new.items end.new) }
     ensures cause { IfErr result (λ fault. (h : History) → client.LeadsTo h end.old →
         end.old.failed ≡ false → (fault ≡ ClientFault.Memory) × RefusesAtKey h keys.now) }
 {
     for key in keys {
-        match end.key(*key, out, screen) {
-            Ok(()) => {},
-            Err(fault) => return Err(fault),
-        }
+        end.key(*key, out, screen)?;
     }
     Ok(())
 }
@@ -62,13 +59,11 @@ impl Core {
         ensures leads { IfOk result (λ core. LeadsTo (run.start width height limit) core) }
         ensures fault { IfErr result (λ fault. fault ≡ ClientFault.Memory) }
     {
-        match ClientEnd::start(alloc, width, height, limit) {
-            Ok(end) => Ok(Core {
-                end,
-                progress: Progress::new(),
-            }),
-            Err(fault) => Err(fault),
-        }
+        let end = ClientEnd::start(alloc, width, height, limit)?;
+        Ok(Core {
+            end,
+            progress: Progress::new(),
+        })
     }
 
     fn keys(
@@ -88,10 +83,8 @@ impl Core {
             (record { from = Origin.Keys; message = Message.Piece keys.now })) }
     {
         self.progress = self.progress.fed();
-        match type_all(&mut self.end, keys, out, screen) {
-            Ok(()) => Ok(()),
-            Err(fault) => Err(fault),
-        }
+        type_all(&mut self.end, keys, out, screen)?;
+        Ok(())
     }
 
     // What comes from the network.
@@ -112,10 +105,8 @@ impl Core {
             (record { from = Origin.Net; message = Message.Piece piece.now })) }
     {
         self.progress = self.progress.fed();
-        match self.end.feed(piece, out, screen) {
-            Ok(()) => Ok(()),
-            Err(fault) => Err(fault),
-        }
+        self.end.feed(piece, out, screen)?;
+        Ok(())
     }
 
     fn piece(

@@ -1,7 +1,7 @@
 //! What the core is told, and how far it was done.
 
 use tn_client::ClientFault;
-use tn_term::Message;
+use tn_messages::Message;
 
 /// Where a message comes from.
 #[derive(Clone, Copy, Debug, PartialEq, Eq)]

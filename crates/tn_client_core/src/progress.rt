@@ -3,7 +3,7 @@
 ghost use Rattle.std.specs.Prelude.{◌≡◌};
 ghost use Rattle.tn_client_core.specs.Counting as counting;
 
-use tn_term::{Ended, SessionFault};
+use tn_messages::{Ended, SessionFault};
 
 /// How far a client's session is.
 #[derive(Clone, Copy, Debug, PartialEq, Eq)]
@@ -62,13 +62,9 @@ impl Progress {
     pub(crate) fn faulted(self, fault: SessionFault) -> Progress
         ensures { result ≡ counting.after_fault fault self }
     {
-        if self.ended == Ended::HangUp {
-            Progress {
-                ended: Ended::Fault(fault),
-                ..self
-            }
-        } else {
-            self
+        Progress {
+            ended: self.ended.or(Ended::Fault(fault)),
+            ..self
         }
     }
 

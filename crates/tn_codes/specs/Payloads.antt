@@ -113,7 +113,11 @@ Fits ForwardYes = Unit {0}
 Fits ForwardNo = Unit {0}
 Fits (Slc triples) = Unit {0}
 
--- a list of at most 170 triples
+-- the most triples that one subnegotiation holds, whose parameters are 512 at most
+abbrev pub max_triples : ℕ
+max_triples = 170
+
+-- a list of no more of them
 abbrev pub IsShort : Payload → Type 0
 IsShort (Naws width height) = Unit {0}
 IsShort (Mode mask) = Unit {0}
@@ -121,7 +125,7 @@ IsShort (ForwardOn mask) = Unit {0}
 IsShort ForwardOff = Unit {0}
 IsShort ForwardYes = Unit {0}
 IsShort ForwardNo = Unit {0}
-IsShort (Slc triples) = length triples ≤ 170
+IsShort (Slc triples) = length triples ≤ max_triples
 
 -- a list that has triples
 abbrev pub TakesMemory : ℕ → List ℕ → Type 0

@@ -18,7 +18,7 @@ pub use masks::Mask;
 pub use payloads::{Payload, PayloadFault};
 pub use reading::read_payload;
 pub use triples::{Triple, Triples};
-pub use writing::{Few, few_parameters, triple_parameters, write_payload};
+pub use writing::{Few, few_parameters, trimmed_len, triple_parameters, write_payload};
 
 mod codes;
 pub mod laws;

@@ -1,12 +1,12 @@
 //! Writes the parameters of a subnegotiation.
 
-ghost use Rattle.std.specs.Prelude.{◌≡◌, ◌+◌, ◌≤◌, ◌<◌, ◌++◌, [], ◌∷◌, length, flat_map};
+ghost use Rattle.std.specs.Prelude.{◌≡◌, ◌+◌, ◌≤◌, ◌<◌, ◌++◌, [], ◌∷◌, length, take, flat_map};
 ghost use Rattle.std.specs.Prelude.{vec_len, vec_capacity, OnOk, OnErr, IfSome, IfNone};
 ghost use Rattle.tn_codes.specs.declared.codes.Verb.TheVariants.{DoIt};
 ghost use Rattle.tn_codes.specs.Codes.{verb_code};
 ghost use Rattle.tn_codes.specs.Masks as mask;
 ghost use Rattle.tn_codes.specs.Payloads.{Says, option_of, parameters_of, IsShort};
-ghost use Rattle.tn_codes.specs.Payloads.{forwardmask, slc, octets_of};
+ghost use Rattle.tn_codes.specs.Payloads.{forwardmask, slc, octets_of, max_triples};
 ghost use Rattle.tn_codes.specs.Counted.{listed, HasMany};
 
 use crate::codes::Verb;
@@ -72,11 +72,10 @@ pub fn triple_parameters(triple: Triple) -> [u8; 4]
     [SLC, triple.func, triple.flags, triple.value]
 }
 
-// The octets without the zeros at their end.
-fn trimmed(octets: &[u8; 32]) -> &[u8]
-    ensures octets { result.now ≡ mask.trimmed_octets octets.now }
-    ensures filled { octets.now ≡ mask.filled_octets result.now }
-    ensures len { length result.now ≤ 32 }
+/// How many octets of a mask there are without the zeros at their end.
+pub fn trimmed_len(octets: &[u8; 32]) -> usize
+    ensures octets { take result octets.now ≡ mask.trimmed_octets octets.now }
+    ensures within { result ≤ 32 }
 {
     let mut len = 0;
     for (i, octet) in octets.iter().enumerate() {
@@ -84,7 +83,16 @@ fn trimmed(octets: &[u8; 32]) -> &[u8]
             len = i + 1;
         }
     }
-    &octets[..len]
+    len
+}
+
+// The octets without the zeros at their end.
+fn trimmed(octets: &[u8; 32]) -> &[u8]
+    ensures octets { result.now ≡ mask.trimmed_octets octets.now }
+    ensures filled { octets.now ≡ mask.filled_octets result.now }
+    ensures len { length result.now ≤ 32 }
+{
+    &octets[..trimmed_len(octets)]
 }
 
 fn write_mask(octets: &[u8], out: &mut Vec<u8>) -> Result<(), AllocError>
@@ -105,7 +113,7 @@ fn write_mask(octets: &[u8], out: &mut Vec<u8>) -> Result<(), AllocError>
 }
 
 fn write_triples(triples: &[Triple], out: &mut Vec<u8>) -> Result<(), AllocError>
-    requires { length triples.now ≤ 170 }
+    requires { length triples.now ≤ max_triples }
     ensures ok { OnOk result
         (out.new.items ≡ out.old.items ++ slc ∷ flat_map octets_of triples.now) }
     ensures short { OnOk result (length (slc ∷ flat_map octets_of triples.now) ≤ 511) }

@@ -1,13 +1,13 @@
 -- The keys that a line has room for (MAX_CANON; XBD 11.1.6). The limit is how many bytes a line has at most,
 -- with its closing byte; the count is how many bytes the half line has.
 use Rattle.std.specs.Prelude.{ℕ, ◌+◌, ◌-◌, Bool, false, ◌==◌, List, [], ◌∷◌, if◌then◌else◌}
-use Rattle.tn_discipline.specs.Limits.{most_counted}
+use Rattle.tn_discipline.specs.Limits.{max_counted}
 use Rattle.tn_discipline.specs.declared.keys.Role.{Role}
 use Rattle.tn_discipline.specs.declared.keys.Role.TheVariants as role
 
 -- an ordinary byte that comes while the count is full is dropped
 abbrev pub is_dropped : ℕ → ℕ → Role → Bool
-is_dropped limit count (role.Ordinary byte) = count == most_counted limit
+is_dropped limit count (role.Ordinary byte) = count == max_counted limit
 is_dropped limit count _ = false
 
 -- the count after one more admitted key: KILL and the keys that close a line leave none

@@ -1,7 +1,7 @@
 -- The half line in two parts: what was handed on, and what is held.
 use Rattle.std.specs.Prelude.{◌≡◌, ℕ, ◌+◌, ◌-◌, ◌==◌, nat_lt, Bool, List, [], ◌∷◌, ◌++◌, length, if◌then◌else◌}
 use Rattle.tn_discipline.specs.Entries.{line_of}
-use Rattle.tn_discipline.specs.Limits.{most_counted}
+use Rattle.tn_discipline.specs.Limits.{max_counted}
 use Rattle.tn_discipline.specs.Steps.{front}
 use Rattle.tn_discipline.specs.declared.keys.Role.{Role}
 use Rattle.tn_discipline.specs.declared.keys.Role.TheVariants as role
@@ -25,7 +25,7 @@ abbrev pub line_length : HalfLine → ℕ
 line_length line = line.ahead + length line.held
 
 abbrev pub is_full : HalfLine → Bool
-is_full line = line_length line == most_counted line.limit
+is_full line = line_length line == max_counted line.limit
 
 abbrev pub has_held : HalfLine → Bool
 has_held line = nat_lt 0 (length line.held)

@@ -6,13 +6,13 @@ abbrev pub standard_limit : ℕ
 standard_limit = 255
 
 -- what none has more of here
-abbrev pub greatest_limit : ℕ
-greatest_limit = 4095
+abbrev pub max_limit : ℕ
+max_limit = 4095
 
 -- a line can have this limit
 abbrev pub is_limit : ℕ → Bool
-is_limit limit = nat_le standard_limit limit && nat_le limit greatest_limit
+is_limit limit = nat_le standard_limit limit && nat_le limit max_limit
 
 -- how many bytes a line counts at most before its closing byte
-abbrev pub most_counted : ℕ → ℕ
-most_counted limit = limit - 1
+abbrev pub max_counted : ℕ → ℕ
+max_counted limit = limit - 1

@@ -40,7 +40,10 @@ macro_rules! value_of {
 }
 
 macro_rules! put_value {
-    ($chars:expr, $wanted:expr, $value:expr, $($func:ident $name:ident [$($command:ident)?] = $standard:expr),*) => {
+    (
+        $chars:expr, $wanted:expr, $value:expr,
+        $($func:ident $name:ident [$($command:ident)?] = $standard:expr),*
+    ) => {
         match $wanted {
             $(Func::$func => $chars.$name = $value,)*
             _ => {},

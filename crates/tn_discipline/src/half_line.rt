@@ -1,6 +1,6 @@
 ghost use Rattle.std.specs.Prelude.{◌≡◌, ◌==◌, ◌<◌, ◌+◌, ◌-◌, [], ◌∷◌, ◌++◌, length, take, min, IfOk, OnOk, OnErr, vec_len, vec_capacity};
 ghost use Rattle.tn_discipline.specs.Keys.{roles_of, role_of_key, literal_role, roles_from};
-ghost use Rattle.tn_discipline.specs.Limits.{most_counted};
+ghost use Rattle.tn_discipline.specs.Limits.{max_counted};
 ghost use Rattle.tn_discipline.specs.Runs.{line_after_all, ordinary_roles};
 ghost use Rattle.tn_discipline.specs.Entries.{line_of};
 ghost use Rattle.tn_discipline.specs.HalfLine.{empty_line, line_length, line_released, line_resumed, effect_of, line_after, line_kept, line_erased, effect_entries, GivesText};
@@ -157,7 +157,7 @@ impl Line {
         ensures advances { Advances self.old (ordinary_roles bytes.now) [] self.new }
         ensures each { self.new ≡ line_after_all self.old (ordinary_roles bytes.now) }
 
-        ensures count { let room = most_counted self.old.limit - line_length self.old in
+        ensures count { let room = max_counted self.old.limit - line_length self.old in
             result ≡ min room (length bytes.now) }
         ensures within { line_length self.old < self.old.limit }
         ensures line { self.new ≡ record self.old { held = self.old.held ++ take result bytes.now } }
@@ -266,8 +266,8 @@ impl Line {
         ensures effect { result ≡ effect_of self.old (role.Ordinary byte) }
         ensures line { self.new ≡ line_kept self.old byte }
     {
-        let most_counted = usize::from(self.limit.bytes()) - 1;
-        if self.ahead as usize + self.held.len() == most_counted {
+        let max_counted = usize::from(self.limit.bytes()) - 1;
+        if self.ahead as usize + self.held.len() == max_counted {
             return Effect::Dropped;
         }
         self.held.push_reserved(byte);
@@ -276,13 +276,13 @@ impl Line {
 
     // As many of the bytes as fit.
     fn keep_front(&mut self, bytes: &[u8]) -> usize
-        ensures count { let room = most_counted self.old.limit - line_length self.old in
+        ensures count { let room = max_counted self.old.limit - line_length self.old in
             result ≡ min room (length bytes.now) }
         ensures within { line_length self.old < self.old.limit }
         ensures line { self.new ≡ record self.old { held = self.old.held ++ take result bytes.now } }
     {
-        let most_counted = usize::from(self.limit.bytes()) - 1;
-        let room = most_counted - (self.ahead as usize + self.held.len());
+        let max_counted = usize::from(self.limit.bytes()) - 1;
+        let room = max_counted - (self.ahead as usize + self.held.len());
         let count = room.min(bytes.len());
         let _room = self.held.extend_from_slice(&bytes[..count]);
         count

@@ -5,7 +5,7 @@ ghost use Rattle.tn_codes.specs.declared.codes.Func.{Func};
 ghost use Rattle.tn_discipline.specs.Characters.{Characters, AreAllowed, slot, with_slot, char_fault};
 ghost use Rattle.tn_discipline.specs.Keys.{roles_of, role_of_key, roles_from, literal_role};
 ghost use Rattle.tn_discipline.specs.Admitted.{count_of};
-ghost use Rattle.tn_discipline.specs.Limits.{most_counted};
+ghost use Rattle.tn_discipline.specs.Limits.{max_counted};
 ghost use Rattle.tn_discipline.specs.Entries.{half_of, entries_of};
 ghost use Rattle.tn_discipline.specs.Steps.{half_next, gain_next, half_all, gain_all};
 ghost use Rattle.tn_discipline.specs.HalfLine.{HalfLine, line_length, effect_of, line_after, effect_entries};
@@ -39,7 +39,7 @@ pub fn roles_of_more_keys()
 pub fn count_is_length()
     ensures count { (limit : ℕ) (history : List Role) →
         count_of limit history ≡ length (half_of limit history) }
-    ensures fits { (limit : ℕ) (history : List Role) → length (half_of limit history) ≤ most_counted limit }
+    ensures fits { (limit : ℕ) (history : List Role) → length (half_of limit history) ≤ max_counted limit }
 {}
 
 /// One more role: what it leaves and what it gives depend on the half line alone.

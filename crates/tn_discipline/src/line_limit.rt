@@ -6,7 +6,7 @@ use std::marker::Model;
 /// The limit of a new terminal, and the least that a terminal may have.
 const STANDARD_BYTES: u16 = 255;
 
-const GREATEST_BYTES: u16 = 4095;
+const MAX_BYTES: u16 = 4095;
 
 /// How many bytes a line of a terminal has at most, with its closing byte: MAX_CANON of
 /// POSIX.1-2017, XBD 11.1.6, from 255 to 4,095.
@@ -33,7 +33,7 @@ impl Limit {
     pub fn new(bytes: u16) -> Option<Limit>
         ensures { result ≡ (if is_limit bytes then Some bytes else None) }
     {
-        if (STANDARD_BYTES..=GREATEST_BYTES).contains(&bytes) {
+        if (STANDARD_BYTES..=MAX_BYTES).contains(&bytes) {
             Some(Limit { bytes })
         } else {
             None

@@ -1,7 +1,7 @@
 //! An echo service without threads: reads what one client sends from standard input, and writes what the
 //! server answers to standard output. Each line that the client types comes back.
 //!
-//! `socat TCP-LISTEN:2323,reuseaddr,fork EXEC:./tn_example_echo` makes a service of it.
+//! `socat TCP-LISTEN:2323,reuseaddr,fork EXEC:./tn_example_echo` makes it a network service.
 #![tactic(auto)]
 
 ghost use Rattle.std.specs.Prelude.{OnOk};
@@ -14,10 +14,10 @@ use tn_discipline::{Entry, Limit, Settings};
 use tn_server::{ServerEnd, ServerFault};
 
 /// How many entries may wait at one terminal.
-const MOST_WAITING: usize = 1_024;
+const MAX_WAITING: usize = 1_024;
 
 /// More symbols than a terminal's screen holds.
-const MOST_SYMBOLS: usize = 65_536;
+const MAX_SYMBOLS: usize = 65_536;
 
 fn main(rt: HostRuntime) -> io::Result<()> {
     serve(rt.alloc(), &mut rt.stdin(), &mut rt.stdout())
@@ -45,12 +45,12 @@ fn serve<R: Read, W: Write>(alloc: Global, reader: &mut R, writer: &mut W) -> io
     Ok(())
 }
 
-// Takes a piece of what the client sends, and answers what waits then.
+// Feeds a piece of what the client sends, and answers the entries that wait then.
 fn answer(end: &mut ServerEnd, piece: &[u8], out: &mut Vec<u8>) -> Result<(), ServerFault>
     ensures { OnOk result (SaysMore end.old out.old.items out.new.items end.new) }
 {
     end.feed(piece, out)?;
-    for _ in 0..MOST_WAITING {
+    for _ in 0..MAX_WAITING {
         if !answer_next(end, out)? {
             return Ok(());
         }
@@ -58,7 +58,7 @@ fn answer(end: &mut ServerEnd, piece: &[u8], out: &mut Vec<u8>) -> Result<(), Se
     Ok(())
 }
 
-// Answers the first entry that waits: a line comes back. False where none waits.
+// Answers the first waiting entry: a line comes back. Returns false where none waits.
 fn answer_next(end: &mut ServerEnd, out: &mut Vec<u8>) -> Result<bool, ServerFault>
     ensures says { OnOk result (SaysMore end.old out.old.items out.new.items end.new) }
     ensures echoes { OnOk result (Echoes end.old end.new) }
@@ -66,7 +66,7 @@ fn answer_next(end: &mut ServerEnd, out: &mut Vec<u8>) -> Result<bool, ServerFau
     match end.take(out)? {
         Some(Entry::Text(line)) => {
             end.write(line.as_slice());
-            end.pull(MOST_SYMBOLS, out)?;
+            end.pull(MAX_SYMBOLS, out)?;
             Ok(true)
         },
         Some(_) => Ok(true),

@@ -1,6 +1,6 @@
-//! A job of one's own behind a server's session: it counts the lines that the user types, and answers each
-//! entry by how many there were. The session reads what a client sends from standard input, and what the
-//! server sends is written to standard output once the session has ended.
+//! A custom job behind a server's session: it counts the lines that the user types, and answers each entry
+//! with the count so far. The session reads what a client sends from standard input, and what the server
+//! sends is written to standard output once the session has ended.
 #![tactic(auto)]
 
 ghost use Rattle.std.specs.Prelude.{◌≡◌, IfOk};
@@ -13,7 +13,7 @@ use std::sync::Arc;
 use tn_discipline::{Entry, Limit, Settings, Text};
 use tn_jobs::{After, Job, Reaction};
 use tn_server::Editing;
-use tn_session::{Gate, Maker, Place, serve_session};
+use tn_session::{Maker, Unwatched, serve_session};
 
 fn main(rt: HostRuntime) -> io::Result<()> {
     let alloc = rt.alloc();
@@ -69,7 +69,7 @@ fn tell(alloc: Global, lines: u64, after: After) -> Result<Reaction, AllocError>
     Ok(Reaction { text, after })
 }
 
-// Makes one job, unless it was made already.
+// Makes the job, unless it was made already.
 #[derive(Drop)]
 struct OneJob(bool);
 
@@ -81,11 +81,4 @@ impl Maker for OneJob {
         self.0 = true;
         Ok(job)
     }
-}
-
-#[derive(Drop)]
-struct Unwatched;
-
-impl Gate for Unwatched {
-    fn at(&self, _place: Place) {}
 }

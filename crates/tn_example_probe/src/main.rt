@@ -1,4 +1,4 @@
-//! A probe: reads what a peer sends from standard input, and prints what it asks for, a line for each.
+//! A probe: reads what a peer sends from standard input, and prints each thing that it asks for on a line.
 //!
 //! `timeout 2 nc 127.0.0.1 23 </dev/null | ./tn_example_probe` shows the opening words of a server.
 #![tactic(auto)]
@@ -27,7 +27,7 @@ fn main(rt: HostRuntime) -> io::Result<()> {
     Ok(())
 }
 
-// The items of the stream's one reading.
+// The items that the stream is read as.
 fn items_of_stream(alloc: Global, stream: &[u8]) -> Result<Vec<Item>, NvtFault>
     ensures { IfOk result (λ items. (rest : List ℕ) × Reading stream.now items.items rest) }
 {

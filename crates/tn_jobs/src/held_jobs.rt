@@ -13,7 +13,7 @@ use std::marker::Model;
 use thiserror::Error;
 
 /// A table never holds more jobs than this.
-pub const MOST_JOBS: usize = 16;
+pub const MAX_JOBS: usize = 16;
 
 /// The number of a held job, of 0 to 15. It may be given to another job once this one is done.
 #[derive(Clone, Copy, Debug, PartialEq, Eq)]
@@ -79,7 +79,7 @@ impl Table {
             return Ok(JobId(id));
         }
         let id = self.jobs.len();
-        if id >= MOST_JOBS {
+        if id >= MAX_JOBS {
             return Err(JobFault::Full);
         }
         match self.jobs.push(Some(JobState::Background)) {

@@ -11,7 +11,7 @@
 //! It runs no job and sends no signal.
 #![tactic(auto)]
 
-pub use held_jobs::{JobFault, JobId, MOST_JOBS, Table};
+pub use held_jobs::{JobFault, JobId, MAX_JOBS, Table};
 pub use reactions::{Job, Reaction};
 pub use verdicts::{After, JobState, Verdict, Why, judge};
 

@@ -14,7 +14,7 @@ use Rattle.tn_option.specs.QMethod.{cell}
 use Rattle.tn_server.specs.declared.wishes.Editing.{Editing}
 use Rattle.tn_term.specs.Run as term_run
 use Rattle.tn_streams.specs.Prefixes.{IsPrefixOf}
-use Rattle.tn_wire.specs.Fronts.{IsRead}
+use Rattle.tn_wire.specs.Prefixes.{IsRead}
 
 -- what the server's terminal hears
 abbrev bytes : List ℕ

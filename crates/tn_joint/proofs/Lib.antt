@@ -1,4 +1,4 @@
-pub mod Fronts
+pub mod Prefixes
 pub mod Hearing
 pub mod ServerTurns
 pub mod ClientTurns

@@ -13,13 +13,13 @@ use Rattle.tn_discipline.specs.Keys.{roles_of}
 use Rattle.tn_discipline.specs.Steps.{gain_all}
 use Rattle.tn_discipline.specs.declared.keys.Role.{Role}
 use Rattle.tn_discipline.specs.declared.reads.Entry.{Entry}
-use Rattle.tn_jobs.specs.declared.reactions.Reaction.{Reaction}
 use Rattle.tn_joint.proofs.Closing.{keys_sent}
 use Rattle.tn_joint.proofs.Whole.{goes_on_to_end, all_brought}
 use Rattle.tn_joint.specs.Joint.{Both, LawOfRuns, client_said}
 use Rattle.tn_joint.specs.Sessions.{Two, AreJoined, HasHangUp, RanToTheEnd, HeadlineOfTwo, WhatYouType, entries_taken}
 use Rattle.tn_server.specs.Lines.{entries}
 use Rattle.tn_session.specs.CoreTurns.{all_told}
+use Rattle.tn_session.specs.Facts.{JobFacts}
 use Rattle.tn_session.specs.Mailbox.{sender, mail}
 use Rattle.tn_session.specs.Reading.{pieces_of}
 use Rattle.tn_session.specs.declared.channels.View.{View}
@@ -27,7 +27,7 @@ use Rattle.tn_session.specs.declared.mail.Mail.{Mail}
 use Rattle.tn_session.specs.declared.mail.Sender.TheVariants as who
 use Rattle.tn_session.specs.declared.parties.Report.{Report}
 use Rattle.tn_term.specs.Giving.{entries_put}
-use Rattle.tn_term.specs.declared.faults.Ended.TheVariants.{HangUp}
+use Rattle.tn_messages.specs.declared.faults.Ended.TheVariants.{HangUp}
 use Rattle.tn_streams.specs.Prefixes.{IsPrefixOf}
 
 -- a prefix of a prefix is one
@@ -57,7 +57,7 @@ one_list a b e = is_some a b (ap (λ (v : View). v.keys) e)
     is_some x y eq = cc
 
 -- THE TWO SESSIONS
-module _ {J : Type 0} (fresh : J → Type 0) (reacts : J → Entry → Reaction → J → Type 0) (steps : J → Reaction → J → Type 0) (law : LawOfRuns) (canon : Canon) (both : Two fresh reacts steps canon) (standard : canon.settings.chars ≡ standard_characters) (carried : AreJoined both) where
+module _ {J : Type 0} (facts : JobFacts J) (law : LawOfRuns) (canon : Canon) (both : Two facts canon) (standard : canon.settings.chars ≡ standard_characters) (carried : AreJoined both) where
   record Parts : Type 0 where
     pub taken_first : IsPrefixOf (entries_put both.server.ran.schedule.taken) (typed_entries canon (keys both.client.ran.run.history))
     pub taken_all : both.server_report.ended ≡ HangUp → both.server.ran.schedule.run.stream ≡ client_said (record { server = both.server.ran.schedule.run; client = both.client.ran.run }) → entries_put both.server.ran.schedule.taken ≡ typed_entries canon (keys both.client.ran.run.history)
@@ -94,8 +94,8 @@ module _ {J : Type 0} (fresh : J → Type 0) (reacts : J → Entry → Reaction 
   two_all ran =
       parts.taken_all ran.server ran.heard ∙ ap (λ (ks : List ℕ). typed_entries canon ks) (parts.typed_all ran.client ran.keys)
 
-pub headline_of_two : {J : Type 0} (fresh : J → Type 0) (reacts : J → Entry → Reaction → J → Type 0) (steps : J → Reaction → J → Type 0) → LawOfRuns → HeadlineOfTwo fresh reacts steps
-headline_of_two fresh reacts steps law canon both standard carried = two_prefix fresh reacts steps law canon both standard carried
+pub headline_of_two : {J : Type 0} (facts : JobFacts J) → LawOfRuns → HeadlineOfTwo facts
+headline_of_two facts law canon both standard carried = two_prefix facts law canon both standard carried
 
-pub what_you_type : {J : Type 0} (fresh : J → Type 0) (reacts : J → Entry → Reaction → J → Type 0) (steps : J → Reaction → J → Type 0) → LawOfRuns → WhatYouType fresh reacts steps
-what_you_type fresh reacts steps law canon both standard carried ran = two_all fresh reacts steps law canon both standard carried ran
+pub what_you_type : {J : Type 0} (facts : JobFacts J) → LawOfRuns → WhatYouType facts
+what_you_type facts law canon both standard carried ran = two_all facts law canon both standard carried ran

@@ -13,7 +13,7 @@ use Rattle.tn_discipline.specs.Canon.{Canon, typed_entries}
 use Rattle.tn_discipline.specs.Characters.{standard_characters}
 use Rattle.tn_jobs.specs.Jobs.{Jobs}
 use Rattle.tn_joint.proofs.ClientTurns.{ClientAt, client_turns}
-use Rattle.tn_joint.proofs.Fronts.{server-append, client-append}
+use Rattle.tn_joint.proofs.Prefixes.{server-append, client-append}
 use Rattle.tn_joint.proofs.Hearing.{heard_first, heard_all}
 use Rattle.tn_joint.proofs.ServerTurns.{server_turns}
 use Rattle.tn_joint.specs.Joint.{Step, served, told, server_steps, client_steps, Both, began, Runs, IsInTime, IsCarried, LinesAreLocal}
@@ -27,7 +27,7 @@ use Rattle.tn_term.proofs.lemmas.Hearing.{hears}
 use Rattle.tn_term.specs.Marks as term
 use Rattle.tn_term.specs.Run as term_run
 use Rattle.tn_term.specs.declared.messages.Mark as term_mark
-use Rattle.tn_term.specs.declared.messages.Message.{Message}
+use Rattle.tn_messages.specs.declared.messages.Message.{Message}
 use Rattle.tn_streams.specs.Prefixes.{IsPrefixOf}
 
 -- WHAT IS NEEDED OF TWO HISTORIES: these hold of the opening, each event of a terminal or a core keeps them, an

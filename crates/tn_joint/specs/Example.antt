@@ -20,8 +20,8 @@ use Rattle.tn_term.specs.Marks as term
 use Rattle.tn_term.specs.Run as term_run
 use Rattle.tn_term.specs.declared.messages.Mark as term_mark
 use Rattle.tn_term.specs.declared.messages.Mark.TheVariants as term_is
-use Rattle.tn_term.specs.declared.messages.Message.{Message}
-use Rattle.tn_term.specs.declared.messages.Message.TheVariants.{Piece}
+use Rattle.tn_messages.specs.declared.messages.Message.{Message}
+use Rattle.tn_messages.specs.declared.messages.Message.TheVariants.{Piece}
 
 -- a new terminal
 abbrev pub canon : Canon

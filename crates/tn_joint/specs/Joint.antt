@@ -17,7 +17,7 @@ use Rattle.tn_server.specs.declared.wishes.Editing.{Editing}
 use Rattle.tn_term.specs.Marks as term
 use Rattle.tn_term.specs.Run as term_run
 use Rattle.tn_term.specs.declared.messages.Mark as term_mark
-use Rattle.tn_term.specs.declared.messages.Message.{Message}
+use Rattle.tn_messages.specs.declared.messages.Message.{Message}
 use Rattle.tn_streams.specs.Prefixes.{IsPrefixOf}
 
 -- A STEP of two sessions: the terminal of the server's handled a message, or the core of the client's did;
@@ -102,7 +102,7 @@ LawOfRuns =
     → LinesAreLocal canon last
 
 -- every prefix of what two runs handled has runs of its own: so no premise of `IsCarried` is empty
-abbrev pub LawOfFronts : Type 0
-LawOfFronts =
+abbrev pub LawOfPrefixes : Type 0
+LawOfPrefixes =
     (first last : Both) (done later : List Step) → Runs first (done ++ later) last
     → (now : Both) × Runs first done now × Runs now later last

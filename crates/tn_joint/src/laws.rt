@@ -3,15 +3,16 @@
 ghost use Rattle.std.specs.Prelude.{ℕ};
 ghost use Rattle.tn_jobs.specs.Jobs.{Jobs};
 ghost use Rattle.tn_joint.specs.Example.{CarriesALine};
-ghost use Rattle.tn_joint.specs.Joint.{LawOfRuns, LawOfFronts};
+ghost use Rattle.tn_joint.specs.Joint.{LawOfRuns, LawOfPrefixes};
 ghost use Rattle.tn_joint.specs.Sessions.{HeadlineOfTwo, WhatYouType};
+ghost use Rattle.tn_session.specs.Facts.{job_facts};
 ghost use Rattle.tn_server.specs.declared.wishes.Editing.{Editing};
 
 use tn_session::Maker;
 
 /// Each prefix of what two runs handled leads somewhere, and the rest leads on from there.
-pub fn fronts_lead_on()
-    ensures { LawOfFronts }
+pub fn prefixes_lead_on()
+    ensures { LawOfPrefixes }
 {}
 
 /// The premises can be met: a line that is typed at one end is carried to the other, and is an entry there.
@@ -27,12 +28,12 @@ pub fn lines_are_local()
 /// What the foreground job of a session takes is a prefix of the entries that the keys of the other session's
 /// user give at a local terminal.
 pub fn headline_of_two<M: Maker>()
-    ensures { HeadlineOfTwo M.Job.fresh M.Job.reacts M.Job.steps }
+    ensures { HeadlineOfTwo (job_facts M.Job.fresh M.Job.reacts M.Job.steps) }
 {}
 
 /// What you type is what the job reads: where the special characters are the standard ones and both lines
 /// have one limit, where the socket carries what each end says, in order, and where both sessions run to the
 /// end.
 pub fn what_you_type_is_what_the_job_reads<M: Maker>()
-    ensures { WhatYouType M.Job.fresh M.Job.reacts M.Job.steps }
+    ensures { WhatYouType (job_facts M.Job.fresh M.Job.reacts M.Job.steps) }
 {}

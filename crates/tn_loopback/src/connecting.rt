@@ -1,27 +1,29 @@
-//! `tn connect`: a session of a client over a connection.
+//! `tn connect`: a client's session over a connection.
 
 ghost use Rattle.std.specs.Prelude.{◌≡◌, ◌≢◌, Ok, Err, IfOk, IfErr, OnErr};
 ghost use Rattle.tn_loopback.specs.Ends.{EndsWhole, RunsClient};
 
 use crate::connection::Connection;
 use crate::fault::LoopbackFault;
+use crate::finished::ends_whole;
 use crate::host::Host;
 use crate::keys::{Incoming, Keys};
-use crate::serving::{Unwatched, ends_whole};
+use crate::outgoing::queue_for;
+use crate::settings::Connecting;
 use std::alloc::Global;
 use std::io::{Read, Write};
 use std::net::{Ipv4Addr, Net, TcpListener, TcpStream};
 use std::sync::Arc;
 use std::sync::atomic::AtomicBool;
-use tn_session::{ClientPorts, Report, SessionFault, client_session};
-use tn_words::Connecting;
+use std::thread;
+use tn_session::{ClientPorts, Finish, Report, SessionFault, Unwatched, client_session};
 
-/// Connects to a port of this machine, and runs a client's session over the connection, with these
-/// keys and this screen, until the server has closed. A session that ends in no fault gives its report, and
-/// the passes in which contracts see what was sent and handled.
+/// Connects to a port on this machine, and runs a client's session over the connection, with these keys
+/// and this screen, until the server has closed. A session that ends without a fault gives its report, and
+/// the ports in which contracts see what was sent and handled.
 ///
-/// Where the environment has `TN_TERMINAL`, a read of the keys that gives none means only that none was
-/// typed yet, as at a terminal whose reads wait for a time, until the server has closed.
+/// Where `TN_TERMINAL` is set in the environment, a read that gives no key means only that none was typed
+/// yet, as at a terminal whose reads time out, until the server has closed.
 pub fn connect<
     H: Host + Net<Listener = TcpListener, Stream = TcpStream>,
     K: Read + Drop + Send + 'static,
@@ -41,22 +43,19 @@ pub fn connect<
     ensures no_limit { result ≢ Err LoopbackFault.Limit }
 {
     let stream = TcpStream::connect(&rt, (Ipv4Addr::LOCALHOST, connecting.port))?;
-    let (reader, mut writer) = Connection::split(stream)?;
-    let Ok(gate) = Arc::new(alloc, Unwatched) else {
-        return Err(LoopbackFault::Memory);
-    };
-    let Ok(closed) = Arc::new(alloc, AtomicBool::new(false)) else {
-        return Err(LoopbackFault::Memory);
-    };
-    let Ok(seen) = Arc::try_clone(&closed) else {
-        return Err(LoopbackFault::Memory);
-    };
-    let keys = Keys::new(&rt, keys, seen);
+    let (reader, writer) = Connection::split(stream)?;
+    let gate = Arc::new(alloc, Unwatched)?;
+    let closed = Arc::new(alloc, AtomicBool::new(false))?;
+    let (mut outgoing, sending, throttle) = queue_for(rt, alloc, writer)?;
+    let keys = Keys::new(&rt, keys, Arc::try_clone(&closed)?, throttle);
     let reader = Incoming::new(reader, closed);
+    let Ok(sending) = thread::spawn(&rt, move || -> bool { sending.run() }) else {
+        return Err(LoopbackFault::Memory);
+    };
     let Connecting {
         width,
         height,
-        line,
+        line_limit,
         ..
     } = connecting;
     let ended = client_session(
@@ -64,17 +63,23 @@ pub fn connect<
         alloc,
         reader,
         keys,
-        &mut writer,
+        &mut outgoing,
         screen,
         width,
         height,
-        line,
+        line_limit,
         gate,
     );
-    if_whole(ended)
+    outgoing.finish();
+    let all_sent = sending.join(&rt);
+    let ended = if_whole(ended)?;
+    if !all_sent {
+        return Err(LoopbackFault::Session);
+    }
+    Ok(ended)
 }
 
-// What a session gave that ended in no fault.
+// The result of a session that ended without a fault.
 fn if_whole<P: Drop>(ended: Result<(Report, P), SessionFault>) -> Result<(Report, P), LoopbackFault>
     ensures ran { IfOk result (λ r. ended ≡ Ok r) }
     ensures whole { IfOk result (λ r. EndsWhole r.0) }

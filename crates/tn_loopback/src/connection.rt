@@ -1,25 +1,68 @@
 //! One end of a connection, as a session uses it.
 
+ghost use Rattle.libc.specs.Net.{SockOption};
+
+use crate::attended::Standing;
+use libc::net as c;
+use std::alloc::Global;
 use std::io;
 use std::io::Write;
 use std::net::{Shutdown, TcpStream};
+use std::os::fd::AsRawFd;
+use std::sync::Arc;
+use std::sync::atomic::Ordering;
 use tn_session::Finish;
 
-/// The writing side of a connection. To finish is to shut it down, so that the peer reads its end.
+/// After how many seconds without a byte the first keepalive probe is sent, how many seconds lie between two
+/// probes, and after how many unanswered ones the connection is broken.
+const KEEPALIVE_IDLE: u8 = 60;
+
+const KEEPALIVE_INTERVAL: u8 = 15;
+
+const KEEPALIVE_COUNT: u8 = 4;
+
+/// The writing side of a connection. Finishing it shuts it down, so that the peer reads its end.
 #[derive(Drop)]
 pub(crate) struct Connection {
     stream: TcpStream,
+    standing: Option<Arc<Standing, Global>>,
 }
 
 impl Connection {
     /// Both sides of a connection, the reading one first. What is written is sent at once: a session
-    /// writes its echo and its job's text apart, and the second would else wait for the answer to the
-    /// first.
+    /// writes its echo and its job's text separately, and the second would otherwise wait until the first
+    /// is acknowledged. TCP keepalive finds a peer whose machine is gone.
     pub(crate) fn split(stream: TcpStream) -> io::Result<(TcpStream, Connection)> {
         stream.set_nodelay(true)?;
+        keep_alive(&stream);
         let reader = stream.try_clone()?;
-        Ok((reader, Connection { stream }))
+        let standing = None;
+        Ok((reader, Connection { stream, standing }))
     }
+
+    /// The same, of which the reading side has to know when it is finished.
+    pub(crate) fn with_standing(self, standing: Arc<Standing, Global>) -> Connection {
+        let standing = Some(standing);
+        Connection { standing, ..self }
+    }
+}
+
+// Where the system refuses one of these, the connection goes on without it.
+fn keep_alive(stream: &TcpStream) {
+    set(stream, c::SOL_SOCKET, c::SO_KEEPALIVE, 1);
+    set(stream, c::IPPROTO_TCP, c::TCP_KEEPIDLE, KEEPALIVE_IDLE);
+    set(stream, c::IPPROTO_TCP, c::TCP_KEEPINTVL, KEEPALIVE_INTERVAL);
+    set(stream, c::IPPROTO_TCP, c::TCP_KEEPCNT, KEEPALIVE_COUNT);
+}
+
+// Sets an option of a socket, a C integer in this machine's order.
+fn set(stream: &TcpStream, level: i32, name: i32, value: u8)
+    requires { SockOption level name }
+{
+    let mut bytes = [0; 16];
+    bytes[0] = value;
+    // The descriptor is open as long as `stream` is lent, and the value holds no pointer.
+    let _ = unsafe { c::setsockopt(stream.as_raw_fd(), level, name, &bytes, 4) };
 }
 
 impl Write for Connection {
@@ -34,6 +77,9 @@ impl Write for Connection {
 
 impl Finish for Connection {
     fn finish(&mut self) {
+        if let Some(standing) = &self.standing {
+            standing.finished.store(true, Ordering::SeqCst);
+        }
         let _ = self.stream.shutdown(Shutdown::Write);
     }
 }

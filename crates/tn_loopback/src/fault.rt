@@ -1,13 +1,13 @@
-//! Why there was nothing to serve or to connect to.
+//! Why serving or connecting failed.
 
 ghost use Rattle.std.specs.Prelude.{◌≡◌};
 
-use std::alloc::AllocError;
+use std::alloc::{AllocError, AllocFailed};
 use std::io;
 use thiserror::Error;
 use tn_roster::RosterFault;
 
-/// Why there was nothing to serve or to connect to.
+/// Why serving or connecting failed.
 #[derive(Clone, Copy, Debug, PartialEq, Eq, Error)]
 pub enum LoopbackFault {
     /// The port could not be bound, a connection was not accepted, or none was made.
@@ -16,7 +16,7 @@ pub enum LoopbackFault {
     /// A session ended in a fault.
     #[error("session")]
     Session,
-    /// No roster has so many places.
+    /// A roster cannot have so many places.
     #[error("bad limit")]
     Limit,
     #[error("memory")]
@@ -29,6 +29,16 @@ impl From<AllocError> for LoopbackFault {
     ghost from_gives = { λ _ told. told ≡ fault.Memory };
 
     fn from(_error: AllocError) -> LoopbackFault {
+        LoopbackFault::Memory
+    }
+}
+
+impl<T: Drop> From<AllocFailed<T>> for LoopbackFault {
+    ghost use Rattle.tn_loopback.specs.declared.fault.LoopbackFault.TheVariants as fault;
+
+    ghost from_gives = { λ _ told. told ≡ fault.Memory };
+
+    fn from(_error: AllocFailed<T>) -> LoopbackFault {
         LoopbackFault::Memory
     }
 }

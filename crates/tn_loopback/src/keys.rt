@@ -2,17 +2,18 @@
 
 ghost use Rattle.std.specs.Prelude.{◌≡◌};
 
+use crate::outgoing::Throttle;
 use std::alloc::Global;
 use std::env::{Env, FillError};
 use std::io;
 use std::io::{ErrorKind, Read};
-use std::sync::Arc;
 use std::sync::atomic::{AtomicBool, Ordering};
+use std::sync::{Arc, Wait};
 
-/// The variable that says that the keys come from a terminal whose reads wait for a time only.
+/// The environment variable that says that the keys come from a terminal whose reads time out.
 const TERMINAL: &str = "TN_TERMINAL";
 
-/// What the peer sends. Its end is marked, for the keys.
+/// What the peer sends. Its end is noted, so that the keys can end too.
 #[derive(Drop)]
 pub(crate) struct Incoming<N> {
     reader: N,
@@ -39,17 +40,24 @@ impl<N: Read> Read for Incoming<N> {
     }
 }
 
-/// The user's keys. At a terminal whose reads wait for a time only, a read that gives none was
-/// interrupted, and is their end only once the peer has closed.
+/// The user's keys, which are read only while few of those before them wait to be sent. At a terminal whose
+/// reads time out, a read that gives no key counts as interrupted, and as the end of the keys only once the
+/// peer has closed.
 #[derive(Drop)]
-pub(crate) struct Keys<K> {
+pub(crate) struct Keys<H, K> {
     keys: K,
     waits_for_a_time: bool,
     closed: Arc<AtomicBool, Global>,
+    throttle: Throttle<H>,
 }
 
-impl<K> Keys<K> {
-    pub(crate) fn new<H: Env>(rt: &H, keys: K, closed: Arc<AtomicBool, Global>) -> Keys<K>
+impl<H, K> Keys<H, K> {
+    pub(crate) fn new<R: Env>(
+        rt: &R,
+        keys: K,
+        closed: Arc<AtomicBool, Global>,
+        throttle: Throttle<H>,
+    ) -> Keys<H, K>
         ensures { result.keys ≡ keys }
     {
         let mut value = [0; 1];
@@ -58,14 +66,16 @@ impl<K> Keys<K> {
             keys,
             waits_for_a_time,
             closed,
+            throttle,
         }
     }
 }
 
-impl<K: Read> Read for Keys<K> {
+impl<H: Wait, K: Read> Read for Keys<H, K> {
     ghost remaining = { λ k. K.remaining k.keys };
 
     fn read(&mut self, buf: &mut [u8]) -> io::Result<usize> {
+        self.throttle.wait();
         let count = self.keys.read(buf)?;
         if count == 0 && self.waits_for_a_time && !self.closed.load(Ordering::SeqCst) {
             return Err(io::Error::from(ErrorKind::Interrupted));

@@ -1,26 +1,37 @@
-//! Sessions over connections of this machine: what `tn serve` and `tn connect` do.
+//! Sessions over connections, in threads of their own: a server that gives each session the
+//! jobs that a `Service` makes, and a client.
 //!
 //! ```
-//! serve(rt, alloc, Serving { port: 2323, .. }, &mut errors)?;
+//! serve(rt, alloc, Serving { port: 2323, .. }, service, &mut errors)?;
 //! ```
 //!
-//! Nothing is proved of what a connection carries: the sessions on it are proved over whatever their
-//! readers give, and this crate only starts and joins them. It asks for no password, hides nothing from
-//! the network, and listens on 127.0.0.1 alone.
+//! Nothing is proved about what a connection carries: the sessions are proved for whatever their readers
+//! give, and this crate only starts and joins them. It asks for no password and encrypts nothing.
 #![tactic(auto)]
 
 pub use connecting::connect;
 pub use fault::LoopbackFault;
 pub use host::Host;
 pub use served::Served;
-pub use serving::{serve, serve_connection, serve_on};
+pub use service::Service;
+pub use serving::{serve, serve_on};
+pub use session::serve_connection;
+pub use settings::{Connecting, Serving, SessionOptions};
 
+mod acceptor;
+mod attended;
 mod connecting;
 mod connection;
+mod events;
 mod fault;
+mod finished;
 mod host;
-mod jobs;
 mod keys;
+mod notes;
+mod outgoing;
 mod running;
 mod served;
+mod service;
 mod serving;
+mod session;
+mod settings;

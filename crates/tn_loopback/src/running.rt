@@ -1,21 +1,22 @@
-//! The sessions that were started and not yet joined, and how those before them ended.
+//! The sessions that are started and not yet joined, and how the earlier ones ended.
 
 ghost use Rattle.std.specs.Prelude.{◌≡◌, ◌<◌, ◌+◌, ◌-◌, ◌^◌, true, IfSome, vec_len, vec_capacity};
 
 use crate::fault::LoopbackFault;
+use crate::finished::Finished;
 use crate::served::Served;
 use std::alloc::Global;
 use std::io::Write;
 use std::thread::{JoinHandle, Threads};
 
-// A session that was started, by its number. It answers whether it ended in no fault.
+// A started session, and its number. Its thread returns how it ended.
 #[derive(Drop)]
 pub(crate) struct Started {
     number: usize,
-    session: JoinHandle<bool>,
+    session: JoinHandle<Finished>,
 }
 
-/// The sessions that were started and not yet joined, and how many of the connections before them ended how.
+/// The sessions that are started and not yet joined, and counts of how the other connections ended.
 #[derive(Drop)]
 pub(crate) struct Running {
     pub(crate) started: Vec<Started>,
@@ -39,25 +40,14 @@ impl Running {
         }
     }
 
-    /// Joins the session that had this number before, if there was one, and tells where it ended in a
-    /// fault. False where there is no memory for one more.
-    pub(crate) fn make_way<R: Threads, E: Write>(
-        &mut self,
-        rt: &R,
-        number: usize,
-        errors: &mut E,
-    ) -> bool
-        ensures accepted { self.new.accepted ≡ self.old.accepted }
-        ensures room { result ≡ true → vec_len self.new.started < vec_capacity self.new.started }
+    pub(crate) fn is_empty(&self) -> bool
+        ensures { result ≡ true → vec_len self.now.started ≡ 0 }
     {
-        if let Some(place) = self.place_of(number) {
-            let whole = self.join_at(rt, place);
-            tell_if_faulted(whole, errors);
-        }
-        self.has_room()
+        self.started.is_empty()
     }
 
-    fn has_room(&mut self) -> bool
+    /// Whether there is room for one more session. False when out of memory.
+    pub(crate) fn has_room(&mut self) -> bool
         ensures accepted { self.new.accepted ≡ self.old.accepted }
         ensures room { result ≡ true → vec_len self.new.started < vec_capacity self.new.started }
     {
@@ -75,24 +65,31 @@ impl Running {
         None
     }
 
-    // Joins a session, and counts how it ended.
-    fn join_at<R: Threads>(&mut self, rt: &R, place: usize) -> bool
+    /// Joins the session with this number, if there is one, and counts and returns how it ended.
+    pub(crate) fn join<R: Threads>(&mut self, rt: &R, number: usize) -> Option<Finished>
+        ensures { self.new.accepted ≡ self.old.accepted }
+    {
+        let place = self.place_of(number)?;
+        Some(self.join_at(rt, place))
+    }
+
+    fn join_at<R: Threads>(&mut self, rt: &R, place: usize) -> Finished
         requires { place < vec_len self.old.started }
         ensures accepted { self.new.accepted ≡ self.old.accepted }
         ensures joined { vec_len self.new.started + 1 ≡ vec_len self.old.started }
     {
         let Started { session, .. } = self.started.swap_remove(place);
-        let whole = session.join(rt);
-        if whole {
+        let finished = session.join(rt);
+        if finished.is_whole() {
             self.whole += 1;
         } else {
             self.faulted += 1;
         }
-        whole
+        finished
     }
 
-    /// A connection was accepted, and its session was started.
-    pub(crate) fn keep(&mut self, number: usize, session: JoinHandle<bool>)
+    /// Counts an accepted connection, and keeps its session, which was started.
+    pub(crate) fn keep(&mut self, number: usize, session: JoinHandle<Finished>)
         requires room { vec_len self.old.started < vec_capacity self.old.started }
         requires more { self.old.accepted < 2 ^ 32 - 1 }
         ensures { self.new.accepted ≡ self.old.accepted + 1 }
@@ -101,7 +98,7 @@ impl Running {
         self.accepted += 1;
     }
 
-    /// A connection was accepted, and its session could not be started.
+    /// Counts an accepted connection whose session could not be started.
     pub(crate) fn fail(&mut self)
         requires { self.old.accepted < 2 ^ 32 - 1 }
         ensures { self.new.accepted ≡ self.old.accepted + 1 }
@@ -110,7 +107,7 @@ impl Running {
         self.accepted += 1;
     }
 
-    /// A connection was accepted, and got no session.
+    /// Counts an accepted connection that got no session.
     pub(crate) fn refuse(&mut self)
         requires { self.old.accepted < 2 ^ 32 - 1 }
         ensures { self.new.accepted ≡ self.old.accepted + 1 }
@@ -119,13 +116,13 @@ impl Running {
         self.accepted += 1;
     }
 
-    /// Joins all sessions, and tells of each that ended in a fault.
+    /// Joins all sessions, and reports each that ended in a fault.
     pub(crate) fn join_all<R: Threads, E: Write>(mut self, rt: &R, errors: &mut E) -> Served
         ensures { result.accepted ≡ self.accepted }
     {
         while !self.started.is_empty() {
-            let whole = self.join_at(rt, 0);
-            tell_if_faulted(whole, errors);
+            let finished = self.join_at(rt, 0);
+            tell_if_faulted(&finished, errors);
         }
         Served {
             accepted: self.accepted,
@@ -136,13 +133,14 @@ impl Running {
     }
 }
 
-fn tell_if_faulted<E: Write>(whole: bool, errors: &mut E) {
-    if !whole {
+/// Reports a session that ended in a fault.
+pub(crate) fn tell_if_faulted<E: Write>(finished: &Finished, errors: &mut E) {
+    if !finished.is_whole() {
         tell_fault(errors);
     }
 }
 
-/// Tells that a session ended in a fault.
+/// Reports that a session ended in a fault.
 pub(crate) fn tell_fault<E: Write>(errors: &mut E) {
     let _ = writeln!(errors, "tn: {}", LoopbackFault::Session);
 }

@@ -2,7 +2,7 @@
 
 ghost use Rattle.std.specs.Prelude.{◌≡◌, ◌+◌};
 
-/// What became of the connections that were accepted. Only serving makes one.
+/// What became of the accepted connections. Only serving makes such a value.
 #[derive(Clone, Copy, Debug, PartialEq, Eq)]
 pub struct Served {
     pub(crate) accepted: u32,
@@ -13,14 +13,14 @@ pub struct Served {
 }
 
 impl Served {
-    /// How many connections were accepted. Each is counted once more below.
+    /// How many connections were accepted. Each is in one of the three counts below, too.
     pub fn accepted(self) -> u32
         ensures { result ≡ self.accepted }
     {
         self.accepted
     }
 
-    /// How many of their sessions ended in no fault.
+    /// How many of their sessions ended without a fault.
     pub fn whole(self) -> u32
         ensures { result ≡ self.whole }
     {
@@ -34,7 +34,7 @@ impl Served {
         self.faulted
     }
 
-    /// How many got no session, since as many as there may be ran already.
+    /// How many got no session, since as many as allowed were running.
     pub fn refused(self) -> u32
         ensures { result ≡ self.refused }
     {

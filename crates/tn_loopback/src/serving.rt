@@ -1,234 +1,214 @@
-//! `tn serve`: each connection has a session in threads of its own.
+//! Each connection has a session in threads of its own.
 
-ghost use Rattle.std.specs.Prelude.{◌≡◌, ◌≢◌, ◌<◌, ◌+◌, ◌^◌, ◌-◌, true, false, IfOk, IfErr, OnOk, IsErrOf, Err};
-ghost use Rattle.tn_loopback.specs.Ends.{EndsWhole, ServesAll};
-ghost use Rattle.tn_loopback.specs.Faults.{IsOfNetwork};
+ghost use Rattle.std.specs.Prelude.{◌≡◌, ◌≢◌, ◌<◌, ◌≤◌, ◌+◌, ◌^◌, ◌-◌, IfOk, IsErrOf, Err};
+ghost use Rattle.tn_loopback.specs.Ends.{ServesAll};
 ghost use Rattle.tn_roster.specs.Held.{IsLimit};
 
-use crate::connection::Connection;
+use crate::acceptor::Acceptor;
+use crate::events::Event;
 use crate::fault::LoopbackFault;
+use crate::finished::Finished;
 use crate::host::Host;
-use crate::jobs::Jobs;
-use crate::running::{Running, tell_fault};
+use crate::notes::{note_end, note_listening, note_peer};
+use crate::running::{Running, tell_fault, tell_if_faulted};
 use crate::served::Served;
+use crate::service::Service;
+use crate::session::Session;
+use crate::settings::Serving;
+use crossbeam_channel::{Receiver, Sender};
 use std::alloc::Global;
-use std::io::{ErrorKind, Read, Write};
-use std::net::{Ipv4Addr, Net, Shutdown, TcpListener, TcpStream};
-use std::sync::{Arc, Mutex, Wait};
-use std::time::Duration;
-use std::{io, thread};
-use tn_discipline::Settings;
-use tn_roster::{Roster, RosterFault, note};
-use tn_server::Editing;
-use tn_session::{Ended, Gate, Place, Report, SessionFault, serve_session};
-use tn_words::Serving;
+use std::collections::VecDeque;
+use std::io::Write;
+use std::net::{Net, Shutdown, SocketAddr, TcpListener, TcpStream};
+use std::thread;
+use std::thread::JoinHandle;
+use tn_roster::{Roster, note};
 
-/// How long a connection that was told `full` is listened to, in milliseconds, so that what it has
-/// sent by then does not take that word from it.
-const LINGER: u64 = 50;
+/// How many events wait at most for the loop.
+const EVENTS: usize = 16;
 
-/// A gate that does nothing: no test watches the threads.
-#[derive(Drop)]
-pub(crate) struct Unwatched;
+/// How many connections that were told `full` are kept open for their peers to close. One that is closed
+/// here at once could lose that word where its peer sends something.
+const KEPT_OPEN: usize = 16;
 
-impl Gate for Unwatched {
-    fn at(&self, _place: Place) {}
-}
-
-/// Serves a port of this machine until so many connections were accepted and each of their sessions
-/// has ended. A session that ends in a fault is told in one line on `errors`, and changes nothing else.
-pub fn serve<H: Host + Net<Listener = TcpListener, Stream = TcpStream>, E: Write>(
+/// Serves an address, or a name that has one, until so many connections were accepted and all their
+/// sessions have ended. A session that ends in a fault is reported in one line on `errors`, and changes
+/// nothing else.
+pub fn serve<H, V, E>(
     rt: H,
     alloc: Global,
+    host: &str,
+    port: u16,
     serving: Serving,
+    service: V,
     errors: &mut E,
 ) -> Result<Served, LoopbackFault>
-    ensures all { IfOk result (ServesAll serving) }
-    ensures limit { IsErrOf result LoopbackFault.Limit → ¬ IsLimit serving.limit }
+where
+    H: Host + Net<Listener = TcpListener, Stream = TcpStream>,
+    V: Service + Drop,
+    E: Write,
+    ensures all { IfOk result (ServesAll serving.count) }
+    ensures limit { IsErrOf result LoopbackFault.Limit → ¬ IsLimit serving.sessions }
     ensures no_session { result ≢ Err LoopbackFault.Session }
 {
-    let listener = TcpListener::bind(&rt, (Ipv4Addr::LOCALHOST, serving.port))?;
-    serve_on(rt, alloc, &listener, serving, errors)
+    let listener = TcpListener::bind(&rt, (host, port))?;
+    serve_on(rt, alloc, &listener, serving, service, errors)
 }
 
-/// The same, over a listener that is there already.
-pub fn serve_on<H: Host, E: Write>(
+/// The same, over an existing listener.
+pub fn serve_on<H: Host, V: Service + Drop, E: Write>(
     rt: H,
     alloc: Global,
     listener: &TcpListener,
     serving: Serving,
+    service: V,
     errors: &mut E,
 ) -> Result<Served, LoopbackFault>
-    ensures all { IfOk result (ServesAll serving) }
-    ensures limit { IsErrOf result LoopbackFault.Limit → ¬ IsLimit serving.limit }
-    ensures bad_limit { (¬ IsLimit serving.limit) → IsErrOf result LoopbackFault.Limit }
+    ensures all { IfOk result (ServesAll serving.count) }
+    ensures limit { IsErrOf result LoopbackFault.Limit → ¬ IsLimit serving.sessions }
+    ensures bad_limit { (¬ IsLimit serving.sessions) → IsErrOf result LoopbackFault.Limit }
     ensures no_session { result ≢ Err LoopbackFault.Session }
 {
-    let roster = Roster::new(alloc, usize::from(serving.limit))?;
-    let Ok(roster) = Arc::new(alloc, Mutex::new(roster)) else {
+    let count = serving.count;
+    let roster = Roster::new(alloc, usize::from(serving.sessions))?;
+    let (sender, receiver) = crossbeam_channel::bounded(alloc, EVENTS)?;
+    if let (true, Ok(address)) = (serving.verbose, listener.local_addr()) {
+        note_listening(&rt, &address);
+    }
+    let acceptor = Acceptor {
+        rt,
+        listener: listener.try_clone()?,
+        events: sender.clone()?,
+        count,
+        verbose: serving.verbose,
+    };
+    let Ok(acceptor) = thread::spawn(&rt, move || acceptor.run()) else {
         return Err(LoopbackFault::Memory);
     };
-    let mut running = Running::new(alloc);
-    let accepted = accept_all(rt, alloc, &serving, listener, &roster, &mut running, errors);
+    let mut open = Open {
+        rt,
+        alloc,
+        serving,
+        service,
+        roster,
+        running: Running::new(alloc),
+        is_broken: false,
+        events: sender,
+        turned_away: VecDeque::new(alloc),
+    };
+    open.serve_all(&receiver, errors);
+    let Open {
+        serving,
+        running,
+        ..
+    } = open;
     let served = running.join_all(&rt, errors);
-    accepted?;
+    drop(receiver);
+    acceptor.join(&rt);
+    if served.accepted() != count {
+        return Err(LoopbackFault::Network);
+    }
     Ok(served)
 }
 
-fn accept_all<H: Host, E: Write>(
+/// A server that is open: which sessions run, by number, and how those before them ended.
+#[derive(Drop)]
+struct Open<H, V> {
     rt: H,
     alloc: Global,
-    serving: &Serving,
-    listener: &TcpListener,
-    roster: &Arc<Mutex<Roster>, Global>,
-    running: &mut Running,
-    errors: &mut E,
-) -> Result<(), LoopbackFault>
-    requires { running.old.accepted ≡ 0 }
-    ensures all { OnOk result (running.new.accepted ≡ serving.now.count) }
-    ensures fault { IfErr result IsOfNetwork }
-{
-    for _accepted in 0..serving.count {
-        let stream = accept(&rt, listener)?;
-        let entered = roster.lock(&rt).enter();
-        if serving.verbose {
-            note(&rt, &entered);
-        }
-        admit(rt, alloc, serving, stream, entered, roster, running, errors);
-    }
-    Ok(())
+    serving: Serving,
+    service: V,
+    roster: Roster,
+    running: Running,
+    /// No more connections come.
+    is_broken: bool,
+    events: Sender<Event, Global>,
+    turned_away: VecDeque<TcpStream>,
 }
 
-// Starts the session that entered, or closes the connection of one that did not.
-fn admit<H: Host, E: Write>(
-    rt: H,
-    alloc: Global,
-    serving: &Serving,
-    stream: TcpStream,
-    entered: Result<usize, RosterFault>,
-    roster: &Arc<Mutex<Roster>, Global>,
-    running: &mut Running,
-    errors: &mut E,
-)
-    requires { running.old.accepted < 2 ^ 32 - 1 }
-    ensures { running.new.accepted ≡ running.old.accepted + 1 }
-{
-    let Ok(number) = entered else {
-        turn_away(stream);
-        return running.refuse();
-    };
-    start(rt, alloc, serving, stream, number, roster, running, errors);
-}
-
-// The next connection. One that its peer closed before it was accepted is skipped.
-fn accept<H: Wait>(rt: &H, listener: &TcpListener) -> io::Result<TcpStream> {
-    for _ in rt.forever() {
-        match listener.accept() {
-            Ok((stream, _)) => return Ok(stream),
-            Err(error) if is_passing(error.kind()) => {},
-            Err(error) => return Err(error),
-        }
-    }
-    Err(io::Error::from(ErrorKind::NotConnected))
-}
-
-fn is_passing(kind: ErrorKind) -> bool {
-    matches!(
-        kind,
-        ErrorKind::ConnectionAborted | ErrorKind::ConnectionReset | ErrorKind::Interrupted
-    )
-}
-
-// Tells a connection that there is no room, and closes it.
-fn turn_away(mut stream: TcpStream) {
-    let _ = stream.write_all(b"full\r\n");
-    let _ = stream.shutdown(Shutdown::Write);
-    let mut piece = [0; 512];
-    if stream
-        .set_read_timeout(Some(Duration::from_millis(LINGER)))
-        .is_ok()
-    {
-        let _ = stream.read(&mut piece);
-    }
-}
-
-fn start<H: Host, E: Write>(
-    rt: H,
-    alloc: Global,
-    serving: &Serving,
-    stream: TcpStream,
-    number: usize,
-    roster: &Arc<Mutex<Roster>, Global>,
-    running: &mut Running,
-    errors: &mut E,
-)
-    requires { running.old.accepted < 2 ^ 32 - 1 }
-    ensures { running.new.accepted ≡ running.old.accepted + 1 }
-{
-    if running.make_way(&rt, number, errors) {
-        if let Ok(shared) = Arc::try_clone(roster) {
-            let serving = *serving;
-            let work = move || -> bool {
-                let whole = is_whole(&serve_connection(rt, alloc, stream, &serving));
-                shared.lock(&rt).leave(number);
-                whole
-            };
-            if let Ok(session) = thread::spawn(&rt, work) {
-                return running.keep(number, session);
+impl<H: Host, V: Service> Open<H, V> {
+    fn serve_all<E: Write>(&mut self, events: &Receiver<Event, Global>, errors: &mut E) {
+        let rt = self.rt;
+        for _ in rt.forever() {
+            if self.is_done() {
+                return;
+            }
+            match events.recv(&rt) {
+                Ok(Event::Came(stream, peer)) => self.admit(stream, &peer, errors),
+                Ok(Event::Broke) => self.is_broken = true,
+                Ok(Event::Ended(number)) => self.end(number, errors),
+                Err(_) => return,
             }
         }
     }
-    roster.lock(&rt).leave(number);
-    running.fail();
-    tell_fault(errors);
-}
 
-/// Runs one session over a connection that was accepted, in threads of its own, until it has ended.
-pub fn serve_connection<H: Host>(
-    rt: H,
-    alloc: Global,
-    stream: TcpStream,
-    serving: &Serving,
-) -> Result<Report, SessionFault> {
-    let Ok((reader, mut writer)) = Connection::split(stream) else {
-        return Err(SessionFault::Start);
-    };
-    let Ok(gate) = Arc::new(alloc, Unwatched) else {
-        return Err(SessionFault::Memory);
-    };
-    let editing = if serving.local {
-        Editing::Local
-    } else {
-        Editing::Remote
-    };
-    let jobs = Jobs::new(serving.ticks);
-    let settings = Settings::standard();
-    let (report, _ports) = serve_session(
-        rt,
-        alloc,
-        reader,
-        &mut writer,
-        settings,
-        serving.line,
-        editing,
-        jobs,
-        gate,
-    )?;
-    Ok(report)
-}
+    fn is_done(&self) -> bool {
+        (self.is_broken || self.running.accepted >= self.serving.count) && self.running.is_empty()
+    }
 
-// The session ended in no fault.
-fn is_whole(ended: &Result<Report, SessionFault>) -> bool {
-    matches!(ended, Ok(report) if ends_whole(report))
-}
+    // Starts a session over a connection that came, or turns it away where the session limit is reached.
+    fn admit<E: Write>(&mut self, stream: TcpStream, peer: &SocketAddr, errors: &mut E) {
+        if self.running.accepted >= self.serving.count {
+            return;
+        }
+        let entered = self.roster.enter();
+        if self.serving.verbose {
+            note(&self.rt, &entered);
+        }
+        let Ok(number) = entered else {
+            self.turn_away(stream);
+            return self.running.refuse();
+        };
+        if self.serving.verbose {
+            note_peer(&self.rt, number, peer);
+        }
+        if self.running.has_room() {
+            if let Some(session) = self.start(stream, number) {
+                return self.running.keep(number, session);
+            }
+        }
+        self.roster.leave(number);
+        self.running.fail();
+        tell_fault(errors);
+    }
 
-/// The report is of a session that ended in no fault.
-pub(crate) fn ends_whole(report: &Report) -> bool
-    ensures whole { result ≡ true → EndsWhole report.now }
-    ensures faulted { result ≡ false → ¬ EndsWhole report.now }
-{
-    match report.ended {
-        Ended::HangUp | Ended::Done => true,
-        Ended::Fault(_) => false,
+    // Runs a session in a thread of its own, where one can be had.
+    fn start(&mut self, stream: TcpStream, number: usize) -> Option<JoinHandle<Finished>>
+        ensures running { self.new.running ≡ self.old.running }
+    {
+        let events = self.events.clone().ok()?;
+        let jobs = self.service.session(self.alloc, number).ok()?;
+        let session = Session {
+            rt: self.rt,
+            alloc: self.alloc,
+            stream,
+            options: self.serving.options,
+            jobs,
+        };
+        session.start(number, events)
+    }
+
+    // The session with this number has ended, and its number is free.
+    fn end<E: Write>(&mut self, number: usize, errors: &mut E) {
+        let Some(finished) = self.running.join(&self.rt, number) else {
+            return;
+        };
+        self.roster.leave(number);
+        if self.serving.verbose {
+            note_end(&self.rt, number, &finished);
+        }
+        tell_if_faulted(&finished, errors);
+    }
+
+    // Tells a connection that there is no room. The longest of those kept open is closed for it.
+    fn turn_away(&mut self, mut stream: TcpStream)
+        ensures { self.new.running ≡ self.old.running }
+    {
+        let _ = stream.write_all(b"full\r\n");
+        let _ = stream.shutdown(Shutdown::Write);
+        if self.turned_away.len() >= KEPT_OPEN {
+            self.turned_away.pop_front();
+        }
+        let _ = self.turned_away.push_back(stream);
     }
 }

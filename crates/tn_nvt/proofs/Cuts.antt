@@ -4,25 +4,29 @@ use Rattle.std.proofs.lemmas.List.{take_all, get_or-drop}
 use Rattle.std.proofs.Math.Seq.{take-add}
 use Rattle.tn_nvt.specs.Sinks.{IsPlain, IsRun}
 
-pub rest_is : (xs : List ℕ) (i : ℕ) → take (length xs - i) (drop i xs) ≡ drop i xs
+-- what is left at an index
+abbrev pub rest_of : List ℕ → ℕ → List ℕ
+rest_of xs i = take (length xs - i) (drop i xs)
+
+pub rest_is : (xs : List ℕ) (i : ℕ) → rest_of xs i ≡ drop i xs
 rest_is xs i = take_all (length xs - i) (drop i xs) (omega (arith, length-drop i xs))
 
-pub front_is : (xs : List ℕ) (i n : ℕ) → take (i + n) xs ≡ take i xs ++ take n (take (length xs - i) (drop i xs))
+pub front_is : (xs : List ℕ) (i n : ℕ) → take (i + n) xs ≡ take i xs ++ take n (rest_of xs i)
 front_is xs i n = rw (rest_is xs i) (take-add i n xs)
 
-pub back_is : (xs : List ℕ) (i n : ℕ) → drop (i + n) xs ≡ drop n (take (length xs - i) (drop i xs))
+pub back_is : (xs : List ℕ) (i n : ℕ) → drop (i + n) xs ≡ drop n (rest_of xs i)
 back_is xs i n = rw (rest_is xs i) (sym (drop-drop n i xs))
 
-pub whole_is : (xs : List ℕ) (i n : ℕ) → xs ≡ (take i xs ++ take n (take (length xs - i) (drop i xs))) ++ drop n (take (length xs - i) (drop i xs))
+pub whole_is : (xs : List ℕ) (i n : ℕ) → xs ≡ (take i xs ++ take n (rest_of xs i)) ++ drop n (rest_of xs i)
 whole_is xs i n = rw (← front_is xs i n, ← back_is xs i n) (sym (take-append-drop (i + n) xs))
 
-pub within_is : (xs : List ℕ) (i n : ℕ) → i ≤ length xs → n ≤ length (take (length xs - i) (drop i xs)) → i + n ≤ length xs
+pub within_is : (xs : List ℕ) (i n : ℕ) → i ≤ length xs → n ≤ length (rest_of xs i) → i + n ≤ length xs
 within_is xs i n low high =
     let h = rw (rest_is xs i) at high in
     omega (arith, length-drop i xs)
 
-pub parts_is : (xs : List ℕ) (i n : ℕ) → drop i xs ≡ take n (take (length xs - i) (drop i xs)) ++ drop n (take (length xs - i) (drop i xs))
-parts_is xs i n = sym (rest_is xs i) ∙ sym (take-append-drop n (take (length xs - i) (drop i xs)))
+pub parts_is : (xs : List ℕ) (i n : ℕ) → drop i xs ≡ take n (rest_of xs i) ++ drop n (rest_of xs i)
+parts_is xs i n = sym (rest_is xs i) ∙ sym (take-append-drop n (rest_of xs i))
 
 pub first_of : (xs : List ℕ) (i : ℕ) → i < length xs → drop i xs ≡ get_or xs i 0 ∷ drop (i + 1) xs
 first_of xs i lt =
@@ -33,10 +37,10 @@ pub run_is : (rest : List ℕ) (n : ℕ) → 0 < n → n ≤ length rest → All
 run_is rest n some within plain = record { some = omega (arith, length-take-le n rest within); plain = plain }
 
 -- a byte of the rest is one of the piece
-pub byte_is : (xs : List ℕ) (i k : ℕ) → get_or (take (length xs - i) (drop i xs)) k 0 ≡ get_or xs (i + k) 0
+pub byte_is : (xs : List ℕ) (i k : ℕ) → get_or (rest_of xs i) k 0 ≡ get_or xs (i + k) 0
 byte_is xs i k = rw (rest_is xs i) (get_or-drop i xs k 0)
 
-pub index_is : (xs : List ℕ) (i k : ℕ) → i < length xs → k < length (take (length xs - i) (drop i xs)) → i + k < length xs
+pub index_is : (xs : List ℕ) (i k : ℕ) → i < length xs → k < length (rest_of xs i) → i + k < length xs
 index_is xs i k lt within =
     let h = rw (rest_is xs i) at within in
     omega (arith, length-drop i xs)

@@ -1,5 +1,5 @@
 -- From what a sink took of each byte and each run to what it took of a piece.
-use Rattle.std.proofs.Common.{◌≡◌, ℕ, ◌+◌, ◌-◌, ◌<◌, inl, inr, length, take, drop, get_or, List, [], ◌∷◌, ◌++◌, map, Result, Ok, Err, OnErr, IsErrOf, refl, sym, ◌∙◌, ap, subst, append-nil, append_assoc}
+use Rattle.std.proofs.Common.{◌≡◌, ℕ, ◌+◌, ◌<◌, inl, inr, length, take, drop, get_or, List, [], ◌∷◌, ◌++◌, map, Result, Ok, Err, OnErr, IsErrOf, refl, sym, ◌∙◌, ap, subst, append-nil, append_assoc, add_assoc}
 use Rattle.std.proofs.lemmas.Grind.{flat_map-append}
 use Rattle.tn_nvt.specs.declared.decoding.NvtFault.{NvtFault}
 use Rattle.tn_nvt.specs.declared.items.Item.{Item}
@@ -10,10 +10,11 @@ use Rattle.tn_nvt.specs.Machine.{Progress, Outside, state_of_place, StepAdvances
 use Rattle.tn_nvt.specs.Sinks.{IsRun, EndsRun, AreSpecial, Part, run, said, bytes_of, part_bytes, calls_of, part_calls, all_of, AreLongest, TakesEach, FeedsTo, StopsAtSink, StopsForMemory}
 use Rattle.tn_nvt.specs.Runs.{pending, singles, RefusesEach, HandsByte, HandsPart}
 use Rattle.tn_nvt.specs.Feeding.{DecoderState, IsLetGo}
-use Rattle.tn_nvt.proofs.Cuts.{front_is, back_is, parts_is, first_of}
+use Rattle.std.proofs.lemmas.List.{take_more}
+use Rattle.tn_nvt.proofs.Cuts.{rest_of, front_is, back_is, whole_is, parts_is, first_of, byte_is, index_is}
 use Rattle.tn_nvt.proofs.LettingGo.{wants_none}
 use Rattle.tn_nvt.proofs.Steps.{StepAdvances-none, StepAdvances-append}
-use Rattle.tn_nvt.proofs.Feeding.{Advances-from_advances, kept}
+use Rattle.tn_nvt.proofs.Feeding.{Advances-from_advances, at_element, kept}
 
 -- what holds anyway holds at a refusal
 pub on_err : {T E : Type 0} (r : Result T E) (P : Type 0) → P → OnErr r P
@@ -60,6 +61,15 @@ pending_special place.Failed = tt
 run_items : (items : List Item) (bytes : List ℕ) → items ++ map Byte bytes ≡ all_of (singles items ++ map Byte bytes ∷ [])
 run_items items bytes = ap (λ x. x ++ map Byte bytes) (sym (all_singles items)) ∙ ap (λ x. all_of (singles items) ++ x) (sym (append-nil (map Byte bytes))) ∙ sym (all_more (singles items) (map Byte bytes ∷ []))
 
+said_calls : (byte : ℕ) (items : List Item) → singles items ≡ calls_of (said (byte ∷ []) items ∷ [])
+said_calls byte items = sym (append-nil (singles items))
+
+said_items : (byte : ℕ) (items : List Item) → items ≡ all_of (calls_of (said (byte ∷ []) items ∷ []))
+said_items byte items = sym (all_singles items) ∙ ap all_of (said_calls byte items)
+
+abbrev run_parts : Place → List ℕ → List Part
+run_parts here bytes = said [] (pending here) ∷ run bytes ∷ []
+
 module _ {S : Type 0} (takes gives_up : S → List Item → S → Type 0) where
   -- CALLS
 
@@ -105,28 +115,6 @@ module _ {S : Type 0} (takes gives_up : S → List Item → S → Type 0) where
         (StepAdvances-append here middle next front more (all_of (calls_of h.parts)) (all_of (calls_of qs)) h.advances advances);
   }
 
-  said_calls : (byte : ℕ) (items : List Item) → singles items ≡ calls_of (said (byte ∷ []) items ∷ [])
-  said_calls byte items = sym (append-nil (singles items))
-
-  said_items : (byte : ℕ) (items : List Item) → items ≡ all_of (calls_of (said (byte ∷ []) items ∷ []))
-  said_items byte items = sym (all_singles items) ∙ ap all_of (said_calls byte items)
-
-  pub handed_byte : (here middle next : Progress) (front last : List ℕ) (byte : ℕ) (a b c : S) → HandedFront here front (byte ∷ last) a b middle → HandsByte takes middle byte b c next → HandedFront here (front ++ byte ∷ []) last a c next
-  handed_byte here middle next front last byte a b c h k =
-      joined here middle next front (byte ∷ []) last a b c h (said (byte ∷ []) k.items ∷ []) refl (k.special, tt)
-      (subst (λ x. TakesEach takes b x c) (said_calls byte k.items) k.taken)
-      (subst (λ x. StepAdvances middle (byte ∷ []) x next) (said_items byte k.items) k.advances)
-
-  run_parts : Place → List ℕ → List Part
-  run_parts here bytes = said [] (pending here) ∷ run bytes ∷ []
-
-  pub handed_run : (here middle : Progress) (at : Place) (front bytes last : List ℕ) (a b c : S) → HandedFront here front (bytes ++ last) a b middle → IsRun bytes → EndsRun last
-      → StepAdvances middle bytes (pending at ++ map Byte bytes) Outside → TakesEach takes b (singles (pending at) ++ map Byte bytes ∷ []) c → HandedFront here (front ++ bytes) last a c Outside
-  handed_run here middle at front bytes last a b c h is ends advances taken =
-      joined here middle Outside front bytes last a b c h (said [] (pending at) ∷ run bytes ∷ []) (sym (append-nil bytes)) (pending_special at, (is, ends, tt))
-      taken
-      (subst (λ x. StepAdvances middle bytes x Outside) (run_items (pending at) bytes) advances)
-
   pub FeedsTo-from_front : (here next : Progress) (piece : List ℕ) (a b : S) → HandedFront here piece [] a b next → FeedsTo takes (state_of_place here) piece a b (state_of_place next)
   FeedsTo-from_front here next piece a b h =
       record { parts = h.parts; whole = h.bytes; longest = h.longest; taken = h.taken; adds = Advances-from_advances here next piece (all_of (calls_of h.parts)) h.advances }
@@ -154,32 +142,6 @@ module _ {S : Type 0} (takes gives_up : S → List Item → S → Type 0) where
         given_up = refused.given_up;
       }
 
-  pub StopsAtSink-from_byte : (here middle : Progress) (piece front last : List ℕ) (byte : ℕ) (a b c : S) → HandedFront here front (byte ∷ last) a b middle → piece ≡ (front ++ byte ∷ []) ++ last → HandsPart takes gives_up middle byte b c → StopsAtSink takes gives_up (state_of_place here) piece a c
-  StopsAtSink-from_byte here middle piece front last byte a b c h whole p =
-      refused_in here middle p.next piece front (byte ∷ []) last a b c h (said (byte ∷ []) p.items ∷ []) whole refl (p.special, tt)
-      (subst (λ x. RefusesEach takes gives_up b x c) (said_calls byte p.items) p.refused)
-      (subst (λ x. StepAdvances middle (byte ∷ []) x p.next) (said_items byte p.items) p.advances)
-
-  pub StopsAtSink-from_run : (here middle : Progress) (at : Place) (piece front bytes last : List ℕ) (a b c : S) → HandedFront here front (bytes ++ last) a b middle → piece ≡ (front ++ bytes) ++ last → IsRun bytes → EndsRun last
-      → StepAdvances middle bytes (pending at ++ map Byte bytes) Outside → RefusesEach takes gives_up b (singles (pending at) ++ map Byte bytes ∷ []) c → StopsAtSink takes gives_up (state_of_place here) piece a c
-  StopsAtSink-from_run here middle at piece front bytes last a b c h whole is ends advances refused =
-      refused_in here middle Outside piece front bytes last a b c h (said [] (pending at) ∷ run bytes ∷ []) whole (sym (append-nil bytes)) (pending_special at, (is, ends, tt))
-      refused
-      (subst (λ x. StepAdvances middle bytes x Outside) (run_items (pending at) bytes) advances)
-
-  pub StopsForMemory-from_front : (here next : Progress) (piece front last : List ℕ) (byte : ℕ) (a b : S) → piece ≡ front ++ byte ∷ last → HandedFront here front (byte ∷ last) a b next → KeepsByte next byte → StopsForMemory takes (state_of_place here) piece a b
-  StopsForMemory-from_front here next piece front last byte a b whole h k = record {
-    parts = h.parts;
-    byte = byte;
-    back = last;
-    whole = whole ∙ ap (λ x. x ++ byte ∷ last) h.bytes;
-    longest = h.longest;
-    taken = h.taken;
-    here = state_of_place next;
-    adds = Advances-from_advances here next (bytes_of h.parts) (all_of (calls_of h.parts)) (subst (λ x. StepAdvances here x (all_of (calls_of h.parts)) next) h.bytes h.advances);
-    wanted = kept next byte k;
-  }
-
   -- no byte of a subnegotiation that is discarded needed memory
   pub wants_nothing : (old : DecoderState) (piece : List ℕ) (a b : S) → IsLetGo old piece → StopsForMemory takes old piece a b → ⊥
   wants_nothing old piece a b lets_go w =
@@ -190,18 +152,77 @@ module _ {S : Type 0} (takes gives_up : S → List Item → S → Type 0) where
 
   -- a prefix of what is left, and the others
   pub at_front : (here middle : Progress) (xs : List ℕ) (i n : ℕ) (a b : S) → HandedFront here (take i xs) (drop i xs) a b middle
-      → HandedFront here (take i xs) (take n (take (length xs - i) (drop i xs)) ++ drop n (take (length xs - i) (drop i xs))) a b middle
+      → HandedFront here (take i xs) (take n (rest_of xs i) ++ drop n (rest_of xs i)) a b middle
   at_front here middle xs i n a b h = subst (λ x. HandedFront here (take i xs) x a b middle) (parts_is xs i n) h
 
-  -- its first byte, and the others
-  pub at_byte : (here middle : Progress) (xs : List ℕ) (i : ℕ) (a b : S) → i < length xs → HandedFront here (take i xs) (drop i xs) a b middle
-      → HandedFront here (take i xs) (get_or xs i 0 ∷ drop (i + 1) xs) a b middle
-  at_byte here middle xs i a b lt h = subst (λ x. HandedFront here (take i xs) x a b middle) (first_of xs i lt) h
+  -- the sink took what the piece completes before this byte of what is left
+  pub record IsAtByte (here : Progress) (xs : List ℕ) (i k : ℕ) (before after : S) (next : Progress) : Type 0 where
+    pub lt : i + k < length xs
+    pub whole : xs ≡ take (i + k) xs ++ get_or (rest_of xs i) k 0 ∷ drop (i + k + 1) xs
+    pub handed : HandedFront here (take (i + k) xs) (get_or (rest_of xs i) k 0 ∷ drop (i + k + 1) xs) before after next
 
-  -- after bytes that complete nothing
-  pub handed_skip : (here middle next : Progress) (xs : List ℕ) (i k : ℕ) (a b : S) → HandedFront here (take i xs) (drop i xs) a b middle
-      → StepAdvances middle (take k (take (length xs - i) (drop i xs))) [] next → HandedFront here (take (i + k) xs) (drop (i + k) xs) a b next
-  handed_skip here middle next xs i k a b h advances =
-      let rest = take (length xs - i) (drop i xs) in
-      rw (front_is xs i k, back_is xs i k)
-      (joined here middle next (take i xs) (take k rest) (drop k rest) a b b (at_front here middle xs i k a b h) (said (take k rest) [] ∷ []) (sym (append-nil (take k rest))) (tt, tt) refl advances)
+  -- and before these bytes, which complete nothing
+  pub at_byte : (here middle next : Progress) (xs : List ℕ) (i k : ℕ) (a b : S) → HandedFront here (take i xs) (drop i xs) a b middle → i < length xs → k < length (rest_of xs i)
+      → StepAdvances middle (take k (rest_of xs i)) [] next → IsAtByte here xs i k a b next
+  at_byte here middle next xs i k a b h low high advances =
+      let rest = rest_of xs i in
+      let lt = index_is xs i k low high in
+      let skipped = joined here middle next (take i xs) (take k rest) (drop k rest) a b b (at_front here middle xs i k a b h) (said (take k rest) [] ∷ []) (sym (append-nil (take k rest))) (tt, tt) refl advances in
+      record {
+        lt = lt;
+        whole = rw (byte_is xs i k) (at_element xs (i + k) lt);
+        handed = rw (byte_is xs i k, ← first_of xs (i + k) lt, front_is xs i k, back_is xs i k) skipped;
+      }
+
+  -- or before this run of it
+  pub record IsAtRun (here : Progress) (xs : List ℕ) (i n : ℕ) (at : Place) (before after : S) (next : Progress) : Type 0 where
+    pub run : IsRun (take n (rest_of xs i))
+    pub ends : EndsRun (drop n (rest_of xs i))
+    pub handed : HandedFront here (take i xs) (take n (rest_of xs i) ++ drop n (rest_of xs i)) before after next
+    pub advances : StepAdvances next (take n (rest_of xs i)) (pending at ++ map Byte (take n (rest_of xs i))) Outside
+
+module _ {S : Type 0} {takes gives_up : S → List Item → S → Type 0} {here middle : Progress} {xs : List ℕ} {i k : ℕ} {a b : S} (at : IsAtByte takes gives_up here xs i k a b middle) where
+  abbrev this : ℕ
+  this = get_or (rest_of xs i) k 0
+
+  pub byte_taken : {c : S} {next : Progress} → HandsByte takes middle (get_or (rest_of xs i) k 0) b c next → HandedFront takes gives_up here (take (i + (k + 1)) xs) (drop (i + (k + 1)) xs) a c next
+  byte_taken {c} {next} h =
+      rw (← add_assoc i k 1, take_more xs (i + k) 0 at.lt, ← byte_is xs i k)
+      (joined takes gives_up here middle next (take (i + k) xs) (this ∷ []) (drop (i + k + 1) xs) a b c at.handed (said (this ∷ []) h.items ∷ []) refl (h.special, tt)
+      (subst (λ x. TakesEach takes b x c) (said_calls this h.items) h.taken)
+      (subst (λ x. StepAdvances middle (this ∷ []) x next) (said_items this h.items) h.advances))
+
+  pub byte_refused : {c : S} → HandsPart takes gives_up middle (get_or (rest_of xs i) k 0) b c → StopsAtSink takes gives_up (state_of_place here) xs a c
+  byte_refused {c} h =
+      refused_in takes gives_up here middle h.next xs (take (i + k) xs) (this ∷ []) (drop (i + k + 1) xs) a b c at.handed (said (this ∷ []) h.items ∷ []) (at.whole ∙ sym (append_assoc (take (i + k) xs) (this ∷ []) (drop (i + k + 1) xs))) refl (h.special, tt)
+      (subst (λ x. RefusesEach takes gives_up b x c) (said_calls this h.items) h.refused)
+      (subst (λ x. StepAdvances middle (this ∷ []) x h.next) (said_items this h.items) h.advances)
+
+  pub byte_wanted : KeepsByte middle (get_or (rest_of xs i) k 0) → StopsForMemory takes (state_of_place here) xs a b
+  byte_wanted wanted = record {
+    parts = at.handed.parts;
+    byte = this;
+    back = drop (i + k + 1) xs;
+    whole = at.whole ∙ ap (λ x. x ++ this ∷ drop (i + k + 1) xs) at.handed.bytes;
+    longest = at.handed.longest;
+    taken = at.handed.taken;
+    here = state_of_place middle;
+    adds = Advances-from_advances here middle (bytes_of at.handed.parts) (all_of (calls_of at.handed.parts)) (subst (λ x. StepAdvances here x (all_of (calls_of at.handed.parts)) middle) at.handed.bytes at.handed.advances);
+    wanted = kept middle this wanted;
+  }
+
+module _ {S : Type 0} {takes gives_up : S → List Item → S → Type 0} {here middle : Progress} {xs : List ℕ} {i n : ℕ} {place : Place} {a b c : S} (at : IsAtRun takes gives_up here xs i n place a b middle) where
+  pub run_taken : TakesEach takes b (singles (pending place) ++ map Byte (take n (rest_of xs i)) ∷ []) c → HandedFront takes gives_up here (take (i + n) xs) (drop (i + n) xs) a c Outside
+  run_taken taken =
+      let rest = rest_of xs i in
+      rw (front_is xs i n, back_is xs i n)
+      (joined takes gives_up here middle Outside (take i xs) (take n rest) (drop n rest) a b c at.handed (run_parts place (take n rest)) (sym (append-nil (take n rest))) (pending_special place, (at.run, at.ends, tt))
+      taken
+      (subst (λ x. StepAdvances middle (take n rest) x Outside) (run_items (pending place) (take n rest)) at.advances))
+
+  pub run_refused : RefusesEach takes gives_up b (singles (pending place) ++ map Byte (take n (rest_of xs i)) ∷ []) c → StopsAtSink takes gives_up (state_of_place here) xs a c
+  run_refused refused =
+      let rest = rest_of xs i in
+      refused_in takes gives_up here middle Outside xs (take i xs) (take n rest) (drop n rest) a b c at.handed (run_parts place (take n rest)) (whole_is xs i n) (sym (append-nil (take n rest))) (pending_special place, (at.run, at.ends, tt))
+      refused
+      (subst (λ x. StepAdvances middle (take n rest) x Outside) (run_items (pending place) (take n rest)) at.advances)

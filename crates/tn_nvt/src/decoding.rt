@@ -75,7 +75,7 @@ impl Decoder {
     }
 
     /// Appends the items that the piece, cut anywhere, completes (RFC 854, RFC 855). `Memory` where
-    /// `out` or the parameters of a subnegotiation, at most 512, can't grow: the decoder has failed
+    /// `out` or the parameters of a subnegotiation can't grow: the decoder has failed
     /// then, and `out` keeps the items that were complete before. `Failed` where it had failed before.
     pub fn feed(&mut self, piece: &[u8], out: &mut Vec<Item>) -> Result<(), NvtFault>
         ensures ok { OnOk result (Feeds self.old piece.now out.old.items out.new.items self.new) }

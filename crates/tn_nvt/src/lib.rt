@@ -14,6 +14,7 @@
 pub use decoding::{Decoder, NvtFault};
 pub use items::Item;
 pub use parameters::Params;
+pub use places::MAX_PARAMETERS;
 pub use sinks::{Refused, Sink};
 pub use writing::{put_byte, put_cmd, put_neg, put_newline, put_sub};
 

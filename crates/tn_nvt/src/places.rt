@@ -16,8 +16,8 @@ use crate::parameters::Params;
 use std::alloc::{AllocError, Global};
 use tn_codes::{Command, Verb};
 
-/// The most parameters that a subnegotiation may have; one with more is dropped.
-const MAX_PARAMS: usize = 512;
+/// The most parameters of a subnegotiation; one with more is discarded.
+pub const MAX_PARAMETERS: usize = 512;
 
 /// What has come of the next segment of the stream, but for a subnegotiation's bytes.
 #[derive(Clone, Copy)]
@@ -84,7 +84,7 @@ impl Body {
                 Ok(())
             },
             Came::Kept(_) => {
-                if self.params.len() < MAX_PARAMS {
+                if self.params.len() < MAX_PARAMETERS {
                     return self.params.push(byte);
                 }
                 self.came = Came::Overlong;

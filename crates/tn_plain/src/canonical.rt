@@ -1,4 +1,4 @@
-//! Canonical input (POSIX.1-2017, XBD 11): the whole list of keys is seen, cut, and read backwards.
+//! Canonical input (POSIX.1-2017, XBD 11): the list of all keys is cut into pieces, which are read backwards.
 
 use crate::characters::Table;
 use std::alloc::Global;
@@ -8,7 +8,7 @@ pub fn closes(role: Role) -> bool {
     matches!(role, Role::Nl | Role::Eol(_) | Role::Eol2(_) | Role::Eof)
 }
 
-/// What a key is, once it is mapped.
+/// What a key is, after it is mapped.
 pub fn role_of(flags: &Flags, table: &Table, key: u8) -> Role {
     match key {
         13 if flags.igncr => Role::Ignored,
@@ -33,7 +33,7 @@ fn mapped_role(flags: &Flags, table: &Table, byte: u8) -> Role {
     }
 }
 
-/// The keys that find room: a plain count of the bytes of the half line stays at this number at most.
+/// The keys that find room: the half line never counts more bytes than this.
 fn admitted(alloc: Global, most: usize, roles: &[Role]) -> Vec<Role> {
     let mut keys = Vec::new(alloc);
     let mut count = 0usize;
@@ -50,7 +50,7 @@ fn admitted(alloc: Global, most: usize, roles: &[Role]) -> Vec<Role> {
     keys
 }
 
-// What is kept of a piece, read from its right end with the erasures that are outstanding.
+// What is kept of a piece: it is read from its right end, with a count of the outstanding erasures.
 fn kept(alloc: Global, piece: &[Role]) -> Vec<u8> {
     let mut bytes = Vec::new(alloc);
     let mut outstanding = 0usize;
@@ -69,7 +69,7 @@ fn kept(alloc: Global, piece: &[Role]) -> Vec<u8> {
     bytes
 }
 
-/// The half line: what is kept of the keys after the last that closed a line.
+/// The half line: what is kept of the keys after the last one that closed a line.
 pub fn half(alloc: Global, most: usize, roles: &[Role]) -> Vec<u8> {
     let last = roles.rsplit(|role| closes(*role)).next().unwrap_or(&[]);
     kept(alloc, &admitted(alloc, most, last))

@@ -1,4 +1,4 @@
-//! Numbers that look like chance, the same in each run.
+//! Pseudorandom numbers, the same in each run.
 
 #[derive(Drop)]
 pub struct Dice {

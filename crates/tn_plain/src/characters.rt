@@ -15,7 +15,7 @@ const STANDARD: [(u8, Option<u8>); 8] = [
     (18, None),
 ];
 
-/// A character in a list of local characters: its function, its level and its value.
+/// A character as a list of local characters holds it: its function, its level and its value.
 pub fn told(func: u8, value: Option<u8>) -> [u8; 3] {
     match value {
         Some(value) => [func, 2, value],
@@ -50,7 +50,7 @@ impl Table {
         table
     }
 
-    /// The character of a function that has one, which may be disabled.
+    /// The character of a function, if it can have one; None inside where it is disabled.
     pub fn get(&self, func: u8) -> Option<Option<u8>> {
         self.rows
             .iter()
@@ -87,7 +87,7 @@ impl Table {
         }
     }
 
-    /// Puts a character, which no other function has then.
+    /// Sets a character, and takes it from any other function that has it.
     pub fn put_alone(&mut self, func: u8, value: Option<u8>) {
         for (code, present) in self.rows.iter_mut() {
             if *code == func {

@@ -1,7 +1,7 @@
-//! The definitions once more as plain programs, which compute what came of a past from the past alone,
-//! byte lists and all; beside them the page that a trial's script is printed on, and numbers that look
-//! like chance. The trials compare the product with them. They are slow, keep everything, and lose what
-//! finds no memory; nothing of them is proved but that they are safe and end, so nothing may rest on them.
+//! The definitions again, as plain programs that compute each result from the whole past. Beside them stand
+//! the page that a trial's script prints, and pseudorandom numbers. The trials compare the product with
+//! them. They are slow, keep everything, and lose what they have no memory for. Only their safety and
+//! termination are proved, so nothing may rest on them.
 #![tactic(auto)]
 
 pub mod canonical;

@@ -1,9 +1,9 @@
-//! The Q method (RFC 1143): the table, and what an end says by it.
+//! The Q method (RFC 1143): the table, and what an end sends by it.
 
 use tn_codes::Verb;
 use tn_option::QState;
 
-/// A place of the option table: whose side it is of, and how it stands.
+/// An entry of the option table: whose side it is for, and its state.
 #[derive(Clone, Copy)]
 struct Place {
     ours: bool,
@@ -12,7 +12,7 @@ struct Place {
     state: QState,
 }
 
-/// Why a place changes.
+/// Why an entry changes.
 #[derive(Clone, Copy)]
 pub enum Cause {
     OnWord,
@@ -21,7 +21,7 @@ pub enum Cause {
     OffWish,
 }
 
-/// The next state of a place of the other end's side, and whether an on word or an off word is sent.
+/// The next state of an entry for the other end's side, and whether an on word or an off word is sent.
 pub fn cell(agreed: bool, state: QState, cause: Cause) -> (QState, Option<bool>) {
     match (cause, state) {
         (Cause::OnWord, QState::No) if agreed => (QState::Yes, Some(true)),
@@ -55,7 +55,7 @@ fn wish_off(state: QState) -> (QState, Option<bool>) {
     }
 }
 
-/// The table of an end: ECHO, SUPPRESS-GO-AHEAD, NAWS and LINEMODE of both sides.
+/// The table of an end: ECHO, SUPPRESS-GO-AHEAD, NAWS and LINEMODE for both sides.
 #[derive(Clone, Copy)]
 pub struct Options {
     places: [Place; 8],
@@ -71,7 +71,7 @@ fn unasked(ours: bool, option: u8, agreed: bool) -> Place {
 }
 
 impl Options {
-    /// An end that agrees to these options of our side, and to those of the other.
+    /// The table of an end that agrees to these options for its own side and for the other.
     pub fn new(ours: [bool; 4], theirs: [bool; 4]) -> Options {
         Options {
             places: [
@@ -93,7 +93,7 @@ impl Options {
         })
     }
 
-    /// A place changes, and a word may be sent. Answers whether the option is known.
+    /// Changes an entry, and sends a word where the method says so. Returns whether the option is known.
     pub fn turn(&mut self, ours: bool, option: u8, cause: Cause, sent: &mut Vec<u8>) -> bool {
         let mut is_known = false;
         let mut said = None;
@@ -111,7 +111,7 @@ impl Options {
         is_known
     }
 
-    /// A word came.
+    /// A word from the other end arrives.
     pub fn hear(&mut self, ours: bool, on: bool, option: u8, sent: &mut Vec<u8>) {
         let cause = if on { Cause::OnWord } else { Cause::OffWord };
         let is_known = self.turn(ours, option, cause, sent);
@@ -121,7 +121,7 @@ impl Options {
     }
 }
 
-/// Whether a word that came is of our side, and whether it is an on word.
+/// Whether a word that arrives is about our side, and whether it is an on word.
 pub fn meaning(verb: Verb) -> (bool, bool) {
     match verb {
         Verb::Will => (false, true),

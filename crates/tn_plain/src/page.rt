@@ -1,11 +1,11 @@
-//! Scripts: commands parted by `; `, of words parted by one space, and the page of what came of them.
+//! Scripts: commands separated by `; `, each of words separated by one space, and the page of their results.
 
 use std::alloc::Global;
 use std::fmt::Debug;
 use tn_codes::Func;
 use tn_discipline::{Entry, Sig};
 
-/// The text of what came of a script, where memory was not refused.
+/// The results of a script as text. Text that finds no memory is lost.
 #[derive(Drop)]
 pub struct Page {
     pub alloc: Global,
@@ -20,7 +20,7 @@ impl Page {
         }
     }
 
-    /// Begins an answer with this word.
+    /// Begins a result with this word.
     pub fn begin(&mut self, word: &str) {
         if !self.text.is_empty() {
             self.put("; ");
@@ -32,13 +32,13 @@ impl Page {
         let _refused = self.text.push_str(text);
     }
 
-    /// An answer of its own, as its type prints it.
+    /// A result of its own, as its type prints it.
     pub fn say<T: Debug>(&mut self, value: &T) {
         self.begin("");
         let _refused = write!(self.text, "{value:?}");
     }
 
-    /// Bytes that were appended to a list, where there are any. The list is empty then.
+    /// Prints the bytes of a list, if there are any, and empties the list.
     pub fn tell(&mut self, word: &str, bytes: &mut Vec<u8>) {
         if !bytes.is_empty() {
             self.bytes(word, bytes);
@@ -46,7 +46,7 @@ impl Page {
         bytes.clear();
     }
 
-    /// Bytes as pairs of digits, and more than eight that are equal with their number.
+    /// Prints bytes as pairs of digits, and a run of more than eight equal bytes once, with its length.
     pub fn bytes(&mut self, word: &str, bytes: &[u8]) {
         let mut last = 0u8;
         let mut count = 0usize;
@@ -101,7 +101,7 @@ fn name_of(sig: Sig) -> &'static str {
     }
 }
 
-/// A command: its verb, and the words behind it.
+/// A command: its verb, and the words after it.
 #[derive(Clone, Copy)]
 pub struct Words<'a> {
     pub verb: &'a str,
@@ -143,7 +143,7 @@ impl<'a> Words<'a> {
         }
     }
 
-    /// The second word as a character, where it is one.
+    /// The second word as a character, if it is one.
     pub fn value(self, alloc: Global) -> Option<u8> {
         bytes_of(alloc, self.second).first().copied()
     }
@@ -161,7 +161,7 @@ pub fn size_of(word: &str) -> u16 {
     word.parse::<u16>().unwrap_or(0)
 }
 
-/// Bytes as a page has them: `0a0d`, and `300x61.0d` for three hundred bytes 61 and one of 0d.
+/// Bytes as a page writes them: `0a0d`, and `300x61.0d` for 300 bytes 61 and one byte 0d.
 pub fn bytes_of(alloc: Global, word: &str) -> Vec<u8> {
     let mut bytes = Vec::new(alloc);
     for part in word.split('.') {
@@ -174,11 +174,11 @@ pub fn bytes_of(alloc: Global, word: &str) -> Vec<u8> {
     bytes
 }
 
-/// Something that does commands.
+/// Something that runs commands.
 pub trait Stage: Drop + Sized {
     fn open(alloc: Global) -> Option<Self>;
 
-    /// Does a command. Where memory is refused, it answers so, and has done nothing.
+    /// Runs a command. Returns true where there is no memory for it; it has done nothing then.
     fn step(&mut self, words: Words<'_>, page: &mut Page) -> bool;
 }
 
@@ -194,8 +194,8 @@ fn play<S: Stage>(alloc: Global, script: &str, page: &mut Page) {
     }
 }
 
-/// What came of the script, where that is not what is wanted. One growth may be refused at any place: what
-/// was refused so is tried again, and so is the script where its text or an end is lost.
+/// The page of the script, if it differs from the wanted text. One allocation may fail anywhere: a command
+/// that it fails is tried again, and so is the whole script where text or an end is lost.
 pub fn unlike<S: Stage>(alloc: Global, script: &str, wanted: &str) -> Option<Page> {
     let mut page = Page::new(alloc);
     play::<S>(alloc, script, &mut page);

@@ -1,9 +1,9 @@
-//! What few parameters of NAWS and LINEMODE say, fault by fault.
+//! What short NAWS and LINEMODE payloads say, fault by fault.
 
 use std::alloc::Global;
 use tn_codes::{Mask, Payload, PayloadFault, Triple, Triples, Verb};
 
-/// The mask of the first octets.
+/// The mask whose first octets are these.
 pub fn mask(octets: &[u8]) -> Mask {
     let mut mask = [0; 32];
     for (slot, octet) in mask.iter_mut().zip(octets) {

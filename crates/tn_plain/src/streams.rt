@@ -1,17 +1,17 @@
-//! Streams (RFC 854, 855): a whole stream is read as segments, each time from its begin.
+//! Streams (RFC 854, 855): a whole stream is read as segments, each time from its beginning.
 
 use std::alloc::{AllocError, Global};
 use tn_codes::{Command, Verb};
 use tn_nvt::{Item, Params};
 
-// The first segment of a stream: what it is read as, and what comes after its own bytes.
+// The first segment of a stream: what it is read as, and the bytes after it.
 #[derive(Drop)]
 struct First<'a> {
     item: Option<Item>,
     after: &'a [u8],
 }
 
-// None where the stream is less than a segment with what that looks ahead at.
+// None where the stream is shorter than a segment and its look-ahead.
 fn first_segment<'a>(alloc: Global, stream: &'a [u8]) -> Option<First<'a>> {
     let (item, after) = match stream {
         [] | [13] | [255] => return None,
@@ -89,7 +89,7 @@ pub fn read_whole(alloc: Global, stream: &[u8]) -> Vec<Item> {
     items
 }
 
-/// A stream that comes in pieces.
+/// A stream that arrives in pieces.
 #[derive(Drop)]
 pub struct Stream {
     alloc: Global,
@@ -106,7 +106,7 @@ impl Stream {
         }
     }
 
-    /// The whole stream is read again, and all its items are given, with how many were read before.
+    /// Reads the whole stream again, and returns all its items, with how many of them were read before.
     pub fn feed(&mut self, piece: &[u8]) -> (Vec<Item>, usize) {
         let _refused = self.bytes.extend_from_slice(piece);
         let items = read_whole(self.alloc, &self.bytes);
@@ -125,7 +125,7 @@ pub fn say_sub(option: u8, params: &[u8], sent: &mut Vec<u8>) {
     let _refused = sent.extend_from_slice(&[255, 240]);
 }
 
-/// Appends a byte, and 255 twice.
+/// Appends a byte, twice if it is 255.
 pub fn say_byte(byte: u8, sent: &mut Vec<u8>) {
     let _refused = sent.push(byte);
     if byte == 255 {

@@ -67,7 +67,7 @@ impl Terminal {
         }
     }
 
-    /// Symbols that all fit into the queue, or none of them.
+    /// Queues symbols if all of them fit, and else none.
     pub fn show(&mut self, symbols: &[Symbol]) {
         if self.room() >= symbols.len() {
             let _refused = self.queue.extend_from_slice(symbols);
@@ -105,7 +105,7 @@ impl Terminal {
         first
     }
 
-    /// Takes an entry. Answers whether one waited.
+    /// Takes an entry. Returns whether one was waiting.
     pub fn take(&mut self) -> bool {
         let gives = |role: &&Role| closes(**role) || matches!(**role, Role::Signal(_));
         let given = self.roles.iter().filter(gives).count();
@@ -118,7 +118,7 @@ impl Terminal {
         half(self.alloc, 254, &self.roles)
     }
 
-    /// All entries, those that were taken first.
+    /// All entries, the taken ones first.
     pub fn entries(&self) -> Vec<Entry> {
         entries(self.alloc, 254, &self.roles)
     }

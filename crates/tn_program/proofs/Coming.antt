@@ -37,11 +37,11 @@ disconnected connection.Memory zero = omega (arith, zero)
 
 ran : (a : Asked) (input old new : Option (List ℕ)) (came : Outcome) → ComesOfRun a input old new came
     → status_of came ≡ 0 → RunsAsked a input old new
-ran a input old new (outcome.Local (Ok done)) (e, ends) zero = subst (λ a. RunsAsked a input old new) (sym e) ends.ok
+ran a input old new (outcome.Local (Ok done)) (e, ends) zero = subst (λ a. RunsAsked a input old new) (sym e) ends.run.ok
 ran a input old new (outcome.Local (Err f)) h zero = absurd (faulted f zero)
-ran a input old new (outcome.Replay (Ok done)) (e, ends) zero = subst (λ a. RunsAsked a input old new) (sym e) ends.ok
+ran a input old new (outcome.Replay (Ok done)) (e, ends) zero = subst (λ a. RunsAsked a input old new) (sym e) ends.run.ok
 ran a input old new (outcome.Replay (Err f)) h zero = absurd (faulted f zero)
-ran a input old new (outcome.World (Ok done)) (e, ends) zero = subst (λ a. RunsAsked a input old new) (sym e) ends.ok
+ran a input old new (outcome.World (Ok done)) (e, ends) zero = subst (λ a. RunsAsked a input old new) (sym e) ends.run.ok
 ran a input old new (outcome.World (Err f)) h zero = absurd (faulted f zero)
 ran a input old new (outcome.Served (Ok served)) (serving, e, ends) zero =
     subst (λ a. RunsAsked a input old new) (sym e) (served, ends.all, ends.unwritten)

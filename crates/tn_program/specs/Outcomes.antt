@@ -1,11 +1,7 @@
 -- What comes of the words of a command line.
-use Rattle.std.specs.Prelude.{◌≡◌, ◌≢◌, ◌⊎◌, ⊤, ℕ, ◌<◌, ◌≤◌, length, Option, IfSome, Result, Err, OnOk, OnErr, IfOk, IfErr, IsErrOf, List}
+use Rattle.std.specs.Prelude.{◌≡◌, ◌≢◌, ◌⊎◌, ⊤, ℕ, Option, Result, Err, OnOk, OnErr, IfOk, IfErr, IsErrOf, List}
 use Rattle.std.specs.Io.KnownBytes.{Appends}
-use Rattle.tn_cli.specs.Playing as play
-use Rattle.tn_cli.specs.Replay.{Replays, ReplaysFront}
-use Rattle.tn_cli.specs.Scripts.{lines_of}
-use Rattle.tn_cli.specs.Streams.{AppendsFront}
-use Rattle.tn_cli.specs.Typing.{local_output}
+use Rattle.tn_cli.specs.Ends.{EndsLocal, EndsReplay, EndsWorld}
 use Rattle.tn_cli.specs.declared.fault.CliFault.{CliFault}
 use Rattle.tn_cli.specs.declared.fault.CliFault.TheVariants as fault
 use Rattle.tn_loopback.specs.Ends.{EndsWhole, RunsClient, ServesAll}
@@ -15,6 +11,7 @@ use Rattle.tn_loopback.specs.declared.served.Served.{Served}
 use Rattle.tn_program.specs.Statuses.{status_of}
 use Rattle.tn_program.specs.declared.outcome.Outcome.{Outcome}
 use Rattle.tn_program.specs.declared.outcome.Outcome.TheVariants as outcome
+use Rattle.tn_program.specs.Settings.{connecting_as}
 use Rattle.tn_roster.specs.Held.{IsLimit}
 use Rattle.tn_session.specs.declared.parties.ClientPorts.{ClientPorts}
 use Rattle.tn_session.specs.declared.parties.Report.{Report}
@@ -25,54 +22,18 @@ use Rattle.tn_words.specs.declared.words.Asked.{Asked}
 use Rattle.tn_words.specs.declared.words.Asked.TheVariants as asked
 use Rattle.tn_words.specs.declared.words.WordsFault.TheVariants as words_fault
 
--- What came of a run over an input that prints this of it, or a prefix of it.
-pub record EndsRun (Prints PrintsFront : List ℕ → Option (List ℕ) → Option (List ℕ) → Type 0)
-    (ended : Result ⊤ CliFault) (input old new : Option (List ℕ)) : Type 0 where
-  pub ok : OnOk ended (IfSome input (λ bytes. Prints bytes old new))
-  pub short : ended ≢ Err fault.TooLong → ended ≢ Err fault.Read
-      → IfSome input (λ bytes. length bytes ≤ 1048576)
-  pub too_long : IsErrOf ended fault.TooLong → IfSome input (λ bytes. 1048576 < length bytes)
-  pub write : IsErrOf ended fault.Write → IfSome input (λ bytes. PrintsFront bytes old new)
-  pub unwritten : OnErr ended (ended ≢ Err fault.Write → new ≡ old)
-  pub no_script : (line : ℕ) → ended ≢ Err (fault.Script line)
-  pub no_world : (line : ℕ) → ended ≢ Err (fault.World line)
-
--- what came of typing keys at one local terminal
-abbrev pub EndsLocal : Result ⊤ CliFault → Option (List ℕ) → Option (List ℕ) → Option (List ℕ) → Type 0
-EndsLocal = EndsRun (λ keys old new. Appends old new (local_output keys))
-    (λ keys old new. AppendsFront old new (local_output keys))
-
--- what came of replaying a client's stream
-abbrev pub EndsReplay : Result ⊤ CliFault → Option (List ℕ) → Option (List ℕ) → Option (List ℕ) → Type 0
-EndsReplay = EndsRun Replays ReplaysFront
-
--- What came of a script.
-pub record EndsWorld (ended : Result ⊤ CliFault) (input old new : Option (List ℕ)) : Type 0 where
-  pub ok : OnOk ended (IfSome input (λ text. play.AppendsText (play.PrintsWhole (lines_of text)) old new))
-  pub short : ended ≢ Err fault.TooLong → ended ≢ Err fault.Read
-      → IfSome input (λ text. length text ≤ 1048576)
-  pub too_long : IsErrOf ended fault.TooLong → IfSome input (λ text. 1048576 < length text)
-  pub script : (line : ℕ) → IsErrOf ended (fault.Script line)
-      → IfSome input (λ text. play.AppendsText (play.StopsAtBadLine (lines_of text) line) old new)
-  pub world : (line : ℕ) → IsErrOf ended (fault.World line)
-      → IfSome input (λ text. play.AppendsText (play.StopsAtRefusedLine (lines_of text) line) old new)
-  pub write : IsErrOf ended fault.Write
-      → IfSome input (λ text. play.AppendsFrontOfText (play.PrintsSome (lines_of text)) old new)
-  pub unwritten : OnErr ended (ended ≢ Err fault.Write → ((line : ℕ) → ended ≢ Err (fault.Script line))
-      → ((line : ℕ) → ended ≢ Err (fault.World line)) → new ≡ old)
-
 -- What came of serving.
 pub record EndsServing (serving : Serving) (ended : Result Served LoopbackFault)
     (old new : Option (List ℕ)) : Type 0 where
-  pub all : IfOk ended (ServesAll serving)
-  pub limit : IsErrOf ended connection.Limit → ¬ IsLimit serving.limit
+  pub all : IfOk ended (ServesAll serving.count)
+  pub limit : IsErrOf ended connection.Limit → ¬ IsLimit serving.sessions
   pub no_session : ended ≢ Err connection.Session
   pub unwritten : new ≡ old
 
 -- What came of connecting.
 pub record EndsConnecting (connecting : Connecting) (ended : Result (Report × ClientPorts) LoopbackFault)
     (input old new : Option (List ℕ)) : Type 0 where
-  pub ran : IfOk ended (λ r. RunsClient connecting input old new r.0 r.1)
+  pub ran : IfOk ended (λ r. RunsClient (connecting_as connecting) input old new r.0 r.1)
   pub whole : IfOk ended (λ r. EndsWhole r.0)
   pub unwritten : OnErr ended (ended ≢ Err connection.Session → new ≡ old)
   pub no_limit : ended ≢ Err connection.Limit

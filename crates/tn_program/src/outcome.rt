@@ -14,7 +14,7 @@ use tn_words::WordsFault;
 /// The status of a process whose words were not accepted.
 const USAGE: u8 = 2;
 
-/// What comes of the words of a command line: what the run that they ask for returned, or why there was none.
+/// What comes of the words of a command line: what the run that they ask for returned, or why none was run.
 #[derive(Drop)]
 pub enum Outcome {
     Local(Result<(), CliFault>),
@@ -22,7 +22,7 @@ pub enum Outcome {
     World(Result<(), CliFault>),
     Served(Result<Served, LoopbackFault>),
     Connected(Result<(Report, ClientPorts), LoopbackFault>),
-    /// They ask for help, which was written or not.
+    /// They ask for help; it was written, or that failed.
     Help(Result<(), CliFault>),
     /// They are not accepted.
     Usage,
@@ -47,7 +47,7 @@ impl Outcome {
         }
     }
 
-    /// Tells a fault in one line on `errors`. A line that cannot be written there is dropped.
+    /// Reports a fault in one line on `errors`. A line that cannot be written is dropped.
     pub(crate) fn tell<E: Write>(&self, errors: &mut E) {
         match self {
             Outcome::Local(Err(fault)) => tell(errors, fault),

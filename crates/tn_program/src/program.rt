@@ -6,17 +6,18 @@ ghost use Rattle.tn_program.specs.Outcomes.{ComesOf, ComesOfRun, EndsWith, AskFo
 ghost use Rattle.tn_program.specs.Runs.{DoesAsAsked};
 
 use crate::outcome::Outcome;
+use crate::settings::{Answering, connecting_of, options_of};
 use std::alloc::{AllocError, Global};
 use std::io;
 use std::io::{ErrorKind, Read, Write};
 use std::net::{Net, TcpListener, TcpStream};
 use tn_cli::{CliFault, run_local, run_replay, run_world};
-use tn_loopback::{Host, connect, serve};
+use tn_loopback::{Host, Serving, connect, serve};
 use tn_words::{Asked, WordsFault, read_words};
 
-/// Runs what the words of the command line ask for, the program's name first, where they could be had,
-/// and gives the status to end with: 0 where that was done, and else the status of the fault that met it
-/// (`EndsWith`). A fault is told in one line on `errors`; a line that cannot be written there is dropped.
+/// Runs what the words of the command line ask for, where they could be read. The program's name is the
+/// first of them. Returns the status to end with: 0 where that was done, and else the status of its fault
+/// (`EndsWith`). A fault is reported in one line on `errors`; a line that cannot be written is dropped.
 pub fn run_words<
     H: Host + Net<Listener = TcpListener, Stream = TcpStream>,
     R: Read + Drop + Send + 'static,
@@ -47,7 +48,7 @@ pub fn run_words<
     outcome.status()
 }
 
-/// The same, but for the status and the line: what comes of the words.
+/// The same without the status and the line: returns what comes of the words.
 pub fn outcome_of_words<
     H: Host + Net<Listener = TcpListener, Stream = TcpStream>,
     R: Read + Drop + Send + 'static,
@@ -75,8 +76,8 @@ pub fn outcome_of_words<
     }
 }
 
-// What comes of words that could not be had: out of memory, or words that are not accepted, as those that
-// are not text.
+// What comes of words that could not be read: out of memory, or words that are not text, which are not
+// accepted.
 fn refusal(kind: ErrorKind) -> Outcome
     ensures memory { kind ≡ ErrorKind.OutOfMemory → result ≡ Outcome.Memory }
     ensures usage { kind ≢ ErrorKind.OutOfMemory → result ≡ Outcome.Usage }
@@ -144,9 +145,18 @@ fn run_asked<
         Asked::Local => Outcome::Local(run_local(alloc, &mut reader, writer)),
         Asked::Replay => Outcome::Replay(run_replay(alloc, &mut reader, writer)),
         Asked::World => Outcome::World(run_world(alloc, &mut reader, writer)),
-        Asked::Serve(serving) => Outcome::Served(serve(rt, alloc, serving, errors)),
-        Asked::Connect(connecting) => {
-            Outcome::Connected(connect(rt, alloc, connecting, reader, writer))
+        Asked::Serve(asked) => {
+            let (host, service) = (asked.host.as_str(), Answering { ticks: asked.ticks });
+            let serving = Serving {
+                sessions: asked.sessions,
+                count: asked.count,
+                options: options_of(&asked),
+                verbose: asked.verbose,
+            };
+            Outcome::Served(serve(rt, alloc, host, asked.port, serving, service, errors))
+        },
+        Asked::Connect(asked) => {
+            Outcome::Connected(connect(rt, alloc, connecting_of(asked), reader, writer))
         },
     }
 }

@@ -41,8 +41,8 @@ abbrev pub queue_symbols : ℕ
 queue_symbols = 4096
 
 -- how many entries wait at most
-abbrev pub most_waiting : ℕ
-most_waiting = 1024
+abbrev pub max_waiting : ℕ
+max_waiting = 1024
 
 -- the queue with these symbols behind it where all of them fit, else as it is
 abbrev pub queue_with : List Symbol → List Symbol → List Symbol

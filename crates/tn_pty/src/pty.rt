@@ -4,7 +4,7 @@ ghost use Rattle.tn_discipline.specs.HalfLine.{effect_of, line_after, effect_ent
 ghost use Rattle.tn_discipline.specs.Advancing.{Advances};
 ghost use Rattle.tn_discipline.specs.RolesTable.{IsPlain};
 ghost use Rattle.tn_discipline.specs.declared.echo.Symbol.TheVariants.{Byte};
-ghost use Rattle.tn_pty.specs.Terminal.{new_terminal, queue_with, queue_with_each, output_symbols, output_symbol, fitting_count, shut_terminal, first_signal};
+ghost use Rattle.tn_pty.specs.Terminal.{new_terminal, queue_with, queue_with_each, output_symbols, output_symbol, fitting_count, shut_terminal, first_signal, queue_symbols, max_waiting};
 ghost use Rattle.tn_pty.specs.Typing.{gain_of, symbols_in, echo_symbols, terminal_after, typed_after_all, typed_gains, command_role, command_shows, IsCommandRole};
 ghost use Rattle.tn_pty.specs.Faults.{Accepts, Refuses, AcceptsAll, StopsWithinKeys};
 ghost use Rattle.circular_buffer.specs.Buffer.{buffer};
@@ -23,7 +23,7 @@ use tn_discipline::{
 const QUEUE_SYMBOLS: usize = 4096;
 
 /// How many entries may wait.
-const MOST_WAITING: usize = 1024;
+const MAX_WAITING: usize = 1024;
 
 /// What is shown of a byte that the line has no room for.
 const BELL: u8 = 7;
@@ -68,7 +68,7 @@ pub struct Pair {
 
 impl Model for Pair {
     ghost use Rattle.std.specs.Prelude.{◌≡◌};
-    ghost use Rattle.tn_pty.specs.Terminal.{Terminal};
+    ghost use Rattle.tn_pty.specs.Terminal.{Terminal, queue_symbols, max_waiting};
 
     ghost Value = { Terminal };
 
@@ -82,7 +82,7 @@ impl Model for Pair {
       closed = p.closed;
     } };
 
-    ghost invariant = { λ p. (p.queue.capacity ≡ 4096) × (p.entries.capacity ≡ 1024) };
+    ghost invariant = { λ p. (p.queue.capacity ≡ queue_symbols) × (p.entries.capacity ≡ max_waiting) };
 }
 
 impl Pair {
@@ -94,7 +94,7 @@ impl Pair {
         Ok(Pair {
             roles: Roles::new(alloc, settings)?,
             line: Line::new(alloc, limit)?,
-            entries: HeapCircularBuffer::with_capacity(alloc, MOST_WAITING)?,
+            entries: HeapCircularBuffer::with_capacity(alloc, MAX_WAITING)?,
             queue: HeapCircularBuffer::with_capacity(alloc, QUEUE_SYMBOLS)?,
             width: 0,
             height: 0,
@@ -224,7 +224,7 @@ impl Pair {
     /// How many symbols wait to be pulled.
     pub fn queued(&self) -> usize
         ensures value { result ≡ length self.now.queue }
-        ensures within { result ≤ 4096 }
+        ensures within { result ≤ queue_symbols }
     {
         self.queue.len()
     }
@@ -263,7 +263,7 @@ impl Pair {
     /// How many entries wait.
     pub fn waiting_count(&self) -> usize
         ensures value { result ≡ length self.now.entries }
-        ensures within { result ≤ 1024 }
+        ensures within { result ≤ max_waiting }
     {
         self.entries.len()
     }
@@ -381,9 +381,9 @@ impl Pair {
     fn refusal(&self, role: Role) -> Option<PtyFault>
         ensures none { IfNone result (Accepts self.now role) }
         ensures some { IfSome result (λ fault. Refuses self.now role fault (shut_terminal self.now)) }
-        ensures within { length self.now.entries ≤ 1024 }
+        ensures within { length self.now.entries ≤ max_waiting }
     {
-        let is_full = self.entries.len() >= MOST_WAITING;
+        let is_full = self.entries.len() >= MAX_WAITING;
         if self.closed {
             return Some(PtyFault::Closed);
         }
@@ -431,7 +431,7 @@ impl Pair {
 
     // Puts the entry of an effect behind those that wait.
     fn keep(&mut self, effect: Effect)
-        requires { length self.old.entries + length (effect_entries effect) ≤ 1024 }
+        requires { length self.old.entries + length (effect_entries effect) ≤ max_waiting }
         ensures { self.new ≡ record self.old { entries = self.old.entries ++ effect_entries effect } }
     {
         if let Effect::Gives(entry) = effect {
@@ -484,7 +484,7 @@ fn put_present(queue: &mut HeapCircularBuffer<Symbol>, symbols: &[Option<Symbol>
 
 // Puts each of the bytes that fits into the queue, as it is shown.
 fn put_echoes(queue: &mut HeapCircularBuffer<Symbol>, bytes: &[u8])
-    requires { queue.old.capacity ≡ 4096 }
+    requires { queue.old.capacity ≡ queue_symbols }
     ensures { let shown = map Byte bytes.now in
         queue.new ≡ buffer (queue_with_each queue.old.items shown) queue.old.capacity }
 {
@@ -495,7 +495,7 @@ fn put_echoes(queue: &mut HeapCircularBuffer<Symbol>, bytes: &[u8])
 
 // Puts a bell for each of the bytes into the queue, where it fits.
 fn put_bells(queue: &mut HeapCircularBuffer<Symbol>, bytes: &[u8])
-    requires { queue.old.capacity ≡ 4096 }
+    requires { queue.old.capacity ≡ queue_symbols }
     ensures { let shown = map (λ byte. Byte 7) bytes.now in
         queue.new ≡ buffer (queue_with_each queue.old.items shown) queue.old.capacity }
 {

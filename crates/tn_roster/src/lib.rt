@@ -21,7 +21,7 @@ use thiserror::Error;
 mod notes;
 
 /// A roster never holds more sessions than this.
-pub const MOST_SESSIONS: usize = 64;
+pub const MAX_SESSIONS: usize = 64;
 
 /// Why a roster was not made, or took no session.
 #[derive(Clone, Copy, Debug, PartialEq, Eq, Error)]
@@ -75,7 +75,7 @@ impl Roster {
         ensures bad { (¬ IsLimit limit) → IsErrOf result RosterFault.BadLimit }
         ensures memory { IfErr result (λ fault. IsLimit limit → fault ≡ RosterFault.Memory) }
     {
-        if !(1..=MOST_SESSIONS).contains(&limit) {
+        if !(1..=MAX_SESSIONS).contains(&limit) {
             return Err(RosterFault::BadLimit);
         }
         let sessions = Slab::with_capacity(alloc, limit)?;

@@ -35,10 +35,10 @@ use Rattle.tn_option.specs.declared.q_method.AskFault.{AskFault}
 use Rattle.tn_option.specs.declared.q_method.Side.TheVariants.{Us, Them}
 use Rattle.tn_pty.specs.Terminal.{queue_with, output_symbol, output_symbols, fitting_count}
 use Rattle.tn_pty.specs.Typing.{symbols_in, echo_symbols, command_shows}
-use Rattle.tn_wire.specs.Fronts.{IsRead}
+use Rattle.tn_wire.specs.Prefixes.{IsRead}
 use Rattle.tn_wire.specs.Words.{word_items, payload_items, mode_items, list_items}
 use Rattle.tn_wire.proofs.lemmas.Sizes.{size, size-append, size-one, size-word, size-mode, size-list, size-plain_triple, size-table, octets_size, answers-size, says_under, size-came, size-least, size-sub, size-params, doubled_most}
-use Rattle.tn_server.specs.Bounds.{most_said, HasAllowedCharacters, most_of_calls, bytes_due}
+use Rattle.tn_server.specs.Bounds.{max_said, HasAllowedCharacters, max_of_calls, bytes_due}
 use Rattle.tn_server.specs.Events.{History, Event, begun, next, got, took, wrote, pulled, wished, char_set, echo_set, mask_set, items}
 use Rattle.tn_server.specs.Lines.{line}
 use Rattle.tn_server.specs.Screen.{shows, queue, sends_ga, none_waits, due}
@@ -204,7 +204,7 @@ module _ (stays : (c : Characters) (ts : List Triple) → AreAllowed c → AreAl
   silent_at : (said : List Item) → said ≡ [] → size (said ++ []) ≤ 0
   silent_at said none = omega (arith, size-append said [], ap size none)
 
-  pub said_at_most : (h : History) (item : Item) → AreAllowed (chars h) → size (replies h (got item)) ≤ most_said item
+  pub said_at_most : (h : History) (item : Item) → AreAllowed (chars h) → size (replies h (got item)) ≤ max_said item
   said_at_most h (Byte b) allowed = silent_at (items_at (flags h) (chars h) (terms h) (got (Byte b))) (says_nothing (flags h) (chars h) (terms h) None refl)
   said_at_most h Newline allowed = silent_at (items_at (flags h) (chars h) (terms h) (got Newline)) (says_nothing (flags h) (chars h) (terms h) None refl)
   said_at_most h (Cmd command) allowed = silent_at (items_at (flags h) (chars h) (terms h) (got (Cmd command))) (says_nothing (flags h) (chars h) (terms h) None refl)
@@ -344,7 +344,7 @@ character_pays h func value accepted =
 
 -- THE WHOLE HISTORY
 abbrev Bounded : History → Type 0
-Bounded h = bytes_due h + credit (linemode (options h)) ≤ total weight (items h) + most_of_calls h + 31
+Bounded h = bytes_due h + credit (linemode (options h)) ≤ total weight (items h) + max_of_calls h + 31
 
 credit_most : (on : Bool) → credit on ≤ 16
 credit_most true = omega arith
@@ -444,6 +444,6 @@ is_weight = record { spelled = weight-most; alone = omega arith }
 pub sent_at_most : ((c : Characters) (ts : List Triple) → AreAllowed c → AreAllowed (server_after c ts))
     → ((c : Characters) (t a : Triple) → AreAllowed c → server_answer c t ≡ Some a → Answers t a)
     → ((c : Characters) (f : Func) (v : Option ℕ) → AreAllowed c → char_fault c f v ≡ None → AreAllowed (with_slot c f v))
-    → (h : History) (bytes : List ℕ) → HasAllowedCharacters h → IsRead bytes (items h) → bytes_due h ≤ 9 * length bytes + most_of_calls h + 31
+    → (h : History) (bytes : List ℕ) → HasAllowedCharacters h → IsRead bytes (items h) → bytes_due h ≤ 9 * length bytes + max_of_calls h + 31
 sent_at_most stays names accepts h bytes has (rest, reading) =
     omega (arith, bounded stays names accepts h has, weighs_at_most weight 9 is_weight bytes rest (items h) reading)

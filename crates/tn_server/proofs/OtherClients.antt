@@ -1,23 +1,20 @@
 -- What a server makes of clients of other makers.
-use Rattle.std.proofs.Common.{◌≡◌, ℕ, ◌+◌, ◌≤◌, ◌<◌, ◌==◌, Bool, true, false, not, nat_le, Option, Some, None, List, [], ◌∷◌, ◌++◌, map, length, refl, sym, ap, ◌∙◌, subst, if◌then◌else◌, append-nil, append_assoc, arith, ◌&&◌}
+use Rattle.std.proofs.Common.{◌≡◌, ℕ, ◌+◌, ◌≤◌, ◌<◌, ◌==◌, Bool, true, false, not, nat_le, Option, Some, None, List, [], ◌∷◌, ◌++◌, map, length, refl, sym, ap, ◌∙◌, if◌then◌else◌, append-nil, append_assoc, arith, ◌&&◌}
 use Rattle.std.specs.Prelude.{All}
-use Rattle.std.specs.List.{flat_map}
 use Rattle.std.proofs.lemmas.Bool.Decides.{nat_tests}
 use Rattle.std.proofs.lemmas.List.{length-append}
 use Rattle.std.proofs.lemmas.List.Elements.{All-head, All-tail}
 use Rattle.std.proofs.lemmas.Nat.{and_assoc}
 use Rattle.tn_codes.specs.PayloadOf.{payload_of}
-use Rattle.tn_codes.specs.declared.codes.Command.{Command}
 use Rattle.tn_codes.specs.declared.payloads.Payload.{Payload}
 use Rattle.tn_codes.specs.declared.payloads.Payload.TheVariants as payload
 use Rattle.tn_discipline.proofs.lemmas.Histories.{half-next, entries-next}
 use Rattle.tn_discipline.proofs.lemmas.KeyRoles.{roles_of-one, roles_of-append}
-use Rattle.tn_discipline.specs.Canon.{Canon, typed_entries, typed_half}
+use Rattle.tn_discipline.specs.Canon.{typed_entries, typed_half}
 use Rattle.tn_discipline.specs.Characters.{Characters}
 use Rattle.tn_discipline.specs.Entries.{entries_of, half_of, line_of}
 use Rattle.tn_discipline.specs.Keys.{roles_of, role_of_key, roles_from, literal_role}
-use Rattle.tn_discipline.specs.Limits.{most_counted}
-use Rattle.tn_discipline.specs.Steps.{half_next, gain_next, half_after, gain_after}
+use Rattle.tn_discipline.specs.Limits.{max_counted}
 use Rattle.tn_discipline.specs.declared.keys.Role.{Role}
 use Rattle.tn_discipline.specs.declared.keys.Role.TheVariants as role
 use Rattle.tn_discipline.specs.declared.reads.Entry.{Entry}
@@ -27,14 +24,13 @@ use Rattle.tn_discipline.specs.declared.termios.Settings.{Settings}
 use Rattle.tn_linemode.specs.Modes.{edits, is_acknowledged, mode_of}
 use Rattle.tn_nvt.specs.declared.items.Item.{Item}
 use Rattle.tn_nvt.specs.declared.items.Item.TheVariants.{Byte, Newline, Cmd, Neg, Sub}
-use Rattle.tn_option.specs.Options.{Options, state_of, is_yes}
-use Rattle.tn_option.specs.declared.q_method.Side.TheVariants.{Us, Them}
-use Rattle.tn_wire.specs.Words.{payload_under}
-use Rattle.tn_server.specs.Events.{Event, got, took, wrote, pulled, wished, char_set, echo_set, mask_set, History, begun, next, items, gets, limit, opening_settings}
+use Rattle.tn_option.specs.Options.{state_of, is_yes}
+use Rattle.tn_option.specs.declared.q_method.Side.TheVariants.{Them}
+use Rattle.tn_server.specs.Events.{got, took, wrote, pulled, wished, char_set, echo_set, mask_set, History, begun, next, items, gets, limit, opening_settings}
 use Rattle.tn_server.specs.Lines.{role_of_byte, role_at, roles, entries, half}
 use Rattle.tn_server.specs.OtherClients.{AcknowledgesNoEdit, KeepsCharacters, StaysRemote, opening_canon, roles_of_items, keys_of, IsNoCommand, line_items, AreOrdinary}
 use Rattle.tn_server.specs.Terms.{Terms, terms, linemode, options, flags, chars, settings, mode, mask_after, chars_after, changes, payload_at}
-use Rattle.tn_server.proofs.lemmas.Histories.{gets-push, limit-gets}
+use Rattle.tn_server.proofs.lemmas.Histories.{gets-push}
 use Rattle.tn_server.proofs.lemmas.Terms.{differ_self, terms_stay}
 
 -- THE MODE stays without EDIT
@@ -204,20 +200,20 @@ one_role : (h : History) (b : ℕ) → edits (mode h) ≡ true → literal_role 
 one_role h b edit ordinary =
     ap (λ (r : Role). roles h ++ roles_from r) (ap (λ (e : Bool). role_of_byte (settings h) e b) edit ∙ ordinary)
 
-one_half : (h : History) (b : ℕ) → edits (mode h) ≡ true → literal_role (chars h) b ≡ role.Ordinary b → length (half h) < most_counted (limit h) → half (next h (got (Byte b))) ≡ half h ++ b ∷ []
+one_half : (h : History) (b : ℕ) → edits (mode h) ≡ true → literal_role (chars h) b ≡ role.Ordinary b → length (half h) < max_counted (limit h) → half (next h (got (Byte b))) ≡ half h ++ b ∷ []
 one_half h b edit ordinary room =
     ap (λ rs. half_of (limit h) rs) (one_role h b edit ordinary)
     ∙ half-next (limit h) (roles h) (role.Ordinary b)
-    ∙ half_kept (length (half h) == most_counted (limit h)) (half h) b (not_full (length (half h)) (most_counted (limit h)) room)
+    ∙ half_kept (length (half h) == max_counted (limit h)) (half h) b (not_full (length (half h)) (max_counted (limit h)) room)
 
 one_entries : (h : History) (b : ℕ) → edits (mode h) ≡ true → literal_role (chars h) b ≡ role.Ordinary b → entries (next h (got (Byte b))) ≡ entries h
 one_entries h b edit ordinary =
     ap (λ rs. entries_of (limit h) rs) (one_role h b edit ordinary)
     ∙ entries-next (limit h) (roles h) (role.Ordinary b)
-    ∙ ap (λ es. entries h ++ es) (none_gained (length (half h) == most_counted (limit h)))
+    ∙ ap (λ es. entries h ++ es) (none_gained (length (half h) == max_counted (limit h)))
     ∙ append-nil (entries h)
 
-typed : (bytes : List ℕ) (h : History) → edits (mode h) ≡ true → AreOrdinary (chars h) bytes → length (half h) + length bytes ≤ most_counted (limit h) → Typed h bytes
+typed : (bytes : List ℕ) (h : History) → edits (mode h) ≡ true → AreOrdinary (chars h) bytes → length (half h) + length bytes ≤ max_counted (limit h) → Typed h bytes
 typed [] h edit ordinary room = record { half_is = sym (append-nil (half h)); entries_are = refl; mode_is = refl; chars_are = refl }
 typed (b ∷ bytes) h edit ordinary room =
     let more = next h (got (Byte b)) in
@@ -238,7 +234,7 @@ text_of : (bytes : List ℕ) → line_of (bytes ++ 10 ∷ []) ≡ Text (bytes ++
 text_of [] = refl
 text_of (b ∷ bytes) = refl
 
-module _ (h : History) (bytes : List ℕ) (edit : edits (mode h) ≡ true) (none : half h ≡ []) (ordinary : AreOrdinary (chars h) bytes) (fits : length bytes ≤ most_counted (limit h)) where
+module _ (h : History) (bytes : List ℕ) (edit : edits (mode h) ≡ true) (none : half h ≡ []) (ordinary : AreOrdinary (chars h) bytes) (fits : length bytes ≤ max_counted (limit h)) where
   all_typed : Typed h bytes
   all_typed = let zero_long : length (half h) ≡ 0 = ap length none in typed bytes h edit ordinary (omega arith)
 

@@ -4,7 +4,7 @@ use Rattle.std.proofs.lemmas.Bool.{leb-true}
 use Rattle.std.proofs.lemmas.List.{length-take, length-map}
 use Rattle.tn_discipline.specs.declared.echo.Symbol.{Symbol}
 use Rattle.tn_linemode.specs.Modes.{edits}
-use Rattle.tn_pty.specs.Terminal.{queue_symbols, most_waiting, fitting_count, output_symbol}
+use Rattle.tn_pty.specs.Terminal.{queue_symbols, max_waiting, fitting_count, output_symbol}
 use Rattle.tn_server.specs.Events.{History, begun, next, got, wrote, pulled}
 use Rattle.tn_server.specs.Lines.{line, waiting}
 use Rattle.tn_server.specs.Screen.{queue, shows}
@@ -28,5 +28,5 @@ queue_fits (next h (wrote bytes)) =
 queue_fits (next h (pulled n)) = omega (arith, queue_fits h, length-drop n (queue h))
 queue_fits (next h _) = queue_fits h
 
-pub waiting_fits : (h : History) (end : End) → LeadsTo h end → length end.terminal.entries ≤ most_waiting → length (waiting h) ≤ most_waiting
+pub waiting_fits : (h : History) (end : End) → LeadsTo h end → length end.terminal.entries ≤ max_waiting → length (waiting h) ≤ max_waiting
 waiting_fits h end leads few = omega (arith, few, ap length (waits_are h end leads))

@@ -1,5 +1,5 @@
 -- Some items one after another, and refusals.
-use Rattle.std.proofs.Common.{◌≡◌, inl, inr, ℕ, ◌+◌, ◌<◌, List, [], ◌∷◌, ◌++◌, length, map, take, drop, get_or, true, Err, IsErrOf, refl, sym, ap, ◌∙◌, subst, append-nil, append_assoc}
+use Rattle.std.proofs.Common.{◌≡◌, inl, inr, ℕ, ◌+◌, ◌<◌, List, [], ◌∷◌, ◌++◌, length, map, take, drop, get_or, true, Err, IsErrOf, refl, sym, ap, ◌∙◌, subst, append-nil}
 use Rattle.std.proofs.lemmas.List.{take_more, drop_more, take-append-drop, map-append}
 use Rattle.tn_discipline.specs.declared.keys.Role.{Role}
 use Rattle.tn_nvt.specs.Feeding.{DecoderState}
@@ -15,12 +15,12 @@ use Rattle.tn_server.specs.Replies.{replies, items_said}
 use Rattle.tn_server.specs.Terms.{payload_at}
 use Rattle.tn_server.specs.Calls.{End, LeadsTo, Advances, AdvancesAll, RefusesItem, StopsWithinItems}
 use Rattle.tn_server.specs.Steps.{IsShut, IsKeyCause, MayWantMemory, role_of_typed, end_after_byte, says_got, says_sub}
-use Rattle.tn_wire.specs.Fronts.{AppendsFront}
+use Rattle.tn_wire.specs.Prefixes.{AppendsPrefix}
 use Rattle.tn_server.specs.declared.faults.ServerFault.{ServerFault}
 use Rattle.tn_server.specs.declared.faults.ServerFault.TheVariants.{Pty, Memory}
 use Rattle.tn_server.proofs.Causes.{typed_cause, sub_cause}
 use Rattle.tn_server.proofs.Wishing.{sub_said}
-use Rattle.tn_wire.proofs.lemmas.Cutting.{spelled_on}
+use Rattle.tn_wire.proofs.lemmas.Cutting.{added_on, spelled_on}
 use Rattle.tn_server.proofs.lemmas.Histories.{gets-append}
 use Rattle.tn_server.proofs.Standings.{replies_got}
 use Rattle.tn_server.proofs.Turning.{IsSound, sound, goes_typed}
@@ -49,11 +49,7 @@ pub gets_both : (old mid new : End) (xs ys : List Item) (before between after : 
 gets_both old mid new xs ys before between after g k = record {
   said = g.said ++ k.said;
   appended = spelled_on g.said k.said before between after g.appended k.appended;
-  sends = λ h s.
-      ap items_said (gets-append h xs ys)
-      ∙ k.sends (gets h xs) (g.leads h s)
-      ∙ ap (λ (zs : List Item). zs ++ k.said) (g.sends h s)
-      ∙ append_assoc (items_said h) g.said k.said;
+  sends = λ h s. ap items_said (gets-append h xs ys) ∙ added_on g.said k.said (items_said h) _ _ (g.sends h s) (k.sends (gets h xs) (g.leads h s));
   leads = λ h s. rw (gets-append h xs ys) (k.leads (gets h xs) (g.leads h s));
   closed = k.closed ∙ g.closed;
 }
@@ -79,7 +75,7 @@ refuses_shut old new item fault shut' cause before = record {
     stays h s (inr closed) = subst (LeadsTo h) (sym closed) (stands_shut h old s)
 
 -- what answers an item was cut
-pub refuses_cut : (old new : End) (item : Item) (fault : ServerFault) (whole : List Item) (before after : List ℕ) → (IsSound old → says_got old item ≡ whole) → AppendsFront whole before after → new ≡ old → ((h : History) → LeadsTo h old → IsCause h item fault) → RefusesItem old item fault before after new
+pub refuses_cut : (old new : End) (item : Item) (fault : ServerFault) (whole : List Item) (before after : List ℕ) → (IsSound old → says_got old item ≡ whole) → AppendsPrefix whole before after → new ≡ old → ((h : History) → LeadsTo h old → IsCause h item fault) → RefusesItem old item fault before after new
 refuses_cut old new item fault whole before after says c same cause = record {
   said = c.part;
   appended = c.appended;
@@ -88,7 +84,7 @@ refuses_cut old new item fault whole before after says c same cause = record {
   leads = λ h s. subst (LeadsTo h) (sym same) s;
 }
 
-pub refuses_sub : (old new : End) (option : ℕ) (params before after : List ℕ) → AppendsFront (says_sub old (payload_at old.terms.options (Sub option params))) before after → new ≡ old → MayWantMemory old (payload_at old.terms.options (Sub option params)) → RefusesItem old (Sub option params) Memory before after new
+pub refuses_sub : (old new : End) (option : ℕ) (params before after : List ℕ) → AppendsPrefix (says_sub old (payload_at old.terms.options (Sub option params))) before after → new ≡ old → MayWantMemory old (payload_at old.terms.options (Sub option params)) → RefusesItem old (Sub option params) Memory before after new
 refuses_sub old new option params before after cut same grows =
     let payload = payload_at old.terms.options (Sub option params) in
     refuses_cut old new (Sub option params) Memory (says_sub old payload) before after (sub_said old option params payload refl) cut same (λ h s. sub_cause h old option params grows s)

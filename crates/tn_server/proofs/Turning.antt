@@ -71,7 +71,7 @@ with_all old t payload terminal =
       terminal = terminal;
     }
 
--- nothing is agreed anew
+-- nothing more is agreed
 pub still : (old : End) (payload : Option Payload) (terminal : Terminal) → Agree old.modes old.terms → with_all old old.terms payload terminal ≡ record old { modes = record { asked = old.modes.asked; current = mask_after false old.modes.current payload }; table = chars_after old.table payload; terminal = terminal }
 still old payload terminal e =
     ap (λ (b : Bool). record old { modes = record { asked = asked_mask_of old.terms.options old.terms.wish; current = mask_after b old.modes.current payload }; table = chars_after old.table payload; terminal = terminal }) (differ_self (linemode old.terms.options))

@@ -12,10 +12,10 @@ use Rattle.tn_server.specs.Terms.{chars}
 -- What an item is answered by at most. An option word: by a word (3 bytes), the whole table (30), a MODE (7)
 -- and a word for ECHO (3). A subnegotiation: by answers that are no longer than it is,
 -- and by the whole table.
-abbrev pub most_said : Item → ℕ
-most_said (Neg verb option) = 43
-most_said (Sub option params) = length (spelling (Sub option params)) + 30
-most_said _ = 0
+abbrev pub max_said : Item → ℕ
+max_said (Neg verb option) = 43
+max_said (Sub option params) = length (spelling (Sub option params)) + 30
+max_said _ = 0
 
 -- the characters are such as a terminal can have: those of the start, and each that the owner set since
 abbrev pub HasAllowedCharacters : History → Type 0
@@ -26,19 +26,19 @@ HasAllowedCharacters (next h _) = HasAllowedCharacters h
 
 -- What a call of the owner adds at most to what is sent, or waits to be: GA; two bytes for each byte of
 -- output; a MODE and a word for ECHO; a triple; a word for ECHO; a forward mask. To pull sends what waited.
-abbrev pub most_of_call : Event → ℕ
-most_of_call (got item) = 0
-most_of_call took = 2
-most_of_call (wrote bytes) = 2 * length bytes
-most_of_call (pulled n) = 0
-most_of_call (wished editing) = 10
-most_of_call (char_set func value) = 9
-most_of_call (echo_set on) = 3
-most_of_call (mask_set mask) = 71
+abbrev pub max_of_call : Event → ℕ
+max_of_call (got item) = 0
+max_of_call took = 2
+max_of_call (wrote bytes) = 2 * length bytes
+max_of_call (pulled n) = 0
+max_of_call (wished editing) = 10
+max_of_call (char_set func value) = 9
+max_of_call (echo_set on) = 3
+max_of_call (mask_set mask) = 71
 
-abbrev pub most_of_calls : History → ℕ
-most_of_calls (begun canon) = 0
-most_of_calls (next h e) = most_of_calls h + most_of_call e
+abbrev pub max_of_calls : History → ℕ
+max_of_calls (begun canon) = 0
+max_of_calls (next h e) = max_of_calls h + max_of_call e
 
 -- the bytes that were sent, and those of the symbols that wait
 abbrev pub bytes_due : History → ℕ

@@ -3,7 +3,7 @@ use Rattle.std.specs.Prelude.{◌≡◌, ◌≢◌, ◌⊎◌, true, Option, Som
 use Rattle.tn_discipline.specs.HalfLine.{GivesText}
 use Rattle.tn_discipline.specs.Keys.{gives_entry}
 use Rattle.tn_nvt.specs.declared.items.Item.{Item}
-use Rattle.tn_pty.specs.Terminal.{most_waiting}
+use Rattle.tn_pty.specs.Terminal.{max_waiting}
 use Rattle.tn_pty.specs.declared.pty.PtyFault.TheVariants as pty
 use Rattle.tn_wire.specs.Words.{IsList}
 use Rattle.tn_server.specs.Events.{Event, got, History}
@@ -21,7 +21,7 @@ SaysSomething h e = replies h e ≢ []
 -- a line, for what is to be sent, or for a list
 abbrev pub IsCause : History → Item → ServerFault → Type 0
 IsCause h item (Pty pty.TooFarAhead) =
-    (gives_entry (role_of_item h item) ≡ true) × (length (waiting h) ≡ most_waiting)
+    (gives_entry (role_of_item h item) ≡ true) × (length (waiting h) ≡ max_waiting)
 IsCause h item (Pty pty.Memory) = GivesText (line h) (role_of_item h item)
 IsCause h item (Pty pty.Closed) = Unit {0}
 IsCause h item Memory = SaysSomething h (got item) ⊎ IsList (payload_at (options h) item)

@@ -1,4 +1,5 @@
 -- What a server end sends, as items; its bytes are their spellings, one after another.
+use Rattle.tn_option.specs.declared.known.TheConstants.{ECHO}
 use Rattle.std.specs.Prelude.{ℕ, Bool, true, false, not, ◌&&◌, Option, Some, None, Result, Ok, Err, List, [], ◌∷◌, ◌++◌, map, take, if◌then◌else◌}
 use Rattle.tn_codes.specs.declared.codes.Command.TheVariants.{Ga}
 use Rattle.tn_codes.specs.declared.codes.Func.{Func}
@@ -44,7 +45,7 @@ abbrev pub new_table_items : Bool → Bool → Characters → List Item
 new_table_items was on c = table_items (on && not was) c
 
 abbrev pub echo_items : Bool → Bool → Options → List Item
-echo_items true wanted o = asked_word_items (answer_to o Us 1 wanted)
+echo_items true wanted o = asked_word_items (answer_to o Us ECHO wanted)
 echo_items false wanted o = []
 
 -- what the server says once the options and perhaps a wish are new, or the flag ECHO was set: the whole

@@ -1,4 +1,5 @@
 -- The symbols of a server end: first in, first out.
+use Rattle.tn_option.specs.declared.known.TheConstants.{SUPPRESS_GO_AHEAD}
 use Rattle.std.specs.Prelude.{ℕ, nat_lt, Bool, false, not, ◌&&◌, ◌||◌, Option, Some, List, [], ◌++◌, length, take, drop, if◌then◌else◌}
 use Rattle.tn_discipline.specs.HalfLine.{HalfLine}
 use Rattle.tn_discipline.specs.declared.echo.Symbol.{Symbol}
@@ -39,7 +40,7 @@ queue (next h _) = queue h
 
 -- RFC 858: GA is due where nobody waits to be read, unless it is suppressed
 abbrev pub sends_ga : Bool → Options → Bool → Bool
-sends_ga none o due = none && (not (is_yes (state_of o Us 3)) && due)
+sends_ga none o due = none && (not (is_yes (state_of o Us SUPPRESS_GO_AHEAD)) && due)
 
 -- no entry waits
 abbrev pub none_waits : History → Bool

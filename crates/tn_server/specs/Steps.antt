@@ -15,7 +15,7 @@ use Rattle.tn_linemode.specs.Modes.{Modes, no_mode, edits, mask_sent, modes_afte
 use Rattle.tn_linemode.specs.Exchange.{server_after}
 use Rattle.tn_nvt.specs.declared.items.Item.{Item}
 use Rattle.tn_option.specs.Options.{options_after_word, reply_to}
-use Rattle.tn_pty.specs.Terminal.{Terminal, shut_terminal, most_waiting}
+use Rattle.tn_pty.specs.Terminal.{Terminal, shut_terminal, max_waiting}
 use Rattle.tn_pty.specs.Typing.{terminal_after, command_role, command_shows}
 use Rattle.tn_pty.specs.declared.pty.PtyFault.{PtyFault}
 use Rattle.tn_pty.specs.declared.pty.PtyFault.TheVariants as pty
@@ -159,7 +159,7 @@ IsShut old new = (new ≡ old) ⊎ (new ≡ record old { terminal = shut_termina
 
 -- why the terminal refuses a key or command of this role
 abbrev pub IsKeyCause : Terminal → Role → PtyFault → Type 0
-IsKeyCause t r pty.TooFarAhead = (gives_entry r ≡ true) × (length t.entries ≡ most_waiting)
+IsKeyCause t r pty.TooFarAhead = (gives_entry r ≡ true) × (length t.entries ≡ max_waiting)
 IsKeyCause t r pty.Memory = GivesText t.line r
 IsKeyCause t r pty.Closed = t.closed ≡ true
 

@@ -2,7 +2,7 @@
 use Rattle.std.specs.Prelude.{◌≡◌, ℕ, List, ◌++◌, length}
 use Rattle.tn_nvt.specs.Spelling.{spells}
 use Rattle.tn_nvt.specs.declared.items.Item.{Item}
-use Rattle.tn_pty.specs.Terminal.{most_waiting}
+use Rattle.tn_pty.specs.Terminal.{max_waiting}
 use Rattle.tn_pty.specs.declared.pty.PtyFault.TheVariants.{TooFarAhead}
 use Rattle.tn_server.specs.Events.{History, gets}
 use Rattle.tn_server.specs.Lines.{waiting}
@@ -24,4 +24,4 @@ pub record StopsBetween (h whole : History) (fault : ServerFault) (before after 
   pub unsaid : List Item
   pub appended : after ≡ before ++ spells said
   pub sends : items_said whole ≡ items_said h ++ (said ++ unsaid)
-  pub too_far : fault ≡ Pty TooFarAhead → length (waiting (gets h done)) ≡ most_waiting
+  pub too_far : fault ≡ Pty TooFarAhead → length (waiting (gets h done)) ≡ max_waiting

@@ -1,4 +1,5 @@
 -- What a server end has agreed on with its client: options, special characters and the mode of editing.
+use Rattle.tn_option.specs.declared.known.TheConstants.{ECHO, SUPPRESS_GO_AHEAD, NAWS, LINEMODE}
 use Rattle.std.specs.Prelude.{ℕ, Bool, true, false, not, ◌&&◌, ◌||◌, Option, Some, None, is_some, [], ◌∷◌, if◌then◌else◌}
 use Rattle.tn_codes.specs.declared.payloads.Payload.{Payload}
 use Rattle.tn_codes.specs.declared.payloads.Payload.TheVariants.{Mode, Slc}
@@ -29,15 +30,19 @@ opening_options =
     options_after_wish
     (options_after_wish
     (options_after_wish
-    (options_after_wish (options_after_wish (new_options agreement) Them 34 true) Them 31 true) Us 3 true)
-    Them 3 true) Us 1 true
+    (options_after_wish
+    (options_after_wish (new_options agreement) Them LINEMODE true)
+    Them NAWS true)
+    Us SUPPRESS_GO_AHEAD true)
+    Them SUPPRESS_GO_AHEAD true)
+    Us ECHO true
 
 abbrev pub linemode : Options → Bool
-linemode o = is_yes (state_of o Them 34)
+linemode o = is_yes (state_of o Them LINEMODE)
 
 -- ECHO of the server (RFC 857)
 abbrev pub echoes : Options → Bool
-echoes o = is_yes (state_of o Us 1)
+echoes o = is_yes (state_of o Us ECHO)
 
 -- the payload that an item brings, where its option is on at the client's side
 abbrev pub payload_at : Options → Item → Option Payload
@@ -127,7 +132,7 @@ abbrev pub asks_echo : Options → Options → Option ℕ → Bool → Bool
 asks_echo old new told set = changes old new || (is_some told || set)
 
 abbrev pub options_with_echo : Bool → Bool → Options → Options
-options_with_echo true wanted o = options_after_wish o Us 1 wanted
+options_with_echo true wanted o = options_after_wish o Us ECHO wanted
 options_with_echo false wanted o = o
 
 -- the MODE that is sent once these are the options and this is the wish

@@ -31,12 +31,33 @@ use tn_codes::{Command, Func, Mask};
 use tn_discipline::{CharFault, Chars, Entry, Limit, Settings, Sig};
 use tn_linemode::ServerTable;
 use tn_nvt::{Decoder, put_cmd};
-use tn_option::{QState, SUPPRESS_GO_AHEAD, Side};
+use tn_option::{ECHO, LINEMODE, NAWS, QState, SUPPRESS_GO_AHEAD, Side};
 use tn_pty::Pair;
 
-/// The opening words: DO LINEMODE, DO NAWS, WILL SUPPRESS-GO-AHEAD, DO SUPPRESS-GO-AHEAD, WILL ECHO.
+/// RFC 854: what begins an option word, and two of the verbs.
+const IAC: u8 = 255;
+
+const WILL: u8 = 251;
+
+const DO: u8 = 253;
+
+/// The opening words.
 const OPENING: [u8; 15] = [
-    255, 253, 34, 255, 253, 31, 255, 251, 3, 255, 253, 3, 255, 251, 1,
+    IAC,
+    DO,
+    LINEMODE,
+    IAC,
+    DO,
+    NAWS,
+    IAC,
+    WILL,
+    SUPPRESS_GO_AHEAD,
+    IAC,
+    DO,
+    SUPPRESS_GO_AHEAD,
+    IAC,
+    WILL,
+    ECHO,
 ];
 
 /// The server end of one connection. Its owner feeds it what comes from the network, sends what it
@@ -88,14 +109,8 @@ impl ServerEnd {
         ensures fault { IfErr result (λ fault. fault ≡ ServerFault.Memory) }
     {
         let table = ServerTable::new(settings.chars);
-        let pair = match Pair::new(alloc, settings, limit) {
-            Ok(pair) => pair,
-            Err(_) => return Err(ServerFault::Memory),
-        };
-        match out.extend_from_slice(&OPENING) {
-            Ok(()) => {},
-            Err(_) => return Err(ServerFault::Memory),
-        }
+        let pair = Pair::new(alloc, settings, limit)?;
+        out.extend_from_slice(&OPENING)?;
         Ok(ServerEnd {
             alloc,
             decoder: Decoder::new(alloc),
@@ -169,18 +184,15 @@ impl ServerEnd {
         if !self.owes_ga() {
             return Ok(None);
         }
-        match put_cmd(Command::Ga, out) {
-            Ok(()) => {
-                self.pulled = false;
-                Ok(None)
-            },
-            Err(_) => Err(ServerFault::Memory),
-        }
+        put_cmd(Command::Ga, out)?;
+        self.pulled = false;
+        Ok(None)
     }
 
     // Symbols were pulled since the last GA, and GA is not suppressed.
     fn owes_ga(&self) -> bool
-        ensures { result ≡ (not (is_yes (state_of self.now.terms.options Us 3)) && self.now.pulled) }
+        ensures { result ≡
+            (not (is_yes (state_of self.now.terms.options Us SUPPRESS_GO_AHEAD)) && self.now.pulled) }
     {
         !self.terms.options.is_on(Side::Us, SUPPRESS_GO_AHEAD) && self.pulled
     }
@@ -205,10 +217,7 @@ impl ServerEnd {
         if most == 0 {
             return Ok(0);
         }
-        match out.reserve(SYMBOL_BYTES * most) {
-            Ok(()) => {},
-            Err(_) => return Err(ServerFault::Memory),
-        }
+        out.reserve(SYMBOL_BYTES * most)?;
         spell_front(&mut self.pair, most, out);
         self.pulled = true;
         Ok(most)
@@ -273,14 +282,10 @@ impl ServerEnd {
             Err(fault) => return Err(ServerFault::Char(fault)),
         }
         let is_told = self.terms.has_linemode() && before != value;
-        match put_char(is_told, func, value, out) {
-            Ok(()) => {
-                self.table = table;
-                self.pair.set_chars(table.chars());
-                Ok(())
-            },
-            Err(_) => Err(ServerFault::Memory),
-        }
+        put_char(is_told, func, value, out)?;
+        self.table = table;
+        self.pair.set_chars(table.chars());
+        Ok(())
     }
 
     /// Sets or clears the terminal's flag ECHO, and appends the word for the option ECHO, if one is due.
@@ -301,14 +306,10 @@ impl ServerEnd {
         let mut flags = self.pair.settings().flags;
         flags.echo = on;
         let mut terms = self.terms;
-        match terms.ask_echo(true, &flags, out) {
-            Ok(()) => {
-                self.terms = terms;
-                self.pair.set_flags(flags);
-                Ok(())
-            },
-            Err(_) => Err(ServerFault::Memory),
-        }
+        terms.ask_echo(true, &flags, out)?;
+        self.terms = terms;
+        self.pair.set_flags(flags);
+        Ok(())
     }
 
     /// Asks the client to send what it holds at each character of this mask, or by `None` at none any more
@@ -330,10 +331,8 @@ impl ServerEnd {
         if !self.terms.has_linemode() {
             return Err(ServerFault::NotOn);
         }
-        match put_mask(mask, out) {
-            Ok(()) => Ok(()),
-            Err(_) => Err(ServerFault::Memory),
-        }
+        put_mask(mask, out)?;
+        Ok(())
     }
 
     /// An entry that waits, by its place from the first on.

@@ -1,6 +1,7 @@
 //! What a server end does with an item that came.
 
 ghost use Rattle.std.specs.Prelude.{◌≡◌, ◌≢◌, ◌≤◌, ◌++◌, ℕ, List, true, Some, [], length, map, IfOk, IfErr, OnOk, OnErr, IsErrOf};
+ghost use Rattle.tn_codes.specs.Payloads.{max_triples};
 ghost use Rattle.tn_codes.specs.declared.payloads.Payload.TheVariants as payload;
 ghost use Rattle.tn_nvt.specs.Room.{LacksRoom};
 ghost use Rattle.tn_nvt.specs.Spelling.{spells};
@@ -13,7 +14,7 @@ ghost use Rattle.tn_server.specs.Replies.{list_replies};
 ghost use Rattle.tn_server.specs.Calls.{Advances, AdvancesAll, RefusesItem, StopsWithinItems};
 ghost use Rattle.tn_server.specs.Faults.{IsOfItem};
 ghost use Rattle.tn_server.specs.Steps.{role_of_typed, end_after_byte, end_after_command, IsShut, IsKeyCause, MayWantMemory, end_after_word, says_words, end_after_wish, says_wished, sends_wished, end_after_mode, says_mode_got, end_after_list, end_after_payload, says_sub};
-ghost use Rattle.tn_wire.specs.Fronts.{AppendsFront};
+ghost use Rattle.tn_wire.specs.Prefixes.{AppendsPrefix};
 
 use crate::end::ServerEnd;
 use crate::faults::ServerFault;
@@ -122,7 +123,7 @@ impl ServerEnd {
         ensures out { OnOk result (out.new.items ≡
             out.old.items ++ spells (says_words self.old verb option)) }
         ensures cut { OnErr result
-            (AppendsFront (says_words self.old verb option) out.old.items out.new.items) }
+            (AppendsPrefix (says_words self.old verb option) out.old.items out.new.items) }
         ensures some { OnErr result (says_words self.old verb option ≢ []) }
         ensures err { OnErr result (self.new ≡ self.old) }
     {
@@ -151,7 +152,7 @@ impl ServerEnd {
             out.old.items ++
             spells (says_wished self.old (mask_for self.old.terminal.settings.flags editing))) }
         ensures cut { OnErr result
-            (AppendsFront (says_wished self.old (mask_for self.old.terminal.settings.flags editing))
+            (AppendsPrefix (says_wished self.old (mask_for self.old.terminal.settings.flags editing))
             out.old.items out.new.items) }
         ensures some { OnErr result
             (says_wished self.old (mask_for self.old.terminal.settings.flags editing) ≢ []) }
@@ -175,7 +176,7 @@ impl ServerEnd {
     fn mode_got(&mut self, mask: u8, out: &mut Vec<u8>) -> Result<(), AllocError>
         ensures ok { OnOk result (self.new ≡ end_after_mode self.old mask) }
         ensures out { OnOk result (out.new.items ≡ out.old.items ++ spells (says_mode_got self.old mask)) }
-        ensures cut { OnErr result (AppendsFront (says_mode_got self.old mask) out.old.items out.new.items) }
+        ensures cut { OnErr result (AppendsPrefix (says_mode_got self.old mask) out.old.items out.new.items) }
         ensures some { OnErr result (says_mode_got self.old mask ≢ []) }
         ensures err { OnErr result (self.new ≡ self.old) }
     {
@@ -198,12 +199,12 @@ impl ServerEnd {
 
     // A list of local characters: the answers in one list, and the whole table if it was asked for.
     fn list(&mut self, triples: &Triples, out: &mut Vec<u8>) -> Result<(), AllocError>
-        requires { length triples.now ≤ 170 }
+        requires { length triples.now ≤ max_triples }
         ensures ok { OnOk result (self.new ≡ end_after_list self.old triples.now) }
         ensures out { OnOk result (out.new.items ≡
             out.old.items ++ spells (list_replies self.old.table (Some (payload.Slc triples.now)))) }
         ensures cut { OnErr result
-            (AppendsFront (list_replies self.old.table (Some (payload.Slc triples.now))) out.old.items
+            (AppendsPrefix (list_replies self.old.table (Some (payload.Slc triples.now))) out.old.items
             out.new.items) }
         ensures some { OnErr result (triples.now ≢ []) }
         ensures err { OnErr result (self.new ≡ self.old) }
@@ -233,7 +234,8 @@ impl ServerEnd {
             out.old.items ++
             spells (says_sub self.old (payload_at self.old.terms.options (item.Sub option params.now)))) }
         ensures cut { OnErr result
-            (AppendsFront (says_sub self.old (payload_at self.old.terms.options (item.Sub option params.now)))
+            (AppendsPrefix
+            (says_sub self.old (payload_at self.old.terms.options (item.Sub option params.now)))
             out.old.items out.new.items) }
         ensures some { OnErr result
             (MayWantMemory self.old (payload_at self.old.terms.options (item.Sub option params.now))) }

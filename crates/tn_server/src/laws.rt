@@ -4,7 +4,7 @@ ghost use Rattle.std.specs.Prelude.{◌≡◌, ◌↔◌, ◌<◌, ◌≤◌, �
 ghost use Rattle.std.specs.List.{flat_map};
 ghost use Rattle.tn_discipline.specs.Canon.{Canon, typed_entries, typed_half};
 ghost use Rattle.tn_discipline.specs.Entries.{entries_of, half_of};
-ghost use Rattle.tn_discipline.specs.Limits.{most_counted};
+ghost use Rattle.tn_discipline.specs.Limits.{max_counted};
 ghost use Rattle.tn_discipline.specs.declared.reads.Entry.TheVariants.{Text};
 ghost use Rattle.tn_codes.specs.Payloads.{parameters_of};
 ghost use Rattle.tn_codes.specs.declared.payloads.Payload.TheVariants.{Slc};
@@ -16,13 +16,14 @@ ghost use Rattle.tn_nvt.specs.declared.items.Item.TheVariants.{Sub};
 ghost use Rattle.tn_nvt.specs.Spelling.{Fits, spells};
 ghost use Rattle.tn_nvt.specs.Feeding as nvt;
 ghost use Rattle.tn_nvt.specs.declared.items.Item.{Item};
-ghost use Rattle.tn_pty.specs.Terminal.{output_symbols, queue_symbols, most_waiting};
+ghost use Rattle.tn_option.specs.declared.known.TheConstants.{LINEMODE};
+ghost use Rattle.tn_pty.specs.Terminal.{output_symbols, queue_symbols, max_waiting};
 ghost use Rattle.tn_server.specs.Course.{Course, started, fed, called, stream, in_parts, IsCall, ReadsAs, CourseLeadsTo};
 ghost use Rattle.tn_server.specs.Events.{Event, got, History, begun, items, gets, opening_settings, limit};
 ghost use Rattle.tn_server.specs.Lines.{entries, half, waiting};
 ghost use Rattle.tn_server.specs.OtherClients.{StaysRemote, opening_canon, roles_of_items, keys_of, IsNoCommand, line_items, AreOrdinary};
-ghost use Rattle.tn_server.specs.Bounds.{most_said, HasAllowedCharacters, most_of_calls, bytes_due};
-ghost use Rattle.tn_wire.specs.Fronts.{IsRead};
+ghost use Rattle.tn_server.specs.Bounds.{max_said, HasAllowedCharacters, max_of_calls, bytes_due};
+ghost use Rattle.tn_wire.specs.Prefixes.{IsRead};
 ghost use Rattle.tn_server.specs.Replies.{data_of, replies, items_said};
 ghost use Rattle.tn_server.specs.Screen.{queue};
 ghost use Rattle.tn_server.specs.Calls.{End, LeadsTo, Advances, ReadsNothing, Feeds, StopsWithin};
@@ -90,11 +91,11 @@ pub fn pieces_join()
 /// However a text is cut into parts that fit, it is sent whole and in order where nothing waited before.
 pub fn texts_are_whole()
     ensures sent { (h : History) (parts : List (List ℕ)) → queue h ≡ [] →
-        All (λ part. length part ≤ 4096) parts →
+        All (λ part. length part ≤ queue_symbols) parts →
         items_said (in_parts h parts) ≡
         items_said h ++ map data_of (output_symbols (settings h).flags (flat_map (λ part. part) parts)) }
     ensures none { (h : History) (parts : List (List ℕ)) → queue h ≡ [] →
-        All (λ part. length part ≤ 4096) parts →
+        All (λ part. length part ≤ queue_symbols) parts →
         queue (in_parts h parts) ≡ [] }
 {}
 
@@ -102,12 +103,12 @@ pub fn texts_are_whole()
 /// most as many bytes as a line counts before its closing byte.
 pub fn nothing_overflows()
     ensures symbols { (h : History) → length (queue h) ≤ queue_symbols }
-    ensures half { (h : History) → length (half h) ≤ most_counted (limit h) }
+    ensures half { (h : History) → length (half h) ≤ max_counted (limit h) }
 {}
 
 /// Whatever history led to an end, at most 1,024 entries wait at it.
 pub fn entries_are_bounded(end: &ServerEnd)
-    ensures { (h : History) → LeadsTo h end.now → length (waiting h) ≤ most_waiting }
+    ensures { (h : History) → LeadsTo h end.now → length (waiting h) ≤ max_waiting }
 {
     let _count = end.pair.waiting_count();
 }
@@ -116,7 +117,7 @@ pub fn entries_are_bounded(end: &ServerEnd)
 /// has itself, and any other by none.
 pub fn replies_bounded()
     ensures { (h : History) (item : Item) → AreAllowed (chars h) →
-        length (spells (replies h (got item))) ≤ most_said item }
+        length (spells (replies h (got item))) ≤ max_said item }
 {
     tables_stay_allowed();
     answers_name_their_function();
@@ -126,7 +127,7 @@ pub fn replies_bounded()
 /// in whatever state.
 pub fn answers_are_not_answered()
     ensures { (h : History) (c : Characters) (ts : List Triple) →
-        replies h (got (Sub 34 (parameters_of (Slc (client_answers c ts))))) ≡ [] }
+        replies h (got (Sub LINEMODE (parameters_of (Slc (client_answers c ts))))) ≡ [] }
 {
     exchanges_end();
 }
@@ -143,7 +144,7 @@ pub fn characters_are_allowed()
 /// the owner's own calls add.
 pub fn sending_bounded()
     ensures { (h : History) (bytes : List ℕ) → HasAllowedCharacters h → IsRead bytes (items h) →
-        bytes_due h ≤ 9 * length bytes + most_of_calls h + 31 }
+        bytes_due h ≤ 9 * length bytes + max_of_calls h + 31 }
 {
     accepted_characters();
     tables_stay_allowed();
@@ -173,9 +174,9 @@ pub fn remote_clients()
 /// A client that edits, whoever made it: a line that it sends whole is read as that line.
 pub fn whole_lines()
     ensures entries { (h : History) (bytes : List ℕ) → edits (mode h) ≡ true → half h ≡ [] →
-        AreOrdinary (chars h) bytes → length bytes ≤ most_counted (limit h) →
+        AreOrdinary (chars h) bytes → length bytes ≤ max_counted (limit h) →
         entries (gets h (line_items bytes)) ≡ entries h ++ Text (bytes ++ 10 ∷ []) ∷ [] }
     ensures half { (h : History) (bytes : List ℕ) → edits (mode h) ≡ true → half h ≡ [] →
-        AreOrdinary (chars h) bytes → length bytes ≤ most_counted (limit h) →
+        AreOrdinary (chars h) bytes → length bytes ≤ max_counted (limit h) →
         half (gets h (line_items bytes)) ≡ [] }
 {}

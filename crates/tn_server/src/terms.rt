@@ -9,7 +9,7 @@ ghost use Rattle.tn_server.specs.Replies.{new_table_items, echo_items};
 ghost use Rattle.tn_wire.specs.Words.{list_items};
 ghost use Rattle.tn_linemode.specs.Exchange.{announcement};
 ghost use Rattle.tn_server.specs.Steps.{told_now, masks_by, negotiation_after, negotiation_items};
-ghost use Rattle.tn_wire.specs.Fronts.{AppendsFront};
+ghost use Rattle.tn_wire.specs.Prefixes.{AppendsPrefix};
 
 use std::alloc::{AllocError, Global};
 use tn_discipline::Flags;
@@ -119,7 +119,7 @@ impl Negotiation {
         ensures out { OnOk result (out.new.items ≡
             out.old.items ++ spells (negotiation_items was_on is_set flags.now table.now self.old)) }
         ensures err { OnErr result
-            (AppendsFront (negotiation_items was_on is_set flags.now table.now self.old) out.old.items
+            (AppendsPrefix (negotiation_items was_on is_set flags.now table.now self.old) out.old.items
             out.new.items) }
         ensures some { OnErr result (negotiation_items was_on is_set flags.now table.now self.old ≢ []) }
 

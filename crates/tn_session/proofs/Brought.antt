@@ -14,8 +14,9 @@ use Rattle.tn_session.specs.declared.mail.Mail.{Mail}
 use Rattle.tn_session.specs.declared.mail.Sender.{Sender}
 use Rattle.tn_session.specs.declared.mail.Sender.TheVariants.{Net, Desk, Back, Keys}
 use Rattle.tn_streams.specs.Foretelling.{Failures}
-use Rattle.tn_term.specs.declared.messages.Message.{Message}
-use Rattle.tn_term.specs.declared.messages.Message.TheVariants.{Piece, HangUp, ReadFailed, Take, Said, Refused, Left}
+use Rattle.tn_streams.specs.Known.{KnownReader}
+use Rattle.tn_messages.specs.declared.messages.Message.{Message}
+use Rattle.tn_messages.specs.declared.messages.Message.TheVariants.{Piece, HangUp, ReadFailed, Take, Said, Refused, Left}
 
 abbrev piece_bytes : Message → List ℕ
 piece_bytes (Piece piece) = piece
@@ -109,22 +110,22 @@ one_list s a b v e f = is_some a b (sym (sender_share s a v e) ∙ sender_share 
     is_some : {A : Type 0} (x y : A) → Some x ≡ Some y → x ≡ y
     is_some x y eq = cc
 
-reader_bytes : (who : Sender) (may_stop : Bool) (given : Option (List ℕ)) (foretold : Option Failures) (v : View) (mails : List Mail) → ReaderSends who may_stop given foretold v → v ≡ sender who mails → (left : Option (List ℕ)) × Consumes given left (bytes_of mails)
-reader_bytes who may_stop given foretold v mails (pieces, left, close, consumed, closes, is, small) e =
+reader_bytes : (who : Sender) (may_stop : Bool) (reader : KnownReader) (v : View) (mails : List Mail) → ReaderSends who may_stop reader v → v ≡ sender who mails → (left : Option (List ℕ)) × Consumes reader.bytes left (bytes_of mails)
+reader_bytes who may_stop reader v mails (pieces, left, close, consumed, closes, is, small) e =
     let all : bytes_of mails ≡ concat pieces =
     ap bytes_of (one_list who mails (map (mail who) (pieces_of pieces ++ close)) v e is) ∙ pieces_bytes who pieces close
-    ∙ ap (λ (bs : List ℕ). concat pieces ++ bs) (close_bytes who may_stop pieces left foretold close closes) ∙ append-nil (concat pieces) in
-    let P : List ℕ → Type 0 = λ bs. Consumes given left bs in
+    ∙ ap (λ (bs : List ℕ). concat pieces ++ bs) (close_bytes who may_stop pieces left reader.failures close closes) ∙ append-nil (concat pieces) in
+    let P : List ℕ → Type 0 = λ bs. Consumes reader.bytes left bs in
     (left, subst P (sym all) consumed)
 
-pub keys_brought : (given : Option (List ℕ)) (foretold : Option Failures) (v : View) (handled mails : List Mail) → ReaderSends Keys true given foretold v → v ≡ sender Keys mails → from Keys handled ≡ mails → (left : Option (List ℕ)) × Consumes given left (brought origin.Keys (all_told handled))
-keys_brought given foretold v handled mails sent e is =
-    let r = reader_bytes Keys true given foretold v mails sent e in
-    let P : List ℕ → Type 0 = λ bs. Consumes given r.0 bs in
+pub keys_brought : (reader : KnownReader) (v : View) (handled mails : List Mail) → ReaderSends Keys true reader v → v ≡ sender Keys mails → from Keys handled ≡ mails → (left : Option (List ℕ)) × Consumes reader.bytes left (brought origin.Keys (all_told handled))
+keys_brought reader v handled mails sent e is =
+    let r = reader_bytes Keys true reader v mails sent e in
+    let P : List ℕ → Type 0 = λ bs. Consumes reader.bytes r.0 bs in
     (r.0, subst P (sym (keys_all handled ∙ ap bytes_of is)) r.1)
 
-pub net_brought : (given : Option (List ℕ)) (foretold : Option Failures) (v : View) (handled mails : List Mail) → ReaderSends Net false given foretold v → v ≡ sender Net mails → from Net handled ≡ mails → from Desk handled ≡ [] → from Back handled ≡ [] → (left : Option (List ℕ)) × Consumes given left (brought origin.Net (all_told handled))
-net_brought given foretold v handled mails sent e is desk back =
-    let r = reader_bytes Net false given foretold v mails sent e in
-    let P : List ℕ → Type 0 = λ bs. Consumes given r.0 bs in
+pub net_brought : (reader : KnownReader) (v : View) (handled mails : List Mail) → ReaderSends Net false reader v → v ≡ sender Net mails → from Net handled ≡ mails → from Desk handled ≡ [] → from Back handled ≡ [] → (left : Option (List ℕ)) × Consumes reader.bytes left (brought origin.Net (all_told handled))
+net_brought reader v handled mails sent e is desk back =
+    let r = reader_bytes Net false reader v mails sent e in
+    let P : List ℕ → Type 0 = λ bs. Consumes reader.bytes r.0 bs in
     (r.0, subst P (sym (net_all handled desk back ∙ ap bytes_of is)) r.1)

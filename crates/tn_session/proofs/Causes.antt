@@ -9,8 +9,8 @@ use Rattle.tn_session.specs.declared.mail.Sender.{Sender}
 use Rattle.tn_term.specs.Marks.{no_write_failed, no_writes_failed}
 use Rattle.tn_term.specs.declared.messages.Mark.{Mark}
 use Rattle.tn_term.specs.declared.messages.Mark.TheVariants as mark
-use Rattle.tn_term.specs.declared.messages.Message.{Message}
-use Rattle.tn_term.specs.declared.messages.Message.TheVariants.{Piece, ReadFailed, Left}
+use Rattle.tn_messages.specs.declared.messages.Message.{Message}
+use Rattle.tn_messages.specs.declared.messages.Message.TheVariants.{Piece, ReadFailed, Left}
 
 pub from_hit : (s : Sender) (x : Mail) (xs : List Mail) → same x.from s ≡ true → from s (x ∷ xs) ≡ x ∷ from s xs
 from_hit s x xs is = rw is refl

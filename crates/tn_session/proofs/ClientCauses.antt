@@ -9,20 +9,21 @@ use Rattle.tn_session.proofs.Causes.{HasFailure, has_split, failure_from, failur
 use Rattle.tn_session.proofs.Ending.{messages_from}
 use Rattle.tn_session.specs.CoreTurns.{all_told}
 use Rattle.tn_session.specs.Mailbox.{Interleaves, from, four, sender}
-use Rattle.tn_session.specs.Reader.{KeysSends, Closes}
-use Rattle.tn_session.specs.Reading.{NetSends, IsReadCause, most_reads, pieces_of}
-use Rattle.tn_session.specs.Turns.{Tells, most_writes, messages_of}
+use Rattle.tn_session.specs.Reader.{ReaderSends, Closes}
+use Rattle.tn_session.specs.Reading.{IsReadCause, max_reads, pieces_of}
+use Rattle.tn_session.specs.Turns.{Tells, max_writes, messages_of}
 use Rattle.tn_session.specs.declared.channels.View.{View}
 use Rattle.tn_session.specs.declared.mail.Mail.{Mail}
 use Rattle.tn_session.specs.declared.mail.Sender.{Sender}
 use Rattle.tn_session.specs.declared.mail.Sender.TheVariants.{Net, Desk, Back, Keys}
 use Rattle.tn_streams.proofs.lemmas.Telling.{some_failed}
 use Rattle.tn_streams.specs.Foretelling.{Failures, WillFail}
+use Rattle.tn_streams.specs.Known.{KnownReader}
 use Rattle.tn_streams.specs.Telling.{Calls, SomeFailed}
-use Rattle.tn_term.specs.declared.faults.Ended.TheVariants as ended
-use Rattle.tn_term.specs.declared.faults.SessionFault.TheVariants as fault
-use Rattle.tn_term.specs.declared.messages.Message.{Message}
-use Rattle.tn_term.specs.declared.messages.Message.TheVariants.{ReadFailed, Left}
+use Rattle.tn_messages.specs.declared.faults.Ended.TheVariants as ended
+use Rattle.tn_messages.specs.declared.faults.SessionFault.TheVariants as fault
+use Rattle.tn_messages.specs.declared.messages.Message.{Message}
+use Rattle.tn_messages.specs.declared.messages.Message.TheVariants.{ReadFailed}
 
 messages_told : (mails : List Mail) → map (λ (t : Told). t.message) (all_told mails) ≡ messages_of mails
 messages_told [] = refl
@@ -40,28 +41,28 @@ failure_told marked before last after mails whole is e =
     twice [] = refl
     twice (m ∷ ms) = ap (λ (xs : List Message). m.0.message ∷ xs) (twice ms)
 
-cause_of : (foretold : Option Failures) (count : ℕ) (last : Message) → last ≡ ReadFailed → IsReadCause foretold count last → WillFail most_reads count foretold
+cause_of : (foretold : Option Failures) (count : ℕ) (last : Message) → last ≡ ReadFailed → IsReadCause foretold count last → WillFail max_reads count foretold
 cause_of foretold count last e cause = subst (λ (m : Message). IsReadCause foretold count m) e cause
 
-keys_close : (foretold : Option Failures) (pieces : List (List ℕ)) (left : Option (List ℕ)) (close : List Message) → Closes true pieces left foretold close → HasFailure (pieces_of pieces ++ close) → WillFail most_reads (length pieces) foretold
-keys_close foretold pieces left close closes h =
+close_cause : (may_stop : Bool) (foretold : Option Failures) (pieces : List (List ℕ)) (left : Option (List ℕ)) (close : List Message) → Closes may_stop pieces left foretold close → HasFailure (pieces_of pieces ++ close) → WillFail max_reads (length pieces) foretold
+close_cause may_stop foretold pieces left close closes h =
     let Fails : List Message → Type 0 = λ ms. HasFailure (pieces_of pieces ++ ms) in
     ⊎_elim
     (λ x. cause_of foretold (length pieces) x.0 (failure_last pieces x.0 (subst Fails x.2 h)) x.1.1)
     (λ x. absurd (failure_never pieces (subst Fails x.2 h)))
     closes
 
-pub read_cause : (keys_given net_given : Option (List ℕ)) (keys_foretold net_foretold : Option Failures) (from_keys from_net handled : List Mail) (keys net : View) (marked : List (Told × Mark)) → keys ≡ sender Keys from_keys → net ≡ sender Net from_net → Interleaves handled (four from_net [] [] from_keys) → (typed : KeysSends keys_given keys_foretold keys) → (read : NetSends net_given net_foretold net) → map (λ m. m.0) marked ≡ all_told handled → (c : Run) → IsEndedAt c marked (ended.Fault fault.Read) → WillFail most_reads (length typed.0) keys_foretold ⊎ WillFail most_reads (length read.0) net_foretold
-read_cause keys_given net_given keys_foretold net_foretold from_keys from_net handled keys net marked keys_is net_is woven typed read messages c r =
+pub read_cause : (keys_reader net_reader : KnownReader) (from_keys from_net handled : List Mail) (keys net : View) (marked : List (Told × Mark)) → keys ≡ sender Keys from_keys → net ≡ sender Net from_net → Interleaves handled (four from_net [] [] from_keys) → (typed : ReaderSends Keys true keys_reader keys) → (read : ReaderSends Net false net_reader net) → map (λ m. m.0) marked ≡ all_told handled → (c : Run) → IsEndedAt c marked (ended.Fault fault.Read) → WillFail max_reads (length typed.0) keys_reader.failures ⊎ WillFail max_reads (length read.0) net_reader.failures
+read_cause keys_reader net_reader from_keys from_net handled keys net marked keys_is net_is woven typed read messages c r =
     let who = failure_from handled (failure_told marked r.before r.last r.after handled r.whole messages r.ends) in
     by who.0 who.1
   where
     none : (s : Sender) → from s handled ≡ [] → HasFailure (messages_of (from s handled)) → ⊥
     none s is h = let Fails : List Mail → Type 0 = λ l. HasFailure (messages_of l) in subst Fails is h
 
-    by : (s : Sender) → HasFailure (messages_of (from s handled)) → WillFail most_reads (length typed.0) keys_foretold ⊎ WillFail most_reads (length read.0) net_foretold
-    by Net h = inr (cause_of net_foretold (length read.0) read.2 (failure_last read.0 read.2 (subst HasFailure (messages_from Net net from_net handled (pieces_of read.0 ++ read.2 ∷ Left ∷ []) net_is read.5 (woven Net)) h)) read.4.1)
-    by Keys h = inl (keys_close keys_foretold typed.0 typed.1 typed.2 typed.4 (subst HasFailure (messages_from Keys keys from_keys handled (pieces_of typed.0 ++ typed.2) keys_is typed.5 (woven Keys)) h))
+    by : (s : Sender) → HasFailure (messages_of (from s handled)) → WillFail max_reads (length typed.0) keys_reader.failures ⊎ WillFail max_reads (length read.0) net_reader.failures
+    by Net h = inr (close_cause false net_reader.failures read.0 read.1 read.2 read.4 (subst HasFailure (messages_from Net net from_net handled (pieces_of read.0 ++ read.2) net_is read.5 (woven Net)) h))
+    by Keys h = inl (close_cause true keys_reader.failures typed.0 typed.1 typed.2 typed.4 (subst HasFailure (messages_from Keys keys from_keys handled (pieces_of typed.0 ++ typed.2) keys_is typed.5 (woven Keys)) h))
     by Desk h = absurd (none Desk (woven Desk) h)
     by Back h = absurd (none Back (woven Back) h)
 
@@ -73,9 +74,9 @@ by_false is marked before last after whole e = ap (all_by is) whole ∙ at befor
     at [] = ap (λ (b : Bool). b && all_by is after) e
     at ((m, k) ∷ ms) = never_and (is k) (all_by is (ms ++ last ∷ after)) (at ms)
 
-pub write_cause : (p q r t : Option Calls) (marked : List (Told × Mark)) → Tells (all_by no_write_failed marked) p q → Tells (all_by no_show_failed marked) r t → (c : Run) → IsEndedAt c marked (ended.Fault fault.Write) → SomeFailed most_writes p q ⊎ SomeFailed most_writes r t
+pub write_cause : (p q r t : Option Calls) (marked : List (Told × Mark)) → Tells (all_by no_write_failed marked) p q → Tells (all_by no_show_failed marked) r t → (c : Run) → IsEndedAt c marked (ended.Fault fault.Write) → SomeFailed max_writes p q ⊎ SomeFailed max_writes r t
 write_cause p q r t marked tells shows c at =
     ⊎_elim
-    (λ e. inl (some_failed most_writes (all_by no_write_failed marked) p q tells (by_false no_write_failed marked at.before at.last at.after at.whole (ap no_write_failed e))))
-    (λ e. inr (some_failed most_writes (all_by no_show_failed marked) r t shows (by_false no_show_failed marked at.before at.last at.after at.whole (ap no_show_failed e))))
+    (λ e. inl (some_failed max_writes (all_by no_write_failed marked) p q tells (by_false no_write_failed marked at.before at.last at.after at.whole (ap no_write_failed e))))
+    (λ e. inr (some_failed max_writes (all_by no_show_failed marked) r t shows (by_false no_show_failed marked at.before at.last at.after at.whole (ap no_show_failed e))))
     at.ends

@@ -1,33 +1,29 @@
 -- A whole client session: its passes joined, and what its threads did.
-use Rattle.std.proofs.Common.{◌≡◌, ℕ, ◌+◌, ◌≤◌, true, false, List, [], ◌++◌, Option, Some, None, sym, ap, ◌∙◌, subst, append-nil, arith}
+use Rattle.std.proofs.Common.{◌≡◌, true, false, List, [], ◌++◌, Some, None, sym, ap, ◌∙◌, subst, append-nil, arith}
 use Rattle.tn_client_core.proofs.lemmas.Bringing.{in_order}
 use Rattle.tn_client_core.proofs.lemmas.Ending.{fault_cause}
 use Rattle.tn_client_core.specs.Bringing.{TakesInOrder}
-use Rattle.tn_client_core.specs.Reaching.{LeadsTo}
 use Rattle.tn_client_core.specs.Run.{start}
 use Rattle.tn_client_core.specs.declared.machine.Core.{Core}
 use Rattle.tn_client_core.specs.declared.messages.Told.{Told}
 use Rattle.tn_session.proofs.Brought.{keys_brought, net_brought}
 use Rattle.tn_session.proofs.ClientCauses.{read_cause, write_cause}
-use Rattle.tn_session.proofs.Lefts.{EndsLeft, lefts-append, lefts_each, nothing_left}
-use Rattle.tn_session.proofs.Readers.{reader_net}
+use Rattle.tn_session.proofs.Lefts.{none_over}
+use Rattle.tn_session.proofs.Mailbox.{all_woven}
 use Rattle.tn_session.proofs.Sent.{reader_sent}
-use Rattle.tn_session.specs.Client.{core_view, AreTwoSettled, RunningClient, client_report}
+use Rattle.tn_session.specs.Client.{core_view, AreTwoSettled, IsClientRun, client_report}
 use Rattle.tn_session.specs.CoreTurns.{CoreHandles}
-use Rattle.tn_session.specs.Mailbox.{Interleaves, from, four, sender, share, union, nobody, everyone, with_handled, Total}
-use Rattle.tn_session.specs.Reader.{KeysSends}
-use Rattle.tn_session.specs.Reading.{NetSends}
-use Rattle.tn_session.specs.Turns.{lefts_of}
+use Rattle.tn_session.specs.Facts.{ClientResult}
+use Rattle.tn_session.specs.Mailbox.{Interleaves, from, four, sender, union, nobody, everyone, with_handled, Total}
+use Rattle.tn_session.specs.Reader.{ReaderSends}
 use Rattle.tn_session.specs.declared.channels.View.{View}
 use Rattle.tn_session.specs.declared.mail.Mail.{Mail}
-use Rattle.tn_session.specs.declared.mail.Sender.{Sender}
 use Rattle.tn_session.specs.declared.mail.Sender.TheVariants.{Net, Desk, Back, Keys}
 use Rattle.tn_session.specs.declared.parties.Report.{Report}
-use Rattle.tn_streams.specs.Foretelling.{Failures}
-use Rattle.tn_streams.specs.Telling.{Calls}
-use Rattle.tn_term.specs.declared.faults.Ended.TheVariants as ended
-use Rattle.tn_term.specs.declared.faults.SessionFault.{SessionFault}
-use Rattle.tn_term.specs.declared.faults.SessionFault.TheVariants as fault
+use Rattle.tn_streams.specs.Known.{KnownReader, KnownWriting}
+use Rattle.tn_messages.specs.declared.faults.Ended.TheVariants as ended
+use Rattle.tn_messages.specs.declared.faults.SessionFault.{SessionFault}
+use Rattle.tn_messages.specs.declared.faults.SessionFault.TheVariants as fault
 
 -- the passes before anything was sent
 pub ready_two : (v₀ v₁ v₂ n k : View) → v₀ ≡ everyone → v₁ ≡ record v₀ { net = None } → n ≡ record nobody { net = v₀.net } → v₂ ≡ record v₁ { keys = None } → k ≡ record nobody { keys = v₁.keys } → (v₂ ≡ core_view []) × (n ≡ sender Net []) × (k ≡ sender Keys [])
@@ -51,47 +47,27 @@ settles_two pass net keys p₁ p₂ p₃ n' p₄ k' p₅ e₁ e₂ e₃ held en 
       en ∙ ap (λ (v : View). record nobody { net = v.net }) same,
       ek ∙ ap (λ (v : View). record nobody { keys = v.keys }) fourth,
       e₅ ∙ ap (λ (v : View). record v { keys = None }) fourth,
-      (held.0, λ s. held.1 s h (four a [] [] d s) (ap (λ (v : View). v.handled) whole) (mine_of s p₂ whole)),
+      all_woven p₂ h a [] [] d whole held,
     )
-  where
-    mine_of : (s : Sender) (v : View) → v ≡ record { handled = Some h; net = Some a; desk = Some []; back = Some []; keys = Some d } → share v (Some s) ≡ Some (four a [] [] d s)
-    mine_of Net v e = ap (λ (w : View). w.net) e
-    mine_of Desk v e = ap (λ (w : View). w.desk) e
-    mine_of Back v e = ap (λ (w : View). w.back) e
-    mine_of Keys v e = ap (λ (w : View). w.keys) e
-
--- all that was sent was handled
-none_over : (h items a d : List Mail) → Interleaves (h ++ items) (four a [] [] d) → EndsLeft a → EndsLeft d → lefts_of a ≡ 1 → lefts_of d ≡ 1 → 2 ≤ lefts_of h → items ≡ []
-none_over h items a d woven ea ed na nd enough =
-    let all : lefts_of a + lefts_of [] + lefts_of [] + lefts_of d ≡ lefts_of (h ++ items) =
-    (λ i. lefts_of (sym (woven Net) i) + lefts_of (sym (woven Desk) i) + lefts_of (sym (woven Back) i) + lefts_of (sym (woven Keys) i)) ∙ lefts_each (h ++ items) in
-    nothing_left h items (four a [] [] d) woven ends (omega (arith, lefts-append h items, all, na, nd, enough))
-  where
-    ends : (s : Sender) → EndsLeft (four a [] [] d s)
-    ends Net = ea
-    ends Desk = tt
-    ends Back = tt
-    ends Keys = ed
 
 -- all of a client's session that ran
-pub client_ran : (core last : Core) (keys_given net_given : Option (List ℕ)) (keys_foretold net_foretold : Option Failures) (x y u v : Option (List ℕ)) (p q r t : Option Calls) (pass₀ pass₁ net keys n' k' c' : View) (report : Report)
-    → pass₀ ≡ core_view [] → CoreHandles core pass₀ pass₁ x y u v p q r t last → NetSends net_given net_foretold net → KeysSends keys_given keys_foretold keys
-    → AreTwoSettled pass₁ net keys n' k' c' → report ≡ client_report last.progress
-    → (width height limit : ℕ) → LeadsTo (start width height limit) core
-    → RunningClient width height limit keys_given net_given keys_foretold net_foretold x y u v p q r t report k' n' c'
-client_ran core last keys_given net_given keys_foretold net_foretold x y u v p q r t pass₀ pass₁ net keys n' k' c' report ep acted sn sk settled er width height limit at =
-    let begin = start width height limit in
+pub client_ran : (core last : Core) (keys_reader net_reader : KnownReader) (writer screen : KnownWriting) (pass₀ pass₁ net keys : View) (result : ClientResult)
+    → pass₀ ≡ core_view [] → CoreHandles core pass₀ pass₁ writer screen last → ReaderSends Net false net_reader net → ReaderSends Keys true keys_reader keys
+    → AreTwoSettled pass₁ net keys result.net result.keys result.core → result.report ≡ client_report last.progress
+    → IsClientRun core keys_reader net_reader writer screen result
+client_ran core last keys_reader net_reader writer screen pass₀ pass₁ net keys result ep acted sn sk settled er window at =
+    let begin = start window.width window.height window.limit in
     let g = acted.goes.leads begin at in
-    let ns = reader_sent Net false net_given net_foretold net (reader_net net_given net_foretold net sn) in
-    let ks = reader_sent Keys true keys_given keys_foretold keys sk in
+    let ns = reader_sent Net false net_reader net sn in
+    let ks = reader_sent Keys true keys_reader keys sk in
     let view : pass₁ ≡ core_view acted.handled = acted.view ∙ ap (λ (w : View). with_handled w acted.handled) ep in
     let s = settled acted.handled ns.mails ks.mails view ns.is ks.is in
-    let none = none_over acted.handled s.3.0 ns.mails ks.mails s.3.1 ns.ends ks.ends ns.one ks.one acted.lefts in
+    let none = none_over acted.handled s.3.0 ns.mails [] [] ks.mails s.3.1 ns.ends tt tt ks.ends (omega (arith, ns.one, ks.one, acted.lefts)) in
     let woven : Interleaves acted.handled (four ns.mails [] [] ks.mails) = λ w. ap (from w) (sym (append-nil acted.handled) ∙ ap (λ (l : List Mail). acted.handled ++ l) (sym none)) ∙ s.3.1 w in
-    let typed : KeysSends keys_given keys_foretold k' = subst (λ (w : View). KeysSends keys_given keys_foretold w) (ks.is ∙ sym s.1) sk in
-    let read : NetSends net_given net_foretold n' = subst (λ (w : View). NetSends net_given net_foretold w) (ns.is ∙ sym s.0) sn in
-    let is : report ≡ client_report g.0.progress = er ∙ ap client_report g.2.progress in
-    let caused = λ (f : SessionFault) (e : report.ended ≡ ended.Fault f). fault_cause width height limit acted.goes.marked g.0 f g.1 (sym (ap (λ (o : Report). o.ended) is) ∙ e) in
+    let typed : ReaderSends Keys true keys_reader result.keys = subst (λ (w : View). ReaderSends Keys true keys_reader w) (ks.is ∙ sym s.1) sk in
+    let read : ReaderSends Net false net_reader result.net = subst (λ (w : View). ReaderSends Net false net_reader w) (ns.is ∙ sym s.0) sn in
+    let is : result.report ≡ client_report g.0.progress = er ∙ ap client_report g.2.progress in
+    let caused = λ (f : SessionFault) (e : result.report.ended ≡ ended.Fault f). fault_cause window.width window.height window.limit acted.goes.marked g.0 f g.1 (sym (ap (λ (o : Report). o.ended) is) ∙ e) in
     record {
       from_keys = ks.mails;
       from_net = ns.mails;
@@ -106,9 +82,9 @@ client_ran core last keys_given net_given keys_foretold net_foretold x y u v p q
       messages = acted.goes.whole;
       run = g.0;
       runs = g.1;
-      keys_brought = keys_brought keys_given keys_foretold keys acted.handled ks.mails sk ks.is (woven Keys);
-      net_brought = net_brought net_given net_foretold net acted.handled ns.mails (reader_net net_given net_foretold net sn) ns.is (woven Net) (woven Desk) (woven Back);
-      in_order = subst (λ (ms : List Told). TakesInOrder ms g.0) acted.goes.whole (in_order width height limit acted.goes.marked g.0 g.1);
+      keys_brought = keys_brought keys_reader keys acted.handled ks.mails sk ks.is (woven Keys);
+      net_brought = net_brought net_reader net acted.handled ns.mails sn ns.is (woven Net) (woven Desk) (woven Back);
+      in_order = subst (λ (ms : List Told). TakesInOrder ms g.0) acted.goes.whole (in_order window.width window.height window.limit acted.goes.marked g.0 g.1);
       written = acted.goes.bytes;
       unwritten = g.3.0;
       appended = acted.goes.wrote;
@@ -123,6 +99,6 @@ client_ran core last keys_given net_given keys_foretold net_foretold x y u v p q
       all_shown = g.4.2;
       report_is = is;
       caused = caused;
-      read_failed = λ e. read_cause keys_given net_given keys_foretold net_foretold ks.mails ns.mails acted.handled k' n' acted.goes.marked s.1 s.0 woven typed read acted.goes.whole begin (caused fault.Read e);
-      write_failed = λ e. write_cause p q r t acted.goes.marked acted.goes.tells acted.goes.tells_shown begin (caused fault.Write e);
+      read_failed = λ e. read_cause keys_reader net_reader ks.mails ns.mails acted.handled result.keys result.net acted.goes.marked s.1 s.0 woven typed read acted.goes.whole begin (caused fault.Read e);
+      write_failed = λ e. write_cause writer.before.calls writer.after.calls screen.before.calls screen.after.calls acted.goes.marked acted.goes.tells acted.goes.tells_shown begin (caused fault.Write e);
     }

@@ -1,12 +1,13 @@
 -- What the core's thread wrote and showed, one message after another.
 use Rattle.std.proofs.Common.{◌≡◌, ℕ, Bool, true, false, not, ◌||◌, ◌&&◌, ◌⊎◌, ⊎_elim, inl, inr, List, [], ◌∷◌, ◌++◌, Option, refl, sym, ap, ◌∙◌, subst, append_assoc, append-nil}
+use Rattle.std.proofs.lemmas.Bool.{false_from_ne_true}
 use Rattle.std.proofs.lemmas.Fn.{FoldsTo-push}
 use Rattle.std.proofs.lemmas.List.{map-append}
 use Rattle.std.specs.Io.KnownBytes.{Appends, Keeps}
 use Rattle.tn_client.specs.Replies.{items_said}
 use Rattle.tn_client.specs.Screen.{text_shown}
 use Rattle.tn_client_core.specs.Marks.{Turns, no_write_failed, no_show_failed, is_written, is_whole, all_by, all_written, all_whole}
-use Rattle.tn_client_core.specs.Reaching.{LeadsTo, IsTurn, SendsFront, ShowsFront}
+use Rattle.tn_client_core.specs.Reaching.{LeadsTo, IsTurn, SendsPrefix, ShowsPrefix}
 use Rattle.tn_client_core.specs.Run.{Run, fail}
 use Rattle.tn_client_core.specs.declared.machine.Core.{Core}
 use Rattle.tn_client_core.specs.declared.messages.Mark.{Mark}
@@ -14,19 +15,14 @@ use Rattle.tn_client_core.specs.declared.messages.Mark.TheVariants as mark
 use Rattle.tn_client_core.specs.declared.messages.Told.{Told}
 use Rattle.tn_client_core.specs.declared.progress.Progress.{Progress}
 use Rattle.tn_nvt.specs.Spelling.{spells}
-use Rattle.tn_session.proofs.Going.{appends_more, appends_kept, appends_none, left_over}
+use Rattle.tn_session.proofs.Going.{true_false, false_true, appends_more, appends_kept, appends_none, from_to, left_over}
 use Rattle.tn_session.specs.CoreTurns.{TurnsTold, ToldAll, told_of, all_told}
-use Rattle.tn_session.specs.Turns.{Writes, Tells, most_writes}
+use Rattle.tn_session.specs.Turns.{Writes, Tells, max_writes}
 use Rattle.tn_session.specs.declared.mail.Mail.{Mail}
 use Rattle.tn_streams.proofs.lemmas.Telling.{accounts_none, accounts_well, accounts_both}
+use Rattle.tn_streams.specs.Known.{KnownWriter, KnownWriting}
 use Rattle.tn_streams.specs.Telling.{Calls}
-use Rattle.tn_term.specs.declared.faults.SessionFault.TheVariants as fault
-
-true_false : true ≡ false → ⊥
-true_false e = cc
-
-false_true : false ≡ true → ⊥
-false_true e = cc
+use Rattle.tn_messages.specs.declared.faults.SessionFault.TheVariants as fault
 
 -- a front was written, and all where no write failed
 record Written (b : Bool) (x y : Option (List ℕ)) (bytes : List ℕ) : Type 0 where
@@ -55,10 +51,10 @@ rest_less all less s₀ s₁ bytes front back rest e weaker none is whole = (
   λ w. ap (λ (bs : List ℕ). bs ++ rest) (none w) ∙ whole (weaker w),
 )
 
-sends_less : (c next : Run) (all less : Bool) (bytes front back : List ℕ) → bytes ≡ front ++ back → (less ≡ true → all ≡ true) → (less ≡ true → back ≡ []) → SendsFront c next bytes all → SendsFront c next front less
+sends_less : (c next : Run) (all less : Bool) (bytes front back : List ℕ) → bytes ≡ front ++ back → (less ≡ true → all ≡ true) → (less ≡ true → back ≡ []) → SendsPrefix c next bytes all → SendsPrefix c next front less
 sends_less c next all less bytes front back e weaker none s = rest_less all less (spells (items_said c.sent)) (spells (items_said next.sent)) bytes front back s.0 e weaker none s.1 s.2
 
-shows_less : (c next : Run) (all less : Bool) (text front back : List ℕ) → text ≡ front ++ back → (less ≡ true → all ≡ true) → (less ≡ true → back ≡ []) → ShowsFront c next text all → ShowsFront c next front less
+shows_less : (c next : Run) (all less : Bool) (text front back : List ℕ) → text ≡ front ++ back → (less ≡ true → all ≡ true) → (less ≡ true → back ≡ []) → ShowsPrefix c next text all → ShowsPrefix c next front less
 shows_less c next all less text front back e weaker none s = rest_less all less (text_shown c.history) (text_shown next.history) text front back s.0 e weaker none s.1 s.2
 
 -- a message that is written and not shown was written, and its showing failed
@@ -69,18 +65,18 @@ is_shown mark.ShowFailed e f = absurd (false_true e)
 is_shown (mark.Refused g) e f = absurd (false_true f)
 
 goes_well : (w well : Bool) (a b : Option Calls) → well ≡ true → Tells w a b → Tells well a b
-goes_well w well a b is told = subst (λ (v : Bool). Tells v a b) (sym is) (accounts_well most_writes w a b told)
+goes_well w well a b is told = subst (λ (v : Bool). Tells v a b) (sym is) (accounts_well max_writes w a b told)
 
 -- all was written and shown, or the message was refused
-turn_on : (w s : Bool) (m : Mark) (old new : Core) (told : Told) (bytes text : List ℕ) (x y u v : Option (List ℕ)) (k l i j : Option Calls) → ((w && s) || not (is_whole m)) ≡ true → no_write_failed m ≡ true → no_show_failed m ≡ true → Written w x y bytes → Tells w k l → Written s u v text → Tells s i j → IsTurn m old told bytes text new → TurnsTold old told x y u v k l i j new
-turn_on w s m old new told bytes text x y u v k l i j e well clear a tells b shows t = record {
+turn_on : (w s : Bool) (m : Mark) (old new : Core) (told : Told) (bytes text : List ℕ) (writer screen : KnownWriting) → ((w && s) || not (is_whole m)) ≡ true → no_write_failed m ≡ true → no_show_failed m ≡ true → Written w writer.before.bytes writer.after.bytes bytes → Tells w writer.before.calls writer.after.calls → Written s screen.before.bytes screen.after.bytes text → Tells s screen.before.calls screen.after.calls → IsTurn m old told bytes text new → TurnsTold old told writer screen new
+turn_on w s m old new told bytes text writer screen e well clear a tells b shows t = record {
   mark = m;
   bytes = a.front;
   text = b.front;
   wrote = a.wrote;
   showed = b.wrote;
-  tells = goes_well w (no_write_failed m) k l well tells;
-  tells_shown = goes_well s (no_show_failed m) i j clear shows;
+  tells = goes_well w (no_write_failed m) writer.before.calls writer.after.calls well tells;
+  tells_shown = goes_well s (no_show_failed m) screen.before.calls screen.after.calls clear shows;
   turn = record {
     leads = λ c at.
         let n = t.leads c at in (
@@ -132,28 +128,28 @@ never_whole false e = false_true e
 -- a write to the screen is told where the network took all
 shows_failed : (w s : Bool) (i j : Option Calls) → (w && s) ≡ false → Tells s i j → Tells (no_show_failed (failed_mark w)) i j
 shows_failed true s i j e told = subst (λ (v : Bool). Tells v i j) e told
-shows_failed false s i j e told = accounts_well most_writes s i j told
+shows_failed false s i j e told = accounts_well max_writes s i j told
 
 writes_failed : (w : Bool) (k l : Option Calls) → Tells w k l → Tells (no_write_failed (failed_mark w)) k l
 writes_failed true k l told = told
 writes_failed false k l told = told
 
 -- a write failed after a message that was done wholly
-turn_off : (w s : Bool) (old mid new : Core) (told : Told) (bytes text : List ℕ) (x y u v : Option (List ℕ)) (k l i j : Option Calls) → (old.progress.over ≡ true → ⊥) → (w && s) ≡ false → Written w x y bytes → Tells w k l → Written s u v text → Tells s i j → IsTurn mark.Whole old told bytes text mid → ((c : Run) → LeadsTo c mid → LeadsTo (fail fault.Write c) new) → new.progress.over ≡ true → TurnsTold old told x y u v k l i j new
-turn_off w s old mid new told bytes text x y u v k l i j on broken a tells b shows t leads over = record {
+turn_off : (w s : Bool) (old mid new : Core) (told : Told) (bytes text : List ℕ) (writer screen : KnownWriting) → (old.progress.over ≡ true → ⊥) → (w && s) ≡ false → Written w writer.before.bytes writer.after.bytes bytes → Tells w writer.before.calls writer.after.calls → Written s screen.before.bytes screen.after.bytes text → Tells s screen.before.calls screen.after.calls → IsTurn mark.Whole old told bytes text mid → ((c : Run) → LeadsTo c mid → LeadsTo (fail fault.Write c) new) → new.progress.over ≡ true → TurnsTold old told writer screen new
+turn_off w s old mid new told bytes text writer screen on broken a tells b shows t leads over = record {
   mark = failed_mark w;
   bytes = a.front;
   text = b.front;
   wrote = a.wrote;
   showed = b.wrote;
-  tells = writes_failed w k l tells;
-  tells_shown = shows_failed w s i j broken shows;
+  tells = writes_failed w writer.before.calls writer.after.calls tells;
+  tells_shown = shows_failed w s screen.before.calls screen.after.calls broken shows;
   turn = record {
     leads = λ c at.
         let n = t.leads c at in
         let next = fail fault.Write n.0 in (
           next,
-          fails_at w c n.0 told (is_on c.progress.over (λ off. on (ap (λ (p : Progress). p.over) at.progress ∙ off)), n.0, n.1, refl),
+          fails_at w c n.0 told (false_from_ne_true c.progress.over (λ off. on (ap (λ (p : Progress). p.over) at.progress ∙ off)), n.0, n.1, refl),
           leads n.0 n.2,
           sends_less c next true (is_written (failed_mark w)) bytes a.front a.back a.whole (λ f. refl) (λ f. a.all (sym (is_written_by w) ∙ f)) n.3,
           shows_less c next true (is_whole (failed_mark w)) text b.front b.back b.whole (λ f. refl) (λ f. absurd (never_whole w f)) n.4,
@@ -163,20 +159,16 @@ turn_off w s old mid new told bytes text x y u v k l i j on broken a tells b sho
     idle = λ off. absurd (on off);
   };
 }
-  where
-    is_on : (b : Bool) → (b ≡ true → ⊥) → b ≡ false
-    is_on true never = absurd (never refl)
-    is_on false never = refl
 
-pub turned_on : (w s : Bool) (m : Mark) (old new : Core) (told : Told) (bytes text : List ℕ) (x y u v : Option (List ℕ)) (k l i j : Option Calls) → ((w && s) || not (is_whole m)) ≡ true → no_write_failed m ≡ true → no_show_failed m ≡ true → Writes w x y bytes → Tells w k l → Writes s u v text → Tells s i j → IsTurn m old told bytes text new → TurnsTold old told x y u v k l i j new
-turned_on w s m old new told bytes text x y u v k l i j e well clear a tells b shows t = turn_on w s m old new told bytes text x y u v k l i j e well clear (written w x y bytes a) tells (written s u v text b) shows t
+pub turned_on : (w s : Bool) (m : Mark) (old new : Core) (told : Told) (bytes text : List ℕ) (writer screen : KnownWriting) → ((w && s) || not (is_whole m)) ≡ true → no_write_failed m ≡ true → no_show_failed m ≡ true → Writes w writer.before.bytes writer.after.bytes bytes → Tells w writer.before.calls writer.after.calls → Writes s screen.before.bytes screen.after.bytes text → Tells s screen.before.calls screen.after.calls → IsTurn m old told bytes text new → TurnsTold old told writer screen new
+turned_on w s m old new told bytes text writer screen e well clear a tells b shows t = turn_on w s m old new told bytes text writer screen e well clear (written w writer.before.bytes writer.after.bytes bytes a) tells (written s screen.before.bytes screen.after.bytes text b) shows t
 
-pub turned_off : (w s : Bool) (m : Mark) (old mid new : Core) (told : Told) (bytes text : List ℕ) (x y u v : Option (List ℕ)) (k l i j : Option Calls) → ((w && s) || not (is_whole m)) ≡ false → Writes w x y bytes → Tells w k l → Writes s u v text → Tells s i j → (bytes ≡ [] → w ≡ true) → (text ≡ [] → s ≡ true) → IsTurn m old told bytes text mid → ((c : Run) → LeadsTo c mid → LeadsTo (fail fault.Write c) new) → new.progress.over ≡ true → TurnsTold old told x y u v k l i j new
-turned_off w s m old mid new told bytes text x y u v k l i j e a tells b shows some_bytes some_text t leads over =
+pub turned_off : (w s : Bool) (m : Mark) (old mid new : Core) (told : Told) (bytes text : List ℕ) (writer screen : KnownWriting) → ((w && s) || not (is_whole m)) ≡ false → Writes w writer.before.bytes writer.after.bytes bytes → Tells w writer.before.calls writer.after.calls → Writes s screen.before.bytes screen.after.bytes text → Tells s screen.before.calls screen.after.calls → (bytes ≡ [] → w ≡ true) → (text ≡ [] → s ≡ true) → IsTurn m old told bytes text mid → ((c : Run) → LeadsTo c mid → LeadsTo (fail fault.Write c) new) → new.progress.over ≡ true → TurnsTold old told writer screen new
+turned_off w s m old mid new told bytes text writer screen e a tells b shows some_bytes some_text t leads over =
     let broken = by_test w s (is_whole m) e in
     let M : Mark → Type 0 = λ n. IsTurn n old told bytes text mid in
     let on : old.progress.over ≡ true → ⊥ = λ off. let n = t.idle off in true_false (sym (both w s (some_bytes n.0) (some_text n.1)) ∙ broken.1) in
-    turn_off w s old mid new told bytes text x y u v k l i j on broken.1 (written w x y bytes a) tells (written s u v text b) shows (subst M (whole_mark m broken.0) t) leads over
+    turn_off w s old mid new told bytes text writer screen on broken.1 (written w writer.before.bytes writer.after.bytes bytes a) tells (written s screen.before.bytes screen.after.bytes text b) shows (subst M (whole_mark m broken.0) t) leads over
   where
     by_test : (w s k : Bool) → ((w && s) || not k) ≡ false → (k ≡ true) × ((w && s) ≡ false)
     by_test true true k f = absurd (true_false f)
@@ -219,8 +211,8 @@ whole_written mark.WriteFailed e = e
 whole_written mark.ShowFailed e = refl
 whole_written (mark.Refused f) e = e
 
-going_on : (a b d : Core) (ms : List Told) (m : Told) (x y z u v w : Option (List ℕ)) (e f g h i j : Option Calls) → ToldAll a ms x y u v e f h i b → TurnsTold b m y z v w f g i j d → ToldAll a (ms ++ m ∷ []) x z u w e g h j d
-going_on a b d ms m x y z u v w e f g h i j one t =
+going_on : (a b d : Core) (ms : List Told) (m : Told) (x y z u v w : KnownWriter) → ToldAll a ms (from_to x y) (from_to u v) b → TurnsTold b m (from_to y z) (from_to v w) d → ToldAll a (ms ++ m ∷ []) (from_to x z) (from_to u w) d
+going_on a b d ms m x y z u v w one t =
     let marked : List (Told × Mark) = one.marked ++ (m, t.mark) ∷ [] in
     let written-push : all_written marked ≡ (all_written one.marked && is_written t.mark) = by-push is_written one.marked m t.mark in
     let whole-push : all_whole marked ≡ (all_whole one.marked && is_whole t.mark) = by-push is_whole one.marked m t.mark in
@@ -229,10 +221,10 @@ going_on a b d ms m x y z u v w e f g h i j one t =
       whole = map-append (λ (k : Told × Mark). k.0) one.marked ((m, t.mark) ∷ []) ∙ ap (λ (ks : List Told). ks ++ m ∷ []) one.whole;
       bytes = one.bytes ++ t.bytes;
       text = one.text ++ t.text;
-      wrote = appends_more x y z one.bytes t.bytes one.wrote t.wrote;
-      showed = appends_more u v w one.text t.text one.showed t.showed;
-      tells = subst (λ (well : Bool). Tells well e g) (sym (by-push no_write_failed one.marked m t.mark)) (accounts_both most_writes (all_by no_write_failed one.marked) (no_write_failed t.mark) e f g one.tells t.tells);
-      tells_shown = subst (λ (well : Bool). Tells well h j) (sym (by-push no_show_failed one.marked m t.mark)) (accounts_both most_writes (all_by no_show_failed one.marked) (no_show_failed t.mark) h i j one.tells_shown t.tells_shown);
+      wrote = appends_more x.bytes y.bytes z.bytes one.bytes t.bytes one.wrote t.wrote;
+      showed = appends_more u.bytes v.bytes w.bytes one.text t.text one.showed t.showed;
+      tells = subst (λ (well : Bool). Tells well x.calls z.calls) (sym (by-push no_write_failed one.marked m t.mark)) (accounts_both max_writes (all_by no_write_failed one.marked) (no_write_failed t.mark) x.calls y.calls z.calls one.tells t.tells);
+      tells_shown = subst (λ (well : Bool). Tells well u.calls w.calls) (sym (by-push no_show_failed one.marked m t.mark)) (accounts_both max_writes (all_by no_show_failed one.marked) (no_show_failed t.mark) u.calls v.calls w.calls one.tells_shown t.tells_shown);
       leads = λ c at.
           let p = one.leads c at in
           let q = t.turn.leads p.0 p.2 in
@@ -248,16 +240,16 @@ going_on a b d ms m x y z u v w e f g h i j one t =
       stays = λ off. t.turn.stays (one.stays off);
     }
 
-pub told_none : (a : Core) (x u : Option (List ℕ)) (k i : Option Calls) → ToldAll a [] x x u u k k i i a
-told_none a x u k i = record {
+pub told_none : (a : Core) (x u : KnownWriter) → ToldAll a [] (from_to x x) (from_to u u) a
+told_none a x u = record {
   marked = [];
   whole = refl;
   bytes = [];
   text = [];
-  wrote = appends_none x;
-  showed = appends_none u;
-  tells = accounts_none most_writes k;
-  tells_shown = accounts_none most_writes i;
+  wrote = appends_none x.bytes;
+  showed = appends_none u.bytes;
+  tells = accounts_none max_writes x.calls;
+  tells_shown = accounts_none max_writes u.calls;
   leads = λ c at. (
     c,
     refl,
@@ -269,22 +261,22 @@ told_none a x u k i = record {
   stays = λ off. off;
 }
 
-pub told_kept : (a b : Core) (ms : List Told) (x y z u v : Option (List ℕ)) (e f h i j : Option Calls) → Keeps y z → h ≡ f → ToldAll a ms x y u v e f i j b → ToldAll a ms x z u v e h i j b
-told_kept a b ms x y z u v e f h i j k same g = record {
+pub told_kept : (a b : Core) (ms : List Told) (x y z u v : KnownWriter) → Keeps y.bytes z.bytes → z.calls ≡ y.calls → ToldAll a ms (from_to x y) (from_to u v) b → ToldAll a ms (from_to x z) (from_to u v) b
+told_kept a b ms x y z u v k same g = record {
   marked = g.marked;
   whole = g.whole;
   bytes = g.bytes;
   text = g.text;
-  wrote = appends_kept x y z g.bytes g.wrote k;
+  wrote = appends_kept x.bytes y.bytes z.bytes g.bytes g.wrote k;
   showed = g.showed;
-  tells = subst (λ (c : Option Calls). Tells (all_by no_write_failed g.marked) e c) (sym same) g.tells;
+  tells = subst (λ (c : Option Calls). Tells (all_by no_write_failed g.marked) x.calls c) (sym same) g.tells;
   tells_shown = g.tells_shown;
   leads = g.leads;
   over = g.over;
   stays = g.stays;
 }
 
-pub told_next : (a b d : Core) (xs : List Mail) (m : Mail) (x y z k u v w : Option (List ℕ)) (e f g h i j l : Option Calls) → Keeps z k → h ≡ g → ToldAll a (all_told xs) x y u v e f i j b → TurnsTold b (told_of m) y z v w f g j l d → ToldAll a (all_told (xs ++ m ∷ [])) x k u w e h i l d
-told_next a b d xs m x y z k u v w e f g h i j l keeps same one t =
-    let P : List Told → Type 0 = λ ms. ToldAll a ms x k u w e h i l d in
-    subst P (sym (map-append told_of xs (m ∷ []))) (told_kept a d _ x z k u w e g h i l keeps same (going_on a b d (all_told xs) (told_of m) x y z u v w e f g i j l one t))
+pub told_next : (a b d : Core) (xs : List Mail) (m : Mail) (x y z k u v w : KnownWriter) → Keeps z.bytes k.bytes → k.calls ≡ z.calls → ToldAll a (all_told xs) (from_to x y) (from_to u v) b → TurnsTold b (told_of m) (from_to y z) (from_to v w) d → ToldAll a (all_told (xs ++ m ∷ [])) (from_to x k) (from_to u w) d
+told_next a b d xs m x y z k u v w keeps same one t =
+    let P : List Told → Type 0 = λ ms. ToldAll a ms (from_to x k) (from_to u w) d in
+    subst P (sym (map-append told_of xs (m ∷ []))) (told_kept a d _ x z k u w keeps same (going_on a b d (all_told xs) (told_of m) x y z u v w one t))

@@ -3,44 +3,45 @@ use Rattle.std.proofs.Common.{◌≡◌, ℕ, Bool, true, false, ◌&&◌, lengt
 use Rattle.std.proofs.lemmas.List.{append_cancel_left}
 use Rattle.std.specs.Io.KnownBytes.{Consumes, IsAtEnd, prepend_known}
 use Rattle.std.specs.List.{concat}
-use Rattle.tn_discipline.specs.Canon.{Canon}
 use Rattle.tn_discipline.specs.declared.reads.Entry.{Entry}
 use Rattle.tn_jobs.specs.Jobs.{Jobs}
 use Rattle.tn_jobs.specs.declared.held_jobs.JobId.{JobId}
 use Rattle.tn_jobs.specs.declared.reactions.Reaction.{Reaction}
 use Rattle.tn_server.specs.Events.{items}
 use Rattle.tn_server.specs.Lines.{entries}
-use Rattle.tn_server.specs.declared.wishes.Editing.{Editing}
 use Rattle.tn_session.proofs.Causes.{from_hit, from_miss, HasFailure, has_failure, failure_from, failure_last, never_and, write_failed}
 use Rattle.tn_session.proofs.Lefts.{same_self}
 use Rattle.tn_session.proofs.Mailbox.{sender_share}
+use Rattle.tn_session.proofs.Readers.{closes_ending}
+use Rattle.tn_session.specs.Facts.{JobFacts, SessionJobs, SessionResult, TermSettings}
 use Rattle.tn_session.specs.Mailbox.{same, from, sender, mail}
-use Rattle.tn_session.specs.Queue.{taker}
-use Rattle.tn_session.specs.Reading.{IsEnding, IsReadCause, most_reads, pieces_of}
+use Rattle.tn_session.specs.EntryChannel.{taker}
+use Rattle.tn_session.specs.Reading.{IsEnding, IsReadCause, max_reads, pieces_of}
 use Rattle.tn_session.specs.Session.{Schedule, HearsReader, TakesEntries}
-use Rattle.tn_session.specs.Stepping.{BackJobs, IsClose, step_said}
+use Rattle.tn_session.specs.Stepping.{IsClose, step_said}
 use Rattle.tn_session.specs.Talk.{Closes, turns_said, entries_of, ends_done}
-use Rattle.tn_session.specs.Turns.{messages_of, most_writes}
+use Rattle.tn_session.specs.Turns.{messages_of, max_writes}
 use Rattle.tn_session.specs.declared.channels.View.{View}
 use Rattle.tn_session.specs.declared.entries.Hand.{Hand}
 use Rattle.tn_session.specs.declared.mail.Mail.{Mail}
 use Rattle.tn_session.specs.declared.mail.Sender.{Sender}
 use Rattle.tn_session.specs.declared.mail.Sender.TheVariants.{Net, Desk, Back, Keys}
-use Rattle.tn_session.specs.declared.parties.Report.{Report}
 use Rattle.tn_streams.proofs.lemmas.Telling.{some_failed}
-use Rattle.tn_streams.specs.Foretelling.{Failures, WillFail}
-use Rattle.tn_streams.specs.Telling.{Calls, SomeFailed}
+use Rattle.tn_streams.specs.Foretelling.{WillFail}
+use Rattle.tn_streams.specs.Known.{KnownReader, KnownWriting}
+use Rattle.tn_streams.specs.Telling.{SomeFailed}
 use Rattle.tn_term.proofs.lemmas.Hearing.{entries_grow, entries_same}
-use Rattle.tn_term.specs.Giving.{GivesFront, entries_put}
-use Rattle.tn_term.specs.Hearing.{bytes_in, heard, at_end_after, MayCome, MayAllCome, KeepsOn, AllKeepOn, Hears, HangsUp}
+use Rattle.tn_term.specs.Giving.{GivesPrefix, entries_put}
+use Rattle.tn_messages.specs.Pieces.{bytes_in}
+use Rattle.tn_term.specs.Hearing.{heard, at_end_after, MayCome, MayAllCome, KeepsOn, AllKeepOn, Hears, HangsUp}
 use Rattle.tn_term.specs.Ending.{IsEndedAt, IsFaultCause}
 use Rattle.tn_term.specs.Marks.{no_writes_failed}
 use Rattle.tn_term.specs.Run.{Run}
-use Rattle.tn_term.specs.declared.faults.Ended.TheVariants as ended
-use Rattle.tn_term.specs.declared.faults.SessionFault.TheVariants as fault
-use Rattle.tn_term.specs.declared.messages.Message.{Message}
-use Rattle.tn_term.specs.declared.messages.Message.TheVariants.{Piece, HangUp, ReadFailed, Take, Said, Refused, Left}
-use Rattle.tn_wire.specs.Fronts.{IsRead}
+use Rattle.tn_messages.specs.declared.faults.Ended.TheVariants as ended
+use Rattle.tn_messages.specs.declared.faults.SessionFault.TheVariants as fault
+use Rattle.tn_messages.specs.declared.messages.Message.{Message}
+use Rattle.tn_messages.specs.declared.messages.Message.TheVariants.{Piece, HangUp, ReadFailed, Take, Said, Refused, Left}
+use Rattle.tn_wire.specs.Prefixes.{IsRead}
 
 true_false : true ≡ false → ⊥
 true_false e = cc
@@ -234,24 +235,24 @@ known_left bytes stream (Some rest) c = (rest, c, λ at. at)
 
 -- A SESSION
 
-module _ {J : Type 0} {fresh : J → Type 0} {reacts : J → Entry → Reaction → J → Type 0} {steps : J → Reaction → J → Type 0} {first : JobId} {others : BackJobs} {canon : Canon} {editing : Editing} {jobs : Jobs} {given : Option (List ℕ)} {foretold : Option Failures} {old new : Option (List ℕ)} {told_old told_new : Option Calls} {report : Report} {net desk back term : View} {put took : Hand}
-    (s : Schedule {J = J} fresh reacts steps first others canon editing jobs given foretold old new told_old told_new report net desk back term put took) where
+module _ {J : Type 0} {facts : JobFacts J} {jobs : SessionJobs} {settings : TermSettings} {table : Jobs} {reader : KnownReader} {writer : KnownWriting} {result : SessionResult}
+    (s : Schedule {J = J} facts jobs settings table reader writer result) where
   abbrev pub messages : List Message
   messages = map (λ m. m.0) s.marked
 
   none_of_desk : NoneOfNet (messages_of (from Desk s.handled))
   none_of_desk = closed s.talked.0 s.talked.5
     where
-      none_by : (ms : List Message) → NoneOfNet ms → desk ≡ sender Desk (map (mail Desk) ms) → NoneOfNet (messages_of (from Desk s.handled))
-      none_by ms n is = subst NoneOfNet (sym (messages_from Desk desk s.from_desk s.handled ms s.desk_is is (s.woven Desk))) n
+      none_by : (ms : List Message) → NoneOfNet ms → result.views.desk ≡ sender Desk (map (mail Desk) ms) → NoneOfNet (messages_of (from Desk s.handled))
+      none_by ms n is = subst NoneOfNet (sym (messages_from Desk result.views.desk s.from_desk s.handled ms s.desk_is is (s.woven Desk))) n
 
-      closed : (turns : List (Entry × Reaction)) → Closes first turns desk took → NoneOfNet (messages_of (from Desk s.handled))
+      closed : (turns : List (Entry × Reaction)) → Closes jobs.first turns result.views.desk result.views.took → NoneOfNet (messages_of (from Desk s.handled))
       closed turns c =
           ⊎_elim
-          (λ x. none_by _ (none-append (turns_said first turns) (Take ∷ Left ∷ []) (none_of_turns first turns) (refl, (refl, tt))) x.0)
+          (λ x. none_by _ (none-append (turns_said jobs.first turns) (Take ∷ Left ∷ []) (none_of_turns jobs.first turns) (refl, (refl, tt))) x.0)
           (λ y. ⊎_elim
-          (λ x. none_by _ (none-append (turns_said first turns) (Left ∷ []) (none_of_turns first turns) (refl, tt)) x.0)
-          (λ x. none_by _ (none-append (turns_said first turns) (Take ∷ Refused ∷ Left ∷ []) (none_of_turns first turns) (refl, (refl, (refl, tt)))) x.1)
+          (λ x. none_by _ (none-append (turns_said jobs.first turns) (Left ∷ []) (none_of_turns jobs.first turns) (refl, tt)) x.0)
+          (λ x. none_by _ (none-append (turns_said jobs.first turns) (Take ∷ Refused ∷ Left ∷ []) (none_of_turns jobs.first turns) (refl, (refl, (refl, tt)))) x.1)
           y)
           c
 
@@ -259,7 +260,7 @@ module _ {J : Type 0} {fresh : J → Type 0} {reacts : J → Entry → Reaction 
   none_of_back =
       let said = map step_said s.stepped.0 in
       let close = s.stepped.1 in
-      subst NoneOfNet (sym (messages_from Back back s.from_back s.handled (said ++ close) s.back_is s.stepped.3 (s.woven Back)))
+      subst NoneOfNet (sym (messages_from Back result.views.back s.from_back s.handled (said ++ close) s.back_is s.stepped.3 (s.woven Back)))
       (none-append said close (none_of_steps s.stepped.0) (none_of_close close s.stepped.2))
     where
       none_of_close : (close : List Message) → IsClose close → NoneOfNet close
@@ -271,11 +272,17 @@ module _ {J : Type 0} {fresh : J → Type 0} {reacts : J → Entry → Reaction 
   none_of_others Back e = none_of_back
   none_of_others Keys e = subst (λ (l : List Mail). NoneOfNet (messages_of l)) (sym (s.woven Keys)) tt
 
-  net_said : messages_of (from Net s.handled) ≡ pieces_of s.read.0 ++ s.read.2 ∷ Left ∷ []
-  net_said = messages_from Net net s.from_net s.handled (pieces_of s.read.0 ++ s.read.2 ∷ Left ∷ []) s.net_is s.read.5 (s.woven Net)
+  -- how the reading ended: nothing stops the thread that reads from the network
+  net_end : (last : Message) × (IsEnding last s.read.1 × IsReadCause reader.failures (length s.read.0) last) × (s.read.2 ≡ last ∷ Left ∷ [])
+  net_end = closes_ending s.read.0 s.read.1 reader.failures s.read.2 s.read.4
+
+  net_said : messages_of (from Net s.handled) ≡ pieces_of s.read.0 ++ net_end.0 ∷ Left ∷ []
+  net_said =
+      messages_from Net result.views.net s.from_net s.handled (pieces_of s.read.0 ++ s.read.2) s.net_is s.read.5 (s.woven Net)
+      ∙ ap (λ (ms : List Message). pieces_of s.read.0 ++ ms) net_end.2
 
   nets : OfNet false s.handled
-  nets = of_net false s.handled none_of_others (subst (MayAllCome false) (sym net_said) (net_may s.read.0 s.read.2 s.read.1 s.read.4.0))
+  nets = of_net false s.handled none_of_others (subst (MayAllCome false) (sym net_said) (net_may s.read.0 net_end.0 s.read.1 net_end.1.0))
 
   -- no piece follows the end of the input
   pub may_come : MayAllCome false messages
@@ -283,26 +290,26 @@ module _ {J : Type 0} {fresh : J → Type 0} {reacts : J → Entry → Reaction 
 
   -- the pieces that were handled are those that were read
   all_pieces : heard messages ≡ concat s.read.0
-  all_pieces = ap heard s.messages ∙ nets.bytes ∙ ap heard net_said ∙ net_bytes s.read.0 s.read.2 s.read.1 s.read.4.0
+  all_pieces = ap heard s.messages ∙ nets.bytes ∙ ap heard net_said ∙ net_bytes s.read.0 net_end.0 s.read.1 net_end.1.0
 
-  pub heard_of_reader : Hears canon editing messages s.run → (report.ended ≡ ended.HangUp → HangsUp first.0 messages s.run) → HearsReader given report.ended s.run
+  pub heard_of_reader : Hears settings.canon settings.editing messages s.run → (result.report.ended ≡ ended.HangUp → HangsUp jobs.first.0 messages s.run) → HearsReader reader.bytes result.report.ended s.run
   heard_of_reader h hung = record {
     left = prepend_known h.unheard s.read.1;
-    consumed = consumes_front given s.read.1 (concat s.read.0) s.run.stream h.unheard (sym all_pieces ∙ h.stream_first) s.read.3;
+    consumed = consumes_front reader.bytes s.read.1 (concat s.read.0) s.run.stream h.unheard (sym all_pieces ∙ h.stream_first) s.read.3;
     all = λ e.
         let u = hung e in
-        let keeps = keep_from first.0 Net s.handled (subst (AllKeepOn first.0) s.messages u.kept_on) in
-        let last = keep_last first.0 (pieces_of s.read.0) s.read.2 (Left ∷ []) (subst (AllKeepOn first.0) net_said keeps) in
-        at_end_still s.read.1 h.unheard (none_unheard s.run.stream h.unheard (heard messages) h.stream_first u.all_heard) (net_at_end first.0 s.read.2 s.read.1 s.read.4.0 last);
+        let keeps = keep_from jobs.first.0 Net s.handled (subst (AllKeepOn jobs.first.0) s.messages u.kept_on) in
+        let last = keep_last jobs.first.0 (pieces_of s.read.0) net_end.0 (Left ∷ []) (subst (AllKeepOn jobs.first.0) net_said keeps) in
+        at_end_still s.read.1 h.unheard (none_unheard s.run.stream h.unheard (heard messages) h.stream_first u.all_heard) (net_at_end jobs.first.0 net_end.0 s.read.1 net_end.1.0 last);
     read = h.read;
   }
 
   -- the foreground job took an end, after all entries
-  pub took_all : HangsUp first.0 messages s.run → entries_put s.taken ≡ entries s.run.history
+  pub took_all : HangsUp jobs.first.0 messages s.run → entries_put s.taken ≡ entries s.run.history
   took_all u =
-      let keeps = keep_from first.0 Desk s.handled (subst (AllKeepOn first.0) s.messages u.kept_on) in
+      let keeps = keep_from jobs.first.0 Desk s.handled (subst (AllKeepOn jobs.first.0) s.messages u.kept_on) in
       let turns = s.talked.0 in
-      let is : took ≡ taker (entries_of turns ++ None ∷ []) = at_end_of first turns desk took s.talked.5 (λ ms e. subst (AllKeepOn first.0) (messages_from Desk desk s.from_desk s.handled ms s.desk_is e (s.woven Desk)) keeps) in
+      let is : result.views.took ≡ taker (entries_of turns ++ None ∷ []) = at_end_of jobs.first turns result.views.desk result.views.took s.talked.5 (λ ms e. subst (AllKeepOn jobs.first.0) (messages_from Desk result.views.desk s.from_desk s.handled ms s.desk_is e (s.woven Desk)) keeps) in
       let given_entries = map (λ t. t.0) turns in
       let took_is : s.taken ≡ map (λ e. Some e) given_entries ++ None ∷ [] =
       some_is s.taken _ (ap (λ (h : Hand). h.taken) (sym s.took_is ∙ is)) ∙ ap (λ (es : List (Option Entry)). es ++ None ∷ []) (entries_given turns) in
@@ -310,12 +317,12 @@ module _ {J : Type 0} {fresh : J → Type 0} {reacts : J → Entry → Reaction 
       sym s.took_first.1 ∙ ap (λ (es : List (Option Entry)). es ++ s.took_first.0) took_is ∙ append_assoc (map (λ e. Some e) given_entries) (None ∷ []) s.took_first.0 in
       ap entries_put took_is ∙ put_given given_entries ∙ u.all_put given_entries s.took_first.0 puts
 
-  pub takes_entries : Hears canon editing messages s.run → HearsReader given report.ended s.run → GivesFront s.taken s.run.history → (report.ended ≡ ended.HangUp → entries_put s.taken ≡ entries s.run.history) → TakesEntries canon editing given report.ended s.taken
+  pub takes_entries : Hears settings.canon settings.editing messages s.run → HearsReader reader.bytes result.report.ended s.run → GivesPrefix s.taken s.run.history → (result.report.ended ≡ ended.HangUp → entries_put s.taken ≡ entries s.run.history) → TakesEntries settings reader.bytes result.report.ended s.taken
   takes_entries h r front all bytes xs known read =
       let had = items s.run.history in
       let k = known_left bytes s.run.stream r.left (subst (λ (g : Option (List ℕ)). Consumes g r.left s.run.stream) known r.consumed) in
       let whole : IsRead (s.run.stream ++ k.0) xs = subst (λ (bs : List ℕ). IsRead bs xs) k.1 read in
-      let grown = entries_grow canon editing s.run.stream k.0 had xs r.read whole in (
+      let grown = entries_grow settings.canon settings.editing s.run.stream k.0 had xs r.read whole in (
         (
           front.0 ++ grown.0,
           sym (append_assoc (entries_put s.taken) front.0 grown.0) ∙ ap (λ (es : List Entry). es ++ grown.0) (front.1 ∙ h.entries_are) ∙ sym grown.1,
@@ -323,27 +330,27 @@ module _ {J : Type 0} {fresh : J → Type 0} {reacts : J → Entry → Reaction 
         λ e.
             let none = k.2 (r.all e) in
             let same : IsRead s.run.stream xs = subst (λ (bs : List ℕ). IsRead bs xs) (ap (λ (bs : List ℕ). s.run.stream ++ bs) none ∙ append-nil s.run.stream) whole in
-            all e ∙ h.entries_are ∙ sym (entries_same canon editing s.run.stream had xs r.read same),
+            all e ∙ h.entries_are ∙ sym (entries_same settings.canon settings.editing s.run.stream had xs r.read same),
       )
 
   -- a message that reading failed is Net's, and it had its cause
-  pub read_cause : (c : Run) → IsEndedAt c s.marked (ended.Fault fault.Read) → WillFail most_reads (length s.read.0) foretold
+  pub read_cause : (c : Run) → IsEndedAt c s.marked (ended.Fault fault.Read) → WillFail max_reads (length s.read.0) reader.failures
   read_cause c r =
       let told = has_failure s.marked r.before r.last r.after r.whole r.ends in
       let who = failure_from s.handled (subst HasFailure s.messages told) in
       by who.0 who.1
     where
-      cause_of : (last : Message) → last ≡ ReadFailed → IsReadCause foretold (length s.read.0) last → WillFail most_reads (length s.read.0) foretold
-      cause_of last e cause = subst (λ (m : Message). IsReadCause foretold (length s.read.0) m) e cause
+      cause_of : (last : Message) → last ≡ ReadFailed → IsReadCause reader.failures (length s.read.0) last → WillFail max_reads (length s.read.0) reader.failures
+      cause_of last e cause = subst (λ (m : Message). IsReadCause reader.failures (length s.read.0) m) e cause
 
-      by : (r : Sender) → HasFailure (messages_of (from r s.handled)) → WillFail most_reads (length s.read.0) foretold
-      by Net h = cause_of s.read.2 (failure_last s.read.0 s.read.2 (subst HasFailure net_said h)) s.read.4.1
+      by : (r : Sender) → HasFailure (messages_of (from r s.handled)) → WillFail max_reads (length s.read.0) reader.failures
+      by Net h = cause_of net_end.0 (failure_last s.read.0 net_end.0 (subst HasFailure net_said h)) net_end.1.1
       by Desk h = absurd (none_fails (messages_of (from Desk s.handled)) none_of_desk h)
       by Back h = absurd (none_fails (messages_of (from Back s.handled)) none_of_back h)
       by Keys h = absurd (none_fails (messages_of (from Keys s.handled)) (none_of_others Keys refl) h)
 
   -- and where a write is told to have failed, one did
-  pub write_cause : (c : Run) → IsFaultCause s.wrote_opening c s.marked fault.Write → SomeFailed most_writes told_old told_new
+  pub write_cause : (c : Run) → IsFaultCause s.wrote_opening c s.marked fault.Write → SomeFailed max_writes writer.before.calls writer.after.calls
   write_cause c why =
-      some_failed most_writes (s.wrote_opening && no_writes_failed s.marked) told_old told_new s.tells
+      some_failed max_writes (s.wrote_opening && no_writes_failed s.marked) writer.before.calls writer.after.calls s.tells
       (⊎_elim (λ e. ap (λ (b : Bool). b && no_writes_failed s.marked) e) (λ r. never_and s.wrote_opening (no_writes_failed s.marked) (write_failed s.marked r.before r.last r.after r.whole r.ends)) why)

@@ -1,31 +1,33 @@
 -- What was written, and one message after another.
-use Rattle.std.proofs.Common.{◌≡◌, ℕ, ◌+◌, ◌≤◌, nat_le, Bool, true, false, not, ◌||◌, ◌&&◌, ◌⊎◌, ⊎_elim, inl, inr, map, List, [], ◌∷◌, ◌++◌, Option, Some, None, IfSome, Result, Ok, option_to_list, refl, sym, ap, ◌∙◌, subst, append_assoc, append-nil, take-append-drop, arith, length, take, drop, zero, suc}
+use Rattle.std.proofs.Common.{◌≡◌, ℕ, ◌+◌, ◌≤◌, nat_le, Bool, true, false, not, ◌||◌, ◌&&◌, ◌⊎◌, ⊎_elim, inl, inr, map, List, [], ◌∷◌, ◌++◌, Option, Some, None, Result, Ok, option_to_list, refl, sym, ap, ◌∙◌, subst, append_assoc, append-nil, take-append-drop, arith, length, take, drop, zero, suc}
+use Rattle.std.proofs.lemmas.Bool.{false_from_ne_true, not-false, not-true}
 use Rattle.std.proofs.lemmas.Fn.{FoldsTo-push}
 use Rattle.std.specs.Io.KnownBytes.{Appends, Keeps, WriteAppends}
 use Rattle.tn_discipline.specs.declared.reads.Entry.{Entry}
 use Rattle.tn_nvt.specs.Spelling.{spells}
 use Rattle.tn_server.specs.Replies.{items_said}
-use Rattle.tn_session.specs.Turns.{Writes, Tells, most_writes, TurnsMessage, GoesOn, left_one, lefts_of, messages_of}
-use Rattle.tn_session.specs.Queue.{putter}
+use Rattle.tn_session.specs.Turns.{Writes, Tells, max_writes, TurnsMessage, GoesOn, left_one, lefts_of, messages_of}
+use Rattle.tn_session.specs.EntryChannel.{putter}
 use Rattle.tn_session.specs.declared.entries.Hand.{Hand}
 use Rattle.tn_session.specs.declared.mail.Mail.{Mail}
 use Rattle.tn_streams.proofs.lemmas.Telling.{accounts_none, accounts_well, accounts_both}
+use Rattle.tn_streams.specs.Known.{KnownWriter, KnownWriting}
 use Rattle.tn_streams.specs.Telling.{Calls}
 use Rattle.tn_term.specs.Marks.{Turns, is_whole, all_whole, no_write_failed, no_writes_failed}
 use Rattle.tn_term.specs.Reaching.{IsTurn, LeadsTo}
 use Rattle.tn_term.specs.Run.{Run, fail}
-use Rattle.tn_term.specs.declared.faults.SessionFault.TheVariants as fault
+use Rattle.tn_messages.specs.declared.faults.SessionFault.TheVariants as fault
 use Rattle.tn_term.specs.declared.messages.Mark.{Mark}
 use Rattle.tn_term.specs.declared.messages.Mark.TheVariants as mark
-use Rattle.tn_term.specs.declared.messages.Message.{Message}
-use Rattle.tn_term.specs.declared.messages.Message.TheVariants.{Left}
+use Rattle.tn_messages.specs.declared.messages.Message.{Message}
+use Rattle.tn_messages.specs.declared.messages.Message.TheVariants.{Left}
 use Rattle.tn_term.specs.declared.progress.Progress.{Progress}
 use Rattle.tn_term.specs.declared.terminal.Term.{Term}
 
-true_false : true ≡ false → ⊥
+pub true_false : true ≡ false → ⊥
 true_false e = cc
 
-false_true : false ≡ true → ⊥
+pub false_true : false ≡ true → ⊥
 false_true e = cc
 
 pub appends_more : (a b c : Option (List ℕ)) (xs ys : List ℕ) → Appends a b xs → Appends b c ys → Appends a c (xs ++ ys)
@@ -91,7 +93,7 @@ turn_unwritten old mid new message front back bytes put last e on t leads puts o
   leads = λ c at.
       let l = t.leads c at in (
         fail fault.Write l.0,
-        (is_on (c.progress.over) (λ off. on (ap (λ (p : Progress). p.over) at.progress ∙ off)), l.0, l.1, refl),
+        (false_from_ne_true c.progress.over (λ off. on (ap (λ (p : Progress). p.over) at.progress ∙ off)), l.0, l.1, refl),
         leads l.0 l.2,
         puts l.0 l.2 ∙ ap (λ (ps : List (Option Entry)). ps ++ option_to_list last) (l.3 ∙ ap (λ (ps : List (Option Entry)). c.puts ++ ps) (append-nil (option_to_list put))) ∙ append_assoc c.puts (option_to_list put) (option_to_list last),
         back,
@@ -102,10 +104,6 @@ turn_unwritten old mid new message front back bytes put last e on t leads puts o
   stays = λ off. absurd (on off);
   idle = λ off. absurd (on off);
 }
-  where
-    is_on : (b : Bool) → (b ≡ true → ⊥) → b ≡ false
-    is_on true never = absurd (never refl)
-    is_on false never = refl
 
 pub writes_as : (b d : Bool) (x y : Option (List ℕ)) (bytes others : List ℕ) → b ≡ d → bytes ≡ others → Writes b x y bytes → Writes d x y others
 writes_as b d x y bytes others f e h =
@@ -120,25 +118,21 @@ pub puts_two : (v u w : Hand) (ps qs : List (Option Entry)) → Puts v ps u → 
 puts_two v u w ps qs one two l e = two (l ++ ps) (one l e) ∙ ap putter (append_assoc l ps qs)
 
 all_told : (written : Bool) (m : Mark) (a b : Option Calls) → no_write_failed m ≡ true → Tells written a b → Tells (no_write_failed m) a b
-all_told written m a b well told = subst (λ (w : Bool). Tells w a b) (sym well) (accounts_well most_writes written a b told)
+all_told written m a b well told = subst (λ (w : Bool). Tells w a b) (sym well) (accounts_well max_writes written a b told)
 
 -- all was written, or the message was refused
-pub turned_on : (written : Bool) (m : Mark) (old new : Term) (message : Message) (bytes : List ℕ) (x y : Option (List ℕ)) (a b : Option Calls) (v w : Hand) (put last : Option (Option Entry)) → (written || not (is_whole m)) ≡ true → no_write_failed m ≡ true → Writes written x y bytes → Tells written a b → IsTurn m old message bytes put last new → Puts v (option_to_list put ++ option_to_list last) w → TurnsMessage old message x y a b v w new
-turned_on true m old new message bytes x y a b v w put last e well h told t p = record { mark = m; bytes = bytes; put = put; last = last; wrote = h; tells = all_told true m a b well told; turn = t; puts = p }
-turned_on false m old new message bytes x y a b v w put last e well h told t p = record {
+pub turned_on : (written : Bool) (m : Mark) (old new : Term) (message : Message) (bytes : List ℕ) (writer : KnownWriting) (v w : Hand) (put last : Option (Option Entry)) → (written || not (is_whole m)) ≡ true → no_write_failed m ≡ true → Writes written writer.before.bytes writer.after.bytes bytes → Tells written writer.before.calls writer.after.calls → IsTurn m old message bytes put last new → Puts v (option_to_list put ++ option_to_list last) w → TurnsMessage old message writer v w new
+turned_on true m old new message bytes writer v w put last e well h told t p = record { mark = m; bytes = bytes; put = put; last = last; wrote = h; tells = all_told true m writer.before.calls writer.after.calls well told; turn = t; puts = p }
+turned_on false m old new message bytes writer v w put last e well h told t p = record {
   mark = m;
   bytes = h.0;
   put = put;
   last = last;
   wrote = h.3;
-  tells = all_told false m a b well told;
-  turn = turn_front m old new message h.0 h.1 bytes put last h.2 (broken (is_whole m) e) t;
+  tells = all_told false m writer.before.calls writer.after.calls well told;
+  turn = turn_front m old new message h.0 h.1 bytes put last h.2 (not-true (is_whole m) e) t;
   puts = p;
 }
-  where
-    broken : (b : Bool) → not b ≡ true → b ≡ false
-    broken true e = absurd (false_true e)
-    broken false e = refl
 
 whole_mark : (m : Mark) → is_whole m ≡ true → m ≡ mark.Whole
 whole_mark mark.Whole e = refl
@@ -146,10 +140,10 @@ whole_mark mark.WriteFailed e = absurd (false_true e)
 whole_mark (mark.Refused f put) e = absurd (false_true e)
 
 -- a write failed
-pub turned_off : (written : Bool) (m : Mark) (old mid new : Term) (message : Message) (bytes : List ℕ) (x y : Option (List ℕ)) (a b : Option Calls) (v w : Hand) (put other last : Option (Option Entry)) → (written || not (is_whole m)) ≡ false → Writes written x y bytes → Tells written a b → (bytes ≡ [] → written ≡ true) → IsTurn m old message bytes put other mid → (is_whole m ≡ true → other ≡ None) → ((c : Run) → LeadsTo c mid → LeadsTo (fail fault.Write c) new) → ((c : Run) → LeadsTo c mid → (fail fault.Write c).puts ≡ c.puts ++ option_to_list last) → new.progress.over ≡ true → Puts v (option_to_list put ++ option_to_list last) w → TurnsMessage old message x y a b v w new
-turned_off true m old mid new message bytes x y a b v w put other last e h told some t unsaid leads puts over p = absurd (true_false e)
-turned_off false m old mid new message bytes x y a b v w put other last e h told some t unsaid leads puts over p =
-    let is_all = whole (is_whole m) e in
+pub turned_off : (written : Bool) (m : Mark) (old mid new : Term) (message : Message) (bytes : List ℕ) (writer : KnownWriting) (v w : Hand) (put other last : Option (Option Entry)) → (written || not (is_whole m)) ≡ false → Writes written writer.before.bytes writer.after.bytes bytes → Tells written writer.before.calls writer.after.calls → (bytes ≡ [] → written ≡ true) → IsTurn m old message bytes put other mid → (is_whole m ≡ true → other ≡ None) → ((c : Run) → LeadsTo c mid → LeadsTo (fail fault.Write c) new) → ((c : Run) → LeadsTo c mid → (fail fault.Write c).puts ≡ c.puts ++ option_to_list last) → new.progress.over ≡ true → Puts v (option_to_list put ++ option_to_list last) w → TurnsMessage old message writer v w new
+turned_off true m old mid new message bytes writer v w put other last e h told some t unsaid leads puts over p = absurd (true_false e)
+turned_off false m old mid new message bytes writer v w put other last e h told some t unsaid leads puts over p =
+    let is_all = not-false (is_whole m) e in
     let M : Mark → Type 0 = λ n. IsTurn n old message bytes put other mid in
     let L : Option (Option Entry) → Type 0 = λ o. IsTurn mark.Whole old message bytes put o mid in
     let t' = subst L (unsaid is_all) (subst M (whole_mark m is_all) t) in
@@ -163,10 +157,6 @@ turned_off false m old mid new message bytes x y a b v w put other last e h told
       turn = turn_unwritten old mid new message h.0 h.1 bytes put last h.2 (λ off. false_true (some (t.idle off).0)) t' leads puts over;
       puts = p;
     }
-  where
-    whole : (b : Bool) → not b ≡ false → b ≡ true
-    whole true e = refl
-    whole false e = absurd (true_false e)
 
 whole-push : (ms : List (Message × Mark)) (m : Message) (k : Mark) → all_whole (ms ++ (m, k) ∷ []) ≡ (all_whole ms && is_whole k)
 whole-push [] m mark.Whole = refl
@@ -206,13 +196,17 @@ and_false : (a b : Bool) → (a && b) ≡ false → (a ≡ false) ⊎ (b ≡ fal
 and_false true b e = inr e
 and_false false b e = inl refl
 
-pub going_on : (a b d : Term) (ms : List Message) (m : Message) (x y z : Option (List ℕ)) (r s u : Option Calls) (puts : List (Option Entry)) (v w : Hand) → GoesOn a ms x y r s puts b → (t : TurnsMessage b m y z s u v w d) → GoesOn a (ms ++ m ∷ []) x z r u (puts ++ (option_to_list t.put ++ option_to_list t.last)) d
-going_on a b d ms m x y z r s u puts v w one t = record {
+-- a writer from before to after
+abbrev pub from_to : KnownWriter → KnownWriter → KnownWriting
+from_to x y = record { before = x; after = y }
+
+pub going_on : (a b d : Term) (ms : List Message) (m : Message) (x y z : KnownWriter) (puts : List (Option Entry)) (v w : Hand) → GoesOn a ms (from_to x y) puts b → (t : TurnsMessage b m (from_to y z) v w d) → GoesOn a (ms ++ m ∷ []) (from_to x z) (puts ++ (option_to_list t.put ++ option_to_list t.last)) d
+going_on a b d ms m x y z puts v w one t = record {
   marked = one.marked ++ (m, t.mark) ∷ [];
   whole = map-push one.marked (m, t.mark) ms one.whole;
   bytes = one.bytes ++ t.bytes;
-  wrote = appends_more x y z one.bytes t.bytes one.wrote t.wrote;
-  tells = subst (λ (well : Bool). Tells well r u) (sym (well-push one.marked m t.mark)) (accounts_both most_writes (no_writes_failed one.marked) (no_write_failed t.mark) r s u one.tells t.tells);
+  wrote = appends_more x.bytes y.bytes z.bytes one.bytes t.bytes one.wrote t.wrote;
+  tells = subst (λ (well : Bool). Tells well x.calls z.calls) (sym (well-push one.marked m t.mark)) (accounts_both max_writes (no_writes_failed one.marked) (no_write_failed t.mark) x.calls y.calls z.calls one.tells t.tells);
   leads = λ c at.
       let p = one.leads c at in
       let q = t.turn.leads p.0 p.2 in
@@ -230,26 +224,26 @@ going_on a b d ms m x y z r s u puts v w one t = record {
   idle = λ off. ap (λ (bs : List ℕ). bs ++ t.bytes) (one.idle off) ∙ (t.turn.idle (one.stays off)).0;
 }
 
-pub going_none : (a : Term) (x : Option (List ℕ)) (r : Option Calls) → GoesOn a [] x x r r [] a
-going_none a x r = record {
+pub going_none : (a : Term) (x : KnownWriter) → GoesOn a [] (from_to x x) [] a
+going_none a x = record {
   marked = [];
   whole = refl;
   bytes = [];
-  wrote = appends_none x;
-  tells = accounts_none most_writes r;
+  wrote = appends_none x.bytes;
+  tells = accounts_none max_writes x.calls;
   leads = λ c at. (c, refl, at, sym (append-nil c.puts), [], sym (append-nil (spells (items_said c.history))), λ w. refl);
   over = λ e. absurd (true_false e);
   stays = λ off. off;
   idle = λ off. refl;
 }
 
-pub going_kept : (a b : Term) (ms : List Message) (x y z : Option (List ℕ)) (r s u : Option Calls) (puts : List (Option Entry)) → Keeps y z → u ≡ s → GoesOn a ms x y r s puts b → GoesOn a ms x z r u puts b
-going_kept a b ms x y z r s u puts k told g = record {
+pub going_kept : (a b : Term) (ms : List Message) (x y z : KnownWriter) (puts : List (Option Entry)) → Keeps y.bytes z.bytes → z.calls ≡ y.calls → GoesOn a ms (from_to x y) puts b → GoesOn a ms (from_to x z) puts b
+going_kept a b ms x y z puts k told g = record {
   marked = g.marked;
   whole = g.whole;
   bytes = g.bytes;
-  wrote = appends_kept x y z g.bytes g.wrote k;
-  tells = subst (λ (v : Option Calls). Tells (no_writes_failed g.marked) r v) (sym told) g.tells;
+  wrote = appends_kept x.bytes y.bytes z.bytes g.bytes g.wrote k;
+  tells = subst (λ (v : Option Calls). Tells (no_writes_failed g.marked) x.calls v) (sym told) g.tells;
   leads = g.leads;
   over = g.over;
   stays = g.stays;
@@ -268,15 +262,11 @@ messages-push : (xs : List Mail) (x : Mail) → messages_of (xs ++ x ∷ []) ≡
 messages-push [] x = refl
 messages-push (y ∷ ys) x = ap (λ (ms : List Message). y.message ∷ ms) (messages-push ys x)
 
-pub going_next : (a b d : Term) (xs : List Mail) (x : Mail) (u y w z : Option (List ℕ)) (e f g i : Option Calls) (puts : List (Option Entry)) (v h : Hand) → Keeps w z → i ≡ g → GoesOn a (messages_of xs) u y e f puts b → (t : TurnsMessage b x.message y w f g v h d) → GoesOn a (messages_of (xs ++ x ∷ [])) u z e i (puts ++ (option_to_list t.put ++ option_to_list t.last)) d
-going_next a b d xs x u y w z e f g i puts v h k told one t =
+pub going_next : (a b d : Term) (xs : List Mail) (x : Mail) (u y w z : KnownWriter) (puts : List (Option Entry)) (v h : Hand) → Keeps w.bytes z.bytes → z.calls ≡ w.calls → GoesOn a (messages_of xs) (from_to u y) puts b → (t : TurnsMessage b x.message (from_to y w) v h d) → GoesOn a (messages_of (xs ++ x ∷ [])) (from_to u z) (puts ++ (option_to_list t.put ++ option_to_list t.last)) d
+going_next a b d xs x u y w z puts v h k told one t =
     let more = puts ++ (option_to_list t.put ++ option_to_list t.last) in
-    let P : List Message → Type 0 = λ ms. GoesOn a ms u z e i more d in
-    subst P (sym (messages-push xs x)) (going_kept a d _ u w z e g i more k told (going_on a b d (messages_of xs) x.message u y w e f g puts v h one t))
-
-pub if_some : {A : Type 0} (P Q : A → Type 0) (o : Option A) → IfSome o P → ((x : A) → P x → Q x) → IfSome o Q
-if_some P Q (Some x) h f = f x h
-if_some P Q None h f = tt
+    let P : List Message → Type 0 = λ ms. GoesOn a ms (from_to u z) more d in
+    subst P (sym (messages-push xs x)) (going_kept a d _ u w z more k told (going_on a b d (messages_of xs) x.message u y w puts v h one t))
 
 pub ok_writes : {E : Type 0} (old new : Option (List ℕ)) (r : Result ℕ E) (n : ℕ) (buf : List ℕ) → r ≡ Ok n → WriteAppends old new r buf → Appends old new (take n buf)
 ok_writes {E} old new r n buf e h = let P : Result ℕ E → Type 0 = λ u. WriteAppends old new u buf in subst P e h

@@ -3,7 +3,7 @@ use Rattle.std.proofs.Common.{◌≡◌, ◌+◌, ◌≤◌, ◌<◌, ℕ, Bool,
 use Rattle.tn_session.specs.declared.mail.Sender.{Sender}
 use Rattle.tn_session.specs.declared.mail.Sender.TheVariants.{Net, Desk, Back, Keys}
 use Rattle.tn_session.specs.declared.mail.Mail.{Mail}
-use Rattle.tn_session.specs.Mailbox.{same, from}
+use Rattle.tn_session.specs.Mailbox.{same, from, four, Interleaves}
 use Rattle.tn_session.specs.Turns.{left_one, lefts_of}
 use Rattle.tn_session.proofs.Mailbox.{from-append}
 
@@ -62,8 +62,8 @@ part_of s (x ∷ xs) = at_test (part_of s xs) (same x.from s) refl
     at_test ih false is = let e = lefts_else s x xs is in omega arith
 
 -- where as many Lefts were handled as were sent in all, the mailbox is empty
-pub nothing_left : (h items : List Mail) (sent : Sender → List Mail) → ((s : Sender) → from s (h ++ items) ≡ sent s) → ((s : Sender) → EndsLeft (sent s))
-    → lefts_of h ≡ lefts_of (sent Net) + lefts_of (sent Desk) + lefts_of (sent Back) + lefts_of (sent Keys) → items ≡ []
+nothing_left : (h items : List Mail) (sent : Sender → List Mail) → Interleaves (h ++ items) sent → ((s : Sender) → EndsLeft (sent s))
+    → lefts_of (sent Net) + lefts_of (sent Desk) + lefts_of (sent Back) + lefts_of (sent Keys) ≤ lefts_of h → items ≡ []
 nothing_left h [] sent woven ends count = refl
 nothing_left h (x ∷ xs) sent woven ends count =
     let s : Sender = x.from in
@@ -73,3 +73,12 @@ nothing_left h (x ∷ xs) sent woven ends count =
     let all : lefts_of (sent Net) + lefts_of (sent Desk) + lefts_of (sent Back) + lefts_of (sent Keys) ≡ lefts_of (h ++ x ∷ xs) =
     (λ i. lefts_of (sym (woven Net) i) + lefts_of (sym (woven Desk) i) + lefts_of (sym (woven Back) i) + lefts_of (sym (woven Keys) i)) ∙ lefts_each (h ++ x ∷ xs) in
     absurd (omega (arith, lefts-append h (x ∷ xs), all, count, here, part))
+
+pub none_over : (h items a b c d : List Mail) → Interleaves (h ++ items) (four a b c d) → EndsLeft a → EndsLeft b → EndsLeft c → EndsLeft d → lefts_of a + lefts_of b + lefts_of c + lefts_of d ≤ lefts_of h → items ≡ []
+none_over h items a b c d woven ea eb ec ed enough = nothing_left h items (four a b c d) woven ends enough
+  where
+    ends : (s : Sender) → EndsLeft (four a b c d s)
+    ends Net = ea
+    ends Desk = eb
+    ends Back = ec
+    ends Keys = ed

@@ -1,6 +1,6 @@
 pub mod Seats
 pub mod Mailbox
-pub mod Queue
+pub mod EntryChannel
 pub mod Reading
 pub mod Readers
 pub mod Talk

@@ -1,14 +1,12 @@
 -- Each step of the mailbox keeps its rule.
-use Rattle.std.proofs.Common.{◌≡◌, ◌⊎◌, ℕ, Bool, true, false, List, [], ◌∷◌, ◌++◌, length, Option, Some, None, refl, sym, ap, ◌∙◌, subst, inl, inr, append_assoc, append-nil, map, arith}
+use Rattle.std.proofs.Common.{◌≡◌, ◌⊎◌, ℕ, Bool, true, false, List, [], ◌∷◌, ◌++◌, Option, Some, None, refl, sym, ap, ◌∙◌, subst, inl, inr, append_assoc, append-nil}
 use Rattle.tn_session.specs.declared.mail.Sender.{Sender}
 use Rattle.tn_session.specs.declared.mail.Sender.TheVariants.{Net, Desk, Back, Keys}
 use Rattle.tn_session.specs.declared.mail.Mail.{Mail}
-use Rattle.tn_term.specs.declared.messages.Message.{Message}
 use Rattle.tn_session.specs.declared.channels.View.{View}
-use Rattle.crossbeam_channel.specs.Fifo.{Pushes, Pops, Forks, Merges, Learns, Held}
+use Rattle.crossbeam_channel.specs.Fifo.{Pushes, Pops, Forks, Merges, Learns}
 use Rattle.tn_session.specs.Seats.{Kept}
-use Rattle.tn_session.specs.Mailbox.{same, from, Interleaves, share, Woven, add, grown, grown_at, handed, nobody, everyone, union, either, Total, sender, mail, with_handled, four}
-use Rattle.std.proofs.lemmas.List.{map-append}
+use Rattle.tn_session.specs.Mailbox.{same, from, Interleaves, share, Woven, add, grown, grown_at, handed, nobody, everyone, union, either, Total, sender, with_handled, four}
 use Rattle.tn_session.proofs.Seats.{or_held, same_held, begins, learns, moves, Cuts, forks, merges}
 
 pub same_true : (a b : Sender) → same a b ≡ true → a ≡ b
@@ -128,47 +126,33 @@ totals pass v items views kept at s h l core mine =
     let all = learns share Woven items views pass v kept at in
     ap (λ (k : List Mail). from s (k ++ items)) (all.2 None h core) ∙ all.1 s ∙ sym (all.2 (Some s) l mine)
 
--- a role is cut off, and passes are joined
-pub cut_net : (pass : ℕ) (v : View) → Forks (Kept share Woven) pass v (record v { net = None }) (record nobody { net = v.net })
-cut_net pass v items views kept at = forks share Woven pass v (record v { net = None }) (record nobody { net = v.net }) cuts items views kept at
-  where
-    cuts : Cuts share Woven v (record v { net = None }) (record nobody { net = v.net })
-    cuts None = inl (refl, refl)
-    cuts (Some Net) = inr (refl, refl)
-    cuts (Some Desk) = inl (refl, refl)
-    cuts (Some Back) = inl (refl, refl)
-    cuts (Some Keys) = inl (refl, refl)
+-- one sender's role is cut off
+abbrev pub without : Sender → View → View
+without Net v = record v { net = None }
+without Desk v = record v { desk = None }
+without Back v = record v { back = None }
+without Keys v = record v { keys = None }
 
-pub cut_desk : (pass : ℕ) (v : View) → Forks (Kept share Woven) pass v (record v { desk = None }) (record nobody { desk = v.desk })
-cut_desk pass v items views kept at = forks share Woven pass v (record v { desk = None }) (record nobody { desk = v.desk }) cuts items views kept at
-  where
-    cuts : Cuts share Woven v (record v { desk = None }) (record nobody { desk = v.desk })
-    cuts None = inl (refl, refl)
-    cuts (Some Net) = inl (refl, refl)
-    cuts (Some Desk) = inr (refl, refl)
-    cuts (Some Back) = inl (refl, refl)
-    cuts (Some Keys) = inl (refl, refl)
+abbrev pub alone : Sender → View → View
+alone Net v = record nobody { net = v.net }
+alone Desk v = record nobody { desk = v.desk }
+alone Back v = record nobody { back = v.back }
+alone Keys v = record nobody { keys = v.keys }
 
-pub cut_back : (pass : ℕ) (v : View) → Forks (Kept share Woven) pass v (record v { back = None }) (record nobody { back = v.back })
-cut_back pass v items views kept at = forks share Woven pass v (record v { back = None }) (record nobody { back = v.back }) cuts items views kept at
+pub cut : (s : Sender) (pass : ℕ) (v : View) → Forks (Kept share Woven) pass v (without s v) (alone s v)
+cut s pass v items views kept at = forks share Woven pass v (without s v) (alone s v) (cuts s) items views kept at
   where
-    cuts : Cuts share Woven v (record v { back = None }) (record nobody { back = v.back })
-    cuts None = inl (refl, refl)
-    cuts (Some Net) = inl (refl, refl)
-    cuts (Some Desk) = inl (refl, refl)
-    cuts (Some Back) = inr (refl, refl)
-    cuts (Some Keys) = inl (refl, refl)
+    cuts : (s : Sender) → Cuts share Woven v (without s v) (alone s v)
+    cuts Net (Some Net) = inr (refl, refl)
+    cuts Desk (Some Desk) = inr (refl, refl)
+    cuts Back (Some Back) = inr (refl, refl)
+    cuts Keys (Some Keys) = inr (refl, refl)
+    cuts Net _ = inl (refl, refl)
+    cuts Desk _ = inl (refl, refl)
+    cuts Back _ = inl (refl, refl)
+    cuts Keys _ = inl (refl, refl)
 
-pub cut_keys : (pass : ℕ) (v : View) → Forks (Kept share Woven) pass v (record v { keys = None }) (record nobody { keys = v.keys })
-cut_keys pass v items views kept at = forks share Woven pass v (record v { keys = None }) (record nobody { keys = v.keys }) cuts items views kept at
-  where
-    cuts : Cuts share Woven v (record v { keys = None }) (record nobody { keys = v.keys })
-    cuts None = inl (refl, refl)
-    cuts (Some Net) = inl (refl, refl)
-    cuts (Some Desk) = inl (refl, refl)
-    cuts (Some Back) = inl (refl, refl)
-    cuts (Some Keys) = inr (refl, refl)
-
+-- passes are joined
 either_one : (a b : Option (List Mail)) (l : List Mail) → either a b ≡ Some l → (a ≡ Some l) ⊎ (b ≡ Some l)
 either_one (Some k) b l e = inl e
 either_one None b l e = inr e
@@ -197,34 +181,15 @@ sender_share Desk l v e = ap (λ (w : View). w.desk) e
 sender_share Back l v e = ap (λ (w : View). w.back) e
 sender_share Keys l v e = ap (λ (w : View). w.keys) e
 
-sender_grown : (s : Sender) (l : List Mail) (x : Mail) → grown_at s (sender s l) x ≡ sender s (l ++ x ∷ [])
-sender_grown Net l x = refl
-sender_grown Desk l x = refl
-sender_grown Back l x = refl
-sender_grown Keys l x = refl
-
-pub sender_more : (s : Sender) (l : List Message) (m : Message) (v w : View) → v ≡ sender s (map (mail s) l) → w ≡ grown v (mail s m) → w ≡ sender s (map (mail s) (l ++ m ∷ []))
-sender_more s l m v w old new = new ∙ ap (λ (u : View). grown_at s u (mail s m)) old ∙ sender_grown s (map (mail s) l) (mail s m) ∙ ap (sender s) (sym (map-append (mail s) l (m ∷ [])))
-
 pub handled_more : (v u w : View) (l : List Mail) (x : Mail) → u ≡ with_handled v l → w ≡ handed u x → w ≡ with_handled v (l ++ x ∷ [])
 handled_more v u w l x old new = new ∙ ap (λ (y : View). handed y x) old
 
-pub handled_none : (v : View) → v.handled ≡ Some [] → v ≡ with_handled v []
-handled_none v e = ap (λ (h : Option (List Mail)). record v { handled = h }) e
-
-no_items : (items : List Mail) → length items ≡ 0 → items ≡ []
-no_items [] e = refl
-no_items (x ∷ xs) e = absurd (omega arith)
-
--- with each role and an empty mailbox, what was handled is an interleaving of what was sent
-pub settled : (v : View) (h a b c d : List Mail) → v ≡ record { handled = Some h; net = Some a; desk = Some b; back = Some c; keys = Some d } → Held 0 (Total v) → Interleaves h (four a b c d)
-settled v h a b c d is held s = sym (ap (from s) (ap (λ (k : List Mail). h ++ k) (no_items held.0 held.1) ∙ append-nil h)) ∙ held.2 s h (four a b c d s) (ap (λ (w : View). w.handled) is) (mine s)
+-- a pass with each role knows that what was handled, and then the mailbox, is an interleaving of what was sent
+pub all_woven : (v : View) (h a b c d : List Mail) → v ≡ record { handled = Some h; net = Some a; desk = Some b; back = Some c; keys = Some d } → (items : List Mail) × Total v items → (items : List Mail) × Interleaves (h ++ items) (four a b c d)
+all_woven v h a b c d is held = (held.0, λ s. held.1 s h (four a b c d s) (ap (λ (w : View). w.handled) is) (mine s))
   where
     mine : (s : Sender) → share v (Some s) ≡ Some (four a b c d s)
     mine Net = ap (λ (w : View). w.net) is
     mine Desk = ap (λ (w : View). w.desk) is
     mine Back = ap (λ (w : View). w.back) is
     mine Keys = ap (λ (w : View). w.keys) is
-
-pub sent_view : (s t : Sender) (m k : List Message) (v : View) → v ≡ sender s (map (mail s) m) → s ≡ t → m ≡ k → v ≡ sender t (map (mail t) k)
-sent_view s t m k v e who is = e ∙ (λ i. sender (who i) (map (mail (who i)) (is i)))

@@ -3,8 +3,8 @@ use Rattle.std.proofs.Common.{◌≡◌, ℕ, ◌+◌, ◌≤◌, Option, Some, 
 use Rattle.tn_session.specs.Turning.{ids_of}
 use Rattle.tn_session.specs.declared.back.Runner.{Runner}
 use Rattle.tn_session.specs.Makers.{HasMade, MayBeDone, MayGoOn, MakesJob, AreAll, IsMakerFault}
-use Rattle.tn_term.specs.declared.faults.SessionFault.{SessionFault}
-use Rattle.tn_term.specs.declared.faults.SessionFault.TheVariants as fault
+use Rattle.tn_messages.specs.declared.faults.SessionFault.{SessionFault}
+use Rattle.tn_messages.specs.declared.faults.SessionFault.TheVariants as fault
 
 pub none_came : (J E : Type 0) (old new : Option ℕ) → MakesJob {J = J} {E = E} old new (Ok None) → MayBeDone old
 none_came J E None new m = tt
@@ -42,9 +42,9 @@ all_made made (Some n) b ids (left, is, to) done e small =
     omega (arith, is, none, e, small)
 
 -- as many as there may be
-pub most_made : (a b : Option ℕ) (ids : List ℕ) → HasMade 16 a b → length ids ≡ 15 → AreAll a ids
-most_made None b ids h e = tt
-most_made (Some n) b ids (left, is, to) e = omega (arith, is, e)
+pub max_made : (a b : Option ℕ) (ids : List ℕ) → HasMade 16 a b → length ids ≡ 15 → AreAll a ids
+max_made None b ids h e = tt
+max_made (Some n) b ids (left, is, to) e = omega (arith, is, e)
 
 pub some_are : (left : Option ℕ) (ids : List ℕ) → AreAll left ids → MayGoOn left
 some_are None ids all = tt
@@ -62,10 +62,10 @@ only_start left (fault.Server f) none why = absurd why
 only_start left (fault.Client f) none why = absurd why
 only_start left fault.Channel none why = absurd why
 
-one_longer : {J : Type 0} (line : List (Runner J)) (r : Runner J) → length (ids_of (line ++ r ∷ [])) ≡ length (ids_of line) + 1
+one_longer : {J : Type 0} (queue : List (Runner J)) (r : Runner J) → length (ids_of (queue ++ r ∷ [])) ≡ length (ids_of queue) + 1
 one_longer [] r = refl
-one_longer (x ∷ line) r = let ih = one_longer line r in omega (arith, ih)
+one_longer (x ∷ queue) r = let ih = one_longer queue r in omega (arith, ih)
 
--- one job more stands in the line
-pub one_more : {J : Type 0} (line later : List (Runner J)) (r : Runner J) → later ≡ line ++ r ∷ [] → length (ids_of later) ≡ length (ids_of line) + 1
-one_more line later r e = ap (λ l. length (ids_of l)) e ∙ one_longer line r
+-- one job more stands in the queue
+pub one_more : {J : Type 0} (queue later : List (Runner J)) (r : Runner J) → later ≡ queue ++ r ∷ [] → length (ids_of later) ≡ length (ids_of queue) + 1
+one_more queue later r e = ap (λ l. length (ids_of l)) e ∙ one_longer queue r

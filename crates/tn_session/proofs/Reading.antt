@@ -1,13 +1,13 @@
 -- What a thread that reads took from its reader.
-use Rattle.std.proofs.Common.{◌≡◌, ℕ, ◌+◌, List, [], ◌∷◌, ◌++◌, Option, Some, None, IfSome, sym, ap, ◌∙◌, append_assoc, append-nil, length, length-append, arith}
+use Rattle.std.proofs.Common.{◌≡◌, ℕ, ◌+◌, List, [], ◌∷◌, ◌++◌, Option, Some, None, sym, ap, ◌∙◌, append_assoc, append-nil, length, length-append, arith}
 use Rattle.std.specs.List.{concat}
 use Rattle.std.proofs.lemmas.List.Folds.{concat-append}
 use Rattle.std.specs.Io.KnownBytes.{Consumes, Keeps}
-use Rattle.tn_session.specs.Reading.{IsReadCause, most_reads}
+use Rattle.tn_session.specs.Reading.{IsReadCause, max_reads}
 use Rattle.tn_streams.proofs.lemmas.Foretelling.{come_on, come_will}
 use Rattle.tn_streams.specs.Foretelling.{Failures, HasCome}
-use Rattle.tn_term.specs.declared.messages.Message.{Message}
-use Rattle.tn_term.specs.declared.messages.Message.TheVariants.{Piece, HangUp, ReadFailed, Take, Said, Refused, Left}
+use Rattle.tn_messages.specs.declared.messages.Message.{Message}
+use Rattle.tn_messages.specs.declared.messages.Message.TheVariants.{Piece, HangUp, ReadFailed, Take, Said, Refused, Left}
 
 pub consumes_more : (a b c : Option (List ℕ)) (xs ys : List ℕ) → Consumes a b xs → Consumes b c ys → Consumes a c (xs ++ ys)
 consumes_more None b c xs ys one two = tt
@@ -26,10 +26,6 @@ consumes_piece a b c pieces p one two = rw (concat-append pieces (p ∷ [])) (co
 pub consumes_end : (a b c : Option (List ℕ)) (xs : List ℕ) → Consumes a b xs → Consumes b c [] → Consumes a c xs
 consumes_end a b c xs one two = let h = consumes_more a b c xs [] one two in rw (append-nil xs) at h
 
-pub if_some : {A : Type 0} (P Q : A → Type 0) (o : Option A) → IfSome o P → ((x : A) → P x → Q x) → IfSome o Q
-if_some P Q (Some x) h f = f x h
-if_some P Q None h f = tt
-
 -- WHAT WAS FORETOLD
 
 pub come_piece : (calls : ℕ) (pieces : List (List ℕ)) (p : List ℕ) (a b c : Option Failures) → HasCome calls (length pieces) a b → HasCome 1 1 b c → HasCome (calls + 1) (length (pieces ++ p ∷ [])) a c
@@ -41,7 +37,7 @@ come_interrupted calls pieces a b c one two =
     rw none at (come_on calls (length pieces) 1 0 a b c one two)
 
 pub cause_on : (calls : ℕ) (pieces : List (List ℕ)) (last : Message) (a b : Option Failures) → HasCome calls (length pieces) a b → IsReadCause b 0 last → IsReadCause a (length pieces) last
-cause_on calls pieces ReadFailed a b one cause = come_will most_reads calls (length pieces) a b one cause
+cause_on calls pieces ReadFailed a b one cause = come_will max_reads calls (length pieces) a b one cause
 cause_on calls pieces (Piece piece) a b one cause = tt
 cause_on calls pieces HangUp a b one cause = tt
 cause_on calls pieces Take a b one cause = tt

@@ -9,9 +9,9 @@ use Rattle.tn_session.specs.Turns.{left_one, lefts_of}
 use Rattle.tn_session.specs.declared.channels.View.{View}
 use Rattle.tn_session.specs.declared.mail.Mail.{Mail}
 use Rattle.tn_session.specs.declared.mail.Sender.{Sender}
-use Rattle.tn_streams.specs.Foretelling.{Failures}
-use Rattle.tn_term.specs.declared.messages.Message.{Message}
-use Rattle.tn_term.specs.declared.messages.Message.TheVariants.{Piece, HangUp, ReadFailed, Take, Said, Refused, Left}
+use Rattle.tn_streams.specs.Known.{KnownReader}
+use Rattle.tn_messages.specs.declared.messages.Message.{Message}
+use Rattle.tn_messages.specs.declared.messages.Message.TheVariants.{Piece, HangUp, ReadFailed, Take, Said, Refused, Left}
 
 abbrev pub NoLeft : List Message → Type 0
 NoLeft [] = Unit {0}
@@ -68,8 +68,8 @@ sent_by s ms all v n e is =
     record { mails = map (mail s) all; is = is; ends = o.ends; one = o.one }
 
 -- a thread that reads
-pub reader_sent : (who : Sender) (may_stop : Bool) (given : Option (List ℕ)) (foretold : Option Failures) (v : View) → ReaderSends who may_stop given foretold v → Sent who v
-reader_sent who may_stop given foretold v (pieces, left, close, consumed, closes, is, small) =
+pub reader_sent : (who : Sender) (may_stop : Bool) (reader : KnownReader) (v : View) → ReaderSends who may_stop reader v → Sent who v
+reader_sent who may_stop reader v (pieces, left, close, consumed, closes, is, small) =
     let read = pieces_of pieces in
     let P : List Message → Type 0 = λ ms. v ≡ sender who (map (mail who) (read ++ ms)) in
     ⊎_elim

@@ -1,6 +1,7 @@
 -- One more step of a background job.
-use Rattle.std.proofs.Common.{◌≡◌, ℕ, ◌==◌, Bool, true, false, not, List, [], ◌∷◌, ◌++◌, ◌⊎◌, ⊎_elim, inl, inr, map, drop, length, length-drop, arith, ◌<◌, Result, Ok, Err, append_assoc, Option, Some, None, IfSome, refl, sym, ap, ◌∙◌, subst, if◌then◌else◌, eq-eqb, eqb-true}
+use Rattle.std.proofs.Common.{◌≡◌, ℕ, ◌==◌, Bool, true, false, not, List, [], ◌∷◌, ◌++◌, ◌⊎◌, ⊎_elim, inl, inr, map, drop, length, length-drop, arith, ◌<◌, Result, Ok, Err, append_assoc, refl, sym, ap, ◌∙◌, subst, if◌then◌else◌, eq-eqb, eqb-true}
 use Rattle.std.proofs.lemmas.Fn.{FoldsTo-push}
+use Rattle.std.proofs.lemmas.List.{map-append}
 use Rattle.std.specs.List.{FoldsTo}
 use Rattle.std.specs.Result.{is_ok, is_err}
 use Rattle.tn_jobs.specs.Judging.{judged}
@@ -11,12 +12,11 @@ use Rattle.tn_jobs.specs.declared.reactions.Reaction.{Reaction}
 use Rattle.tn_session.specs.Stepping.{IsIn, AreBy, Steps, AreSteps, LeavesLast, reactions_of, step_said, leaves_in_background, stays}
 use Rattle.tn_session.specs.Mailbox.{sender, mail}
 use Rattle.tn_session.specs.declared.channels.View.{View}
-use Rattle.tn_session.specs.declared.mail.Mail.{Mail}
 use Rattle.tn_session.specs.declared.mail.Sender.TheVariants.{Back}
 use Rattle.tn_term.specs.Run.{has_text}
-use Rattle.tn_term.specs.declared.messages.Message.{Message}
-use Rattle.tn_term.specs.declared.messages.Message.TheVariants.{Refused, Left}
-use Rattle.tn_session.specs.Turning.{ids_of, AreApart, EachFresh, IsLine, Chain, EachRuns, AllStay, EachStays, Running, StandsNext, AdvancesLine}
+use Rattle.tn_messages.specs.declared.messages.Message.{Message}
+use Rattle.tn_messages.specs.declared.messages.Message.TheVariants.{Refused, Left}
+use Rattle.tn_session.specs.Turning.{ids_of, AreApart, EachFresh, IsQueue, Chain, EachRuns, AllStay, EachStays, Running, StandsNext, AdvancesQueue}
 
 abbrev Said : Type 0
 Said = JobId × Reaction
@@ -67,23 +67,23 @@ module _ {J : Type 0} (fresh : J → Type 0) (steps : J → Reaction → J → T
       by true e = absurd (apart (eqb-true a b e))
       by false e = e
 
-  runs_stay : (said : List Said) (s : Said) (line : List (Runner J)) → (IsIn s.0.0 (ids_of line) → ⊥) → EachRuns fresh steps ids said line → EachRuns fresh steps ids (said ++ s ∷ []) line
+  runs_stay : (said : List Said) (s : Said) (queue : List (Runner J)) → (IsIn s.0.0 (ids_of queue) → ⊥) → EachRuns fresh steps ids said queue → EachRuns fresh steps ids (said ++ s ∷ []) queue
   runs_stay said s [] none e = tt
   runs_stay said s (r ∷ rs) none e = (e.0, chain_stays said s r.id.0 r.job (is_other s.0.0 r.id.0 (λ same. none (inl same))) e.1, runs_stay said s rs (λ i. none (inr i)) e.2)
 
-  runs-push : (said : List Said) (line : List (Runner J)) (r : Runner J) → IsIn r.id.0 ids → Chain fresh steps said r.id.0 r.job → EachRuns fresh steps ids said line → EachRuns fresh steps ids said (line ++ r ∷ [])
+  runs-push : (said : List Said) (queue : List (Runner J)) (r : Runner J) → IsIn r.id.0 ids → Chain fresh steps said r.id.0 r.job → EachRuns fresh steps ids said queue → EachRuns fresh steps ids said (queue ++ r ∷ [])
   runs-push said [] r i c e = (i, c, tt)
-  runs-push said (x ∷ line) r i c e = (e.0, e.1, runs-push said line r i c e.2)
+  runs-push said (x ∷ queue) r i c e = (e.0, e.1, runs-push said queue r i c e.2)
 
-  in-push : (line : List (Runner J)) (r : Runner J) (id : ℕ) → IsIn id (ids_of (line ++ r ∷ [])) → IsIn id (ids_of line) ⊎ (id ≡ r.id.0)
+  in-push : (queue : List (Runner J)) (r : Runner J) (id : ℕ) → IsIn id (ids_of (queue ++ r ∷ [])) → IsIn id (ids_of queue) ⊎ (id ≡ r.id.0)
   in-push [] r id i = ⊎_elim (λ e. inr e) (λ none. absurd none) i
-  in-push (x ∷ line) r id i = ⊎_elim (λ e. inl (inl e)) (λ later. ⊎_elim (λ a. inl (inr a)) (λ b. inr b) (in-push line r id later)) i
+  in-push (x ∷ queue) r id i = ⊎_elim (λ e. inl (inl e)) (λ later. ⊎_elim (λ a. inl (inr a)) (λ b. inr b) (in-push queue r id later)) i
 
-  apart-push : (line : List (Runner J)) (r : Runner J) → (IsIn r.id.0 (ids_of line) → ⊥) → AreApart (ids_of line) → AreApart (ids_of (line ++ r ∷ []))
+  apart-push : (queue : List (Runner J)) (r : Runner J) → (IsIn r.id.0 (ids_of queue) → ⊥) → AreApart (ids_of queue) → AreApart (ids_of (queue ++ r ∷ []))
   apart-push [] r none a = (λ i. i, tt)
-  apart-push (x ∷ line) r none a = (
-    λ i. ⊎_elim (λ before. a.0 before) (λ same. none (inl (sym same))) (in-push line r x.id.0 i),
-    apart-push line r (λ i. none (inr i)) a.1,
+  apart-push (x ∷ queue) r none a = (
+    λ i. ⊎_elim (λ before. a.0 before) (λ same. none (inl (sym same))) (in-push queue r x.id.0 i),
+    apart-push queue r (λ i. none (inr i)) a.1,
   )
 
   each_of : (said : List Said) (s : Said) (job : J) → Chain fresh steps (said ++ s ∷ []) s.0.0 job → (other : ℕ) → Steps {J = J} fresh steps said other → (b : Bool) → (other == s.0.0) ≡ b → Steps {J = J} fresh steps (said ++ s ∷ []) other
@@ -95,24 +95,24 @@ module _ {J : Type 0} (fresh : J → Type 0) (steps : J → Reaction → J → T
       let apart = is_other s.0.0 other (λ same. let t = eq-eqb other s.0.0 (sym same) in cc) in
       (old.0, old.1, old.2, subst Q (sym (other-push said s other apart)) old.3)
 
-  runs_fresh : (line : List (Runner J)) → ((id : ℕ) → IsIn id (ids_of line) → IsIn id ids) → EachFresh fresh line → EachRuns fresh steps ids [] line
+  runs_fresh : (queue : List (Runner J)) → ((id : ℕ) → IsIn id (ids_of queue) → IsIn id ids) → EachFresh fresh queue → EachRuns fresh steps ids [] queue
   runs_fresh [] inside f = tt
   runs_fresh (r ∷ rs) inside f = (inside r.id.0 (inl refl), (r.job, f.0, refl), runs_fresh rs (λ id i. inside id (inr i)) f.1)
 
-  fresh_steps : (line : List (Runner J)) → EachFresh fresh line → (id : ℕ) → IsIn id (ids_of line) → Steps {J = J} fresh steps [] id
+  fresh_steps : (queue : List (Runner J)) → EachFresh fresh queue → (id : ℕ) → IsIn id (ids_of queue) → Steps {J = J} fresh steps [] id
   fresh_steps [] f id i = absurd i
   fresh_steps (r ∷ rs) f id i = ⊎_elim (λ e. (r.job, r.job, f.0, refl)) (λ later. fresh_steps rs f.1 id later) i
 
-  -- of those in the line that made no step nothing changes
-  stay_on : (said : List Said) (s : Said) (line : List (Runner J)) → (IsIn s.0.0 (ids_of line) → ⊥) → EachStays tostop said line → EachStays tostop (said ++ s ∷ []) line
+  -- of those in the queue that made no step nothing changes
+  stay_on : (said : List Said) (s : Said) (queue : List (Runner J)) → (IsIn s.0.0 (ids_of queue) → ⊥) → EachStays tostop said queue → EachStays tostop (said ++ s ∷ []) queue
   stay_on said s [] none e = tt
   stay_on said s (r ∷ rs) none e =
       let P : List Reaction → Type 0 = λ xs. AllStay tostop xs in
       (subst P (sym (other-push said s r.id.0 (is_other s.0.0 r.id.0 (λ same. none (inl same))))) e.0, stay_on said s rs (λ i. none (inr i)) e.1)
 
-  stay-push : (said : List Said) (line : List (Runner J)) (r : Runner J) → AllStay tostop (reactions_of r.id.0 said) → EachStays tostop said line → EachStays tostop said (line ++ r ∷ [])
+  stay-push : (said : List Said) (queue : List (Runner J)) (r : Runner J) → AllStay tostop (reactions_of r.id.0 said) → EachStays tostop said queue → EachStays tostop said (queue ++ r ∷ [])
   stay-push said [] r all e = (all, tt)
-  stay-push said (x ∷ line) r all e = (e.0, stay-push said line r all e.1)
+  stay-push said (x ∷ queue) r all e = (e.0, stay-push said queue r all e.1)
 
   leave_of : (said : List Said) (s : Said) → AllStay tostop (reactions_of s.0.0 said) → (other : ℕ) → LeavesLast tostop (reactions_of other said) → (b : Bool) → (other == s.0.0) ≡ b → LeavesLast tostop (reactions_of other (said ++ s ∷ []))
   leave_of said s all other old true e =
@@ -123,17 +123,17 @@ module _ {J : Type 0} (fresh : J → Type 0) (steps : J → Reaction → J → T
       let P : List Reaction → Type 0 = λ xs. LeavesLast tostop xs in
       subst P (sym (other-push said s other (is_other s.0.0 other (λ same. let t = eq-eqb other s.0.0 (sym same) in cc)))) old
 
-  none_left : (line : List (Runner J)) → EachStays tostop [] line
+  none_left : (queue : List (Runner J)) → EachStays tostop [] queue
   none_left [] = tt
   none_left (r ∷ rs) = (tt, none_left rs)
 
-  -- the job stands in the line no more, or last
+  -- the job stands in the queue no more, or last
   gone_or_last : (on refused : Bool) (rest new : List (Runner J)) (r : Runner J) → StandsNext on refused rest r new → (new ≡ rest) ⊎ ((on ≡ true) × (new ≡ rest ++ r ∷ []))
   gone_or_last true false rest new r e = inr (refl, e)
   gone_or_last true true rest new r e = inl e
   gone_or_last false refused rest new r e = inl e.1
 
-  pub advanced : (said : List Said) (old new : List (Runner J)) (id : JobId) (reaction : Reaction) (refused : Bool) → Running fresh steps tostop ids said old → AdvancesLine steps tostop old id reaction refused new → Running fresh steps tostop ids (said ++ (id, reaction) ∷ []) new
+  pub advanced : (said : List Said) (old new : List (Runner J)) (id : JobId) (reaction : Reaction) (refused : Bool) → Running fresh steps tostop ids said old → AdvancesQueue steps tostop old id reaction refused new → Running fresh steps tostop ids (said ++ (id, reaction) ∷ []) new
   advanced said old new id reaction refused run a =
       let s : Said = (id, reaction) in
       let P : List (Runner J) → Type 0 = λ l. EachRuns fresh steps ids said l × AreApart (ids_of l) × EachStays tostop said l in
@@ -157,42 +157,25 @@ module _ {J : Type 0} (fresh : J → Type 0) (steps : J → Reaction → J → T
         apart = after.1;
       }
 
-pub running_first : {J : Type 0} (fresh : J → Type 0) (steps : J → Reaction → J → Type 0) (tostop : Bool) (line : List (Runner J)) → IsLine fresh line → Running fresh steps tostop (ids_of line) [] line
-running_first fresh steps tostop line l = record {
+pub running_first : {J : Type 0} (fresh : J → Type 0) (steps : J → Reaction → J → Type 0) (tostop : Bool) (queue : List (Runner J)) → IsQueue fresh queue → Running fresh steps tostop (ids_of queue) [] queue
+running_first fresh steps tostop queue l = record {
   by = tt;
   leave = λ id i. tt;
-  stay = none_left fresh steps tostop (ids_of line) line;
-  each = fresh_steps fresh steps tostop (ids_of line) line l.0;
-  runs = runs_fresh fresh steps tostop (ids_of line) line (λ id i. i) l.0;
+  stay = none_left fresh steps tostop (ids_of queue) queue;
+  each = fresh_steps fresh steps tostop (ids_of queue) queue l.0;
+  runs = runs_fresh fresh steps tostop (ids_of queue) queue (λ id i. i) l.0;
   apart = l.1;
 }
 
-map-push : {A B : Type 0} (f : A → B) (xs : List A) (x : A) → map f (xs ++ x ∷ []) ≡ map f xs ++ f x ∷ []
-map-push f [] x = refl
-map-push f (y ∷ ys) x = ap (λ zs. f y ∷ zs) (map-push f ys x)
-
-pub back_sends : List Message → View
-back_sends ms = sender Back (map (mail Back) ms)
-
-pub said : (ms : List Message) (m : Message) (v w : View) → v ≡ sender Back (map (mail Back) ms) → ((l : List Mail) → v ≡ sender Back l → w ≡ sender Back (l ++ mail Back m ∷ [])) → w ≡ sender Back (map (mail Back) (ms ++ m ∷ []))
-said ms m v w e f = f (map (mail Back) ms) e ∙ ap (sender Back) (sym (map-push (mail Back) ms m))
-
-pub role : (ms : List Message) (v : View) → v ≡ sender Back (map (mail Back) ms) → (l : List Mail) × (v ≡ sender Back l)
-role ms v e = (map (mail Back) ms, e)
-
 pub said_step : (ss : List Said) (s : Said) (v : View) → v ≡ sender Back (map (mail Back) (map step_said ss ++ step_said s ∷ [])) → v ≡ sender Back (map (mail Back) (map step_said (ss ++ s ∷ [])))
-said_step ss s v e = e ∙ ap (λ (ms : List Message). sender Back (map (mail Back) ms)) (sym (map-push step_said ss s))
+said_step ss s v e = e ∙ ap (λ (ms : List Message). sender Back (map (mail Back) ms)) (sym (map-append step_said ss (s ∷ [])))
 
-pub closes_left : {J : Type 0} (fresh : J → Type 0) (steps : J → Reaction → J → Type 0) (tostop : Bool) (ids : List ℕ) (ss : List Said) (line : List (Runner J)) (v : View) → Running fresh steps tostop ids ss line → v ≡ sender Back (map (mail Back) (map step_said ss ++ Left ∷ [])) → AreSteps {J = J} fresh steps (record { ids = ids; tostop = tostop }) v
-closes_left fresh steps tostop ids ss line v r e = (ss, Left ∷ [], inl refl, e, r.by, r.each, r.leave)
+pub closes_left : {J : Type 0} (fresh : J → Type 0) (steps : J → Reaction → J → Type 0) (tostop : Bool) (ids : List ℕ) (ss : List Said) (queue : List (Runner J)) (v : View) → Running fresh steps tostop ids ss queue → v ≡ sender Back (map (mail Back) (map step_said ss ++ Left ∷ [])) → AreSteps {J = J} fresh steps (record { ids = ids; tostop = tostop }) v
+closes_left fresh steps tostop ids ss queue v r e = (ss, Left ∷ [], inl refl, e, r.by, r.each, r.leave)
 
-pub closes_refused : {J : Type 0} (fresh : J → Type 0) (steps : J → Reaction → J → Type 0) (tostop : Bool) (ids : List ℕ) (ss : List Said) (line : List (Runner J)) (v : View) → Running fresh steps tostop ids ss line → v ≡ sender Back (map (mail Back) ((map step_said ss ++ Refused ∷ []) ++ Left ∷ [])) → AreSteps {J = J} fresh steps (record { ids = ids; tostop = tostop }) v
-closes_refused fresh steps tostop ids ss line v r e =
+pub closes_refused : {J : Type 0} (fresh : J → Type 0) (steps : J → Reaction → J → Type 0) (tostop : Bool) (ids : List ℕ) (ss : List Said) (queue : List (Runner J)) (v : View) → Running fresh steps tostop ids ss queue → v ≡ sender Back (map (mail Back) ((map step_said ss ++ Refused ∷ []) ++ Left ∷ [])) → AreSteps {J = J} fresh steps (record { ids = ids; tostop = tostop }) v
+closes_refused fresh steps tostop ids ss queue v r e =
     (ss, Refused ∷ Left ∷ [], inr refl, e ∙ ap (λ (ms : List Message). sender Back (map (mail Back) ms)) (append_assoc (map step_said ss) (Refused ∷ []) (Left ∷ [])), r.by, r.each, r.leave)
-
-pub if_some : {A : Type 0} (P Q : A → Type 0) (o : Option A) → IfSome o P → ((x : A) → P x → Q x) → IfSome o Q
-if_some P Q (Some x) h f = f x h
-if_some P Q None h f = tt
 
 -- a job that runs on stands last, if memory for that was found
 pub kept_on : {J : Type 0} (on found refused : Bool) (xs new : List (Runner J)) (r : Runner J) → on ≡ true → refused ≡ not found → new ≡ (if found then xs ++ r ∷ [] else xs) → StandsNext on refused xs r new
@@ -205,7 +188,7 @@ kept_on on found refused xs new r e f n = rw (e, f) (by found n)
 pub let_go : {J : Type 0} (on : Bool) (xs : List (Runner J)) (r : Runner J) → on ≡ false → StandsNext on false xs r xs
 let_go on xs r e = rw e (refl, refl)
 
--- where none was first, the line is empty
+-- where none was first, the queue is empty
 pub none_first : {A : Type 0} (old new : List A) → old ≡ new → new ≡ drop 1 old → old ≡ []
 none_first [] new e f = refl
 none_first (x ∷ xs) new e f =

@@ -1,5 +1,5 @@
 -- A whole session: its passes joined, and what its threads did.
-use Rattle.std.proofs.Common.{◌≡◌, ℕ, ◌+◌, ◌≤◌, Bool, true, false, ◌&&◌, List, [], ◌∷◌, ◌++◌, Option, Some, None, Result, Ok, Err, IfOk, refl, sym, ap, ◌∙◌, ⊎_elim, map, subst, append-nil, append_assoc, arith}
+use Rattle.std.proofs.Common.{◌≡◌, ℕ, Bool, true, false, ◌&&◌, List, [], ◌∷◌, ◌++◌, Option, Some, None, refl, sym, ap, ◌∙◌, ⊎_elim, map, subst, append-nil, append_assoc, arith}
 use Rattle.std.specs.Io.KnownBytes.{Appends}
 use Rattle.tn_discipline.specs.Canon.{Canon}
 use Rattle.tn_discipline.specs.declared.reads.Entry.{Entry}
@@ -9,32 +9,29 @@ use Rattle.tn_jobs.specs.declared.reactions.Reaction.{Reaction}
 use Rattle.tn_nvt.specs.Spelling.{spells}
 use Rattle.tn_server.specs.Replies.{items_said}
 use Rattle.tn_server.specs.declared.wishes.Editing.{Editing}
-use Rattle.tn_session.proofs.Going.{appends_more}
-use Rattle.tn_session.proofs.Lefts.{EndsLeft, lefts-append, lefts_each, nothing_left}
-use Rattle.tn_session.proofs.Readers.{reader_net}
+use Rattle.tn_session.proofs.Going.{appends_more, false_true, from_to}
+use Rattle.tn_session.proofs.Lefts.{none_over}
+use Rattle.tn_session.proofs.Mailbox.{all_woven}
 use Rattle.tn_session.proofs.Sent.{NoLeft, Sent, no_left-append, sent_by, reader_sent}
+use Rattle.tn_session.specs.Facts.{JobFacts, SessionJobs, SessionResult, SessionViews}
 use Rattle.tn_session.specs.Joining.{handler, AreSettled}
-use Rattle.tn_session.specs.Mailbox.{Interleaves, from, four, sender, share, union, nobody, everyone, with_handled, mail, Total}
-use Rattle.tn_session.specs.Queue.{putter, taker, joined_hands, both_hands, no_hand, LeftOver}
-use Rattle.tn_session.specs.Reading.{NetSends}
-use Rattle.tn_session.specs.Session.{IsOpening, Schedule, report_of}
+use Rattle.tn_session.specs.Mailbox.{from, sender, union, nobody, everyone, with_handled, mail, Total}
+use Rattle.tn_session.specs.EntryChannel.{putter, taker, joined_hands, both_hands, no_hand, LeftOver}
+use Rattle.tn_session.specs.Reader.{ReaderSends}
+use Rattle.tn_session.specs.Session.{IsOpening, IsRun, report_of}
 use Rattle.tn_session.specs.Stepping.{BackJobs, AreSteps, step_said}
 use Rattle.tn_session.specs.Talk.{IsTalk, Closes, turns_said}
-use Rattle.tn_session.specs.Turns.{HandlesAll, Writes, most_writes, lefts_of}
+use Rattle.tn_session.specs.Turns.{HandlesAll, Writes, max_writes}
 use Rattle.tn_session.specs.declared.channels.View.{View}
 use Rattle.tn_session.specs.declared.entries.Hand.{Hand}
 use Rattle.tn_session.specs.declared.mail.Mail.{Mail}
-use Rattle.tn_session.specs.declared.mail.Sender.{Sender}
-use Rattle.tn_session.specs.declared.mail.Sender.TheVariants.{Net, Desk, Back, Keys}
-use Rattle.tn_session.specs.declared.parties.Report.{Report}
+use Rattle.tn_session.specs.declared.mail.Sender.TheVariants.{Net, Desk, Back}
 use Rattle.tn_streams.proofs.lemmas.Telling.{accounts_both}
-use Rattle.tn_streams.specs.Foretelling.{Failures}
-use Rattle.tn_streams.specs.Telling.{Calls}
+use Rattle.tn_streams.specs.Known.{KnownReader, KnownWriter}
 use Rattle.tn_term.specs.Marks.{run_after_opening, all_whole, no_writes_failed}
-use Rattle.tn_term.specs.Reaching.{LeadsTo}
 use Rattle.tn_term.specs.Run.{start, opening}
-use Rattle.tn_term.specs.declared.messages.Message.{Message}
-use Rattle.tn_term.specs.declared.messages.Message.TheVariants.{Take, Refused, Left}
+use Rattle.tn_messages.specs.declared.messages.Message.{Message}
+use Rattle.tn_messages.specs.declared.messages.Message.TheVariants.{Take, Refused, Left}
 use Rattle.tn_term.specs.declared.terminal.Term.{Term}
 
 -- the passes are joined and cut again
@@ -53,30 +50,23 @@ pub settles : (pass net desk back : View) (hand took : Hand) (p₁ p₂ p₃ p�
     → d' ≡ record nobody { desk = p₅.desk } → p₆ ≡ record p₅ { desk = None }
     → b' ≡ record nobody { back = p₆.back } → t' ≡ record p₆ { back = None }
     → l ≡ record k { taken = None } → m ≡ record no_hand { taken = k.taken }
-    → AreSettled pass net desk back hand took n' d' b' t' l m
+    → AreSettled (record { net = net; desk = desk; back = back; term = pass; put = hand; took = took }) (record { net = n'; desk = d'; back = b'; term = t'; put = l; took = m })
 settles pass net desk back hand took p₁ p₂ p₃ p₄ n' p₅ d' p₆ b' t' j k l m e₁ e₂ e₃ e₄ held ej ek rest en e₅ ed e₆ eb et el em h a b c x t epass enet edesk eback ehand etook =
     let whole = all_joined pass net desk back p₁ p₂ p₃ h a b c epass enet edesk eback e₁ e₂ e₃ in
     let same = e₄ ∙ whole in
     let fifth : p₅ ≡ record { handled = Some h; net = None; desk = Some b; back = Some c; keys = Some [] } = e₅ ∙ ap (λ (v : View). record v { net = None }) same in
     let sixth : p₆ ≡ record { handled = Some h; net = None; desk = None; back = Some c; keys = Some [] } = e₆ ∙ ap (λ (v : View). record v { desk = None }) fifth in
     let both = both_joined hand took j x t ehand etook ej in
-    let kept = ek ∙ both in
-    let mine : (s : Sender) → share p₃ (Some s) ≡ Some (four a b c [] s) = λ s. mine_of s p₃ h a b c whole in (
+    let kept = ek ∙ both in (
       en ∙ ap (λ (v : View). record nobody { net = v.net }) same,
       ed ∙ ap (λ (v : View). record nobody { desk = v.desk }) fifth,
       eb ∙ ap (λ (v : View). record nobody { back = v.back }) sixth,
       et ∙ ap (λ (v : View). record v { back = None }) sixth,
       el ∙ ap (λ (v : Hand). record v { taken = None }) kept,
       em ∙ ap (λ (v : Hand). record no_hand { taken = v.taken }) kept,
-      (held.0, λ s. held.1 s h (four a b c [] s) (ap (λ (v : View). v.handled) whole) (mine s)),
+      all_woven p₃ h a b c [] whole held,
       (rest.0, rest.1 x t (ap (λ (v : Hand). v.put) both) (ap (λ (v : Hand). v.taken) both)),
     )
-  where
-    mine_of : (s : Sender) (v : View) (h a b c : List Mail) → v ≡ record { handled = Some h; net = Some a; desk = Some b; back = Some c; keys = Some [] } → share v (Some s) ≡ Some (four a b c [] s)
-    mine_of Net v h a b c e = ap (λ (w : View). w.net) e
-    mine_of Desk v h a b c e = ap (λ (w : View). w.desk) e
-    mine_of Back v h a b c e = ap (λ (w : View). w.back) e
-    mine_of Keys v h a b c e = ap (λ (w : View). w.keys) e
 
 turns_stay : (id : JobId) (turns : List (Entry × Reaction)) → NoLeft (turns_said id turns)
 turns_stay id [] = tt
@@ -116,19 +106,6 @@ back_sent fresh steps ids v s =
     (λ e. sent_by Back (said ++ Refused ∷ []) (said ++ Refused ∷ Left ∷ []) v (no_left-append said (Refused ∷ []) stay (refl, tt)) (sym (append_assoc said (Refused ∷ []) (Left ∷ []))) (subst P e s.3))
     s.2
 
--- all that was sent was handled
-pub none_over : (h items a b c : List Mail) → Interleaves (h ++ items) (four a b c []) → EndsLeft a → EndsLeft b → EndsLeft c → lefts_of a ≡ 1 → lefts_of b ≡ 1 → lefts_of c ≡ 1 → 3 ≤ lefts_of h → items ≡ []
-none_over h items a b c woven ea eb ec na nb nc enough =
-    let all : lefts_of a + lefts_of b + lefts_of c + lefts_of [] ≡ lefts_of (h ++ items) =
-    (λ i. lefts_of (sym (woven Net) i) + lefts_of (sym (woven Desk) i) + lefts_of (sym (woven Back) i) + lefts_of (sym (woven Keys) i)) ∙ lefts_each (h ++ items) in
-    nothing_left h items (four a b c []) woven ends (omega (arith, lefts-append h items, all, na, nb, nc, enough))
-  where
-    ends : (s : Sender) → EndsLeft (four a b c [] s)
-    ends Net = ea
-    ends Desk = eb
-    ends Back = ec
-    ends Keys = tt
-
 -- what was written, with the opening words
 wrote_all : (b : Bool) (words bytes rest sends : List ℕ) (x y z : Option (List ℕ)) (whole : Bool) → Writes b x y words → Appends y z bytes → (b ≡ false → bytes ≡ []) → sends ≡ words ++ (bytes ++ rest) → (whole ≡ true → rest ≡ []) → (written : List ℕ) × (unwritten : List ℕ) × Appends x z written × (sends ≡ written ++ unwritten) × ((b && whole) ≡ true → unwritten ≡ [])
 wrote_all true words bytes rest sends x y z whole one two idle is all = (words ++ bytes, rest, appends_more x y z words bytes one two, is ∙ sym (append_assoc words bytes rest), all)
@@ -140,9 +117,6 @@ wrote_all false words bytes rest sends x y z whole one two idle is all = (
       ∙ ap (λ (bs : List ℕ). bs ++ (one.1 ++ rest)) (sym (append-nil one.0) ∙ ap (λ (bs : List ℕ). one.0 ++ bs) (sym (idle refl))),
   λ e. absurd (false_true e),
 )
-  where
-    false_true : false ≡ true → ⊥
-    false_true e = cc
 
 no_puts : (b : Bool) (canon : Canon) (editing : Editing) (jobs : Jobs) → (run_after_opening b (start canon editing jobs)).puts ≡ []
 no_puts true canon editing jobs = refl
@@ -153,26 +127,27 @@ same_history true canon editing jobs = refl
 same_history false canon editing jobs = refl
 
 -- all of a session that ran
-pub scheduled : {J : Type 0} (fresh : J → Type 0) (reacts : J → Entry → Reaction → J → Type 0) (steps : J → Reaction → J → Type 0) (first : JobId) (others : BackJobs) (words : List ℕ) (given : Option (List ℕ)) (foretold : Option Failures) (x y z : Option (List ℕ)) (r s t : Option Calls) (term mid last : Term) (pass₀ pass₁ net desk back : View) (hand₀ hand₁ took : Hand) (n' d' b' t' : View) (p' k' : Hand) (report : Report)
-    → pass₀ ≡ handler [] → hand₀ ≡ putter [] → IsOpening term words x y r s mid → HandlesAll mid pass₀ pass₁ hand₀ hand₁ y z s t last
-    → NetSends given foretold net → IsTalk {J = J} first fresh reacts desk took → AreSteps {J = J} fresh steps others back
-    → AreSettled pass₁ net desk back hand₁ took n' d' b' t' p' k' → report ≡ report_of last.progress
-    → (canon : Canon) (editing : Editing) (jobs : Jobs) → LeadsTo (start canon editing jobs) term → words ≡ spells (items_said (opening canon editing))
-    → Schedule {J = J} fresh reacts steps first others canon editing jobs given foretold x z r t report n' d' b' t' p' k'
-scheduled {J} fresh reacts steps first others words given foretold x y z r s t term mid last pass₀ pass₁ net desk back hand₀ hand₁ took n' d' b' t' p' k' report ep eh o acted sn talked stepped settled er canon editing jobs at ew =
-    let begin = run_after_opening o.written (start canon editing jobs) in
-    let g = acted.goes.leads begin (o.leads (start canon editing jobs) at) in
-    let ns = reader_sent Net false given foretold net (reader_net given foretold net sn) in
-    let ds = desk_sent first fresh reacts desk took talked in
-    let bs = back_sent fresh steps others back stepped in
-    let puts : g.0.puts ≡ acted.puts = g.3 ∙ ap (λ (ps : List (Option Entry)). ps ++ acted.puts) (no_puts o.written canon editing jobs) in
-    let view : pass₁ ≡ handler acted.handled = acted.view ∙ ap (λ (v : View). with_handled v acted.handled) ep in
+pub scheduled : {J : Type 0} (facts : JobFacts J) (jobs : SessionJobs) (words : List ℕ) (reader : KnownReader) (x y z : KnownWriter) (term mid last : Term) (pass₀ : View) (hand₀ : Hand) (ended : SessionViews) (result : SessionResult)
+    → pass₀ ≡ handler [] → hand₀ ≡ putter [] → IsOpening term words (from_to x y) mid → HandlesAll mid pass₀ ended.term hand₀ ended.put (from_to y z) last
+    → ReaderSends Net false reader ended.net → IsTalk {J = J} jobs.first facts.fresh facts.reacts ended.desk ended.took → AreSteps {J = J} facts.fresh facts.steps jobs.others ended.back
+    → AreSettled ended result.views → result.report ≡ report_of last.progress
+    → IsRun {J = J} facts jobs term words reader (from_to x z) result
+scheduled {J} facts jobs words reader x y z term mid last pass₀ hand₀ ended result ep eh o acted sn talked stepped settled er settings table at ew =
+    let canon = settings.canon in
+    let editing = settings.editing in
+    let begin = run_after_opening o.written (start canon editing table) in
+    let g = acted.goes.leads begin (o.leads (start canon editing table) at) in
+    let ns = reader_sent Net false reader ended.net sn in
+    let ds = desk_sent jobs.first facts.fresh facts.reacts ended.desk ended.took talked in
+    let bs = back_sent facts.fresh facts.steps jobs.others ended.back stepped in
+    let puts : g.0.puts ≡ acted.puts = g.3 ∙ ap (λ (ps : List (Option Entry)). ps ++ acted.puts) (no_puts o.written canon editing table) in
+    let view : ended.term ≡ handler acted.handled = acted.view ∙ ap (λ (v : View). with_handled v acted.handled) ep in
     let all = settled acted.handled ns.mails ds.sent.mails bs.mails acted.puts ds.taken view ns.is ds.sent.is bs.is (acted.hand [] eh) ds.took in
-    let none = none_over acted.handled all.6.0 ns.mails ds.sent.mails bs.mails all.6.1 ns.ends ds.sent.ends bs.ends ns.one ds.sent.one bs.one acted.lefts in
-    let sends : spells (items_said g.0.history) ≡ words ++ (acted.goes.bytes ++ g.4) = g.5 ∙ ap (λ (bytes : List ℕ). bytes ++ (acted.goes.bytes ++ g.4)) (ap (λ h. spells (items_said h)) (same_history o.written canon editing jobs) ∙ sym ew) in
-    let w = wrote_all o.written words acted.goes.bytes g.4 (spells (items_said g.0.history)) x y z (all_whole acted.goes.marked) o.wrote acted.goes.wrote (λ e. acted.goes.idle (o.over e)) sends g.6 in
-    let N : View → Type 0 = λ v. NetSends given foretold v in
-    let B : View → Type 0 = λ v. AreSteps {J = J} fresh steps others v in
+    let none = none_over acted.handled all.6.0 ns.mails ds.sent.mails bs.mails [] all.6.1 ns.ends ds.sent.ends bs.ends tt (omega (arith, ns.one, ds.sent.one, bs.one, acted.lefts)) in
+    let sends : spells (items_said g.0.history) ≡ words ++ (acted.goes.bytes ++ g.4) = g.5 ∙ ap (λ (bytes : List ℕ). bytes ++ (acted.goes.bytes ++ g.4)) (ap (λ h. spells (items_said h)) (same_history o.written canon editing table) ∙ sym ew) in
+    let w = wrote_all o.written words acted.goes.bytes g.4 (spells (items_said g.0.history)) x.bytes y.bytes z.bytes (all_whole acted.goes.marked) o.wrote acted.goes.wrote (λ e. acted.goes.idle (o.over e)) sends g.6 in
+    let N : View → Type 0 = λ v. ReaderSends Net false reader v in
+    let B : View → Type 0 = λ v. AreSteps {J = J} facts.fresh facts.steps jobs.others v in
     record {
       from_net = ns.mails;
       from_desk = ds.sent.mails;
@@ -194,12 +169,12 @@ scheduled {J} fresh reacts steps first others words given foretold x y z r s t t
       appended = w.2;
       sends = w.3;
       all_written = w.4;
-      tells = accounts_both most_writes o.written (no_writes_failed acted.goes.marked) r s t o.tells acted.goes.tells;
+      tells = accounts_both max_writes o.written (no_writes_failed acted.goes.marked) x.calls y.calls z.calls o.tells acted.goes.tells;
       put_is = all.4 ∙ ap putter (sym puts);
       taken = ds.taken;
       took_is = all.5;
       took_first = (all.7.0, all.7.1 ∙ sym puts);
-      talked = subst (λ (u : View × Hand). IsTalk {J = J} first fresh reacts u.0 u.1) (λ i. ((ds.sent.is ∙ sym all.1) i, (ds.took ∙ sym all.5) i)) talked;
+      talked = subst (λ (u : View × Hand). IsTalk {J = J} jobs.first facts.fresh facts.reacts u.0 u.1) (λ i. ((ds.sent.is ∙ sym all.1) i, (ds.took ∙ sym all.5) i)) talked;
       stepped = subst B (bs.is ∙ sym all.2) stepped;
       report_is = er ∙ ap report_of g.2.progress;
     }
@@ -217,8 +192,3 @@ ready_views v₀ v₁ v₂ v₃ n d k e₀ e₁ en e₂ ed e₃ ek =
 
 pub ready_hands : (v₀ v₁ t : Hand) → v₀ ≡ both_hands → v₁ ≡ record v₀ { taken = None } → t ≡ record no_hand { taken = v₀.taken } → (v₁ ≡ putter []) × (t ≡ taker [])
 ready_hands v₀ v₁ t e₀ e₁ et = (e₁ ∙ ap (λ (v : Hand). record v { taken = None }) e₀, et ∙ ap (λ (v : Hand). record no_hand { taken = v.taken }) e₀)
-
--- what follows of each answer
-pub map_ok : {A : Type 0} {B : Type 0} (r : Result A B) (P Q : A → Type 0) → ((x : A) → P x → Q x) → IfOk r P → IfOk r Q
-map_ok (Ok x) P Q f h = f x h
-map_ok (Err e) P Q f h = h

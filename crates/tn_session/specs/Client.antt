@@ -1,5 +1,5 @@
 -- The running client session, of what its ports give back, for every schedule.
-use Rattle.std.specs.Prelude.{◌≡◌, ◌⊎◌, ℕ, true, Option, Some, None, List, [], ◌++◌, length, map}
+use Rattle.std.specs.Prelude.{◌≡◌, ◌⊎◌, ℕ, true, false, Option, Some, None, List, [], ◌++◌, length, map}
 use Rattle.std.specs.Io.KnownBytes.{Appends, Consumes}
 use Rattle.crossbeam_channel.specs.Claims.{view, IsSeatAt}
 use Rattle.crossbeam_channel.specs.Ends.{sends_on, receives_on, ruled_capacity}
@@ -17,21 +17,22 @@ use Rattle.tn_client_core.specs.declared.messages.Told.{Told}
 use Rattle.tn_client_core.specs.declared.progress.Progress.{Progress}
 use Rattle.tn_nvt.specs.Spelling.{spells}
 use Rattle.tn_session.specs.CoreTurns.{all_told}
+use Rattle.tn_session.specs.Facts.{ClientResult, Window}
 use Rattle.tn_session.specs.Mailbox.{Interleaves, four, sender}
-use Rattle.tn_session.specs.Reader.{KeysSends}
-use Rattle.tn_session.specs.Reading.{NetSends, most_reads}
-use Rattle.tn_session.specs.Turns.{Tells, most_writes}
+use Rattle.tn_session.specs.Reader.{ReaderSends}
+use Rattle.tn_session.specs.Reading.{max_reads}
+use Rattle.tn_session.specs.Turns.{Tells, max_writes}
 use Rattle.tn_session.specs.declared.channels.View.{View}
 use Rattle.tn_session.specs.declared.client.Mailbox.{Mailbox}
 use Rattle.tn_session.specs.declared.mail.Mail.{Mail}
 use Rattle.tn_session.specs.declared.mail.Sender.TheVariants.{Net, Keys}
-use Rattle.tn_session.specs.declared.parties.ClientPorts.{ClientPorts}
 use Rattle.tn_session.specs.declared.parties.Report.{Report}
-use Rattle.tn_streams.specs.Foretelling.{Failures, WillFail}
-use Rattle.tn_streams.specs.Telling.{Calls, SomeFailed}
-use Rattle.tn_term.specs.declared.faults.Ended.TheVariants.{Fault}
-use Rattle.tn_term.specs.declared.faults.SessionFault.{SessionFault}
-use Rattle.tn_term.specs.declared.faults.SessionFault.TheVariants as fault
+use Rattle.tn_streams.specs.Foretelling.{WillFail}
+use Rattle.tn_streams.specs.Known.{KnownReader, KnownWriting}
+use Rattle.tn_streams.specs.Telling.{SomeFailed}
+use Rattle.tn_messages.specs.declared.faults.Ended.TheVariants.{Fault}
+use Rattle.tn_messages.specs.declared.faults.SessionFault.{SessionFault}
+use Rattle.tn_messages.specs.declared.faults.SessionFault.TheVariants as fault
 
 -- the view of the one that handles, in a session of two senders; nobody sends as Desk or Back
 abbrev pub core_view : List Mail → View
@@ -39,13 +40,13 @@ core_view h = record { handled = Some h; net = None; desk = Some []; back = Some
 
 -- nothing was sent or handled, and the mailbox holds 64 messages
 pub record IsReadyForTwo (m : Mailbox) : Type 0 where
-  pub one_mailbox : receives_on m.from ≡ sends_on m.to
-  pub mails : ruled_capacity (sends_on m.to) ≡ 64
-  pub net_to : sends_on m.net.to ≡ sends_on m.to
-  pub keys_to : sends_on m.keys.to ≡ sends_on m.to
-  pub pass : IsSeatAt (sends_on m.to) m.pass
-  pub net : IsSeatAt (sends_on m.to) m.net.pass
-  pub keys : IsSeatAt (sends_on m.to) m.keys.pass
+  pub one_mailbox : receives_on m.ends.from ≡ sends_on m.ends.to
+  pub mails : ruled_capacity (sends_on m.ends.to) ≡ 64
+  pub net_to : sends_on m.net.to ≡ sends_on m.ends.to
+  pub keys_to : sends_on m.keys.to ≡ sends_on m.ends.to
+  pub pass : IsSeatAt (sends_on m.ends.to) m.pass
+  pub net : IsSeatAt (sends_on m.ends.to) m.net.pass
+  pub keys : IsSeatAt (sends_on m.ends.to) m.keys.pass
   pub pass_is : view m.pass ≡ core_view []
   pub net_is : view m.net.pass ≡ sender Net []
   pub keys_is : view m.keys.pass ≡ sender Keys []
@@ -62,69 +63,64 @@ abbrev pub client_report : Progress → Report
 client_report p = record { ended = p.ended; pieces = p.pieces; entries = 0; stops = 0 }
 
 -- these bytes are the first of those that the reader gives
-abbrev pub IsFrontOf : Option (List ℕ) → List ℕ → Type 0
-IsFrontOf given bytes = (left : Option (List ℕ)) × Consumes given left bytes
+abbrev pub ReadsPrefix : Option (List ℕ) → List ℕ → Type 0
+ReadsPrefix given bytes = (left : Option (List ℕ)) × Consumes given left bytes
 
 -- Of what Keys and Net sent, in the order that these passes know, and of what the core handled,
 -- wrote and showed.
-pub record RunningClient (width height limit : ℕ) (keys_given net_given : Option (List ℕ))
-    (keys_foretold net_foretold : Option Failures) (before after seen now : Option (List ℕ))
-    (writer_before writer_after screen_before screen_after : Option Calls)
-    (report : Report) (keys net core : View) : Type 0 where
+pub record RunningClient (window : Window) (keys net : KnownReader) (writer screen : KnownWriting)
+    (result : ClientResult) : Type 0 where
   -- what each sent, and what was handled
   pub from_keys : List Mail
   pub from_net : List Mail
   pub handled : List Mail
-  pub keys_is : keys ≡ sender Keys from_keys
-  pub net_is : net ≡ sender Net from_net
-  pub core_is : core.handled ≡ Some handled
+  pub keys_is : result.keys ≡ sender Keys from_keys
+  pub net_is : result.net ≡ sender Net from_net
+  pub core_is : result.core.handled ≡ Some handled
   -- what was handled is an interleaving of all that was sent
   pub woven : Interleaves handled (four from_net [] [] from_keys)
   -- the pieces are prefixes of what the readers gave
-  pub typed : KeysSends keys_given keys_foretold keys
-  pub read : NetSends net_given net_foretold net
+  pub typed : ReaderSends Keys true keys result.keys
+  pub read : ReaderSends Net false net result.net
   -- the run of the messages with their marks
   pub marked : List (Told × Mark)
   pub messages : map (λ m. m.0) marked ≡ all_told handled
   pub run : Run
-  pub runs : Runs (start width height limit) marked run
+  pub runs : Runs (start window.width window.height window.limit) marked run
   -- what was typed, and the bytes from the network whose items came, are prefixes of what the readers gave
-  pub keys_brought : IsFrontOf keys_given (brought origin.Keys (all_told handled))
-  pub net_brought : IsFrontOf net_given (brought origin.Net (all_told handled))
+  pub keys_brought : ReadsPrefix keys.bytes (brought origin.Keys (all_told handled))
+  pub net_brought : ReadsPrefix net.bytes (brought origin.Net (all_told handled))
   pub in_order : TakesInOrder (all_told handled) run
   -- what was written of what it says up to the Left of Keys
   pub written : List ℕ
   pub unwritten : List ℕ
-  pub appended : Appends before after written
-  pub tells : Tells (all_by no_write_failed marked) writer_before writer_after
+  pub appended : Appends writer.before.bytes writer.after.bytes written
+  pub tells : Tells (all_by no_write_failed marked) writer.before.calls writer.after.calls
   pub sends : spells (items_said run.sent) ≡ written ++ unwritten
   pub all_sent : all_written marked ≡ true → unwritten ≡ []
   -- and what was shown of what it shows
   pub shown : List ℕ
   pub unshown : List ℕ
-  pub displayed : Appends seen now shown
-  pub tells_shown : Tells (all_by no_show_failed marked) screen_before screen_after
+  pub displayed : Appends screen.before.bytes screen.after.bytes shown
+  pub tells_shown : Tells (all_by no_show_failed marked) screen.before.calls screen.after.calls
   pub shows : text_shown run.history ≡ shown ++ unshown
   pub all_shown : all_whole marked ≡ true → unshown ≡ []
   -- the report
-  pub report_is : report ≡ client_report run.progress
+  pub report_is : result.report ≡ client_report run.progress
   -- a fault is told only where its cause was there
-  pub caused : (f : SessionFault) → report.ended ≡ Fault f
-      → IsEndedAt (start width height limit) marked (Fault f)
+  pub caused : (f : SessionFault) → result.report.ended ≡ Fault f
+      → IsEndedAt (start window.width window.height window.limit) marked (Fault f)
   -- that reading failed, only where a read fails, or after as many as are made
-  pub read_failed : report.ended ≡ Fault fault.Read
-      → WillFail most_reads (length typed.0) keys_foretold ⊎ WillFail most_reads (length read.0) net_foretold
+  pub read_failed : result.report.ended ≡ Fault fault.Read
+      → WillFail max_reads (length typed.0) keys.failures ⊎ WillFail max_reads (length read.0) net.failures
   -- and that a write failed, only where one did, to the network or to the screen
-  pub write_failed : report.ended ≡ Fault fault.Write
-      → SomeFailed most_writes writer_before writer_after ⊎ SomeFailed most_writes screen_before screen_after
+  pub write_failed : result.report.ended ≡ Fault fault.Write
+      → SomeFailed max_writes writer.before.calls writer.after.calls
+      ⊎ SomeFailed max_writes screen.before.calls screen.after.calls
 
 -- wherever the core is at first
-abbrev pub IsClientRun : Core → Option (List ℕ) → Option (List ℕ) → Option Failures → Option Failures
-    → Option (List ℕ) → Option (List ℕ) → Option (List ℕ) → Option (List ℕ) → Option Calls → Option Calls
-    → Option Calls → Option Calls → Report → ClientPorts → Type 0
-IsClientRun core keys_given net_given keys_told net_told before after seen now writer_before writer_after
-    screen_before screen_after report ports =
-    (width height limit : ℕ) → LeadsTo (start width height limit) core
-    → RunningClient width height limit keys_given net_given keys_told net_told before after seen now
-    writer_before writer_after screen_before screen_after report (view ports.keys) (view ports.net)
-    (view ports.core)
+abbrev pub IsClientRun : Core → KnownReader → KnownReader → KnownWriting → KnownWriting → ClientResult
+    → Type 0
+IsClientRun core keys net writer screen result =
+    (window : Window) → LeadsTo (start window.width window.height window.limit) core
+    → RunningClient window keys net writer screen result

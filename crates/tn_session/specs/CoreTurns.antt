@@ -1,8 +1,8 @@
 -- The messages that the core of a client's session handled, and what was written and shown.
-use Rattle.std.specs.Prelude.{◌≡◌, ℕ, ◌≤◌, true, false, Option, List, map}
+use Rattle.std.specs.Prelude.{◌≡◌, ℕ, ◌≤◌, true, false, List, map}
 use Rattle.std.specs.Io.KnownBytes.{Appends}
 use Rattle.tn_client_core.specs.Marks.{Runs, no_write_failed, no_show_failed, all_by, all_written, all_whole}
-use Rattle.tn_client_core.specs.Reaching.{LeadsTo, IsTurn, SendsFront, ShowsFront}
+use Rattle.tn_client_core.specs.Reaching.{LeadsTo, IsTurn, SendsPrefix, ShowsPrefix}
 use Rattle.tn_client_core.specs.Run.{Run}
 use Rattle.tn_client_core.specs.declared.machine.Core.{Core}
 use Rattle.tn_client_core.specs.declared.messages.Mark.{Mark}
@@ -15,7 +15,7 @@ use Rattle.tn_session.specs.declared.channels.View.{View}
 use Rattle.tn_session.specs.declared.mail.Mail.{Mail}
 use Rattle.tn_session.specs.declared.mail.Sender.{Sender}
 use Rattle.tn_session.specs.declared.mail.Sender.TheVariants.{Keys}
-use Rattle.tn_streams.specs.Telling.{Calls}
+use Rattle.tn_streams.specs.Known.{KnownWriting}
 
 -- in a client's session all that is not from the keys is from the network
 abbrev pub origin_of : Sender → Origin
@@ -30,41 +30,37 @@ all_told mails = map told_of mails
 
 -- one message with its mark: what was written and shown of what it sends and shows,
 -- and what the writer and the screen told
-pub record TurnsTold (old : Core) (told : Told) (before after seen now : Option (List ℕ))
-    (writer_before writer_after screen_before screen_after : Option Calls) (new : Core) : Type 0 where
+pub record TurnsTold (old : Core) (told : Told) (writer screen : KnownWriting) (new : Core) : Type 0 where
   pub mark : Mark
   pub bytes : List ℕ
   pub text : List ℕ
-  pub wrote : Appends before after bytes
-  pub showed : Appends seen now text
-  pub tells : Tells (no_write_failed mark) writer_before writer_after
-  pub tells_shown : Tells (no_show_failed mark) screen_before screen_after
+  pub wrote : Appends writer.before.bytes writer.after.bytes bytes
+  pub showed : Appends screen.before.bytes screen.after.bytes text
+  pub tells : Tells (no_write_failed mark) writer.before.calls writer.after.calls
+  pub tells_shown : Tells (no_show_failed mark) screen.before.calls screen.after.calls
   pub turn : IsTurn mark old told bytes text new
 
 -- Some messages with their marks, from wherever the core may have been: these bytes were written and these
 -- shown, the first of those that the run sends and shows, and all of them unless something failed.
-pub record ToldAll (old : Core) (messages : List Told) (before after seen now : Option (List ℕ))
-    (writer_before writer_after screen_before screen_after : Option Calls) (new : Core) : Type 0 where
+pub record ToldAll (old : Core) (messages : List Told) (writer screen : KnownWriting) (new : Core)
+    : Type 0 where
   pub marked : List (Told × Mark)
   pub whole : map (λ m. m.0) marked ≡ messages
   pub bytes : List ℕ
   pub text : List ℕ
-  pub wrote : Appends before after bytes
-  pub showed : Appends seen now text
-  pub tells : Tells (all_by no_write_failed marked) writer_before writer_after
-  pub tells_shown : Tells (all_by no_show_failed marked) screen_before screen_after
+  pub wrote : Appends writer.before.bytes writer.after.bytes bytes
+  pub showed : Appends screen.before.bytes screen.after.bytes text
+  pub tells : Tells (all_by no_write_failed marked) writer.before.calls writer.after.calls
+  pub tells_shown : Tells (all_by no_show_failed marked) screen.before.calls screen.after.calls
   pub leads : (c : Run) → LeadsTo c old →
       (next : Run) × Runs c marked next × LeadsTo next new
-      × SendsFront c next bytes (all_written marked) × ShowsFront c next text (all_whole marked)
+      × SendsPrefix c next bytes (all_written marked) × ShowsPrefix c next text (all_whole marked)
   pub over : all_whole marked ≡ false → new.progress.over ≡ true
   pub stays : old.progress.over ≡ true → new.progress.over ≡ true
 
--- what the core did: of the views before and after,
--- and of what the writer to the network and the screen held and told
-pub record CoreHandles (old : Core) (v w : View) (before after seen now : Option (List ℕ))
-    (writer_before writer_after screen_before screen_after : Option Calls) (new : Core) : Type 0 where
+-- what the core did: of the views before and after, of the writer to the network and of the screen
+pub record CoreHandles (old : Core) (v w : View) (writer screen : KnownWriting) (new : Core) : Type 0 where
   pub handled : List Mail
   pub view : w ≡ with_handled v handled
   pub lefts : 2 ≤ lefts_of handled
-  pub goes : ToldAll old (all_told handled) before after seen now writer_before writer_after
-      screen_before screen_after new
+  pub goes : ToldAll old (all_told handled) writer screen new

@@ -4,7 +4,7 @@ use Rattle.tn_jobs.specs.Jobs.{Jobs, state_at}
 use Rattle.tn_jobs.specs.declared.held_jobs.JobId.{JobId}
 use Rattle.tn_jobs.specs.declared.verdicts.JobState.TheVariants as job
 use Rattle.tn_session.specs.Stepping.{IsIn}
-use Rattle.tn_session.specs.Turning.{IsLine, ids_of}
+use Rattle.tn_session.specs.Turning.{IsQueue, ids_of}
 use Rattle.tn_session.specs.declared.making.Made.{Made}
 
 -- the first job is in the foreground, these others are in the background, and there are no more
@@ -15,6 +15,6 @@ pub record Numbered (jobs : Jobs) (first : JobId) (others : List ℕ) : Type 0 w
 
 -- the jobs are fresh, and the table holds each under a number of its own
 pub record IsMade {J : Type 0} (fresh : J → Type 0) (made : Made J) : Type 0 where
-  pub numbered : Numbered made.table made.first (ids_of made.line.items)
-  pub line : IsLine fresh made.line.items
+  pub numbered : Numbered made.table made.first (ids_of made.queue.items)
+  pub queue : IsQueue fresh made.queue.items
   pub job : fresh made.job

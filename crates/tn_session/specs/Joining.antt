@@ -3,10 +3,10 @@ use Rattle.std.specs.Prelude.{◌≡◌, List, Option, Some, None, [], ◌++◌}
 use Rattle.crossbeam_channel.specs.Claims.{view, IsSeatAt}
 use Rattle.crossbeam_channel.specs.Ends.{sends_on, receives_on, ruled_capacity}
 use Rattle.tn_discipline.specs.declared.reads.Entry.{Entry}
+use Rattle.tn_session.specs.Facts.{SessionViews}
 use Rattle.tn_session.specs.Mailbox.{Interleaves, four, sender}
-use Rattle.tn_session.specs.Queue.{putter, taker}
+use Rattle.tn_session.specs.EntryChannel.{putter, taker}
 use Rattle.tn_session.specs.declared.channels.View.{View}
-use Rattle.tn_session.specs.declared.entries.Hand.{Hand}
 use Rattle.tn_session.specs.declared.mail.Mail.{Mail}
 use Rattle.tn_session.specs.declared.mail.Sender.TheVariants.{Net, Desk, Back}
 use Rattle.tn_session.specs.declared.session.Channels.{Channels}
@@ -23,29 +23,28 @@ pub record IsReady (c : Channels) : Type 0 where
   pub net_to : sends_on c.net.to ≡ sends_on c.ends.to
   pub desk_to : sends_on c.desk.to ≡ sends_on c.ends.to
   pub back_to : sends_on c.back.to ≡ sends_on c.ends.to
-  pub pass : IsSeatAt (sends_on c.ends.to) c.pass
+  pub pass : IsSeatAt (sends_on c.ends.to) c.passes.mails
   pub net : IsSeatAt (sends_on c.ends.to) c.net.pass
   pub desk : IsSeatAt (sends_on c.ends.to) c.desk.pass
   pub back : IsSeatAt (sends_on c.ends.to) c.back.pass
-  pub pass_is : view c.pass ≡ handler []
+  pub pass_is : view c.passes.mails ≡ handler []
   pub net_is : view c.net.pass ≡ sender Net []
   pub desk_is : view c.desk.pass ≡ sender Desk []
   pub back_is : view c.back.pass ≡ sender Back []
-  pub one_queue : receives_on c.take.from ≡ sends_on c.ends.put
+  pub one_channel : receives_on c.take.from ≡ sends_on c.ends.put
   pub entries : ruled_capacity (sends_on c.ends.put) ≡ 2
-  pub hand : IsSeatAt (sends_on c.ends.put) c.hand
+  pub hand : IsSeatAt (sends_on c.ends.put) c.passes.hand
   pub took : IsSeatAt (sends_on c.ends.put) c.take.pass
-  pub hand_is : view c.hand ≡ putter []
+  pub hand_is : view c.passes.hand ≡ putter []
   pub took_is : view c.take.pass ≡ taker []
 
 -- whatever the lists are: they are those of the new passes too, what was handled begins an interleaving of
 -- what was sent, and what was taken begins what was put
-abbrev pub AreSettled : View → View → View → View → Hand → Hand → View → View → View → View → Hand → Hand
-    → Type 0
-AreSettled pass net desk back hand took net' desk' back' term' put' took' =
-    (h a b c : List Mail) (p t : List (Option Entry)) → pass ≡ handler h → net ≡ sender Net a
-    → desk ≡ sender Desk b → back ≡ sender Back c
-    → hand ≡ putter p → took ≡ taker t
-    → (net' ≡ sender Net a) × (desk' ≡ sender Desk b) × (back' ≡ sender Back c) × (term' ≡ handler h)
-    × (put' ≡ putter p) × (took' ≡ taker t)
+abbrev pub AreSettled : SessionViews → SessionViews → Type 0
+AreSettled old new =
+    (h a b c : List Mail) (p t : List (Option Entry)) → old.term ≡ handler h → old.net ≡ sender Net a
+    → old.desk ≡ sender Desk b → old.back ≡ sender Back c
+    → old.put ≡ putter p → old.took ≡ taker t
+    → (new.net ≡ sender Net a) × (new.desk ≡ sender Desk b) × (new.back ≡ sender Back c)
+    × (new.term ≡ handler h) × (new.put ≡ putter p) × (new.took ≡ taker t)
     × ((items : List Mail) × Interleaves (h ++ items) (four a b c [])) × IsPrefixOf t p

@@ -1,11 +1,12 @@
 pub mod Seats
 pub mod Mailbox
-pub mod Queue
+pub mod EntryChannel
 pub mod Reading
 pub mod Talk
 pub mod Stepping
 pub mod Turning
 pub mod Turns
+pub mod Facts
 pub mod Jobs
 pub mod Makers
 pub mod Joining

@@ -6,10 +6,10 @@ use Rattle.tn_session.specs.Mailbox.{mail, sender}
 use Rattle.tn_session.specs.Reading.{IsEnding, IsPiece, IsReadCause, pieces_of}
 use Rattle.tn_session.specs.declared.channels.View.{View}
 use Rattle.tn_session.specs.declared.mail.Sender.{Sender}
-use Rattle.tn_session.specs.declared.mail.Sender.TheVariants.{Keys}
 use Rattle.tn_streams.specs.Foretelling.{Failures}
-use Rattle.tn_term.specs.declared.messages.Message.{Message}
-use Rattle.tn_term.specs.declared.messages.Message.TheVariants.{Left}
+use Rattle.tn_streams.specs.Known.{KnownReader}
+use Rattle.tn_messages.specs.declared.messages.Message.{Message}
+use Rattle.tn_messages.specs.declared.messages.Message.TheVariants.{Left}
 
 -- After the pieces comes how the reading ended, for its cause, and then Left. A thread that may be stopped
 -- may leave right after a piece.
@@ -23,12 +23,8 @@ abbrev pub sends : Sender → List Message → View
 sends who messages = sender who (map (mail who) messages)
 
 -- the pieces joined are the first of the bytes that the reader gives, and each has some of them
-abbrev pub ReaderSends : Sender → Bool → Option (List ℕ) → Option Failures → View → Type 0
-ReaderSends who may_stop given foretold v =
+abbrev pub ReaderSends : Sender → Bool → KnownReader → View → Type 0
+ReaderSends who may_stop reader v =
     (pieces : List (List ℕ)) × (left : Option (List ℕ)) × (close : List Message)
-    × Consumes given left (concat pieces) × Closes may_stop pieces left foretold close
+    × Consumes reader.bytes left (concat pieces) × Closes may_stop pieces left reader.failures close
     × (v ≡ sends who (pieces_of pieces ++ close)) × All IsPiece pieces
-
--- the thread that reads a client's keys may be stopped
-abbrev pub KeysSends : Option (List ℕ) → Option Failures → View → Type 0
-KeysSends given foretold v = ReaderSends Keys true given foretold v

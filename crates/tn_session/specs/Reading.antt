@@ -1,18 +1,11 @@
--- What the thread that reads sends.
-use Rattle.std.specs.Prelude.{◌≡◌, ℕ, ◌<◌, ◌≤◌, List, Option, [], ◌∷◌, ◌++◌, length, map, All, ⊤}
-use Rattle.std.specs.List.{concat}
+-- What a thread that reads takes from its reader.
+use Rattle.std.specs.Prelude.{ℕ, ◌<◌, ◌≤◌, List, Option, [], length, map, ⊤}
 use Rattle.std.specs.Io.KnownBytes.{Consumes, IsAtEnd}
 use Rattle.tn_streams.specs.Foretelling.{Failures, HasCome, WillFail}
 use Rattle.tn_session.specs.declared.net.Got.{Got}
 use Rattle.tn_session.specs.declared.net.Got.TheVariants.{Bytes, Again, Last}
-use Rattle.tn_term.specs.declared.messages.Message.{Message}
-use Rattle.tn_term.specs.declared.messages.Message.TheVariants.{Piece, HangUp, ReadFailed, Refused, Left}
-use Rattle.tn_session.specs.declared.mail.Sender.TheVariants.{Net}
-use Rattle.tn_session.specs.declared.channels.View.{View}
-use Rattle.tn_session.specs.Mailbox.{mail, sender}
-
-abbrev pub net_sends : List Message → View
-net_sends messages = sender Net (map (mail Net) messages)
+use Rattle.tn_messages.specs.declared.messages.Message.{Message}
+use Rattle.tn_messages.specs.declared.messages.Message.TheVariants.{Piece, HangUp, ReadFailed, Refused}
 
 -- how the reading ended; after a hang-up nothing is left
 abbrev pub IsEnding : Message → Option (List ℕ) → Type 0
@@ -35,13 +28,13 @@ abbrev pub pieces_of : List (List ℕ) → List Message
 pieces_of pieces = map (λ p. Piece p) pieces
 
 -- how many reads a thread makes at most
-abbrev pub most_reads : ℕ
-most_reads = 4294967295
+abbrev pub max_reads : ℕ
+max_reads = 4294967295
 
 -- Why the thread says so after so many pieces: that reading failed, only where a read fails, or after as many
 -- reads as it makes.
 abbrev pub IsReadCause : Option Failures → ℕ → Message → Type 0
-IsReadCause foretold pieces ReadFailed = WillFail most_reads pieces foretold
+IsReadCause foretold pieces ReadFailed = WillFail max_reads pieces foretold
 IsReadCause foretold pieces _ = ⊤
 
 -- what was foretold of the read that gave this
@@ -49,11 +42,3 @@ abbrev pub IsForetold : Option Failures → Option Failures → Got → Type 0
 IsForetold old new (Bytes text) = HasCome 1 1 old new
 IsForetold old new Again = HasCome 1 0 old new
 IsForetold old new (Last last) = IsReadCause old 0 last
-
--- the pieces joined are the first of the bytes that the reader gives, each has some of them, and then comes
--- how it ended, for its cause
-abbrev pub NetSends : Option (List ℕ) → Option Failures → View → Type 0
-NetSends given foretold v =
-    (pieces : List (List ℕ)) × (left : Option (List ℕ)) × (last : Message)
-    × Consumes given left (concat pieces) × (IsEnding last left × IsReadCause foretold (length pieces) last)
-    × (v ≡ net_sends (pieces_of pieces ++ last ∷ Left ∷ [])) × All IsPiece pieces

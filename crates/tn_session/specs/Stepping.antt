@@ -11,8 +11,8 @@ use Rattle.tn_session.specs.declared.mail.Sender.TheVariants.{Back}
 use Rattle.tn_session.specs.declared.channels.View.{View}
 use Rattle.tn_session.specs.Mailbox.{mail, sender}
 use Rattle.tn_term.specs.Run.{has_text}
-use Rattle.tn_term.specs.declared.messages.Message.{Message}
-use Rattle.tn_term.specs.declared.messages.Message.TheVariants.{Said, Refused, Left}
+use Rattle.tn_messages.specs.declared.messages.Message.{Message}
+use Rattle.tn_messages.specs.declared.messages.Message.TheVariants.{Said, Refused, Left}
 
 -- a job's number, and what it did
 abbrev pub step_said : JobId × Reaction → Message
@@ -66,8 +66,8 @@ pub record BackJobs : Type 0 where
   pub ids : List ℕ
   pub tostop : Bool
 
--- of these jobs: each step is one of theirs, those of each go through its states, no job makes one after it was
--- judged out of the background, and then comes the close
+-- of these jobs: each step is one of theirs, those of each go through its states, no job makes one after it
+-- was judged out of the background, and then comes the close
 abbrev pub AreSteps : {J : Type 0} → (J → Type 0) → (J → Reaction → J → Type 0) → BackJobs → View → Type 0
 AreSteps {J} fresh steps jobs v =
     (said : List (JobId × Reaction)) × (close : List Message) × IsClose close

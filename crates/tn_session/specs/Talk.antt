@@ -4,13 +4,13 @@ use Rattle.std.specs.List.{FoldsTo}
 use Rattle.tn_discipline.specs.declared.reads.Entry.{Entry}
 use Rattle.tn_jobs.specs.declared.reactions.Reaction.{Reaction}
 use Rattle.tn_jobs.specs.declared.held_jobs.JobId.{JobId}
-use Rattle.tn_term.specs.declared.messages.Message.{Message}
-use Rattle.tn_term.specs.declared.messages.Message.TheVariants.{Take, Said, Refused, Left}
+use Rattle.tn_messages.specs.declared.messages.Message.{Message}
+use Rattle.tn_messages.specs.declared.messages.Message.TheVariants.{Take, Said, Refused, Left}
 use Rattle.tn_session.specs.declared.mail.Sender.TheVariants.{Desk}
 use Rattle.tn_jobs.specs.declared.verdicts.After.TheVariants.{Done}
 use Rattle.tn_session.specs.declared.channels.View.{View}
 use Rattle.tn_session.specs.declared.entries.Hand.{Hand}
-use Rattle.tn_session.specs.Queue.{taker}
+use Rattle.tn_session.specs.EntryChannel.{taker}
 use Rattle.tn_session.specs.Mailbox.{mail, sender}
 
 -- an entry, and what the job answered

@@ -1,4 +1,4 @@
--- The background jobs that run, in a line.
+-- The background jobs that run, in a queue.
 use Rattle.std.specs.Prelude.{◌≡◌, ℕ, Bool, true, false, List, [], ◌∷◌, ◌++◌}
 use Rattle.std.specs.List.{FoldsTo}
 use Rattle.tn_jobs.specs.declared.held_jobs.JobId.{JobId}
@@ -12,8 +12,8 @@ abbrev pub ids_of : {J : Type 0} → List (Runner J) → List ℕ
 ids_of [] = []
 ids_of (r ∷ rs) = r.id.0 ∷ ids_of rs
 
-abbrev pub line_of : {J : Type 0} → Bool → List (Runner J) → BackJobs
-line_of tostop line = record { ids = ids_of line; tostop = tostop }
+abbrev pub queue_of : {J : Type 0} → Bool → List (Runner J) → BackJobs
+queue_of tostop queue = record { ids = ids_of queue; tostop = tostop }
 
 abbrev pub AreApart : List ℕ → Type 0
 AreApart [] = Unit {0}
@@ -24,8 +24,8 @@ EachFresh fresh [] = Unit {0}
 EachFresh fresh (r ∷ rs) = fresh r.job × EachFresh fresh rs
 
 -- each job is fresh, and no two have one number
-abbrev pub IsLine : {J : Type 0} → (J → Type 0) → List (Runner J) → Type 0
-IsLine fresh line = EachFresh fresh line × AreApart (ids_of line)
+abbrev pub IsQueue : {J : Type 0} → (J → Type 0) → List (Runner J) → Type 0
+IsQueue fresh queue = EachFresh fresh queue × AreApart (ids_of queue)
 
 -- the job of this number has gone from a fresh state to this one
 abbrev pub Chain : {J : Type 0} → (J → Type 0) → (J → Reaction → J → Type 0) → List (JobId × Reaction) → ℕ → J
@@ -43,30 +43,31 @@ abbrev pub AllStay : Bool → List Reaction → Type 0
 AllStay tostop [] = Unit {0}
 AllStay tostop (r ∷ rs) = (stays tostop r ≡ true) × AllStay tostop rs
 
--- and so of each job that is still in the line
+-- and so of each job that is still in the queue
 abbrev pub EachStays : {J : Type 0} → Bool → List (JobId × Reaction) → List (Runner J) → Type 0
 EachStays tostop said [] = Unit {0}
 EachStays tostop said (r ∷ rs) = AllStay tostop (reactions_of r.id.0 said) × EachStays tostop said rs
 
 pub record Running {J : Type 0} (fresh : J → Type 0) (steps : J → Reaction → J → Type 0) (tostop : Bool)
-    (ids : List ℕ) (said : List (JobId × Reaction)) (line : List (Runner J)) : Type 0 where
+    (ids : List ℕ) (said : List (JobId × Reaction)) (queue : List (Runner J)) : Type 0 where
   pub by : AreBy ids said
   pub leave : (id : ℕ) → IsIn id ids → LeavesLast tostop (reactions_of id said)
-  pub stay : EachStays tostop said line
+  pub stay : EachStays tostop said queue
   pub each : (id : ℕ) → IsIn id ids → Steps {J = J} fresh steps said id
-  pub runs : EachRuns fresh steps ids said line
-  pub apart : AreApart (ids_of line)
+  pub runs : EachRuns fresh steps ids said queue
+  pub apart : AreApart (ids_of queue)
 
--- The job that made a step stands last as long as it runs in the background, unless memory for that was
--- wanting; one that was judged out of it stands in the line no more.
+-- The job that made a step stands last as long as it runs in the background, unless there was no memory
+-- for that; one that was judged out of it stands in the queue no more.
 abbrev pub StandsNext : {J : Type 0} → Bool → Bool → List (Runner J) → Runner J → List (Runner J) → Type 0
 StandsNext true false rest runner new = new ≡ rest ++ runner ∷ []
 StandsNext true true rest runner new = new ≡ rest
 StandsNext false refused rest runner new = (refused ≡ false) × (new ≡ rest)
 
--- The first of the line made a step.
-pub record AdvancesLine {J : Type 0} (steps : J → Reaction → J → Type 0) (tostop : Bool)
-    (old : List (Runner J)) (id : JobId) (reaction : Reaction) (refused : Bool) (new : List (Runner J)) : Type 0 where
+-- The first of the queue made a step.
+pub record AdvancesQueue {J : Type 0} (steps : J → Reaction → J → Type 0) (tostop : Bool)
+    (old : List (Runner J)) (id : JobId) (reaction : Reaction) (refused : Bool) (new : List (Runner J))
+    : Type 0 where
   pub runner : Runner J
   pub rest : List (Runner J)
   pub job : J
@@ -81,4 +82,4 @@ abbrev pub TakesTurn : {J : Type 0} → (J → Reaction → J → Type 0) → Bo
 TakesTurn steps tostop old Idle new = old ≡ []
 TakesTurn {J} steps tostop old Refused new = (runner : Runner J) × (old ≡ runner ∷ new)
 TakesTurn steps tostop old (Did id reaction refused) new =
-    AdvancesLine steps tostop old id reaction refused new
+    AdvancesQueue steps tostop old id reaction refused new

@@ -5,17 +5,18 @@ use Rattle.tn_discipline.specs.declared.reads.Entry.{Entry}
 use Rattle.tn_nvt.specs.Spelling.{spells}
 use Rattle.tn_server.specs.Replies.{items_said}
 use Rattle.tn_session.specs.Mailbox.{with_handled}
-use Rattle.tn_session.specs.Queue.{putter}
+use Rattle.tn_session.specs.EntryChannel.{putter}
 use Rattle.tn_session.specs.declared.channels.View.{View}
 use Rattle.tn_session.specs.declared.entries.Hand.{Hand}
 use Rattle.tn_session.specs.declared.mail.Mail.{Mail}
+use Rattle.tn_streams.specs.Known.{KnownWriting}
 use Rattle.tn_streams.specs.Telling.{Calls, AccountsFor}
 use Rattle.tn_term.specs.Marks.{Runs, all_whole, no_write_failed, no_writes_failed}
 use Rattle.tn_term.specs.Reaching.{LeadsTo, IsTurn}
 use Rattle.tn_term.specs.Run.{Run}
 use Rattle.tn_term.specs.declared.messages.Mark.{Mark}
-use Rattle.tn_term.specs.declared.messages.Message.{Message}
-use Rattle.tn_term.specs.declared.messages.Message.TheVariants.{Left}
+use Rattle.tn_messages.specs.declared.messages.Message.{Message}
+use Rattle.tn_messages.specs.declared.messages.Message.TheVariants.{Left}
 use Rattle.tn_term.specs.declared.terminal.Term.{Term}
 
 -- all of these bytes were written, or the first of them
@@ -25,35 +26,35 @@ Writes false old new bytes =
     (front : List ℕ) × (rest : List ℕ) × (bytes ≡ front ++ rest) × Appends old new front
 
 -- how many writes are made at most for what one message sends
-abbrev pub most_writes : ℕ
-most_writes = 18446744073709551615
+abbrev pub max_writes : ℕ
+max_writes = 18446744073709551615
 
 -- where not all went well, a write failed
 abbrev pub Tells : Bool → Option Calls → Option Calls → Type 0
-Tells well before after = AccountsFor most_writes well before after
+Tells well before after = AccountsFor max_writes well before after
 
 -- one message with its mark: what was written of what it sends, and what was put
-pub record TurnsMessage (old : Term) (message : Message) (before after : Option (List ℕ))
-    (told_before told_after : Option Calls) (v w : Hand) (new : Term) : Type 0 where
+pub record TurnsMessage (old : Term) (message : Message) (writer : KnownWriting) (v w : Hand) (new : Term)
+    : Type 0 where
   pub mark : Mark
   pub bytes : List ℕ
   pub put : Option (Option Entry)
   pub last : Option (Option Entry)
-  pub wrote : Appends before after bytes
-  pub tells : Tells (no_write_failed mark) told_before told_after
+  pub wrote : Appends writer.before.bytes writer.after.bytes bytes
+  pub tells : Tells (no_write_failed mark) writer.before.calls writer.after.calls
   pub turn : IsTurn mark old message bytes put last new
   pub puts : (l : List (Option Entry)) → v ≡ putter l
       → w ≡ putter (l ++ (option_to_list put ++ option_to_list last))
 
 -- Some messages with their marks, from wherever the terminal may have been: these bytes were written, the
 -- first of those that the run sends, and all of them unless something failed.
-pub record GoesOn (old : Term) (messages : List Message) (before after : Option (List ℕ))
-    (told_before told_after : Option Calls) (puts : List (Option Entry)) (new : Term) : Type 0 where
+pub record GoesOn (old : Term) (messages : List Message) (writer : KnownWriting)
+    (puts : List (Option Entry)) (new : Term) : Type 0 where
   pub marked : List (Message × Mark)
   pub whole : map (λ m. m.0) marked ≡ messages
   pub bytes : List ℕ
-  pub wrote : Appends before after bytes
-  pub tells : Tells (no_writes_failed marked) told_before told_after
+  pub wrote : Appends writer.before.bytes writer.after.bytes bytes
+  pub tells : Tells (no_writes_failed marked) writer.before.calls writer.after.calls
   pub leads : (c : Run) → LeadsTo c old →
       (next : Run) × Runs c marked next × LeadsTo next new × (next.puts ≡ c.puts ++ puts)
       × (rest : List ℕ)
@@ -74,13 +75,12 @@ lefts_of (x ∷ xs) = left_one x.message + lefts_of xs
 abbrev pub messages_of : List Mail → List Message
 messages_of mails = map (λ x. x.message) mails
 
--- what the terminal did: of the views before and after, and of the bytes that the writer held and what it
--- told before and after
-pub record HandlesAll (old : Term) (v w : View) (before_hand after_hand : Hand)
-    (before after : Option (List ℕ)) (told_before told_after : Option Calls) (new : Term) : Type 0 where
+-- what the terminal did: of the views and the writer before and after
+pub record HandlesAll (old : Term) (v w : View) (before_hand after_hand : Hand) (writer : KnownWriting)
+    (new : Term) : Type 0 where
   pub handled : List Mail
   pub puts : List (Option Entry)
   pub view : w ≡ with_handled v handled
   pub hand : (l : List (Option Entry)) → before_hand ≡ putter l → after_hand ≡ putter (l ++ puts)
   pub lefts : 3 ≤ lefts_of handled
-  pub goes : GoesOn old (messages_of handled) before after told_before told_after puts new
+  pub goes : GoesOn old (messages_of handled) writer puts new

@@ -7,19 +7,20 @@ ghost use Rattle.tn_session.specs.Mailbox.{sender};
 ghost use Rattle.tn_session.specs.Stepping.{AreSteps, is_background, leaves_in_background};
 ghost use Rattle.tn_jobs.specs.Judging.{judged};
 ghost use Rattle.tn_jobs.specs.declared.verdicts.JobState.TheVariants as state;
-ghost use Rattle.tn_session.specs.Turning.{IsLine, line_of, TakesTurn};
+ghost use Rattle.tn_session.specs.Turning.{IsQueue, queue_of, TakesTurn};
 ghost use Rattle.tn_session.specs.declared.mail.Sender.TheVariants.{Back};
 
-use crate::channels::{MailPass, MailSender};
+use crate::channels::{MailPass, MailSeat};
 use crate::mail::Sender;
 use crate::parties::{Gate, Place};
 use crate::sending::say;
+use crate::threads::Watch;
 use std::alloc::Global;
 use std::collections::VecDeque;
 use std::sync::Wait;
-use std::sync::atomic::{AtomicBool, Ordering};
+use std::sync::atomic::Ordering;
 use tn_jobs::{After, Job, JobId, JobState, Reaction, judge};
-use tn_term::Message;
+use tn_messages::Message;
 
 /// A background job that runs.
 #[derive(Drop)]
@@ -47,7 +48,7 @@ fn is_background(job: JobState) -> bool
     }
 }
 
-// What became of the line.
+// What became of the queue.
 #[derive(Drop)]
 enum Turn {
     // No job runs.
@@ -62,10 +63,10 @@ enum Turn {
     },
 }
 
-fn advance<J: Job>(line: &mut VecDeque<Runner<J>>, alloc: Global, tostop: bool) -> Turn
-    ensures { TakesTurn J.steps tostop line.old.items result line.new.items }
+fn advance<J: Job>(queue: &mut VecDeque<Runner<J>>, alloc: Global, tostop: bool) -> Turn
+    ensures { TakesTurn J.steps tostop queue.old.items result queue.new.items }
 {
-    let Some(Runner { id, mut job }) = line.pop_front() else {
+    let Some(Runner { id, mut job }) = queue.pop_front() else {
         return Turn::Idle;
     };
     let Ok(reaction) = job.step(alloc) else {
@@ -79,7 +80,7 @@ fn advance<J: Job>(line: &mut VecDeque<Runner<J>>, alloc: Global, tostop: bool) 
             refused: false,
         };
     }
-    let refused = line.push_back(Runner { id, job }).is_err();
+    let refused = queue.push_back(Runner { id, job }).is_err();
     Turn::Did {
         id,
         reaction,
@@ -91,28 +92,27 @@ fn advance<J: Job>(line: &mut VecDeque<Runner<J>>, alloc: Global, tostop: bool) 
 pub(crate) fn run_back<R: Wait, J: Job, G: Gate>(
     rt: &R,
     alloc: Global,
-    to: &MailSender,
-    mut pass: MailPass,
-    mut line: VecDeque<Runner<J>>,
+    seat: MailSeat,
+    mut queue: VecDeque<Runner<J>>,
     tostop: bool,
-    stop: &AtomicBool,
-    gate: &G,
+    watch: &Watch<G>,
 ) -> Option<MailPass>
-    requires mailbox { IsSeatAt (sends_on to.now) pass × (view pass ≡ sender Back []) }
-    requires jobs { IsLine J.fresh line.items }
-    ensures seat { IfSome result (λ p. IsSeatAt (sends_on to.now) p) }
-    ensures stepped { IfSome result (λ p. AreSteps J.fresh J.steps (line_of tostop line.items) (view p)) }
+    requires mailbox { IsSeatAt (sends_on seat.to) seat.pass × (view seat.pass ≡ sender Back []) }
+    requires jobs { IsQueue J.fresh queue.items }
+    ensures seat { IfSome result (λ p. IsSeatAt (sends_on seat.to) p) }
+    ensures stepped { IfSome result (λ p. AreSteps J.fresh J.steps (queue_of tostop queue.items) (view p)) }
 {
+    let MailSeat { to, mut pass } = seat;
     for _ in rt.forever() {
-        if stop.load(Ordering::SeqCst) {
-            return say(rt, to, pass, Sender::Back, Message::Left);
+        if watch.stop.load(Ordering::SeqCst) {
+            return say(rt, &to, pass, Sender::Back, Message::Left);
         }
-        gate.at(Place::BackStep);
-        match advance(&mut line, alloc, tostop) {
-            Turn::Idle => return say(rt, to, pass, Sender::Back, Message::Left),
+        watch.gate.at(Place::BackStep);
+        match advance(&mut queue, alloc, tostop) {
+            Turn::Idle => return say(rt, &to, pass, Sender::Back, Message::Left),
             Turn::Refused => {
-                pass = say(rt, to, pass, Sender::Back, Message::Refused)?;
-                return say(rt, to, pass, Sender::Back, Message::Left);
+                pass = say(rt, &to, pass, Sender::Back, Message::Refused)?;
+                return say(rt, &to, pass, Sender::Back, Message::Left);
             },
             Turn::Did {
                 id,
@@ -122,7 +122,7 @@ pub(crate) fn run_back<R: Wait, J: Job, G: Gate>(
                 let Reaction { text, after } = reaction;
                 pass = say(
                     rt,
-                    to,
+                    &to,
                     pass,
                     Sender::Back,
                     Message::Said {
@@ -132,8 +132,8 @@ pub(crate) fn run_back<R: Wait, J: Job, G: Gate>(
                     },
                 )?;
                 if refused {
-                    pass = say(rt, to, pass, Sender::Back, Message::Refused)?;
-                    return say(rt, to, pass, Sender::Back, Message::Left);
+                    pass = say(rt, &to, pass, Sender::Back, Message::Refused)?;
+                    return say(rt, &to, pass, Sender::Back, Message::Left);
                 }
             },
         }

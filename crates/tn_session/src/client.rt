@@ -1,57 +1,60 @@
 //! A running client session, from its first key to its report.
 
-ghost use Rattle.std.specs.Prelude.{◌≡◌, [], IfOk, IfErr, IfSome};
+ghost use Rattle.std.specs.Prelude.{◌≡◌, [], true, false, is_some, IfOk, IfErr};
 ghost use Rattle.crossbeam_channel.specs.Claims.{view, IsSeatAt};
 ghost use Rattle.crossbeam_channel.specs.Ends.{sends_on, receives_on};
 ghost use Rattle.tn_session.specs.Client.{core_view, IsReadyForTwo, AreTwoSettled, IsClientRun, RunningClient, client_report};
+ghost use Rattle.tn_session.specs.Facts.{client_result};
 ghost use Rattle.tn_session.specs.Session.{IsRefusal, IsOfThreads};
+ghost use Rattle.tn_streams.specs.Known.{known_reader, known_writing};
 
 use crate::channels::{
     AllRoles, CutKeys, CutNet, Knows, MailPass, MailReceiver, MailSeat, MailSender, Union, View,
 };
 use crate::client_loop::run_core;
-use crate::mail::Mail;
-use crate::parties::{ClientPorts, Finish, Gate, Report};
+use crate::mail::{Mail, Sender};
+use crate::net::ReaderPart;
+use crate::parties::{ClientPorts, Finish, Gate, Place, Report};
 use crate::session::MAILS;
-use crate::threads::{ClientReturned, ClientStarted, Watch, start_keys, start_net};
+use crate::sharing::{Shared, share};
+use crate::threads::{ClientReturned, ClientStarted, start_reader};
 use crossbeam_channel::bounded_with;
-use std::alloc::Global;
+use std::alloc::{AllocError, Global};
 use std::sync::atomic::AtomicBool;
 use std::sync::{Arc, Wait};
 use std::thread::Threads;
 use tn_client_core::{Core, Progress};
 use tn_discipline::Limit;
+use tn_messages::SessionFault;
 use tn_streams::{Drain, Source};
-use tn_term::SessionFault;
+
+// The core's ends of the mailbox.
+#[derive(Drop)]
+struct CoreEnds {
+    to: MailSender,
+    from: MailReceiver,
+}
 
 // The mailbox of a client's session, its ends and passes.
 #[derive(Drop)]
 struct Mailbox {
-    to: MailSender,
-    from: MailReceiver,
+    ends: CoreEnds,
     pass: MailPass,
     net: MailSeat,
     keys: MailSeat,
 }
 
-// Makes the mailbox and splits its passes. `None` when out of memory.
-fn make_mailbox(alloc: Global) -> Option<Mailbox>
-    ensures { IfSome result (λ mailbox. IsReadyForTwo mailbox) }
+// Makes the mailbox and splits its passes.
+fn make_mailbox(alloc: Global) -> Result<Mailbox, AllocError>
+    ensures { IfOk result (λ mailbox. IsReadyForTwo mailbox) }
 {
-    let Ok((to, from, mut pass)) = bounded_with::<Mail, View, AllRoles, Global>(alloc, MAILS) else {
-        return None;
-    };
-    let Ok(net_to) = to.try_clone() else {
-        return None;
-    };
-    let Ok(keys_to) = to.try_clone() else {
-        return None;
-    };
+    let (to, from, mut pass) = bounded_with::<Mail, View, AllRoles, Global>(alloc, MAILS)?;
+    let net_to = to.try_clone()?;
+    let keys_to = to.try_clone()?;
     let net = to.another::<CutNet>(&mut pass);
     let keys = to.another::<CutKeys>(&mut pass);
-    Some(Mailbox {
-        to,
-        from,
+    Ok(Mailbox {
+        ends: CoreEnds { to, from },
         pass,
         net: MailSeat {
             to: net_to,
@@ -64,32 +67,26 @@ fn make_mailbox(alloc: Global) -> Option<Mailbox>
     })
 }
 
-// What the threads share: the gate, and the flag that tells Keys to leave.
+// What a session runs on.
 #[derive(Drop)]
-struct Shared<G> {
-    net: Arc<G, Global>,
-    keys: Watch<G>,
-    stop: Arc<AtomicBool, Global>,
+struct Outfit<G> {
+    mailbox: Mailbox,
+    shared: Shared<G>,
 }
 
-fn share<G: Gate + Drop>(alloc: Global, gate: Arc<G, Global>) -> Option<Shared<G>> {
-    let Ok(net) = Arc::try_clone(&gate) else {
-        return None;
-    };
-    let Ok(stop) = Arc::new(alloc, AtomicBool::new(false)) else {
-        return None;
-    };
-    let Ok(keys_stop) = Arc::try_clone(&stop) else {
-        return None;
-    };
-    Some(Shared {
-        net,
-        keys: Watch {
-            gate,
-            stop: keys_stop,
-        },
-        stop,
-    })
+fn equip<G: Gate + Drop>(alloc: Global, gate: Arc<G, Global>) -> Result<Outfit<G>, AllocError>
+    ensures { IfOk result (λ outfit. IsReadyForTwo outfit.mailbox) }
+{
+    let mailbox = make_mailbox(alloc)?;
+    let shared = share(alloc, gate)?;
+    Ok(Outfit { mailbox, shared })
+}
+
+// Where a session reads from.
+#[derive(Drop)]
+struct Readers<N, K> {
+    net: N,
+    keys: K,
 }
 
 // Joins the passes, so that their lists are compared, and splits them again.
@@ -123,13 +120,12 @@ fn report(progress: Progress) -> Report
 }
 
 // Runs this thread as the core's, beside those that were started. On each path out of it they have been
-// joined.
+// joined. It takes nine, since what is lent and what is given here go together nowhere else.
 fn run_beside<R, N, K, W, S>(
     rt: &R,
     alloc: Global,
     started: ClientStarted<N, K>,
-    to: MailSender,
-    from: MailReceiver,
+    ends: CoreEnds,
     pass: MailPass,
     core: &mut Core,
     writer: &mut W,
@@ -142,26 +138,22 @@ where
     K: Source,
     W: Finish,
     S: Drain,
-    requires mailbox { (receives_on from ≡ sends_on to) × IsSeatAt (sends_on to) pass ×
+    requires mailbox { (receives_on ends.from ≡ sends_on ends.to) × IsSeatAt (sends_on ends.to) pass ×
         (view pass ≡ core_view []) }
-    requires net { sends_on started.net.promise.to.value ≡ sends_on to }
-    requires keys { sends_on started.keys.promise.to.value ≡ sends_on to }
+    requires net { (sends_on started.net.promise.to.value ≡ sends_on ends.to) ×
+        (started.net.promise.who ≡ Sender.Net) × (is_some started.net.promise.stop.value ≡ false) }
+    requires keys { (sends_on started.keys.promise.to.value ≡ sends_on ends.to) ×
+        (started.keys.promise.who ≡ Sender.Keys) × (is_some started.keys.promise.stop.value ≡ true) }
     ensures fault { IfErr result (λ fault. fault ≡ SessionFault.Channel) }
     ensures ran { IfOk result (λ r.
-        IsClientRun core.old (K.remaining started.keys.promise.reader.value)
-        (N.remaining started.net.promise.reader.value) (K.foretold started.keys.promise.reader.value)
-        (N.foretold started.net.promise.reader.value) (W.contents writer.old) (W.contents writer.new)
-        (S.contents screen.old) (S.contents screen.new) (W.told writer.old) (W.told writer.new)
-        (S.told screen.old) (S.told screen.new) r.0 r.1) }
+        IsClientRun core.old (known_reader K.remaining K.foretold started.keys.promise.reader.value)
+        (known_reader N.remaining N.foretold started.net.promise.reader.value)
+        (known_writing W.contents W.told writer.old writer.new)
+        (known_writing S.contents S.told screen.old screen.new) (client_result r.0 r.1)) }
 {
-    let mut out = Vec::new(alloc);
-    let mut text = Vec::new(alloc);
-    let Some(pass) = run_core(
-        rt, &from, pass, core, &mut out, &mut text, writer, screen, stop,
-    ) else {
+    let Some(pass) = run_core(rt, alloc, &ends.from, pass, core, writer, screen, stop) else {
         writer.finish();
-        drop(to);
-        drop(from);
+        drop(ends);
         started.join(rt);
         return Err(SessionFault::Channel);
     };
@@ -169,7 +161,7 @@ where
         return Err(SessionFault::Channel);
     };
     let ClientReturned { net, keys } = returned;
-    let ports = settle(&to, pass, net, keys);
+    let ports = settle(&ends.to, pass, net, keys);
     Ok((report(core.progress()), ports))
 }
 
@@ -178,13 +170,11 @@ where
 fn run<R, N, K, W, S, G>(
     rt: R,
     alloc: Global,
-    net_reader: N,
-    keys_reader: K,
+    readers: Readers<N, K>,
     writer: &mut W,
     screen: &mut S,
     core: &mut Core,
-    mailbox: Mailbox,
-    shared: Shared<G>,
+    outfit: Outfit<G>,
 ) -> Result<(Report, ClientPorts), SessionFault>
 where
     R: Threads + Wait + Copy + Send + 'static,
@@ -193,40 +183,52 @@ where
     W: Finish,
     S: Drain,
     G: Gate + Drop + Send + Sync + 'static,
-    requires { IsReadyForTwo mailbox }
+    requires { IsReadyForTwo outfit.mailbox }
     ensures fault { IfErr result IsOfThreads }
     ensures ran { IfOk result (λ r.
-        IsClientRun core.old (K.remaining keys_reader) (N.remaining net_reader) (K.foretold keys_reader)
-        (N.foretold net_reader) (W.contents writer.old) (W.contents writer.new) (S.contents screen.old)
-        (S.contents screen.new) (W.told writer.old) (W.told writer.new) (S.told screen.old)
-        (S.told screen.new) r.0 r.1) }
+        IsClientRun core.old (known_reader K.remaining K.foretold readers.keys)
+        (known_reader N.remaining N.foretold readers.net)
+        (known_writing W.contents W.told writer.old writer.new)
+        (known_writing S.contents S.told screen.old screen.new) (client_result r.0 r.1)) }
 {
     let Mailbox {
-        to,
-        from,
+        ends,
         pass,
         net,
         keys,
-    } = mailbox;
+    } = outfit.mailbox;
     let Shared {
         net: gate,
-        keys: watch,
-        stop,
-    } = shared;
-    let Some(net) = start_net(rt, alloc, net, net_reader, None, gate) else {
+        told,
+        own,
+    } = outfit.shared;
+    let part = ReaderPart {
+        who: Sender::Net,
+        place: Place::NetPiece,
+        credits: None,
+        stop: None,
+        gate,
+    };
+    let Some(net) = start_reader(rt, alloc, net, readers.net, part) else {
         writer.finish();
         return Err(SessionFault::Start);
     };
-    let Some(keys) = start_keys(rt, alloc, keys, keys_reader, watch) else {
+    let part = ReaderPart {
+        who: Sender::Keys,
+        place: Place::KeysPiece,
+        credits: None,
+        stop: Some(told.stop),
+        gate: told.gate,
+    };
+    let Some(keys) = start_reader(rt, alloc, keys, readers.keys, part) else {
         writer.finish();
-        drop(to);
-        drop(from);
+        drop(ends);
         net.join(&rt);
         return Err(SessionFault::Start);
     };
     let started = ClientStarted { net, keys };
     run_beside(
-        &rt, alloc, started, to, from, pass, core, writer, screen, &*stop,
+        &rt, alloc, started, ends, pass, core, writer, screen, &*own.stop,
     )
 }
 
@@ -234,8 +236,7 @@ where
 fn converse<R, N, K, W, S, G>(
     rt: R,
     alloc: Global,
-    net_reader: N,
-    keys_reader: K,
+    readers: Readers<N, K>,
     writer: &mut W,
     screen: &mut S,
     core: &mut Core,
@@ -250,28 +251,15 @@ where
     G: Gate + Drop + Send + Sync + 'static,
     ensures fault { IfErr result IsRefusal }
     ensures ran { IfOk result (λ r.
-        IsClientRun core.old (K.remaining keys_reader) (N.remaining net_reader) (K.foretold keys_reader)
-        (N.foretold net_reader) (W.contents writer.old) (W.contents writer.new) (S.contents screen.old)
-        (S.contents screen.new) (W.told writer.old) (W.told writer.new) (S.told screen.old)
-        (S.told screen.new) r.0 r.1) }
+        IsClientRun core.old (known_reader K.remaining K.foretold readers.keys)
+        (known_reader N.remaining N.foretold readers.net)
+        (known_writing W.contents W.told writer.old writer.new)
+        (known_writing S.contents S.told screen.old screen.new) (client_result r.0 r.1)) }
 {
-    let Some(mailbox) = make_mailbox(alloc) else {
+    let Ok(outfit) = equip(alloc, gate) else {
         return Err(SessionFault::Memory);
     };
-    let Some(shared) = share(alloc, gate) else {
-        return Err(SessionFault::Memory);
-    };
-    run(
-        rt,
-        alloc,
-        net_reader,
-        keys_reader,
-        writer,
-        screen,
-        core,
-        mailbox,
-        shared,
-    )
+    run(rt, alloc, readers, writer, screen, core, outfit)
 }
 
 /// Runs a client's session over a connection: its reader and its writer, the user's keys and screen, and a
@@ -298,23 +286,17 @@ where
     G: Gate + Drop + Send + Sync + 'static,
     ensures fault { IfErr result IsRefusal }
     ensures ran { IfOk result (λ r.
-        RunningClient width height limit (K.remaining keys_reader) (N.remaining net_reader)
-        (K.foretold keys_reader) (N.foretold net_reader) (W.contents net_writer.old)
-        (W.contents net_writer.new) (S.contents screen.old)
-        (S.contents screen.new) (W.told net_writer.old) (W.told net_writer.new) (S.told screen.old)
-        (S.told screen.new) r.0 (view r.1.keys) (view r.1.net) (view r.1.core)) }
+        RunningClient (record { width = width; height = height; limit = limit })
+        (known_reader K.remaining K.foretold keys_reader) (known_reader N.remaining N.foretold net_reader)
+        (known_writing W.contents W.told net_writer.old net_writer.new)
+        (known_writing S.contents S.told screen.old screen.new) (client_result r.0 r.1)) }
 {
     let Ok(mut core) = Core::start(alloc, width, height, limit) else {
         return Err(SessionFault::Memory);
     };
-    converse(
-        rt,
-        alloc,
-        net_reader,
-        keys_reader,
-        net_writer,
-        screen,
-        &mut core,
-        gate,
-    )
+    let readers = Readers {
+        net: net_reader,
+        keys: keys_reader,
+    };
+    converse(rt, alloc, readers, net_writer, screen, &mut core, gate)
 }

@@ -1,19 +1,21 @@
 //! The core of a client's session: mails are handled until both senders have left.
 
 ghost use Rattle.std.specs.Prelude.{◌≡◌, ◌&&◌, ◌||◌, not, Some, [], IfSome};
-ghost use Rattle.std.specs.Io.KnownBytes.{Keeps};
 ghost use Rattle.crossbeam_channel.specs.Claims.{view, IsSeatAt};
 ghost use Rattle.crossbeam_channel.specs.Ends.{receives_on};
 ghost use Rattle.tn_client_core.specs.Marks.{is_whole};
 ghost use Rattle.tn_session.specs.CoreTurns.{TurnsTold, CoreHandles, origin_of, told_of};
+ghost use Rattle.tn_streams.specs.Known.{known_writing};
 
 use crate::channels::{Handles, MailPass, MailReceiver};
+use crate::closing::{Standing, close};
 use crate::mail::{Mail, Sender};
 use crate::parties::Finish;
 use crate::term::leaves;
 use crate::writing::write_out;
+use std::alloc::Global;
 use std::sync::Wait;
-use std::sync::atomic::{AtomicBool, Ordering};
+use std::sync::atomic::AtomicBool;
 use tn_client_core::{Core, Mark, Origin, Progress, Told};
 use tn_streams::Drain;
 
@@ -63,9 +65,8 @@ fn turn<W: Finish, S: Drain>(
     requires text { text.old.items ≡ [] }
     ensures out { out.new.items ≡ [] }
     ensures text { text.new.items ≡ [] }
-    ensures turned { TurnsTold core.old told (W.contents writer.old) (W.contents writer.new)
-        (S.contents screen.old) (S.contents screen.new) (W.told writer.old) (W.told writer.new)
-        (S.told screen.old) (S.told screen.new) core.new }
+    ensures turned { TurnsTold core.old told (known_writing W.contents W.told writer.old writer.new)
+        (known_writing S.contents S.told screen.old screen.new) core.new }
 {
     let mark = core.handle(told, out, text);
     let written = write_out(writer, out);
@@ -78,43 +79,34 @@ fn turn<W: Finish, S: Drain>(
     core.write_failed();
 }
 
-// Tells Keys to leave where no more comes from the network or nothing has any effect any more, and the
-// writer once that no more comes from this end. Answers whether the writer was told.
-fn close<W: Finish>(writer: &mut W, progress: Progress, stop: &AtomicBool, closed: bool) -> bool
-    ensures contents { Keeps (W.contents writer.old) (W.contents writer.new) }
-    ensures told { W.told writer.new ≡ W.told writer.old }
-{
-    if progress.over || progress.at_end {
-        stop.store(true, Ordering::SeqCst);
+// Keys leaves where no more comes from the network or nothing has any effect any more.
+fn standing_of(progress: Progress) -> Standing {
+    Standing {
+        stops: progress.over || progress.at_end,
+        closes: progress.over || progress.closed,
     }
-    if (progress.over || progress.closed) && !closed {
-        writer.finish();
-        return true;
-    }
-    closed
 }
 
-/// Handles the mails until both senders have left. `None` where the other end of the mailbox is gone.
+/// Handles the mails until both senders have left. `None` where the other end of the mailbox is gone. It
+/// takes eight, since the core, the writer and the screen are lent each by itself.
 pub(crate) fn run_core<R: Wait, W: Finish, S: Drain>(
     rt: &R,
+    alloc: Global,
     from: &MailReceiver,
     mut pass: MailPass,
     core: &mut Core,
-    out: &mut Vec<u8>,
-    text: &mut Vec<u8>,
     writer: &mut W,
     screen: &mut S,
     stop: &AtomicBool,
 ) -> Option<MailPass>
     requires mailbox { IsSeatAt (receives_on from.now) pass × ((view pass).handled ≡ Some []) }
-    requires out { out.old.items ≡ [] }
-    requires text { text.old.items ≡ [] }
     ensures mailbox { IfSome result (λ p. IsSeatAt (receives_on from.now) p) }
     ensures acted { IfSome result (λ p.
-        CoreHandles core.old (view pass) (view p) (W.contents writer.old) (W.contents writer.new)
-        (S.contents screen.old) (S.contents screen.new) (W.told writer.old) (W.told writer.new)
-        (S.told screen.old) (S.told screen.new) core.new) }
+        CoreHandles core.old (view pass) (view p) (known_writing W.contents W.told writer.old writer.new)
+        (known_writing S.contents S.told screen.old screen.new) core.new) }
 {
+    let mut out = Vec::new(alloc);
+    let mut text = Vec::new(alloc);
     let mut lefts = 0u64;
     let mut closed = false;
     for _ in rt.forever() {
@@ -125,8 +117,8 @@ pub(crate) fn run_core<R: Wait, W: Finish, S: Drain>(
             return None;
         };
         let left = leaves(&mail.message);
-        turn(core, told_of(mail), out, text, writer, screen);
-        closed = close(writer, core.progress(), stop, closed);
+        turn(core, told_of(mail), &mut out, &mut text, writer, screen);
+        closed = close(writer, stop, standing_of(core.progress()), closed);
         lefts += left;
     }
     unreachable!()

@@ -8,7 +8,8 @@ ghost use Rattle.tn_term.specs.Run.{Run};
 
 use crossbeam_channel::{Receiver, Sender};
 use std::sync::Wait;
-use tn_term::{Message, Term};
+use tn_messages::Message;
+use tn_term::Term;
 
 /// How many credits there are.
 pub(crate) const CREDITS: usize = 1;

@@ -5,12 +5,12 @@ ghost use Rattle.crossbeam_channel.specs.Claims.{view, IsSeatAt};
 ghost use Rattle.crossbeam_channel.specs.Ends.{sends_on, receives_on};
 ghost use Rattle.tn_discipline.specs.declared.reads.Entry.{Entry as EntryT};
 ghost use Rattle.tn_session.specs.Mailbox.{sender};
-ghost use Rattle.tn_session.specs.Queue.{taker};
+ghost use Rattle.tn_session.specs.EntryChannel.{taker};
 ghost use Rattle.tn_session.specs.Talk.{IsTalk};
 ghost use Rattle.tn_session.specs.declared.mail.Sender.TheVariants.{Desk};
 
-use crate::channels::{MailPass, MailSender};
-use crate::entries::{EntryPass, EntryReceiver, Takes};
+use crate::channels::{MailPass, MailSeat};
+use crate::entries::{EntryPass, EntryReceiver, EntrySeat, Takes};
 use crate::mail::Sender;
 use crate::parties::{Gate, Place};
 use crate::sending::say;
@@ -18,7 +18,7 @@ use std::alloc::Global;
 use std::sync::Wait;
 use tn_discipline::Entry;
 use tn_jobs::{After, Job, JobId, Reaction};
-use tn_term::Message;
+use tn_messages::Message;
 
 // Takes one entry or the end. `None` where the other end is gone.
 fn next_entry<R: Wait>(
@@ -42,39 +42,43 @@ fn next_entry<R: Wait>(
 pub(crate) fn run_desk<R: Wait, J: Job, G: Gate>(
     rt: &R,
     alloc: Global,
-    to: &MailSender,
-    from: &EntryReceiver,
-    mut pass: MailPass,
-    mut hand: EntryPass,
+    seat: MailSeat,
+    entries: EntrySeat,
     id: JobId,
     mut job: J,
     gate: &G,
 ) -> Option<(MailPass, EntryPass)>
-    requires mailbox { IsSeatAt (sends_on to.now) pass × (view pass ≡ sender Desk []) }
-    requires entries { IsSeatAt (receives_on from.now) hand × (view hand ≡ taker []) }
+    requires mailbox { IsSeatAt (sends_on seat.to) seat.pass × (view seat.pass ≡ sender Desk []) }
+    requires entries { IsSeatAt (receives_on entries.from) entries.pass ×
+        (view entries.pass ≡ taker []) }
     requires fresh { J.fresh job }
-    ensures mailbox { IfSome result (λ r. IsSeatAt (sends_on to.now) r.0) }
-    ensures entries { IfSome result (λ r. IsSeatAt (receives_on from.now) r.1) }
+    ensures mailbox { IfSome result (λ r. IsSeatAt (sends_on seat.to) r.0) }
+    ensures entries { IfSome result (λ r. IsSeatAt (receives_on entries.from) r.1) }
     ensures talk { IfSome result (λ r. IsTalk id J.fresh J.reacts (view r.0) (view r.1)) }
 {
+    let MailSeat { to, mut pass } = seat;
+    let EntrySeat {
+        from,
+        pass: mut hand,
+    } = entries;
     for _ in rt.forever() {
-        pass = say(rt, to, pass, Sender::Desk, Message::Take)?;
-        let (after_take, entry) = next_entry(rt, from, hand)?;
+        pass = say(rt, &to, pass, Sender::Desk, Message::Take)?;
+        let (after_take, entry) = next_entry(rt, &from, hand)?;
         hand = after_take;
         let Some(entry) = entry else {
-            pass = say(rt, to, pass, Sender::Desk, Message::Left)?;
+            pass = say(rt, &to, pass, Sender::Desk, Message::Left)?;
             return Some((pass, hand));
         };
         gate.at(Place::DeskEntry);
         let Ok(reaction) = job.entry(alloc, entry) else {
-            pass = say(rt, to, pass, Sender::Desk, Message::Refused)?;
-            pass = say(rt, to, pass, Sender::Desk, Message::Left)?;
+            pass = say(rt, &to, pass, Sender::Desk, Message::Refused)?;
+            pass = say(rt, &to, pass, Sender::Desk, Message::Left)?;
             return Some((pass, hand));
         };
         let Reaction { text, after } = reaction;
         pass = say(
             rt,
-            to,
+            &to,
             pass,
             Sender::Desk,
             Message::Said {
@@ -86,7 +90,7 @@ pub(crate) fn run_desk<R: Wait, J: Job, G: Gate>(
         match after {
             After::Stay | After::WantsInput | After::Stop => {},
             After::Done => {
-                pass = say(rt, to, pass, Sender::Desk, Message::Left)?;
+                pass = say(rt, &to, pass, Sender::Desk, Message::Left)?;
                 return Some((pass, hand));
             },
         }

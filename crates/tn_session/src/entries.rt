@@ -1,5 +1,5 @@
 // The channel of entries: one puts and one takes.
-ghost use Rattle.tn_session.specs.Queue.{slot, InOrder, put_more, taken_more, both_hands, no_hand, joined_hands, LeftOver};
+ghost use Rattle.tn_session.specs.EntryChannel.{slot, InOrder, put_more, taken_more, both_hands, no_hand, joined_hands, LeftOver};
 ghost use Rattle.tn_session.specs.Seats.{Kept};
 ghost use Rattle.std.specs.Prelude.{◌≡◌, Option, None};
 

@@ -1,47 +1,58 @@
 //! The passes of a session are joined, compared, and split again.
 
-ghost use Rattle.std.specs.Prelude.{◌≡◌, IfOk};
 ghost use Rattle.crossbeam_channel.specs.Claims.{view, IsSeatAt};
-ghost use Rattle.crossbeam_channel.specs.Ends.{sends_on, receives_on};
+ghost use Rattle.crossbeam_channel.specs.Ends.{sends_on};
+ghost use Rattle.tn_session.specs.Facts.{views_of};
 ghost use Rattle.tn_session.specs.Joining.{AreSettled};
 
-use crate::channels::{CutBack, CutDesk, CutNet, Knows, MailPass, MailSender, Union};
-use crate::entries::{CutTaker, EntryPass, EntrySender, JoinHands, Takes};
+use crate::channels::{CutBack, CutDesk, CutNet, Knows, Union};
+use crate::entries::{CutTaker, JoinHands, Takes};
 use crate::parties::Ports;
+use crate::term::{Ends, Passes};
+use crate::threads::Returned;
 
 /// Joins the passes, so that their lists are compared, and splits them again.
-pub(crate) fn settle(
-    to: &MailSender,
-    put: &EntrySender,
-    mut pass: MailPass,
-    net: MailPass,
-    desk: MailPass,
-    back: MailPass,
-    mut hand: EntryPass,
-    took: EntryPass,
-) -> Ports
-    requires mailbox { IsSeatAt (sends_on to.now) pass × IsSeatAt (sends_on to.now) net ×
-        IsSeatAt (sends_on to.now) desk × IsSeatAt (sends_on to.now) back }
-    requires entries { IsSeatAt (sends_on put.now) hand × IsSeatAt (sends_on put.now) took }
-    ensures { AreSettled (view pass) (view net) (view desk) (view back) (view hand) (view took)
-        (view result.net) (view result.desk) (view result.back) (view result.term) (view result.put)
-        (view result.took) }
+pub(crate) fn settle(ends: &Ends, passes: Passes, returned: Returned) -> Ports
+    requires mailbox { IsSeatAt (sends_on ends.now.to) passes.mails ×
+        IsSeatAt (sends_on ends.now.to) returned.net × IsSeatAt (sends_on ends.now.to) returned.desk ×
+        IsSeatAt (sends_on ends.now.to) returned.back }
+    requires entries { IsSeatAt (sends_on ends.now.put) passes.hand ×
+        IsSeatAt (sends_on ends.now.put) returned.took }
+    ensures { AreSettled (record {
+      net = view returned.net;
+      desk = view returned.desk;
+      back = view returned.back;
+      term = view passes.mails;
+      put = view passes.hand;
+      took = view returned.took;
+    })
+        (views_of result) }
 {
-    to.absorb::<Union>(&mut pass, net);
-    to.absorb::<Union>(&mut pass, desk);
-    to.absorb::<Union>(&mut pass, back);
-    to.learn_as::<Knows>(&mut pass);
-    put.absorb::<JoinHands>(&mut hand, took);
-    put.learn_as::<Takes>(&mut hand);
-    let net = to.another::<CutNet>(&mut pass);
-    let desk = to.another::<CutDesk>(&mut pass);
-    let back = to.another::<CutBack>(&mut pass);
-    let took = put.another::<CutTaker>(&mut hand);
+    let Passes {
+        mut mails,
+        mut hand,
+    } = passes;
+    let Returned {
+        net,
+        desk,
+        took,
+        back,
+    } = returned;
+    ends.to.absorb::<Union>(&mut mails, net);
+    ends.to.absorb::<Union>(&mut mails, desk);
+    ends.to.absorb::<Union>(&mut mails, back);
+    ends.to.learn_as::<Knows>(&mut mails);
+    ends.put.absorb::<JoinHands>(&mut hand, took);
+    ends.put.learn_as::<Takes>(&mut hand);
+    let net = ends.to.another::<CutNet>(&mut mails);
+    let desk = ends.to.another::<CutDesk>(&mut mails);
+    let back = ends.to.another::<CutBack>(&mut mails);
+    let took = ends.put.another::<CutTaker>(&mut hand);
     Ports {
         net,
         desk,
         back,
-        term: pass,
+        term: mails,
         put: hand,
         took,
     }

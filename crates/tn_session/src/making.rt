@@ -11,10 +11,10 @@ use std::alloc::Global;
 use std::collections::VecDeque;
 use tn_jobs::laws::one_job_changes;
 use tn_jobs::{Job, JobId, Table};
-use tn_term::SessionFault;
+use tn_messages::SessionFault;
 
 /// How many jobs run in the background at most.
-const MOST_OTHERS: u8 = 15;
+const MAX_OTHERS: u8 = 15;
 
 /// The jobs of a session: the foreground job with its number, and those in the background.
 #[derive(Drop)]
@@ -22,14 +22,14 @@ pub(crate) struct Made<J> {
     pub(crate) table: Table,
     pub(crate) first: JobId,
     pub(crate) job: J,
-    pub(crate) line: VecDeque<Runner<J>>,
+    pub(crate) queue: VecDeque<Runner<J>>,
 }
 
 // The first job stands in the foreground.
 fn make_first<J: Job>(alloc: Global, job: J) -> Result<Made<J>, SessionFault>
     requires { J.fresh job }
     ensures made { IfOk result (λ made. IsMade J.fresh made) }
-    ensures alone { IfOk result (λ made. made.line.items ≡ []) }
+    ensures alone { IfOk result (λ made. made.queue.items ≡ []) }
     ensures fault { IfErr result (λ fault. fault ≡ SessionFault.Memory) }
 {
     let mut table = Table::new(alloc);
@@ -44,7 +44,7 @@ fn make_first<J: Job>(alloc: Global, job: J) -> Result<Made<J>, SessionFault>
         table,
         first,
         job,
-        line: VecDeque::new(alloc),
+        queue: VecDeque::new(alloc),
     })
 }
 
@@ -54,13 +54,13 @@ fn make_more<J: Job>(mut made: Made<J>, job: J) -> Result<Made<J>, SessionFault>
     requires fresh { J.fresh job }
     ensures more { IfOk result (λ more. IsMade J.fresh more) }
     ensures one { IfOk result (λ more.
-        length (ids_of more.line.items) ≡ length (ids_of made.line.items) + 1) }
+        length (ids_of more.queue.items) ≡ length (ids_of made.queue.items) + 1) }
     ensures fault { IfErr result (λ fault. fault ≡ SessionFault.Memory) }
 {
     let Ok(id) = made.table.add() else {
         return Err(SessionFault::Memory);
     };
-    let Ok(()) = made.line.push_back(Runner { id, job }) else {
+    let Ok(()) = made.queue.push_back(Runner { id, job }) else {
         return Err(SessionFault::Memory);
     };
     Ok(made)
@@ -72,7 +72,7 @@ pub(crate) fn make_jobs<M: Maker>(
     maker: &mut M,
 ) -> Result<Made<M::Job>, SessionFault>
     ensures made { IfOk result (λ made. IsMade M.Job.fresh made) }
-    ensures all { IfOk result (λ made. AreAll (M.left maker.old) (ids_of made.line.items)) }
+    ensures all { IfOk result (λ made. AreAll (M.left maker.old) (ids_of made.queue.items)) }
     ensures fault { IfErr result (IsMakerFault (M.left maker.old)) }
 {
     let job = match maker.next(alloc) {
@@ -81,7 +81,7 @@ pub(crate) fn make_jobs<M: Maker>(
         Err(_) => return Err(SessionFault::Memory),
     };
     let mut made = make_first(alloc, job)?;
-    for _other in 0..MOST_OTHERS {
+    for _other in 0..MAX_OTHERS {
         match maker.next(alloc) {
             Ok(Some(job)) => made = make_more(made, job)?,
             Ok(None) => return Ok(made),

@@ -4,22 +4,22 @@ ghost use Rattle.std.specs.Prelude.{◌≡◌, [], true, is_some, IfSome};
 ghost use Rattle.crossbeam_channel.specs.Claims.{view, IsSeatAt};
 ghost use Rattle.crossbeam_channel.specs.Ends.{sends_on};
 ghost use Rattle.tn_session.specs.Mailbox.{sender};
-ghost use Rattle.tn_session.specs.Reader.{ReaderSends, KeysSends};
-ghost use Rattle.tn_session.specs.Reading.{Gives, IsForetold, NetSends};
-ghost use Rattle.tn_session.specs.declared.mail.Sender.TheVariants.{Net, Keys};
+ghost use Rattle.tn_session.specs.Reader.{ReaderSends};
+ghost use Rattle.tn_session.specs.Reading.{Gives, IsForetold};
+ghost use Rattle.tn_streams.specs.Known.{known_reader};
 
-use crate::channels::{MailPass, MailSender};
+use crate::channels::{MailPass, MailSeat};
 use crate::credit::{Credit, take_credit};
 use crate::mail::Sender;
 use crate::parties::{Gate, Place};
 use crate::sending::say;
 use crossbeam_channel::Receiver;
 use std::alloc::Global;
-use std::sync::Wait;
 use std::sync::atomic::{AtomicBool, Ordering};
+use std::sync::{Arc, Wait};
 use tn_discipline::Text;
+use tn_messages::Message;
 use tn_streams::{Source, is_interrupted};
-use tn_term::Message;
 
 /// How many bytes one read asks for.
 const PIECE_BYTES: usize = 512;
@@ -51,101 +51,60 @@ fn read_piece<Rd: Source>(reader: &mut Rd, alloc: Global) -> Got
     }
 }
 
+/// The part of a thread that reads: who it is, the place that the gate is told, its credits where it takes
+/// one for each piece, its flag where it may be stopped, and its gate.
+#[derive(Drop)]
+pub(crate) struct ReaderPart<G> {
+    pub(crate) who: Sender,
+    pub(crate) place: Place,
+    pub(crate) credits: Option<Receiver<Credit>>,
+    pub(crate) stop: Option<Arc<AtomicBool, Global>>,
+    pub(crate) gate: Arc<G, Global>,
+}
+
 // Whether the thread is to read on no more.
-fn is_stopped(stop: Option<&AtomicBool>) -> bool
-    ensures { result ≡ true → is_some stop.entry ≡ true }
+fn is_stopped<G: Gate>(part: &ReaderPart<G>) -> bool
+    ensures { result ≡ true → is_some part.now.stop ≡ true }
 {
-    match stop {
+    match &part.stop {
         Some(flag) => flag.load(Ordering::SeqCst),
         None => false,
     }
 }
 
-// Sends the pieces that the reader gives, each for a credit where these are, and then how it ended: after
-// 4,294,967,295 reads as if one had failed. Where there is a flag and it is set after a piece, it leaves.
-// `None` where the other end is gone.
-fn run_reader<R: Wait, Rd: Source + Drop, G: Gate>(
+/// Sends the pieces that the reader gives, each for a credit where these are, and then how it ended: after
+/// 4,294,967,295 reads as if one had failed. Where there is a flag and it is set after a piece, it leaves.
+/// `None` where the other end is gone.
+pub(crate) fn run_reader<R: Wait, Rd: Source + Drop, G: Gate>(
     rt: &R,
     alloc: Global,
-    to: &MailSender,
-    mut pass: MailPass,
+    seat: MailSeat,
     mut reader: Rd,
-    who: Sender,
-    credits: Option<&Receiver<Credit>>,
-    stop: Option<&AtomicBool>,
-    gate: &G,
-    place: Place,
+    part: &ReaderPart<G>,
 ) -> Option<MailPass>
-    requires mailbox { IsSeatAt (sends_on to.now) pass × (view pass ≡ sender who []) }
-    ensures seat { IfSome result (λ p. IsSeatAt (sends_on to.now) p) }
-    ensures sent { IfSome result (λ p. ReaderSends who (is_some stop.entry) (Rd.remaining reader)
-        (Rd.foretold reader) (view p)) }
+    requires mailbox { IsSeatAt (sends_on seat.to) seat.pass × (view seat.pass ≡ sender part.now.who []) }
+    ensures seat { IfSome result (λ p. IsSeatAt (sends_on seat.to) p) }
+    ensures sent { IfSome result (λ p. ReaderSends part.now.who (is_some part.now.stop)
+        (known_reader Rd.remaining Rd.foretold reader) (view p)) }
 {
+    let MailSeat { to, mut pass } = seat;
     for _read in 0..u32::MAX {
         match read_piece(&mut reader, alloc) {
             Got::Bytes(text) => {
-                take_credit(rt, credits)?;
-                pass = say(rt, to, pass, who, Message::Piece(text))?;
-                gate.at(place);
-                if is_stopped(stop) {
-                    return say(rt, to, pass, who, Message::Left);
+                take_credit(rt, part.credits.as_ref())?;
+                pass = say(rt, &to, pass, part.who, Message::Piece(text))?;
+                part.gate.at(part.place);
+                if is_stopped(part) {
+                    return say(rt, &to, pass, part.who, Message::Left);
                 }
             },
             Got::Again => continue,
             Got::Last(last) => {
-                pass = say(rt, to, pass, who, last)?;
-                return say(rt, to, pass, who, Message::Left);
+                pass = say(rt, &to, pass, part.who, last)?;
+                return say(rt, &to, pass, part.who, Message::Left);
             },
         }
     }
-    pass = say(rt, to, pass, who, Message::ReadFailed)?;
-    say(rt, to, pass, who, Message::Left)
-}
-
-/// Sends what comes from the network, each piece for a credit where these are. `None` where the other end is
-/// gone.
-pub(crate) fn run_net<R: Wait, Rd: Source + Drop, G: Gate>(
-    rt: &R,
-    alloc: Global,
-    to: &MailSender,
-    pass: MailPass,
-    reader: Rd,
-    credits: Option<&Receiver<Credit>>,
-    gate: &G,
-) -> Option<MailPass>
-    requires mailbox { IsSeatAt (sends_on to.now) pass × (view pass ≡ sender Net []) }
-    ensures seat { IfSome result (λ p. IsSeatAt (sends_on to.now) p) }
-    ensures sent { IfSome result (λ p. NetSends (Rd.remaining reader) (Rd.foretold reader) (view p)) }
-{
-    let (who, place) = (Sender::Net, Place::NetPiece);
-    run_reader(rt, alloc, to, pass, reader, who, credits, None, gate, place)
-}
-
-/// Sends the keys, until there are no more or the flag is set. `None` where the other end is gone.
-pub(crate) fn run_keys<R: Wait, Rd: Source + Drop, G: Gate>(
-    rt: &R,
-    alloc: Global,
-    to: &MailSender,
-    pass: MailPass,
-    reader: Rd,
-    stop: &AtomicBool,
-    gate: &G,
-) -> Option<MailPass>
-    requires mailbox { IsSeatAt (sends_on to.now) pass × (view pass ≡ sender Keys []) }
-    ensures seat { IfSome result (λ p. IsSeatAt (sends_on to.now) p) }
-    ensures sent { IfSome result (λ p. KeysSends (Rd.remaining reader) (Rd.foretold reader) (view p)) }
-{
-    let (who, place) = (Sender::Keys, Place::KeysPiece);
-    run_reader(
-        rt,
-        alloc,
-        to,
-        pass,
-        reader,
-        who,
-        None,
-        Some(stop),
-        gate,
-        place,
-    )
+    pass = say(rt, &to, pass, part.who, Message::ReadFailed)?;
+    say(rt, &to, pass, part.who, Message::Left)
 }

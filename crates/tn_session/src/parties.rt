@@ -8,8 +8,8 @@ use crate::channels::MailPass;
 use crate::entries::EntryPass;
 use std::alloc::{AllocError, Global};
 use tn_jobs::{Job, JobId};
+use tn_messages::Ended;
 use tn_streams::Drain;
-use tn_term::Ended;
 
 /// Who makes the jobs of a session: the first is the foreground job, and up to fifteen more run in the
 /// background.
@@ -46,6 +46,14 @@ pub enum Place {
 /// Who watches the threads. It changes no answer.
 pub trait Gate {
     fn at(&self, place: Place);
+}
+
+/// A gate that does nothing: nobody watches the threads.
+#[derive(Drop)]
+pub struct Unwatched;
+
+impl Gate for Unwatched {
+    fn at(&self, _place: Place) {}
 }
 
 /// A writer that is told when no more comes from this end. Nothing is said of what that does, but that no

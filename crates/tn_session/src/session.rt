@@ -1,44 +1,41 @@
 //! A running session, from its first job to its report.
 
-ghost use Rattle.std.specs.Prelude.{◌≡◌, ◌++◌, [], true, false, Some, IfOk, IfErr, IfSome, IsErrOf};
-ghost use Rattle.std.specs.Io.KnownBytes.{Keeps};
+ghost use Rattle.std.specs.Prelude.{◌≡◌, [], false, is_some, Some, IfOk, IfErr, IsErrOf};
 ghost use Rattle.crossbeam_channel.specs.Claims.{view, IsSeatAt};
 ghost use Rattle.crossbeam_channel.specs.Ends.{sends_on, receives_on};
-ghost use Rattle.tn_discipline.specs.Canon.{Canon};
-ghost use Rattle.tn_jobs.specs.Jobs.{Jobs};
-ghost use Rattle.tn_server.specs.declared.wishes.Editing.{Editing as EditingT};
-ghost use Rattle.tn_session.specs.Jobs.{IsMade};
+ghost use Rattle.tn_session.specs.Facts.{job_facts, session_result};
 ghost use Rattle.tn_session.specs.Joining.{IsReady, handler};
 ghost use Rattle.tn_session.specs.Makers.{AreAll, IsMakerFault};
-ghost use Rattle.tn_session.specs.Queue.{putter};
+ghost use Rattle.tn_session.specs.EntryChannel.{putter};
 ghost use Rattle.tn_session.specs.Session.{IsBegun, IsOpening, IsRun, IsRefusal, IsOfThreads, RunsOn, RunningSession, report_of};
-ghost use Rattle.tn_session.specs.Turning.{IsLine, ids_of, line_of};
+ghost use Rattle.tn_session.specs.Turning.{IsQueue, ids_of, queue_of};
+ghost use Rattle.tn_streams.specs.Known.{known_reader, known_writing};
 
 use crate::back::Runner;
-use crate::channels::{
-    AllRoles, CutBack, CutDesk, CutNet, MailPass, MailReceiver, MailSeat, MailSender, View,
-};
+use crate::channels::{AllRoles, CutBack, CutDesk, CutNet, MailSeat, View};
 use crate::credit::{CREDITS, Credit};
-use crate::entries::{CutTaker, EntryPass, EntrySeat, EntrySender, Hand, InTurn};
+use crate::entries::{CutTaker, EntrySeat, Hand, InTurn};
 use crate::joining::settle;
-use crate::mail::Mail;
+use crate::mail::{Mail, Sender};
 use crate::making::{Made, make_jobs};
-use crate::parties::{Finish, Gate, Maker, Ports, Report};
-use crate::term::run_term;
-use crate::threads::{Returned, Started, Watch, start_back, start_desk, start_net};
+use crate::net::ReaderPart;
+use crate::parties::{Finish, Gate, Maker, Place, Ports, Report};
+use crate::sharing::{Shared, share};
+use crate::term::{Ends, Passes, run_term};
+use crate::threads::{Started, Watch, start_back, start_desk, start_reader};
 use crate::writing::write_out;
-use crossbeam_channel::{Receiver, Sender, bounded, bounded_with};
-use std::alloc::Global;
+use crossbeam_channel::{Receiver, bounded, bounded_with};
+use std::alloc::{AllocError, Global};
 use std::collections::VecDeque;
-use std::sync::atomic::AtomicBool;
 use std::sync::{Arc, Wait};
 use std::thread::Threads;
 use tn_discipline::{Entry, Limit, Settings};
 use tn_jobs::{Job, JobId};
+use tn_messages::SessionFault;
 use tn_server::Editing;
 use tn_streams::Source;
 use tn_term::laws::{all_goes_before_a_hang_up, faults_have_causes, pieces_are_heard};
-use tn_term::{Progress, SessionFault, Term};
+use tn_term::{Progress, Term};
 
 /// How many mails the mailbox holds.
 pub(crate) const MAILS: usize = 64;
@@ -46,21 +43,11 @@ pub(crate) const MAILS: usize = 64;
 /// How many entries the channel of entries holds.
 const ENTRIES: usize = 2;
 
-// The terminal's ends of the channels.
-#[derive(Drop)]
-struct Ends {
-    to: MailSender,
-    from: MailReceiver,
-    put: EntrySender,
-    give: Sender<Credit>,
-}
-
 // The channels of a session, their ends and passes.
 #[derive(Drop)]
 struct Channels {
     ends: Ends,
-    pass: MailPass,
-    hand: EntryPass,
+    passes: Passes,
     net: MailSeat,
     desk: MailSeat,
     back: MailSeat,
@@ -68,43 +55,30 @@ struct Channels {
     credits: Receiver<Credit>,
 }
 
-// Makes the channels and splits their passes. `None` when out of memory.
-fn make_channels(alloc: Global) -> Option<Channels>
-    ensures { IfSome result (λ channels. IsReady channels) }
+// Makes the channels and splits their passes.
+fn make_channels(alloc: Global) -> Result<Channels, AllocError>
+    ensures { IfOk result (λ channels. IsReady channels) }
 {
-    let Ok((to, from, mut pass)) = bounded_with::<Mail, View, AllRoles, Global>(alloc, MAILS) else {
-        return None;
-    };
-    let Ok(net_to) = to.try_clone() else {
-        return None;
-    };
-    let Ok(desk_to) = to.try_clone() else {
-        return None;
-    };
-    let Ok(back_to) = to.try_clone() else {
-        return None;
-    };
-    let Ok((put, take, mut hand)) = bounded_with::<Option<Entry>, Hand, InTurn, Global>(
+    let (to, from, mut mails) = bounded_with::<Mail, View, AllRoles, Global>(alloc, MAILS)?;
+    let net_to = to.try_clone()?;
+    let desk_to = to.try_clone()?;
+    let back_to = to.try_clone()?;
+    let (put, take, mut hand) = bounded_with::<Option<Entry>, Hand, InTurn, Global>(
         alloc, ENTRIES,
-    ) else {
-        return None;
-    };
-    let Ok((give, credits)) = bounded(alloc, CREDITS) else {
-        return None;
-    };
-    let net = to.another::<CutNet>(&mut pass);
-    let desk = to.another::<CutDesk>(&mut pass);
-    let back = to.another::<CutBack>(&mut pass);
+    )?;
+    let (give, credits) = bounded(alloc, CREDITS)?;
+    let net = to.another::<CutNet>(&mut mails);
+    let desk = to.another::<CutDesk>(&mut mails);
+    let back = to.another::<CutBack>(&mut mails);
     let took = put.another::<CutTaker>(&mut hand);
-    Some(Channels {
+    Ok(Channels {
         ends: Ends {
             to,
             from,
             put,
             give,
         },
-        pass,
-        hand,
+        passes: Passes { mails, hand },
         net: MailSeat {
             to: net_to,
             pass: net,
@@ -125,48 +99,12 @@ fn make_channels(alloc: Global) -> Option<Channels>
     })
 }
 
-// What the threads share: the gate, and the flag that tells them to stop.
-#[derive(Drop)]
-struct Shared<G> {
-    net: Arc<G, Global>,
-    desk: Arc<G, Global>,
-    back: Watch<G>,
-    term: Watch<G>,
-}
-
-fn share<G: Gate + Drop>(alloc: Global, gate: Arc<G, Global>) -> Option<Shared<G>> {
-    let Ok(net) = Arc::try_clone(&gate) else {
-        return None;
-    };
-    let Ok(desk) = Arc::try_clone(&gate) else {
-        return None;
-    };
-    let Ok(back) = Arc::try_clone(&gate) else {
-        return None;
-    };
-    let Ok(stop) = Arc::new(alloc, AtomicBool::new(false)) else {
-        return None;
-    };
-    let Ok(back_stop) = Arc::try_clone(&stop) else {
-        return None;
-    };
-    Some(Shared {
-        net,
-        desk,
-        back: Watch {
-            gate: back,
-            stop: back_stop,
-        },
-        term: Watch { gate, stop },
-    })
-}
-
 // The jobs that a session runs: the one in the foreground, and those in the background.
 #[derive(Drop)]
 struct Posts<J> {
     first: JobId,
     job: J,
-    line: VecDeque<Runner<J>>,
+    queue: VecDeque<Runner<J>>,
     tostop: bool,
 }
 
@@ -188,15 +126,16 @@ fn begin<M: Maker + Drop>(
 ) -> Result<Begun<M::Job>, SessionFault>
     ensures fault { IfErr result (IsMakerFault (M.left maker)) }
     ensures begun { IfOk result (λ begun.
-        IsBegun M.Job.fresh (record { settings = settings; limit = limit }) editing begun) }
-    ensures all { IfOk result (λ begun. AreAll (M.left maker) (ids_of begun.posts.line.items)) }
+        IsBegun M.Job.fresh
+        (record { canon = record { settings = settings; limit = limit }; editing = editing }) begun) }
+    ensures all { IfOk result (λ begun. AreAll (M.left maker) (ids_of begun.posts.queue.items)) }
 {
     let tostop = settings.flags.tostop;
     let Made {
         table,
         first,
         job,
-        line,
+        queue,
     } = make_jobs(alloc, &mut maker)?;
     let mut out = Vec::new(alloc);
     let Ok(term) = Term::start(alloc, settings, limit, editing, table, &mut out) else {
@@ -205,7 +144,7 @@ fn begin<M: Maker + Drop>(
     let posts = Posts {
         first,
         job,
-        line,
+        queue,
         tostop,
     };
     Ok(Begun { posts, term, out })
@@ -214,8 +153,8 @@ fn begin<M: Maker + Drop>(
 // Writes the opening words. Where that fails, nothing has any effect from there on.
 fn open<W: Finish>(term: &mut Term, out: &mut Vec<u8>, writer: &mut W)
     ensures out { out.new.items ≡ [] }
-    ensures opened { IsOpening term.old out.old.items (W.contents writer.old) (W.contents writer.new)
-        (W.told writer.old) (W.told writer.new) term.new }
+    ensures opened { IsOpening term.old out.old.items
+        (known_writing W.contents W.told writer.old writer.new) term.new }
 {
     let written = write_out(writer, out);
     out.clear();
@@ -237,18 +176,16 @@ fn report(progress: Progress) -> Report
 }
 
 // Runs this thread as the terminal's, beside those that were started. On each path out of it they have been
-// joined.
+// joined. It takes eight, since what is lent and what is given here go together nowhere else.
 fn run_beside<R, Rd, W, J, G>(
     rt: &R,
     started: Started<Rd, J>,
     ends: Ends,
-    pass: MailPass,
-    hand: EntryPass,
+    passes: Passes,
     term: &mut Term,
     out: &mut Vec<u8>,
     writer: &mut W,
-    stop: &AtomicBool,
-    gate: &G,
+    watch: &Watch<G>,
 ) -> Result<(Report, Ports), SessionFault>
 where
     R: Threads + Wait,
@@ -256,25 +193,26 @@ where
     W: Finish,
     J: Job,
     G: Gate,
-    requires mailbox { (receives_on ends.from ≡ sends_on ends.to) × IsSeatAt (sends_on ends.to) pass ×
-        (view pass ≡ handler []) }
-    requires entries { IsSeatAt (sends_on ends.put) hand × (view hand ≡ putter []) }
-    requires net { sends_on started.net.promise.to.value ≡ sends_on ends.to }
+    requires mailbox { (receives_on ends.from ≡ sends_on ends.to) ×
+        IsSeatAt (sends_on ends.to) passes.mails × (view passes.mails ≡ handler []) }
+    requires entries { IsSeatAt (sends_on ends.put) passes.hand × (view passes.hand ≡ putter []) }
+    requires net { (sends_on started.net.promise.to.value ≡ sends_on ends.to) ×
+        (started.net.promise.who ≡ Sender.Net) × (is_some started.net.promise.stop.value ≡ false) }
     requires desk { (sends_on started.desk.promise.to.value ≡ sends_on ends.to) ×
         (receives_on started.desk.promise.from.value ≡ sends_on ends.put) }
     requires back { sends_on started.back.promise.to.value ≡ sends_on ends.to }
     requires out { out.old.items ≡ [] }
     ensures fault { IfErr result (λ fault. fault ≡ SessionFault.Channel) }
     ensures ran { IfOk result (λ r.
-        RunsOn J.fresh J.reacts J.steps started.desk.promise.id
-        (line_of started.back.promise.tostop started.back.promise.line.value.items)
-        (Rd.remaining started.net.promise.reader.value) (Rd.foretold started.net.promise.reader.value)
-        (W.contents writer.old) (W.contents writer.new) (W.told writer.old) (W.told writer.new)
-        term.old r.0 r.1) }
+        RunsOn (job_facts J.fresh J.reacts J.steps)
+        (record {
+          first = started.desk.promise.id;
+          others = queue_of started.back.promise.tostop started.back.promise.queue.value.items;
+        })
+        (known_reader Rd.remaining Rd.foretold started.net.promise.reader.value)
+        (known_writing W.contents W.told writer.old writer.new) term.old (session_result r.0 r.1)) }
 {
-    let Some((pass, hand)) = run_term(
-        rt, &ends.from, &ends.put, &ends.give, pass, hand, term, out, writer, stop, gate,
-    ) else {
+    let Some(passes) = run_term(rt, &ends, passes, term, out, writer, watch) else {
         writer.finish();
         drop(ends);
         started.join(rt);
@@ -283,13 +221,7 @@ where
     let Some(returned) = started.join(rt) else {
         return Err(SessionFault::Channel);
     };
-    let Returned {
-        net,
-        desk,
-        took,
-        back,
-    } = returned;
-    let ports = settle(&ends.to, &ends.put, pass, net, desk, back, hand, took);
+    let ports = settle(&ends, passes, returned);
     Ok((report(term.progress()), ports))
 }
 
@@ -300,9 +232,7 @@ fn run<R, Rd, W, J, G>(
     alloc: Global,
     reader: Rd,
     writer: &mut W,
-    posts: Posts<J>,
-    term: &mut Term,
-    out: &mut Vec<u8>,
+    mut begun: Begun<J>,
     outfit: Outfit<G>,
 ) -> Result<(Report, Ports), SessionFault>
 where
@@ -312,48 +242,56 @@ where
     J: Job + Send + 'static,
     G: Gate + Drop + Send + Sync + 'static,
     requires ready { IsReady outfit.channels }
-    requires fresh { J.fresh posts.job × IsLine J.fresh posts.line.items }
-    requires out { out.old.items ≡ [] }
+    requires fresh { J.fresh begun.posts.job × IsQueue J.fresh begun.posts.queue.items }
+    requires out { begun.out.items ≡ [] }
     ensures fault { IfErr result IsOfThreads }
     ensures ran { IfOk result (λ r.
-        RunsOn J.fresh J.reacts J.steps posts.first (line_of posts.tostop posts.line.items) (Rd.remaining reader)
-        (Rd.foretold reader) (W.contents writer.old) (W.contents writer.new) (W.told writer.old)
-        (W.told writer.new) term.old r.0 r.1) }
+        RunsOn (job_facts J.fresh J.reacts J.steps)
+        (record {
+          first = begun.posts.first;
+          others = queue_of begun.posts.tostop begun.posts.queue.items;
+        })
+        (known_reader Rd.remaining Rd.foretold reader)
+        (known_writing W.contents W.told writer.old writer.new) begun.term (session_result r.0 r.1)) }
 {
-    let Outfit { channels, shared } = outfit;
     let Channels {
         ends,
-        pass,
-        hand,
+        passes,
         net,
         desk,
         back,
         take,
         credits,
-    } = channels;
+    } = outfit.channels;
     let Posts {
         first,
         job,
-        line,
+        queue,
         tostop,
-    } = posts;
+    } = begun.posts;
     let Shared {
         net: net_gate,
-        desk: desk_gate,
-        back: back_watch,
-        term: watch,
-    } = shared;
-    let Some(net) = start_net(rt, alloc, net, reader, Some(credits), net_gate) else {
+        told,
+        own,
+    } = outfit.shared;
+    let part = ReaderPart {
+        who: Sender::Net,
+        place: Place::NetPiece,
+        credits: Some(credits),
+        stop: None,
+        gate: net_gate,
+    };
+    let Some(net) = start_reader(rt, alloc, net, reader, part) else {
         writer.finish();
         return Err(SessionFault::Start);
     };
-    let Some(desk) = start_desk(rt, alloc, desk, take, first, job, desk_gate) else {
+    let Some(desk) = start_desk(rt, alloc, desk, take, first, job, outfit.desk_gate) else {
         writer.finish();
         drop(ends);
         net.join(&rt);
         return Err(SessionFault::Start);
     };
-    let Some(back) = start_back(rt, alloc, back, line, tostop, back_watch) else {
+    let Some(back) = start_back(rt, alloc, back, queue, tostop, told) else {
         writer.finish();
         drop(ends);
         net.join(&rt);
@@ -365,13 +303,11 @@ where
         &rt,
         started,
         ends,
-        pass,
-        hand,
-        term,
-        out,
+        passes,
+        &mut begun.term,
+        &mut begun.out,
         writer,
-        &*watch.stop,
-        &*watch.gate,
+        &own,
     )
 }
 
@@ -379,15 +315,21 @@ where
 #[derive(Drop)]
 struct Outfit<G> {
     channels: Channels,
+    desk_gate: Arc<G, Global>,
     shared: Shared<G>,
 }
 
-fn equip<G: Gate + Drop>(alloc: Global, gate: Arc<G, Global>) -> Option<Outfit<G>>
-    ensures { IfSome result (λ outfit. IsReady outfit.channels) }
+fn equip<G: Gate + Drop>(alloc: Global, gate: Arc<G, Global>) -> Result<Outfit<G>, AllocError>
+    ensures { IfOk result (λ outfit. IsReady outfit.channels) }
 {
     let channels = make_channels(alloc)?;
+    let desk_gate = Arc::try_clone(&gate)?;
     let shared = share(alloc, gate)?;
-    Some(Outfit { channels, shared })
+    Ok(Outfit {
+        channels,
+        desk_gate,
+        shared,
+    })
 }
 
 // Writes the opening words and runs the threads.
@@ -396,9 +338,7 @@ fn run_begun<R, Rd, W, J, G>(
     alloc: Global,
     reader: Rd,
     writer: &mut W,
-    posts: Posts<J>,
-    term: &mut Term,
-    out: &mut Vec<u8>,
+    mut begun: Begun<J>,
     gate: Arc<G, Global>,
 ) -> Result<(Report, Ports), SessionFault>
 where
@@ -407,18 +347,22 @@ where
     W: Finish,
     J: Job + Send + 'static,
     G: Gate + Drop + Send + Sync + 'static,
-    requires fresh { J.fresh posts.job × IsLine J.fresh posts.line.items }
+    requires fresh { J.fresh begun.posts.job × IsQueue J.fresh begun.posts.queue.items }
     ensures fault { IfErr result IsRefusal }
     ensures ran { IfOk result (λ r.
-        IsRun J.fresh J.reacts J.steps posts.first (line_of posts.tostop posts.line.items) term.old out.old.items
-        (Rd.remaining reader) (Rd.foretold reader) (W.contents writer.old) (W.contents writer.new)
-        (W.told writer.old) (W.told writer.new) r.0 r.1) }
+        IsRun (job_facts J.fresh J.reacts J.steps)
+        (record {
+          first = begun.posts.first;
+          others = queue_of begun.posts.tostop begun.posts.queue.items;
+        })
+        begun.term begun.out.items (known_reader Rd.remaining Rd.foretold reader)
+        (known_writing W.contents W.told writer.old writer.new) (session_result r.0 r.1)) }
 {
-    let Some(outfit) = equip(alloc, gate) else {
+    let Ok(outfit) = equip(alloc, gate) else {
         return Err(SessionFault::Memory);
     };
-    open(term, out, writer);
-    run(rt, alloc, reader, writer, posts, term, out, outfit)
+    open(&mut begun.term, &mut begun.out, writer);
+    run(rt, alloc, reader, writer, begun, outfit)
 }
 
 /// Runs a session over a connection: its reader and its writer, a terminal with these settings whose
@@ -445,24 +389,14 @@ where
     ensures fault { IfErr result IsRefusal }
     ensures none { M.left maker ≡ Some 0 → IsErrOf result SessionFault.Start }
     ensures ran { IfOk result (λ r.
-        RunningSession M.Job.fresh M.Job.reacts M.Job.steps (record { settings = settings; limit = limit })
-        editing (Rd.remaining reader) (Rd.foretold reader) (W.contents writer.old) (W.contents writer.new)
-        (W.told writer.old) (W.told writer.new) r.0 (view r.1.net) (view r.1.desk)
-        (view r.1.back) (view r.1.term) (view r.1.put) (view r.1.took)) }
-    ensures all { IfOk result (λ r. (s :
-        RunningSession M.Job.fresh M.Job.reacts M.Job.steps (record { settings = settings; limit = limit })
-        editing (Rd.remaining reader) (Rd.foretold reader) (W.contents writer.old) (W.contents writer.new)
-        (W.told writer.old) (W.told writer.new) r.0 (view r.1.net) (view r.1.desk)
-        (view r.1.back) (view r.1.term) (view r.1.put) (view r.1.took)) × AreAll (M.left maker) s.others) }
+        RunningSession (job_facts M.Job.fresh M.Job.reacts M.Job.steps) (M.left maker)
+        (record { canon = record { settings = settings; limit = limit }; editing = editing })
+        (known_reader Rd.remaining Rd.foretold reader)
+        (known_writing W.contents W.told writer.old writer.new) (session_result r.0 r.1)) }
 {
     pieces_are_heard();
     all_goes_before_a_hang_up();
     faults_have_causes();
     let begun = begin(alloc, settings, limit, editing, maker)?;
-    let Begun {
-        posts,
-        mut term,
-        mut out,
-    } = begun;
-    run_begun(rt, alloc, reader, writer, posts, &mut term, &mut out, gate)
+    run_begun(rt, alloc, reader, writer, begun, gate)
 }

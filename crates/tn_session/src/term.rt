@@ -5,25 +5,44 @@ ghost use Rattle.std.specs.Io.KnownBytes.{Keeps};
 ghost use Rattle.crossbeam_channel.specs.Claims.{view, IsSeatAt};
 ghost use Rattle.crossbeam_channel.specs.Ends.{sends_on, receives_on};
 ghost use Rattle.tn_discipline.specs.declared.reads.Entry.{Entry as EntryT};
-ghost use Rattle.tn_session.specs.Queue.{putter};
+ghost use Rattle.tn_session.specs.EntryChannel.{putter};
 ghost use Rattle.tn_session.specs.Turns.{HandlesAll, TurnsMessage, left_one};
+ghost use Rattle.tn_streams.specs.Known.{known_writing};
 ghost use Rattle.tn_term.specs.Marks.{is_whole};
 
-use crate::channels::{Handles, MailPass, MailReceiver};
+use crate::channels::{Handles, MailPass, MailReceiver, MailSender};
+use crate::closing::{Standing, close};
 use crate::credit::{Credit, give_credit, is_piece};
 use crate::entries::{EntryPass, EntrySender, Puts};
 use crate::mail::Mail;
 use crate::parties::{Finish, Gate, Place};
+use crate::threads::Watch;
 use crate::writing::write_out;
 use crossbeam_channel::Sender;
 use std::sync::Wait;
-use std::sync::atomic::{AtomicBool, Ordering};
 use tn_discipline::Entry;
 use tn_jobs::JobId;
-use tn_term::{Mark, Message, Outcome, Progress, Term};
+use tn_messages::Message;
+use tn_term::{Mark, Outcome, Progress, Term};
 
 /// How many threads send mails.
 const SENDERS: u64 = 3;
+
+/// The terminal's ends of the channels.
+#[derive(Drop)]
+pub(crate) struct Ends {
+    pub(crate) to: MailSender,
+    pub(crate) from: MailReceiver,
+    pub(crate) put: EntrySender,
+    pub(crate) give: Sender<Credit>,
+}
+
+/// The terminal's passes: of the mailbox, and of the entries.
+#[derive(Drop)]
+pub(crate) struct Passes {
+    pub(crate) mails: MailPass,
+    pub(crate) hand: EntryPass,
+}
 
 // Puts what goes to the foreground job, if anything does. `None` where the other end is gone.
 fn put_if<R: Wait>(
@@ -104,8 +123,8 @@ fn turn<R: Wait, W: Finish>(
     ensures seat { IfSome result (λ h. IsSeatAt (sends_on entries.now) h) }
     ensures out { out.new.items ≡ [] }
     ensures turned { IfSome result (λ h.
-        TurnsMessage term.old message (W.contents writer.old) (W.contents writer.new) (W.told writer.old)
-        (W.told writer.new) (view hand) (view h) term.new) }
+        TurnsMessage term.old message (known_writing W.contents W.told writer.old writer.new) (view hand)
+        (view h) term.new) }
 {
     let Outcome { put, last, mark } = term.handle(message, out);
     let hand = put_if(rt, entries, hand, put);
@@ -119,20 +138,12 @@ fn turn<R: Wait, W: Finish>(
     put_if(rt, entries, hand, last)
 }
 
-// Tells the threads that no more comes, or that nothing has any effect any more, and the writer once
-// that this end is done. Answers whether the writer was told.
-fn close<W: Finish>(writer: &mut W, progress: Progress, stop: &AtomicBool, closed: bool) -> bool
-    ensures contents { Keeps (W.contents writer.old) (W.contents writer.new) }
-    ensures told { W.told writer.new ≡ W.told writer.old }
-{
-    if progress.over || progress.at_end {
-        stop.store(true, Ordering::SeqCst);
+// The background jobs stop where no more comes or nothing has any effect any more, and then this end is done.
+fn standing_of(progress: Progress) -> Standing {
+    Standing {
+        stops: progress.over || progress.at_end,
+        closes: progress.over,
     }
-    if progress.over && !closed {
-        writer.finish();
-        return true;
-    }
-    closed
 }
 
 fn finish_unless<W: Finish>(closed: bool, writer: &mut W)
@@ -148,36 +159,37 @@ fn finish_unless<W: Finish>(closed: bool, writer: &mut W)
 /// `None` where the other end of a channel is gone.
 pub(crate) fn run_term<R: Wait, W: Finish, G: Gate>(
     rt: &R,
-    from: &MailReceiver,
-    entries: &EntrySender,
-    credits: &Sender<Credit>,
-    mut pass: MailPass,
-    mut hand: EntryPass,
+    ends: &Ends,
+    passes: Passes,
     term: &mut Term,
     out: &mut Vec<u8>,
     writer: &mut W,
-    stop: &AtomicBool,
-    gate: &G,
-) -> Option<(MailPass, EntryPass)>
-    requires mailbox { IsSeatAt (receives_on from.now) pass × ((view pass).handled ≡ Some []) }
-    requires entries { (l : List (Option EntryT)) × IsSeatAt (sends_on entries.now) hand ×
-        (view hand ≡ putter l) }
+    watch: &Watch<G>,
+) -> Option<Passes>
+    requires mailbox { IsSeatAt (receives_on ends.now.from) passes.mails ×
+        ((view passes.mails).handled ≡ Some []) }
+    requires entries { (l : List (Option EntryT)) × IsSeatAt (sends_on ends.now.put) passes.hand ×
+        (view passes.hand ≡ putter l) }
     requires out { out.old.items ≡ [] }
-    ensures mailbox { IfSome result (λ r. IsSeatAt (receives_on from.now) r.0) }
-    ensures entries { IfSome result (λ r. IsSeatAt (sends_on entries.now) r.1) }
-    ensures acted { IfSome result (λ r.
-        HandlesAll term.old (view pass) (view r.0) (view hand) (view r.1) (W.contents writer.old)
-        (W.contents writer.new) (W.told writer.old) (W.told writer.new) term.new) }
+    ensures mailbox { IfSome result (λ p. IsSeatAt (receives_on ends.now.from) p.mails) }
+    ensures entries { IfSome result (λ p. IsSeatAt (sends_on ends.now.put) p.hand) }
+    ensures acted { IfSome result (λ p.
+        HandlesAll term.old (view passes.mails) (view p.mails) (view passes.hand) (view p.hand)
+        (known_writing W.contents W.told writer.old writer.new) term.new) }
 {
+    let Passes {
+        mut mails,
+        mut hand,
+    } = passes;
     let mut lefts = 0u64;
-    let mut closed = close(writer, term.progress(), stop, false);
-    let mut owed = give_credit(rt, credits, true, term);
+    let mut closed = close(writer, &*watch.stop, standing_of(term.progress()), false);
+    let mut owed = give_credit(rt, &ends.give, true, term);
     for _ in rt.forever() {
         if lefts >= SENDERS {
             finish_unless(closed, writer);
-            return Some((pass, hand));
+            return Some(Passes { mails, hand });
         }
-        let Ok(mail) = from.recv_as::<Handles, R>(rt, &mut pass) else {
+        let Ok(mail) = ends.from.recv_as::<Handles, R>(rt, &mut mails) else {
             return None;
         };
         let Mail { from: _, message } = mail;
@@ -185,11 +197,11 @@ pub(crate) fn run_term<R: Wait, W: Finish, G: Gate>(
         let job = job_of(&message);
         let piece = is_piece(&message);
         let before = term.progress().entries;
-        hand = turn(rt, entries, hand, term, message, out, writer)?;
-        tell_took(gate, before, term.progress().entries);
-        tell_said(gate, job);
-        closed = close(writer, term.progress(), stop, closed);
-        owed = give_credit(rt, credits, owed || piece, term);
+        hand = turn(rt, &ends.put, hand, term, message, out, writer)?;
+        tell_took(&*watch.gate, before, term.progress().entries);
+        tell_said(&*watch.gate, job);
+        closed = close(writer, &*watch.stop, standing_of(term.progress()), closed);
+        owed = give_credit(rt, &ends.give, owed || piece, term);
         lefts += left;
     }
     unreachable!()

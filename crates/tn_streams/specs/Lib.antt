@@ -2,3 +2,4 @@ pub mod Telling
 pub mod Counting
 pub mod Foretelling
 pub mod Prefixes
+pub mod Known

@@ -1,6 +1,20 @@
 //! Readers and writers that may tell how many of their calls failed, or will fail.
 //!
-//! Every reader and writer of the standard library is one that tells nothing.
+//! ```
+//! let answer = reader.read_some(&mut buf); // of any reader of the standard library
+//! let tally = Tally::new().after_read(&answer);
+//! tally.failed(); // 1 where the call failed, and no signal interrupted it
+//! ```
+//!
+//! ```text
+//! Read ----> Source ----> a session's reader threads
+//! Write ---> Drain -----> a session's writer threads
+//!               |
+//!               +-------> in contracts: what they gave or hold, and how many calls failed or will
+//! ```
+//!
+//! Every reader and writer of the standard library is one that tells nothing. It opens nothing, holds nothing
+//! back, and calls nothing again: `is_interrupted` says when to.
 #![tactic(auto)]
 
 ghost use Rattle.std.specs.Prelude.{◌≡◌, ◌≢◌, ℕ, List, None, Option, true, false};

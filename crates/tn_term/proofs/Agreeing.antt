@@ -19,17 +19,17 @@ use Rattle.tn_term.specs.Agreeing.{Agree}
 use Rattle.tn_term.specs.Counting as counting
 use Rattle.tn_term.specs.Marks.{Turns, Runs, put_or_not, asks_at, run_after_opening}
 use Rattle.tn_term.specs.Run.{Run, Acts, ActsUnless, Cuts, Reads, flush, feed, ask, ask_if, answer, end_if, hang_up, ends_by, move, stop_job, end_job, in_foreground, verdict, verdict_at, has_text, after_said, writes, halt, halt_if, is_end, show, fail, idle, idle_puts, flushed_history, start}
-use Rattle.tn_term.specs.declared.faults.Ended.{Ended}
-use Rattle.tn_term.specs.declared.faults.Ended.TheVariants.{Fault, Done}
-use Rattle.tn_term.specs.declared.faults.SessionFault.{SessionFault}
-use Rattle.tn_term.specs.declared.faults.SessionFault.TheVariants as fault
+use Rattle.tn_messages.specs.declared.faults.Ended.{Ended}
+use Rattle.tn_messages.specs.declared.faults.Ended.TheVariants.{Fault, Done}
+use Rattle.tn_messages.specs.declared.faults.SessionFault.{SessionFault}
+use Rattle.tn_messages.specs.declared.faults.SessionFault.TheVariants as fault
 use Rattle.tn_term.specs.declared.messages.Mark.{Mark}
 use Rattle.tn_term.specs.declared.messages.Mark.TheVariants as mark
-use Rattle.tn_term.specs.declared.messages.Message.{Message}
-use Rattle.tn_term.specs.declared.messages.Message.TheVariants.{Piece, HangUp, ReadFailed, Take, Said, Refused, Left}
+use Rattle.tn_messages.specs.declared.messages.Message.{Message}
+use Rattle.tn_messages.specs.declared.messages.Message.TheVariants.{Piece, HangUp, ReadFailed, Take, Said, Refused, Left}
 use Rattle.tn_term.specs.declared.progress.Progress.{Progress}
 use Rattle.tn_wire.proofs.lemmas.Reading.{same_more}
-use Rattle.tn_wire.specs.Fronts.{IsRead}
+use Rattle.tn_wire.specs.Prefixes.{IsRead}
 
 -- all but the parts in which texts were written is the same
 record Same (c d : Run) : Type 0 where

@@ -1,9 +1,8 @@
 -- What is left where a call is refused.
 use Rattle.std.proofs.Common.{◌≡◌, ℕ, Bool, true, false, List, [], ◌∷◌, ◌++◌, Option, Result, Ok, Err, OnOk, OnErr, IfOk, IfErr, refl, sym, ap, ◌∙◌, subst, append-nil, append_assoc, length, arith, ◌<◌, All}
 use Rattle.std.specs.List.{concat}
-use Rattle.std.proofs.lemmas.List.Elements.{All-append, All-nil, All-cons}
-use Rattle.tn_nvt.proofs.lemmas.Reading.{has_reading, reads_on}
-use Rattle.tn_nvt.specs.Stream.{Reading}
+use Rattle.std.proofs.lemmas.List.Elements.{All-nil, All-cons}
+use Rattle.tn_messages.proofs.lemmas.Pieces.{read_on}
 use Rattle.tn_server.proofs.lemmas.Histories.{gets-append, sent-gets}
 use Rattle.tn_server.specs.Faults.{IsOfItem, IsOfPiece}
 use Rattle.tn_server.specs.Calls.{End, StopsWithin, first_replies}
@@ -172,14 +171,7 @@ pub read_past : (old : Term) (end : End) (piece x y : List ℕ) (f : ServerFault
 read_past old end piece x y f on small h c at =
     let l = at.live on in
     let before = h.reads c.stream (items c.history) l.read in
-    let all = has_reading (c.stream ++ piece) (All-append (λ b. b < 256) c.stream piece l.bytes small) in
-    let split : c.stream ++ piece ≡ (c.stream ++ h.front) ++ h.back = ap (λ (bs : List ℕ). c.stream ++ bs) h.whole ∙ sym (append_assoc c.stream h.front h.back) in
-    let P : List ℕ → Type 0 = λ bs. Reading bs all.0 all.1 in
-    let on_from = reads_on (c.stream ++ h.front) h.back before.rest all.1 (items c.history ++ (h.done ++ h.left)) all.0 before.reading (subst P split all.2) in
-    let more : List Item = on_from.0 in
-    let is_all : all.0 ≡ items c.history ++ (h.done ++ (h.left ++ more)) = on_from.1 ∙ append_assoc (items c.history) (h.done ++ h.left) more ∙ ap (λ (ys : List Item). items c.history ++ ys) (append_assoc h.done h.left more) in
-    let Q : List Item → Type 0 = λ ys. Reading (c.stream ++ piece) ys all.1 in
-    (more, (all.1, subst Q is_all all.2))
+    read_on c.stream piece h.front h.back (items c.history) h.done h.left l.bytes small h.whole (before.rest, before.reading)
 
 halts_break : (old new : Term) (end : End) (piece x y : List ℕ) (f : ServerFault) → old.progress.over ≡ false → new ≡ record old { end = end; progress = after_piece old.progress } → All (λ b. b < 256) piece → StopsWithin old.end piece f x y end → FeedBreaksOff old piece x y new
 halts_break old new end piece x y f on is small h = record {

@@ -2,7 +2,7 @@
 use Rattle.std.proofs.lemmas.List.Elements.{All-append, All-nil}
 use Rattle.std.proofs.Common.{◌≡◌, ◌<◌, All, ℕ, Bool, true, false, List, [], ◌∷◌, ◌++◌, Option, Some, None, MatchOption, refl, sym, ap, ◌∙◌, subst, append-nil, append_assoc}
 use Rattle.tn_discipline.specs.declared.reads.Entry.{Entry}
-use Rattle.tn_nvt.specs.Feeding.{DecoderState}
+use Rattle.tn_messages.proofs.lemmas.Pieces.{read_as}
 use Rattle.tn_nvt.specs.Feeding as nvt
 use Rattle.tn_nvt.specs.declared.items.Item.{Item}
 use Rattle.tn_jobs.specs.Jobs.{Jobs, state_at, is_foreground}
@@ -28,9 +28,6 @@ use Rattle.tn_server.proofs.lemmas.Histories.{items-gets, opening-gets}
 use Rattle.tn_nvt.specs.Spelling.{spells}
 use Rattle.tn_nvt.proofs.lemmas.Reading.{spells-append}
 
-read_on : (a b : DecoderState) (stream : List ℕ) (xs ys : List Item) → b ≡ a → ys ≡ xs → nvt.LeadsTo stream xs a → nvt.LeadsTo stream ys b
-read_on a b stream xs ys d e h = rw (d, e) h
-
 -- The history goes on by this path, and jobs and progress change.
 pub does_all : (path : History → History) (turn : Jobs → Jobs) (step : Progress → Progress) (put : List (Option Entry)) (old new : Term) (end : End) (before after : List ℕ) → old.progress.over ≡ false → new ≡ record old { end = end; table = turn old.table; progress = step old.progress } → FollowsPath path old.end before after end → AdvancesRun (λ c. record { history = path c.history; stream = c.stream; puts = c.puts ++ put; jobs = turn c.jobs; progress = step c.progress }) old before after put new
 does_all path turn step put old new end before after on is f = record {
@@ -41,7 +38,7 @@ does_all path turn step put old new end before after on is f = record {
         let l = at.live on in
         rw is (record {
           leads = f.leads c.history l.leads;
-          read = read_on old.end.decoder end.decoder c.stream _ _ f.decoder (f.items c.history) l.read;
+          read = read_as old.end.decoder end.decoder c.stream _ _ f.decoder (f.items c.history) l.read;
           bytes = l.bytes;
           failed = f.failed ∙ l.failed;
           closed = f.closed ∙ l.closed;
@@ -200,7 +197,7 @@ starts canon editing jobs begun_end wished_end end term x y z s r runs opens goe
     rw is (record {
       live = λ _. record {
         leads = f.leads (next (begun canon) (wished editing)) (goes.leads (begun canon) s);
-        read = read_on begun_end.decoder end.decoder [] [] [] (f.decoder ∙ keeps.decoder) refl r;
+        read = read_as begun_end.decoder end.decoder [] [] [] (f.decoder ∙ keeps.decoder) refl r;
         bytes = All-nil (λ b. b < 256);
         failed = f.failed ∙ keeps.failed ∙ runs;
         closed = f.closed ∙ goes.closed ∙ opens;

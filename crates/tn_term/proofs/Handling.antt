@@ -8,10 +8,10 @@ use Rattle.tn_jobs.specs.declared.verdicts.After.{After}
 use Rattle.tn_jobs.specs.declared.verdicts.Verdict.{Verdict}
 use Rattle.tn_jobs.specs.Judging.{judged}
 use Rattle.tn_server.specs.Replies.{items_said}
-use Rattle.tn_term.specs.declared.messages.Message.{Message}
-use Rattle.tn_term.specs.declared.messages.Message.TheVariants.{Piece, HangUp, ReadFailed, Take, Said, Refused, Left}
-use Rattle.tn_term.specs.declared.faults.Ended.TheVariants.{Fault}
-use Rattle.tn_term.specs.declared.faults.SessionFault.TheVariants as fault
+use Rattle.tn_messages.specs.declared.messages.Message.{Message}
+use Rattle.tn_messages.specs.declared.messages.Message.TheVariants.{Piece, HangUp, ReadFailed, Take, Said, Refused, Left}
+use Rattle.tn_messages.specs.declared.faults.Ended.TheVariants.{Fault}
+use Rattle.tn_messages.specs.declared.faults.SessionFault.TheVariants as fault
 use Rattle.tn_term.specs.declared.progress.Progress.{Progress}
 use Rattle.tn_term.specs.declared.terminal.Term.{Term}
 use Rattle.tn_term.specs.declared.terminal.Stuck.{Stuck}

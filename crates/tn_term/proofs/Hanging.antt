@@ -13,19 +13,20 @@ use Rattle.tn_server.specs.Events.{History, next as grown, took, wrote}
 use Rattle.tn_server.specs.Lines.{entries, taken_count, waiting}
 use Rattle.tn_server.specs.declared.wishes.Editing.{Editing}
 use Rattle.tn_term.proofs.lemmas.Giving.{acts_of, gives_acts, gives_gets, gives_start}
-use Rattle.tn_term.specs.Counting.{first_end}
+use Rattle.tn_messages.specs.Counting.{first_end}
 use Rattle.tn_term.specs.Giving.{entries_put, Gives}
-use Rattle.tn_term.specs.Hearing.{bytes_in, heard, at_end_after, MayCome, MayAllCome, KeepsOn, AllKeepOn, HangsUp}
+use Rattle.tn_messages.specs.Pieces.{bytes_in}
+use Rattle.tn_term.specs.Hearing.{heard, at_end_after, MayCome, MayAllCome, KeepsOn, AllKeepOn, HangsUp}
 use Rattle.tn_term.specs.Marks.{Turns, Runs, put_or_not, run_after_opening}
 use Rattle.tn_term.specs.Run.{Run, Acts, ActsUnless, flush, feed, ask, ask_if, answer, end_if, hang_up, move, stop_job, end_job, in_foreground, verdict, verdict_at, has_text, tostop, after_said, halt_if, is_end, show, start}
-use Rattle.tn_term.specs.declared.faults.Ended.{Ended}
-use Rattle.tn_term.specs.declared.faults.Ended.TheVariants as ended
-use Rattle.tn_term.specs.declared.faults.SessionFault.{SessionFault}
-use Rattle.tn_term.specs.declared.faults.SessionFault.TheVariants as fault
+use Rattle.tn_messages.specs.declared.faults.Ended.{Ended}
+use Rattle.tn_messages.specs.declared.faults.Ended.TheVariants as ended
+use Rattle.tn_messages.specs.declared.faults.SessionFault.{SessionFault}
+use Rattle.tn_messages.specs.declared.faults.SessionFault.TheVariants as fault
 use Rattle.tn_term.specs.declared.messages.Mark.{Mark}
 use Rattle.tn_term.specs.declared.messages.Mark.TheVariants as mark
-use Rattle.tn_term.specs.declared.messages.Message.{Message}
-use Rattle.tn_term.specs.declared.messages.Message.TheVariants.{Piece, HangUp, ReadFailed, Take, Said, Refused, Left}
+use Rattle.tn_messages.specs.declared.messages.Message.{Message}
+use Rattle.tn_messages.specs.declared.messages.Message.TheVariants.{Piece, HangUp, ReadFailed, Take, Said, Refused, Left}
 
 true_false : true ≡ false → ⊥
 true_false e = cc

@@ -1,5 +1,5 @@
 -- Each call is refused for its cause.
-use Rattle.std.proofs.Common.{◌≡◌, ◌≢◌, ◌⊎◌, inl, inr, ℕ, Bool, true, false, List, [], ◌∷◌, ◌++◌, map, take, Option, Result, Ok, Err, OnErr, IfErr, refl, sym, ap, ◌∙◌, subst, append-nil, arith, ◌<◌, All}
+use Rattle.std.proofs.Common.{◌≡◌, ◌⊎◌, inl, inr, ℕ, Bool, true, false, List, [], ◌∷◌, ◌++◌, map, take, Option, Result, Ok, Err, OnErr, IfErr, refl, sym, ap, ◌∙◌, subst, append-nil, arith, ◌<◌, All}
 use Rattle.std.specs.List.{concat}
 use Rattle.tn_discipline.specs.declared.echo.Symbol.{Symbol}
 use Rattle.tn_discipline.specs.declared.reads.Entry.{Entry}
@@ -8,7 +8,6 @@ use Rattle.tn_jobs.specs.declared.verdicts.After.{After}
 use Rattle.tn_jobs.specs.declared.verdicts.JobState.{JobState}
 use Rattle.tn_jobs.specs.declared.verdicts.JobState.TheVariants as job
 use Rattle.tn_jobs.specs.declared.verdicts.Verdict.{Verdict}
-use Rattle.tn_jobs.specs.declared.verdicts.Why.{Why}
 use Rattle.tn_jobs.specs.Jobs.{state_at}
 use Rattle.tn_nvt.specs.Feeding.{DecoderState}
 use Rattle.tn_nvt.specs.Feeding as nvt
@@ -27,13 +26,13 @@ use Rattle.tn_server.specs.Screen.{queue}
 use Rattle.tn_server.specs.Terms.{settings}
 use Rattle.tn_server.specs.declared.faults.ServerFault.{ServerFault}
 use Rattle.tn_server.specs.declared.faults.ServerFault.TheVariants as server
-use Rattle.tn_term.proofs.Breaking.{read_past, if_err, kept_history}
+use Rattle.tn_term.proofs.Breaking.{read_past, kept_history}
 use Rattle.tn_term.proofs.Handling.{same_verdict}
 use Rattle.tn_term.specs.Reaching.{LeadsTo, RefusesFor, AdvancesRun, Feeds}
-use Rattle.tn_term.specs.Refusing.{SymbolsWait, SymbolsWaitWithin, WaitsWithText, WaitsWithRequest, WaitsIf, RefusesAtItem, RefusesAtByte, RefusesAfterItems, IsRefusalCause}
+use Rattle.tn_term.specs.Refusing.{SymbolsWait, SymbolsWaitWithin, WaitsWithText, WaitsWithRequest, WaitsIf, RefusesAtItem, RefusesAtByte, IsRefusalCause}
 use Rattle.tn_term.specs.Run.{Run, Reads, Cuts, ask, feed, move, show, stop_job, end_job, in_foreground, verdict_at, has_text, writes}
-use Rattle.tn_term.specs.declared.messages.Message.{Message}
-use Rattle.tn_term.specs.declared.messages.Message.TheVariants.{Piece, HangUp, ReadFailed, Take, Said, Refused, Left}
+use Rattle.tn_messages.specs.declared.messages.Message.{Message}
+use Rattle.tn_messages.specs.declared.messages.Message.TheVariants.{Piece, HangUp, ReadFailed, Take, Said, Refused, Left}
 use Rattle.tn_term.specs.declared.terminal.Stuck.{Stuck}
 use Rattle.tn_term.specs.declared.terminal.Term.{Term}
 

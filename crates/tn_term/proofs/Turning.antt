@@ -1,7 +1,7 @@
 -- One message with its mark.
 use Rattle.std.proofs.Common.{◌≡◌, ℕ, Bool, true, false, List, [], ◌++◌, Option, None, option_to_list, refl, sym, ap, ◌∙◌, subst, append-nil, append_assoc}
 use Rattle.tn_discipline.specs.declared.reads.Entry.{Entry}
-use Rattle.tn_nvt.proofs.lemmas.Reading.{spells-append}
+use Rattle.tn_messages.proofs.lemmas.Pieces.{from_none, all_spelled}
 use Rattle.tn_nvt.specs.Spelling.{spells}
 use Rattle.tn_nvt.specs.declared.items.Item.{Item}
 use Rattle.tn_server.specs.Events.{History}
@@ -12,10 +12,10 @@ use Rattle.tn_term.specs.Counting.{after_end, after_halt}
 use Rattle.tn_term.specs.Marks.{put_or_not}
 use Rattle.tn_term.specs.Reaching.{DoesWhole, StopsWithin, RefusesFor, IsTurn}
 use Rattle.tn_term.specs.Run.{Run, ActsUnless, idle, idle_puts, fail, end_if}
-use Rattle.tn_term.specs.declared.faults.Ended.TheVariants.{Fault}
-use Rattle.tn_term.specs.declared.faults.SessionFault.TheVariants as fault
+use Rattle.tn_messages.specs.declared.faults.Ended.TheVariants.{Fault}
+use Rattle.tn_messages.specs.declared.faults.SessionFault.TheVariants as fault
 use Rattle.tn_term.specs.declared.messages.Mark.TheVariants.{Whole, Refused}
-use Rattle.tn_term.specs.declared.messages.Message.{Message}
+use Rattle.tn_messages.specs.declared.messages.Message.{Message}
 use Rattle.tn_term.specs.declared.progress.Progress.{Progress}
 use Rattle.tn_term.specs.declared.terminal.Term.{Term}
 
@@ -45,8 +45,7 @@ turn_idle old message bytes put none off is = record {
 
 -- the bytes of a message that was done wholly
 all_said : (h k : History) (x y : List ℕ) (said : List Item) → x ≡ [] → y ≡ x ++ spells said → items_said k ≡ items_said h ++ said → spells (items_said k) ≡ spells (items_said h) ++ (y ++ [])
-all_said h k x y said none is e =
-    ap spells e ∙ spells-append (items_said h) said ∙ ap (λ (bs : List ℕ). spells (items_said h) ++ bs) (sym (append-nil y ∙ is ∙ ap (λ (bs : List ℕ). bs ++ spells said) none))
+all_said h k x y said none is e = all_spelled (items_said h) (items_said k) said e ∙ ap (λ (bs : List ℕ). spells (items_said h) ++ (bs ++ [])) (sym (from_none x y (spells said) none is))
 
 pub turn_whole : (old new : Term) (message : Message) (x y : List ℕ) (put : Option (Option Entry)) → x ≡ [] → old.progress.over ≡ false → DoesWhole old message x y put new → IsTurn Whole old message y put None new
 turn_whole old new message x y put none on h = record {
@@ -82,7 +81,7 @@ turn_refused old mid new message f given x y put last none on h is puts cause = 
         ap (λ (ps : List (Option Entry)). ps ++ end_if done.progress.asks) l.5 ∙ append_assoc c.puts (option_to_list put) (end_if done.progress.asks)
             ∙ ap (λ (ps : List (Option Entry)). c.puts ++ (option_to_list put ++ ps)) (ap (λ (p : Progress). end_if p.asks) (sym l.4) ∙ sym puts),
         l.2,
-        ap (λ (k : History). spells (items_said k)) (same_history given message c l.0) ∙ l.3 ∙ ap (λ (bs : List ℕ). spells (items_said c.history) ++ (bs ++ l.2)) (sym (h.appended ∙ ap (λ (bs : List ℕ). bs ++ h.part) none)),
+        ap (λ (k : History). spells (items_said k)) (same_history given message c l.0) ∙ l.3 ∙ ap (λ (bs : List ℕ). spells (items_said c.history) ++ (bs ++ l.2)) (sym (from_none x y h.part none h.appended)),
         λ w. absurd (false_true w),
       );
   over = λ e. ap (λ (p : Progress). p.over) is;

@@ -1,12 +1,9 @@
 -- How far a session is, after each thing that happens.
-use Rattle.std.specs.Prelude.{ℕ, ◌+◌, ◌-◌, ◌^◌, min, true, false, not}
+use Rattle.std.specs.Prelude.{true, false, not}
+use Rattle.tn_messages.specs.Counting.{one_more, first_end}
+use Rattle.tn_messages.specs.declared.faults.Ended.{Ended}
+use Rattle.tn_messages.specs.declared.faults.Ended.TheVariants.{HangUp}
 use Rattle.tn_term.specs.declared.progress.Progress.{Progress}
-use Rattle.tn_term.specs.declared.faults.Ended.{Ended}
-use Rattle.tn_term.specs.declared.faults.Ended.TheVariants.{HangUp, Done, Fault}
-
--- a count that has reached the greatest number stays there
-abbrev pub one_more : ℕ → ℕ
-one_more n = min (n + 1) (2 ^ 64 - 1)
 
 abbrev pub nothing_yet : Progress
 nothing_yet =
@@ -28,12 +25,6 @@ after_request p = record p { asks = true }
 
 abbrev pub after_hang_up : Progress → Progress
 after_hang_up p = record p { asks = false; at_end = true }
-
--- the first end counts
-abbrev pub first_end : Ended → Ended → Ended
-first_end HangUp ended = ended
-first_end Done ended = Done
-first_end (Fault fault) ended = Fault fault
 
 abbrev pub after_end : Ended → Progress → Progress
 after_end ended p = record p { ended = first_end p.ended ended }

@@ -1,16 +1,17 @@
 -- What a run ends by: the message that brought the fault, or the mark that it left.
-use Rattle.std.specs.Prelude.{◌≡◌, Bool, false, List, ◌∷◌, ◌++◌, ◌⊎◌}
-use Rattle.tn_term.specs.Marks.{Runs}
+use Rattle.std.specs.Prelude.{◌≡◌, Bool, false, List, ◌⊎◌}
+use Rattle.tn_messages.specs.Ending as run
+use Rattle.tn_term.specs.Marks.{Turns}
 use Rattle.tn_term.specs.Refusing.{IsRefusalCause}
 use Rattle.tn_term.specs.Run.{Run}
-use Rattle.tn_term.specs.declared.faults.Ended.{Ended}
-use Rattle.tn_term.specs.declared.faults.Ended.TheVariants.{HangUp, Done, Fault}
-use Rattle.tn_term.specs.declared.faults.SessionFault.{SessionFault}
-use Rattle.tn_term.specs.declared.faults.SessionFault.TheVariants.{Read, Write, Server, Client, Memory, Start, Channel}
+use Rattle.tn_messages.specs.declared.faults.Ended.{Ended}
+use Rattle.tn_messages.specs.declared.faults.Ended.TheVariants.{HangUp, Done, Fault}
+use Rattle.tn_messages.specs.declared.faults.SessionFault.{SessionFault}
+use Rattle.tn_messages.specs.declared.faults.SessionFault.TheVariants.{Read, Write, Server, Client, Memory, Start, Channel}
 use Rattle.tn_term.specs.declared.messages.Mark.{Mark}
 use Rattle.tn_term.specs.declared.messages.Mark.TheVariants as mark
-use Rattle.tn_term.specs.declared.messages.Message.{Message}
-use Rattle.tn_term.specs.declared.messages.Message.TheVariants as message
+use Rattle.tn_messages.specs.declared.messages.Message.{Message}
+use Rattle.tn_messages.specs.declared.messages.Message.TheVariants as message
 
 -- this message with this mark is why the run ended so
 abbrev pub EndsAt : Run → Message → Mark → Ended → Type 0
@@ -24,15 +25,9 @@ EndsAt c m k (Fault Memory) = m ≡ message.Refused
 EndsAt c m k (Fault Start) = ⊥
 EndsAt c m k (Fault Channel) = ⊥
 
--- at one of these messages, with its mark, and where the run was when it came
-pub record IsEndedAt (c : Run) (marked : List (Message × Mark)) (ended : Ended) : Type 0 where
-  pub before : List (Message × Mark)
-  pub last : Message × Mark
-  pub after : List (Message × Mark)
-  pub whole : marked ≡ before ++ last ∷ after
-  pub mid : Run
-  pub runs : Runs c before mid
-  pub ends : EndsAt mid last.0 last.1 ended
+-- at one of these messages, with its mark
+abbrev pub IsEndedAt : Run → List (Message × Mark) → Ended → Type 0
+IsEndedAt c marked ended = run.IsEndedAt Turns (λ at m e. EndsAt at m.0 m.1 e) c marked ended
 
 -- Why a run ended by this fault: the opening words were not written, or a message.
 abbrev pub IsFaultCause : Bool → Run → List (Message × Mark) → SessionFault → Type 0

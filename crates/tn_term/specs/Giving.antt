@@ -16,5 +16,5 @@ pub record Gives (puts : List (Option Entry)) (h : History) : Type 0 where
   pub taken : taken_count h ≤ length (entries h)
 
 -- what was put is a prefix of the history's entries
-abbrev pub GivesFront : List (Option Entry) → History → Type 0
-GivesFront puts h = (rest : List Entry) × (entries_put puts ++ rest ≡ entries h)
+abbrev pub GivesPrefix : List (Option Entry) → History → Type 0
+GivesPrefix puts h = (rest : List Entry) × (entries_put puts ++ rest ≡ entries h)

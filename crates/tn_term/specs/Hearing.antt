@@ -1,5 +1,5 @@
 -- What the messages bring from the network, and runs that a hang-up ends.
-use Rattle.std.specs.Prelude.{◌≡◌, ◌≢◌, ℕ, Bool, true, false, Option, Some, None, List, [], ◌∷◌, ◌++◌, map}
+use Rattle.std.specs.Prelude.{◌≡◌, ◌≢◌, ℕ, Bool, true, false, Option, Some, None, List, [], ◌∷◌, ◌++◌, map, flat_map}
 use Rattle.tn_discipline.specs.Canon.{Canon}
 use Rattle.tn_discipline.specs.declared.reads.Entry.{Entry}
 use Rattle.tn_jobs.specs.declared.verdicts.After.TheVariants.{Done}
@@ -7,20 +7,15 @@ use Rattle.tn_nvt.specs.declared.items.Item.{Item}
 use Rattle.tn_server.specs.Events.{items, gets}
 use Rattle.tn_server.specs.Lines.{entries}
 use Rattle.tn_server.specs.declared.wishes.Editing.{Editing}
-use Rattle.tn_wire.specs.Fronts.{IsRead}
+use Rattle.tn_wire.specs.Prefixes.{IsRead}
 use Rattle.tn_term.specs.Run.{Run, opening}
-use Rattle.tn_term.specs.declared.messages.Message.{Message}
-use Rattle.tn_term.specs.declared.messages.Message.TheVariants.{Piece, HangUp, ReadFailed, Said, Refused}
-
--- the bytes that a message brings
-abbrev pub bytes_in : Message → List ℕ
-bytes_in (Piece piece) = piece
-bytes_in _ = []
+use Rattle.tn_messages.specs.Pieces.{bytes_in}
+use Rattle.tn_messages.specs.declared.messages.Message.{Message}
+use Rattle.tn_messages.specs.declared.messages.Message.TheVariants.{Piece, HangUp, ReadFailed, Said, Refused}
 
 -- the pieces joined
 abbrev pub heard : List Message → List ℕ
-heard [] = []
-heard (m ∷ messages) = bytes_in m ++ heard messages
+heard messages = flat_map bytes_in messages
 
 -- whether input has ended once this message came
 abbrev pub at_end_after : Bool → Message → Bool

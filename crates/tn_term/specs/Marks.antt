@@ -3,11 +3,11 @@ use Rattle.std.specs.Prelude.{◌≡◌, Bool, true, false, ◌&&◌, List, [], 
 use Rattle.std.specs.List.{FoldsTo}
 use Rattle.tn_term.specs.Refusing.{IsRefusalCause}
 use Rattle.tn_term.specs.Run.{Run, Handles, fail}
-use Rattle.tn_term.specs.declared.faults.SessionFault.TheVariants as fault
+use Rattle.tn_messages.specs.declared.faults.SessionFault.TheVariants as fault
 use Rattle.tn_term.specs.declared.messages.Mark.{Mark}
 use Rattle.tn_term.specs.declared.messages.Mark.TheVariants as mark
-use Rattle.tn_term.specs.declared.messages.Message.{Message}
-use Rattle.tn_term.specs.declared.messages.Message.TheVariants.{Take}
+use Rattle.tn_messages.specs.declared.messages.Message.{Message}
+use Rattle.tn_messages.specs.declared.messages.Message.TheVariants.{Take}
 
 -- whether a request waits where the message gave nothing
 abbrev pub asks_at : Message → Run → Bool

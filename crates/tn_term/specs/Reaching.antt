@@ -15,7 +15,7 @@ use Rattle.tn_term.specs.Run.{Run, Handles, Reads, feed, writes, Cuts, after_sai
 use Rattle.tn_jobs.specs.declared.verdicts.Verdict.{Verdict}
 use Rattle.tn_server.specs.declared.faults.ServerFault.{ServerFault}
 use Rattle.tn_term.specs.declared.messages.Mark.{Mark}
-use Rattle.tn_term.specs.declared.messages.Message.{Message}
+use Rattle.tn_messages.specs.declared.messages.Message.{Message}
 use Rattle.tn_term.specs.declared.terminal.Term.{Term}
 
 -- what holds while messages have their effect
@@ -89,14 +89,15 @@ HaltsIf true old put new =
     (new ≡ record old { progress = after_halt old.progress }) × (put ≡ end_if old.progress.asks)
 HaltsIf false old put new = (new ≡ old) × (put ≡ [])
 
--- a reaction that has this verdict
+-- A reaction that has this verdict. It takes eight, of which five are those of every relation here: the terminal
+-- and the output, each before and after, and what is put.
 pub record Says (id : ℕ) (text : List ℕ) (v : Option Verdict) (old : Term) (before after : List ℕ)
     (put : Option (Option Entry)) (new : Term) : Type 0 where
   pub parts : List (List ℕ)
   pub cuts : Cuts (writes v) text parts
   pub does : AdvancesRun (after_said id parts v) old before after (option_to_list put) new
 
--- the same, where a call was refused
+-- the same, with the same eight, where a call was refused
 pub record SayBreaksOff (id : ℕ) (text : List ℕ) (v : Option Verdict) (old : Term) (before after : List ℕ)
     (put : Option (Option Entry)) (new : Term) : Type 0 where
   pub parts : List (List ℕ)

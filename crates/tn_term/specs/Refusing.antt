@@ -1,8 +1,6 @@
 -- Why a call of the end is refused within a message.
 use Rattle.std.specs.Prelude.{◌≡◌, ◌≢◌, ◌⊎◌, ℕ, Bool, true, false, List, [], ◌∷◌, ◌++◌}
 use Rattle.std.specs.List.{concat}
-use Rattle.tn_nvt.specs.Feeding.{DecoderState}
-use Rattle.tn_nvt.specs.Feeding as nvt
 use Rattle.tn_nvt.specs.declared.items.Item.{Item}
 use Rattle.tn_pty.specs.declared.pty.PtyFault.{PtyFault}
 use Rattle.tn_pty.specs.declared.pty.PtyFault.TheVariants as pty
@@ -13,9 +11,9 @@ use Rattle.tn_server.specs.Screen.{queue}
 use Rattle.tn_server.specs.declared.faults.ServerFault.{ServerFault}
 use Rattle.tn_server.specs.declared.faults.ServerFault.TheVariants.{Pty, Memory, Failed, Char, NotOn}
 use Rattle.tn_term.specs.Run.{Run, Reads, verdict, writes}
-use Rattle.tn_term.specs.declared.messages.Message.{Message}
-use Rattle.tn_term.specs.declared.messages.Message.TheVariants.{Piece, HangUp, ReadFailed, Take, Said, Refused, Left}
-use Rattle.tn_wire.specs.Fronts.{WantsMemory}
+use Rattle.tn_messages.specs.Pieces.{WantsMemoryWithin}
+use Rattle.tn_messages.specs.declared.messages.Message.{Message}
+use Rattle.tn_messages.specs.declared.messages.Message.TheVariants.{Piece, HangUp, ReadFailed, Take, Said, Refused, Left}
 
 -- symbols wait to be sent
 abbrev pub SymbolsWait : History → Type 0
@@ -44,9 +42,7 @@ RefusesAtItem c piece f =
 
 -- a byte of the piece is a parameter that is kept
 abbrev pub RefusesAtByte : Run → List ℕ → Type 0
-RefusesAtByte c piece =
-    (front : List ℕ) × (back : List ℕ) × (piece ≡ front ++ back) × (xs : List Item) × (here : DecoderState)
-    × nvt.LeadsTo (c.stream ++ front) (items c.history ++ xs) here × WantsMemory here back
+RefusesAtByte c piece = WantsMemoryWithin c.stream (items c.history) piece
 
 -- what is said once a request was asked again, where one waits
 abbrev pub WaitsIf : Bool → History → Type 0

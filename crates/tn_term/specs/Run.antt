@@ -12,18 +12,18 @@ use Rattle.tn_jobs.specs.declared.verdicts.Why.{Why}
 use Rattle.tn_jobs.specs.declared.verdicts.Verdict.{Verdict}
 use Rattle.tn_nvt.specs.declared.items.Item.{Item}
 use Rattle.tn_server.specs.Course.{in_parts}
-use Rattle.tn_wire.specs.Fronts.{IsRead}
+use Rattle.tn_wire.specs.Prefixes.{IsRead}
 use Rattle.tn_server.specs.Events.{History, begun, next, took, pulled, wished, gets, items, opening_settings}
 use Rattle.tn_server.specs.Lines.{waiting}
 use Rattle.tn_server.specs.Screen.{queue}
 use Rattle.tn_server.specs.declared.wishes.Editing.{Editing}
 use Rattle.tn_term.specs.Counting as counting
-use Rattle.tn_term.specs.declared.faults.Ended.{Ended}
-use Rattle.tn_term.specs.declared.faults.Ended.TheVariants.{Done, Fault}
-use Rattle.tn_term.specs.declared.faults.SessionFault.{SessionFault}
-use Rattle.tn_term.specs.declared.faults.SessionFault.TheVariants as fault
-use Rattle.tn_term.specs.declared.messages.Message.{Message}
-use Rattle.tn_term.specs.declared.messages.Message.TheVariants.{Piece, HangUp, ReadFailed, Take, Said, Refused, Left}
+use Rattle.tn_messages.specs.declared.faults.Ended.{Ended}
+use Rattle.tn_messages.specs.declared.faults.Ended.TheVariants.{Done, Fault}
+use Rattle.tn_messages.specs.declared.faults.SessionFault.{SessionFault}
+use Rattle.tn_messages.specs.declared.faults.SessionFault.TheVariants as fault
+use Rattle.tn_messages.specs.declared.messages.Message.{Message}
+use Rattle.tn_messages.specs.declared.messages.Message.TheVariants.{Piece, HangUp, ReadFailed, Take, Said, Refused, Left}
 use Rattle.tn_term.specs.declared.progress.Progress.{Progress}
 
 -- All that has happened at the terminal: at its server end, with the pieces joined; what was put for the

@@ -7,14 +7,14 @@ ghost use Rattle.tn_jobs.specs.declared.verdicts.JobState.TheVariants.{Foregroun
 ghost use Rattle.tn_server.specs.declared.wishes.Editing.{Editing};
 ghost use Rattle.tn_term.specs.Agreeing.{Agree};
 ghost use Rattle.tn_term.specs.Ending.{IsFaultCause};
-ghost use Rattle.tn_term.specs.Giving.{GivesFront};
+ghost use Rattle.tn_term.specs.Giving.{GivesPrefix};
 ghost use Rattle.tn_term.specs.Hearing.{Hears, HangsUp, MayAllCome};
 ghost use Rattle.tn_term.specs.Marks.{Runs, run_after_opening};
 ghost use Rattle.tn_term.specs.Run.{Run, start};
-ghost use Rattle.tn_term.specs.declared.faults.Ended.TheVariants.{HangUp, Fault};
-ghost use Rattle.tn_term.specs.declared.faults.SessionFault.{SessionFault};
+ghost use Rattle.tn_messages.specs.declared.faults.Ended.TheVariants.{HangUp, Fault};
+ghost use Rattle.tn_messages.specs.declared.faults.SessionFault.{SessionFault};
 ghost use Rattle.tn_term.specs.declared.messages.Mark.{Mark};
-ghost use Rattle.tn_term.specs.declared.messages.Message.{Message};
+ghost use Rattle.tn_messages.specs.declared.messages.Message.{Message};
 
 use tn_jobs::laws::one_job_changes;
 
@@ -24,7 +24,7 @@ pub fn entries_go_in_order()
     ensures { (opens : Bool) (canon : Canon) (editing : Editing) (jobs : Jobs)
         (marked : List (Message × Mark)) (new : Run) →
         Runs (run_after_opening opens (start canon editing jobs)) marked new →
-        GivesFront new.puts new.history }
+        GivesPrefix new.puts new.history }
 {}
 
 /// The stream of a run is the first bytes of its pieces, and its entries are those of the stream's items

@@ -1,13 +1,29 @@
 //! The terminal of a running session: the machine that alone uses the server end, one message at a time.
-//! It has no handle and never blocks.
+//!
+//! ```
+//! let mut term = Term::start(alloc, settings, limit, Editing::Remote, jobs, &mut out)?;
+//! let outcome = term.handle(Message::Piece(bytes), &mut out); // `out` is to be sent to the network
+//! if let Some(put) = outcome.put {
+//!     // to the foreground job: an entry, or `None`, the end of its entries
+//! }
+//! ```
+//!
+//! ```text
+//! Piece, HangUp, ReadFailed from the network --+
+//! Take, Said from the jobs --------------------+--> Term --> bytes to the network
+//! Refused, Left from each thread --------------+     |
+//!                                                    +-----> entries to the foreground job
+//! ```
+//!
+//! It moves the jobs of its table, counts what was done, and knows how the session ends. It has no handle
+//! and never blocks: it reads and writes nothing itself, runs no job, and does not hold back a reader, but
+//! says by `is_welcoming` when to.
 #![tactic(auto)]
 
-pub use faults::{Ended, SessionFault};
-pub use messages::{Mark, Message, Outcome};
+pub use messages::{Mark, Outcome};
 pub use progress::Progress;
 pub use terminal::Term;
 
-mod faults;
 pub mod laws;
 mod messages;
 mod progress;

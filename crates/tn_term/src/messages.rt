@@ -1,31 +1,7 @@
-//! What the terminal is told, and what it answers.
+//! What the terminal answers to a message.
 
-use tn_discipline::{Entry, Text};
-use tn_jobs::{After, JobId};
+use tn_discipline::Entry;
 use tn_server::ServerFault;
-
-/// A message to the terminal.
-#[derive(Debug, Drop)]
-pub enum Message {
-    /// Bytes came from the network.
-    Piece(Text),
-    /// No more bytes come.
-    HangUp,
-    /// Reading from the network failed: no more bytes come.
-    ReadFailed,
-    /// The foreground job asks for an entry.
-    Take,
-    /// A job wrote a text and does something next.
-    Said {
-        job: JobId,
-        text: Text,
-        after: After,
-    },
-    /// A thread found no memory.
-    Refused,
-    /// A thread ends.
-    Left,
-}
 
 /// How far a message was done.
 #[derive(Clone, Copy, Debug, PartialEq, Eq)]

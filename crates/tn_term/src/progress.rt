@@ -3,7 +3,7 @@
 ghost use Rattle.std.specs.Prelude.{◌≡◌};
 ghost use Rattle.tn_term.specs.Counting as counting;
 
-use crate::faults::Ended;
+use tn_messages::Ended;
 
 /// How far a session is.
 #[derive(Clone, Copy, Debug, PartialEq, Eq)]
@@ -85,10 +85,9 @@ impl Progress {
     pub(crate) fn ends(self, ended: Ended) -> Progress
         ensures { result ≡ counting.after_end ended self }
     {
-        if self.ended == Ended::HangUp {
-            Progress { ended, ..self }
-        } else {
-            self
+        Progress {
+            ended: self.ended.or(ended),
+            ..self
         }
     }
 

@@ -18,19 +18,19 @@ ghost use Rattle.tn_term.specs.Run.{Run};
 ghost use Rattle.tn_term.specs.Reaching.{FollowsPath, AdvancesRun, BreaksOff, Feeds, FeedBreaksOff, HaltsIf, Says, SayBreaksOff, DoesWhole, StopsWithin, RefusesFor, IsTurn, LeadsTo};
 ghost use Rattle.tn_term.specs.Refusing.{SymbolsWait, SymbolsWaitWithin, WaitsWithText, WaitsWithRequest};
 
-use crate::faults::{Ended, SessionFault};
-use crate::messages::{Mark, Message, Outcome};
+use crate::messages::{Mark, Outcome};
 use crate::progress::Progress;
 use std::alloc::Global;
 use tn_discipline::{Entry, Limit, Settings};
 use tn_jobs::{After, JobId, JobState, Table, Verdict, Why, judge};
+use tn_messages::{Ended, Message, SessionFault};
 use tn_server::{Editing, ServerEnd, ServerFault};
 
 /// How many symbols a screen holds at most.
-const MOST_SYMBOLS: usize = 4096;
+const MAX_SYMBOLS: usize = 4096;
 
 /// How many entries may wait for one more piece to be welcome.
-const MOST_BEFORE_PIECE: usize = 511;
+const MAX_BEFORE_PIECE: usize = 511;
 
 /// The terminal of a session.
 #[derive(Drop)]
@@ -50,6 +50,19 @@ struct Stuck {
     given: bool,
 }
 
+impl From<ServerFault> for Stuck {
+    ghost from_gives = { λ fault given. given ≡ record { fault = fault; put = None; given = false } };
+
+    // Nothing goes to the foreground job.
+    fn from(fault: ServerFault) -> Stuck {
+        Stuck {
+            fault,
+            put: None,
+            given: false,
+        }
+    }
+}
+
 // Pulls all symbols.
 fn pull_all(end: &mut ServerEnd, out: &mut Vec<u8>) -> Result<(), ServerFault>
     ensures ok { OnOk result (FollowsPath run.flushed_history end.old out.old.items out.new.items end.new) }
@@ -58,10 +71,8 @@ fn pull_all(end: &mut ServerEnd, out: &mut Vec<u8>) -> Result<(), ServerFault>
     ensures fault { IfErr result (λ fault. fault ≡ ServerFault.Memory) }
     ensures grows { OnErr result ((h : History) → server.LeadsTo h end.old → SymbolsWait h) }
 {
-    match end.pull(MOST_SYMBOLS, out) {
-        Ok(_) => Ok(()),
-        Err(fault) => Err(fault),
-    }
+    end.pull(MAX_SYMBOLS, out)?;
+    Ok(())
 }
 
 impl Term {
@@ -85,18 +96,9 @@ impl Term {
     {
         let flags = settings.flags;
         let tostop = flags.tostop;
-        let mut end = match ServerEnd::start(alloc, settings, limit, out) {
-            Ok(end) => end,
-            Err(fault) => return Err(fault),
-        };
-        match end.wish(editing, out) {
-            Ok(_) => {},
-            Err(fault) => return Err(fault),
-        }
-        match pull_all(&mut end, out) {
-            Ok(()) => {},
-            Err(fault) => return Err(fault),
-        }
+        let mut end = ServerEnd::start(alloc, settings, limit, out)?;
+        end.wish(editing, out)?;
+        pull_all(&mut end, out)?;
         Ok(Term {
             end,
             table,
@@ -114,10 +116,8 @@ impl Term {
         ensures fault { IfErr result (λ fault. fault ≡ ServerFault.Memory) }
         ensures grows { OnErr result ((c : Run) → LeadsTo c self.old → SymbolsWait c.history) }
     {
-        match pull_all(&mut self.end, out) {
-            Ok(()) => Ok(()),
-            Err(fault) => Err(fault),
-        }
+        pull_all(&mut self.end, out)?;
+        Ok(())
     }
 
     // A part of a text is written, and all symbols are pulled.
@@ -133,10 +133,8 @@ impl Term {
             SymbolsWait (events.next c.history (events.wrote part.now))) }
     {
         self.end.write(part);
-        match pull_all(&mut self.end, out) {
-            Ok(()) => Ok(()),
-            Err(fault) => Err(fault),
-        }
+        pull_all(&mut self.end, out)?;
+        Ok(())
     }
 
     // A text is written in parts, and each is pulled.
@@ -154,11 +152,8 @@ impl Term {
     {
         let mut rest = text;
         while !rest.is_empty() {
-            let (part, later) = rest.split_at(rest.len().min(MOST_SYMBOLS));
-            match self.show_part(part, out) {
-                Ok(()) => {},
-                Err(fault) => return Err(fault),
-            }
+            let (part, later) = rest.split_at(rest.len().min(MAX_SYMBOLS));
+            self.show_part(part, out)?;
             rest = later;
         }
         Ok(())
@@ -177,10 +172,8 @@ impl Term {
             WaitsWithText writes c.history text.now) }
     {
         if writes {
-            match self.show(text, out) {
-                Ok(()) => return Ok(()),
-                Err(fault) => return Err(fault),
-            }
+            self.show(text, out)?;
+            return Ok(());
         }
         Ok(())
     }
@@ -198,14 +191,9 @@ impl Term {
         ensures grows { OnErr result ((c : Run) → LeadsTo c self.old →
             WaitsWithText writes c.history text.now) }
     {
-        match self.show_if(writes, text, out) {
-            Ok(()) => {},
-            Err(fault) => return Err(fault),
-        }
-        match self.flush(out) {
-            Ok(()) => Ok(()),
-            Err(fault) => Err(fault),
-        }
+        self.show_if(writes, text, out)?;
+        self.flush(out)?;
+        Ok(())
     }
 
     // The first entry that waits is asked for: it goes to the foreground job, or the request waits or is
@@ -437,25 +425,10 @@ impl Term {
         ensures cause { IfErr result (λ s. RefusesFor self.old (Message.Piece piece.now) s.fault) }
     {
         let asks = self.progress.asks;
-        match self.feed(piece, out) {
-            Ok(()) => {},
-            Err(fault) => {
-                return Err(Stuck {
-                    fault,
-                    put: None,
-                    given: false,
-                });
-            },
-        }
+        self.feed(piece, out)?;
         if asks {
-            match self.ask(out) {
-                Ok(put) => self.finish(put, out),
-                Err(fault) => Err(Stuck {
-                    fault,
-                    put: None,
-                    given: false,
-                }),
-            }
+            let put = self.ask(out)?;
+            self.finish(put, out)
         } else {
             self.finish(None, out)
         }
@@ -570,7 +543,7 @@ impl Term {
         ensures full { (c : Run) → LeadsTo c self.now → result ≡ false → 511 < length (waiting c.history) }
         ensures over { self.now.progress.over ≡ true → result ≡ true }
     {
-        match self.end.waiting(MOST_BEFORE_PIECE) {
+        match self.end.waiting(MAX_BEFORE_PIECE) {
             Some(_) => self.progress.over,
             None => true,
         }

@@ -1,3 +1,3 @@
 pub mod Words
-pub mod Fronts
+pub mod Prefixes
 pub mod OptionWords

@@ -6,6 +6,7 @@ use Rattle.tn_codes.specs.declared.codes.Verb.{Verb}
 use Rattle.tn_codes.specs.declared.payloads.Payload.{Payload}
 use Rattle.tn_codes.specs.declared.payloads.Payload.TheVariants.{Mode, Slc}
 use Rattle.tn_codes.specs.declared.triples.Triple.{Triple}
+use Rattle.tn_nvt.specs.Spelling.{max_parameters}
 use Rattle.tn_nvt.specs.declared.items.Item.{Item}
 use Rattle.tn_nvt.specs.declared.items.Item.TheVariants.{Neg, Sub}
 
@@ -27,10 +28,10 @@ abbrev pub list_items : List Triple → List Item
 list_items [] = []
 list_items (triple ∷ triples) = payload_items (Slc (triple ∷ triples))
 
--- RFC 855: what a subnegotiation says where its option is on. None of a stream has more than 512 parameters
+-- RFC 855: what a subnegotiation says where its option is on. None of a stream has more parameters
 abbrev pub payload_under : Bool → ℕ → List ℕ → Option Payload
 payload_under on option params =
-    if on && nat_le (length params) 512 then payload_of option params else None
+    if on && nat_le (length params) max_parameters then payload_of option params else None
 
 -- a list of local characters that is not empty: it has to be kept while it is answered
 abbrev pub IsList : Option Payload → Type 0

@@ -3,8 +3,7 @@
 
 ghost use Rattle.std.specs.Prelude.{◌≡◌, ◌≤◌, ◌+◌, ◌*◌, ◌∷◌, length, take, flat_map};
 ghost use Rattle.tn_codes.specs.Codes.{verb_code};
-ghost use Rattle.tn_codes.specs.Masks.{trimmed_octets};
-ghost use Rattle.tn_codes.specs.Payloads.{forwardmask, slc, octets_of};
+ghost use Rattle.tn_codes.specs.Payloads.{forwardmask, slc, octets_of, max_triples};
 ghost use Rattle.tn_codes.specs.declared.codes.Verb.TheVariants.{DoIt};
 
 use tn_codes::{Mask, Triple, Verb};
@@ -17,7 +16,7 @@ const SLC: u8 = 3;
 /// DO, FORWARDMASK and the octets of a mask.
 const MASK_PARAMETERS: usize = 34;
 
-/// SLC and 170 triples, which a subnegotiation has at most.
+/// SLC and the most triples that a subnegotiation holds.
 const LIST_PARAMETERS: usize = 511;
 
 /// The parameters of a forward mask, the zeros at its end included.
@@ -31,23 +30,9 @@ pub(crate) fn mask_parameters(mask: &Mask) -> [u8; MASK_PARAMETERS]
     parameters
 }
 
-/// How many octets there are without the zeros at their end.
-pub(crate) fn trimmed_len(octets: &[u8; 32]) -> usize
-    ensures octets { take result octets.now ≡ trimmed_octets octets.now }
-    ensures within { result ≤ 32 }
-{
-    let mut len = 0;
-    for (i, octet) in octets.iter().enumerate() {
-        if *octet != 0 {
-            len = i + 1;
-        }
-    }
-    len
-}
-
 /// The parameters of a list, and what the array has besides.
 pub(crate) fn list_parameters(triples: &[Triple]) -> [u8; LIST_PARAMETERS]
-    requires { length triples.now ≤ 170 }
+    requires { length triples.now ≤ max_triples }
     ensures { take (3 * length triples.now + 1) result ≡ slc ∷ flat_map octets_of triples.now }
 {
     let mut parameters = [0; LIST_PARAMETERS];

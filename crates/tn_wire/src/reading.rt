@@ -6,10 +6,7 @@ ghost use Rattle.tn_wire.specs.Words.{payload_under, IsList};
 
 use std::alloc::{AllocError, Global};
 use tn_codes::{Payload, PayloadFault, read_payload};
-use tn_nvt::Params;
-
-/// How many parameters a subnegotiation of a stream has at most.
-const MOST_PARAMS: usize = 512;
+use tn_nvt::{MAX_PARAMETERS, Params};
 
 /// What a subnegotiation says, where its option is on.
 pub fn read_under(
@@ -22,7 +19,7 @@ pub fn read_under(
     ensures short { IfOk result (λ payload. IfSome payload IsShort) }
     ensures list { OnErr result (IsList (payload_under is_on option params.now)) }
 {
-    if !is_on || params.len() > MOST_PARAMS {
+    if !is_on || params.len() > MAX_PARAMETERS {
         return Ok(None);
     }
     match read_payload(alloc, option, params.as_slice()) {

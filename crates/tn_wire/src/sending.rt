@@ -1,15 +1,15 @@
 //! What an end sends: option words and payloads, each whole or not at all.
 
 ghost use Rattle.std.specs.Prelude.{◌≡◌, ◌≢◌, ◌≤◌, [], ◌∷◌, ◌++◌, length, vec_capacity, OnOk, OnErr};
-ghost use Rattle.tn_codes.specs.Payloads.{option_of, IsShort};
+ghost use Rattle.tn_codes.specs.Payloads.{option_of, IsShort, max_triples};
 ghost use Rattle.tn_codes.specs.declared.payloads.Payload.TheVariants as payload;
 ghost use Rattle.tn_nvt.specs.Room.{LacksRoom};
 ghost use Rattle.tn_nvt.specs.Spelling.{spells};
 ghost use Rattle.tn_wire.specs.Words.{word_items, payload_items, mode_items, list_items};
 
-use crate::parameters::{list_parameters, mask_parameters, trimmed_len};
+use crate::parameters::{list_parameters, mask_parameters};
 use std::alloc::AllocError;
-use tn_codes::{Few, Mask, Payload, Triple, Verb, few_parameters, triple_parameters};
+use tn_codes::{Few, Mask, Payload, Triple, Verb, few_parameters, trimmed_len, triple_parameters};
 use tn_nvt::{put_neg, put_sub};
 use tn_option::{LINEMODE, NAWS};
 
@@ -61,7 +61,7 @@ fn put_mask(mask: &Mask, out: &mut Vec<u8>) -> Result<(), AllocError>
 
 // Appends a list of local characters.
 fn put_triples(triples: &[Triple], out: &mut Vec<u8>) -> Result<(), AllocError>
-    requires { length triples.now ≤ 170 }
+    requires { length triples.now ≤ max_triples }
     ensures ok { OnOk result
         (out.new.items ≡ out.old.items ++ spells (payload_items (payload.Slc triples.now))) }
     ensures err { OnErr result (out.new.items ≡ out.old.items) }
@@ -102,7 +102,7 @@ pub fn put_mode(mask: Option<u8>, out: &mut Vec<u8>) -> Result<(), AllocError>
 
 /// Appends a list of local characters, unless it is empty.
 pub fn put_list(triples: &[Triple], out: &mut Vec<u8>) -> Result<(), AllocError>
-    requires { length triples.now ≤ 170 }
+    requires { length triples.now ≤ max_triples }
     ensures ok { OnOk result (out.new.items ≡ out.old.items ++ spells (list_items triples.now)) }
     ensures err { OnErr result (out.new.items ≡ out.old.items) }
     ensures some { OnErr result (triples.now ≢ []) }

@@ -1,5 +1,5 @@
 -- Commands that get their arguments one by one.
-use Rattle.std.proofs.Common.{◌≡◌, ◌∙◌, ap, false, Bool, ◌||◌, refl}
+use Rattle.std.proofs.Common.{◌≡◌, ◌∙◌, ap, false, ◌||◌}
 use Rattle.clap.specs.Words.{AddsArg, App, Rule, app_of, rule_of, with_rule}
 use Rattle.clap.specs.declared.builder.arg.Arg.{Arg}
 use Rattle.clap.specs.declared.builder.command.Command.{Command}

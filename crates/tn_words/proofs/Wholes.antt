@@ -1,8 +1,8 @@
 -- The number that an option has, as `clap` reads it.
-use Rattle.std.proofs.Common.{◌≡◌, ◌∙◌, ℕ, ◌<◌, ◌≤◌, ◌^◌, List, Option, Some, None, Result, Ok, Err, arith, sym, subst, ap, refl, is_some, true, false}
+use Rattle.std.proofs.Common.{◌≡◌, ◌∙◌, ℕ, ◌<◌, ◌≤◌, ◌^◌, List, Option, Some, None, Result, arith, sym, subst, ap, refl, is_some, true, false}
 use Rattle.std.specs.Prelude.{unwrap_or}
 use Rattle.std.specs.Str.Parse.{ParsesUnsigned}
-use Rattle.clap.specs.Words.{found_of, one_of, rows_of, one_text, ReadsOne, Text}
+use Rattle.clap.specs.Words.{rows_of, one_text, ReadsOne, Text}
 use Rattle.clap.specs.declared.parser.matches.Found.{Found}
 use Rattle.clap.proofs.WalkLemmas.{one_text-rows}
 use Rattle.tn_words.specs.Words.{HasNumber}
@@ -25,7 +25,7 @@ module _ {E : Type 0} (explains digits : List ℕ → Result ℕ E → Type 0) (
     go : (r : Option ℕ) → ReadsOne (Gives explains digits) h.text r → r ≡ Some n
     go (Some x) read = ap Some (read.0.1 ∙ h.writes.value)
     go None read =
-        let value = h.writes.value in let most_of = h.at_most in
+        let value = h.writes.value in let max_of = h.at_most in
         absurd (read.1.0 (h.writes.numeral, (omega arith)))
 
   -- an option of which this number was read has it

@@ -42,16 +42,25 @@ flag_rule name = record (new_rule name) { long = Some name; action = Some SetTru
 abbrev pub port_rule : Rule
 port_rule = required (whole_rule (codes "port") 1 65535)
 
+-- an option that takes a text
+abbrev pub text_rule : Text → Rule
+text_rule name = record (new_rule name) { long = Some name; value_names = 1 }
+
+abbrev pub host_rule : Rule
+host_rule = with_default (text_rule (codes "host")) (codes "127.0.0.1")
+
 abbrev pub line_rule : Rule
 line_rule = with_default (whole_rule (codes "line") 255 4095) (codes "255")
 
 abbrev pub serve : Shape
 serve = with_rules (codes "serve") (
-    port_rule
+    host_rule
+    ∷ port_rule
     ∷ with_default (whole_rule (codes "limit") 1 64) (codes "8")
     ∷ with_default (whole_rule (codes "count") 1 1000000) (codes "1")
     ∷ with_default (whole_rule (codes "ticks") 0 1000) (codes "0")
     ∷ line_rule
+    ∷ with_default (whole_rule (codes "idle") 0 86400) (codes "0")
     ∷ flag_rule (codes "local")
     ∷ flag_rule (codes "verbose")
     ∷ []

@@ -1,7 +1,7 @@
 -- What words ask for, of the command line that `tn` takes.
-use Rattle.std.specs.Prelude.{◌≡◌, ◌≢◌, ◌⊎◌, ◌≤◌, ⊤, ℕ, Bool, true, false, Option, Some, None, IfSome, List, [], codes}
+use Rattle.std.specs.Prelude.{◌≡◌, ◌≢◌, ◌⊎◌, ◌≤◌, ⊤, ℕ, Bool, true, false, Option, Some, None, List, [], codes, string_bytes}
 use Rattle.std.specs.Str.Parse.{IsNumeral, digits_value, without_leading_plus}
-use Rattle.clap.specs.Words.{Row, Text, subcommand_of, takes, fault_of, one_of, IsAmong}
+use Rattle.clap.specs.Words.{Row, Text, subcommand_of, takes, fault_of, first_of, one_of, IsAmong}
 use Rattle.clap.specs.declared.error.kind.ErrorKind.{ErrorKind}
 use Rattle.clap.specs.declared.error.kind.ErrorKind.TheVariants as kind
 use Rattle.tn_words.specs.Commands.{tn}
@@ -35,12 +35,18 @@ pub record HasFlag (rows : List Row) (name : Text) (flag : Bool) : Type 0 where
   pub not_given : one_of name rows ≡ Some (codes "false") → flag ≡ false
   pub unknown : one_of name rows ≡ None → flag ≡ false
 
+-- the option of this name has this text
+abbrev pub HasText : List Row → Text → Text → Type 0
+HasText rows name text = first_of name rows ≡ Some text
+
 pub record AsksServe (rows : List Row) (asked : Serving) : Type 0 where
+  pub host : HasText rows (codes "host") (string_bytes asked.host)
   pub port : HasNumber rows (codes "port") 1 65535 asked.port
-  pub limit : HasNumber rows (codes "limit") 1 64 asked.limit
+  pub limit : HasNumber rows (codes "limit") 1 64 asked.sessions
   pub count : HasNumber rows (codes "count") 1 1000000 asked.count
   pub ticks : HasNumber rows (codes "ticks") 0 1000 asked.ticks
-  pub line : HasNumber rows (codes "line") 255 4095 asked.line
+  pub line : HasNumber rows (codes "line") 255 4095 asked.line_limit
+  pub idle : HasNumber rows (codes "idle") 0 86400 asked.idle
   pub edited : HasFlag rows (codes "local") asked.local
   pub verbose : HasFlag rows (codes "verbose") asked.verbose
 
@@ -48,7 +54,7 @@ pub record AsksConnect (rows : List Row) (asked : Connecting) : Type 0 where
   pub port : HasNumber rows (codes "port") 1 65535 asked.port
   pub width : HasNumber rows (codes "width") 0 65535 asked.width
   pub height : HasNumber rows (codes "height") 0 65535 asked.height
-  pub line : HasNumber rows (codes "line") 255 4095 asked.line
+  pub line : HasNumber rows (codes "line") 255 4095 asked.line_limit
 
 -- what a subcommand asks for, by its name and its options
 abbrev pub Asks : Text × List Row → Asked → Type 0

@@ -2,7 +2,7 @@
 
 ghost use Rattle.std.specs.Prelude.{◌≡◌, false, IfOk, codes, pos};
 ghost use Rattle.tn_words.specs.Commands.{tn, offline, plain, serve, connect, whole_rule, with_default, flag_rule};
-ghost use Rattle.tn_words.specs.Commands.{port_rule, line_rule};
+ghost use Rattle.tn_words.specs.Commands.{host_rule, port_rule, line_rule};
 ghost use Rattle.clap.specs.Words.{app_of, new_app, rule_of, shape_of};
 ghost use Rattle.clap.specs.declared.builder.command.Command.TheViews.{out-Command};
 ghost use Rattle.clap.specs.declared.builder.value_parser.ValueParser.TheVariants as parser;
@@ -21,7 +21,7 @@ pub(crate) const SERVE: &str = "serve";
 
 pub(crate) const CONNECT: &str = "connect";
 
-/// An option that takes a whole number: its name, the least and the greatest.
+/// An option that takes a whole number: its name, its least and its greatest value.
 #[derive(Clone, Copy)]
 pub(crate) struct Whole {
     pub(crate) name: &'static str,
@@ -59,6 +59,13 @@ pub(crate) const LINE: Whole = Whole {
     most: 4_095,
 };
 
+/// At most a day.
+pub(crate) const IDLE: Whole = Whole {
+    name: "idle",
+    least: 0,
+    most: 86_400,
+};
+
 pub(crate) const WIDTH: Whole = Whole {
     name: "width",
     least: 0,
@@ -70,6 +77,8 @@ pub(crate) const HEIGHT: Whole = Whole {
     least: 0,
     most: 65_535,
 };
+
+pub(crate) const HOST: &str = "host";
 
 pub(crate) const LOCALLY: &str = "local";
 
@@ -85,7 +94,7 @@ pub(crate) fn tn_command<'a>(alloc: Global) -> Result<Command<'a>, AllocError>
     Ok(command)
 }
 
-// What needs no network.
+// The subcommands that need no network.
 fn offline_command<'a>(alloc: Global) -> Result<Command<'a>, AllocError>
     ensures { IfOk result (λ command. app_of command ≡ offline) }
 {
@@ -169,7 +178,7 @@ fn serve_command<'a>(alloc: Global) -> Result<Command<'a>, AllocError>
         alloc,
         SERVE,
         "Serves Telnet with LINEMODE to this machine, and writes each line back",
-        "Listens on a port of 127.0.0.1, and gives each connection a terminal with standard settings. \
+        "Listens on a port of 127.0.0.1, or of the address of `--host`, and gives each connection a terminal with standard settings. \
          Its job writes each line back; the line `exit` and the end of file (^D on an empty line) end \
          the session with `bye`, an interrupt (^C) writes `int`, a quit (^\\) `quit`, and a stop (^Z) \
          `tstp`. One connection more than the limit is told `full` and closed.\n\n\
@@ -179,7 +188,8 @@ fn serve_command<'a>(alloc: Global) -> Result<Command<'a>, AllocError>
          tn connect --port 2323\n  telnet 127.0.0.1 2323",
     );
     let command = command
-        .arg(port_option(alloc, "The port of this machine to listen on"))?
+        .arg(host_option(alloc))?
+        .arg(port_option(alloc, "The port to listen on"))?
         .arg(whole_option(alloc, LIMIT, "8", "How many sessions there may be at once"))?
         .arg(whole_option(
             alloc,
@@ -194,12 +204,22 @@ fn serve_command<'a>(alloc: Global) -> Result<Command<'a>, AllocError>
             "How often a job in the background writes `tick`",
         ))?
         .arg(line_option(alloc))?
+        .arg(whole_option(
+            alloc,
+            IDLE,
+            "0",
+            "Ends a session whose client sends nothing for this many seconds; 0 never does",
+        ))?
         .arg(flag_option(
             alloc,
             LOCALLY,
             "Lets the client edit the lines, where it can",
         ))?
-        .arg(flag_option(alloc, VERBOSE, "Notes each connection on standard error"))?;
+        .arg(flag_option(
+            alloc,
+            VERBOSE,
+            "Notes on standard error who connects and how each session ends",
+        ))?;
     Ok(command)
 }
 
@@ -239,7 +259,7 @@ fn connect_command<'a>(alloc: Global) -> Result<Command<'a>, AllocError>
     Ok(command)
 }
 
-// A subcommand without options, with what its help says.
+// A subcommand without options, with its help texts.
 fn described<'a>(
     alloc: Global,
     name: &'static str,
@@ -267,14 +287,14 @@ fn number_option<'a>(alloc: Global, whole: Whole) -> Arg<'a>
         .value_parser(reader(whole))
 }
 
-// What reads the number of such an option.
+// The parser for the number of such an option.
 fn reader<'a>(whole: Whole) -> ValueParser<'a>
     ensures { result ≡ parser.Signed (pos whole.least) (pos whole.most) }
 {
     value_parser!(u32).range(i64::from(whole.least)..=i64::from(whole.most))
 }
 
-// The same, with the number that it has where it is not given.
+// The same, with a default value.
 fn whole_option<'a>(
     alloc: Global,
     whole: Whole,
@@ -300,6 +320,18 @@ fn port_option<'a>(alloc: Global, help: &'static str) -> Arg<'a>
         .help(help)
 }
 
+// The address to listen on, or a name that has one.
+fn host_option<'a>(alloc: Global) -> Arg<'a>
+    ensures rule { rule_of result ≡ host_rule }
+    ensures local { result.global ≡ false }
+{
+    Arg::new(alloc, HOST)
+        .long(HOST)
+        .value_name("H")
+        .default_value("127.0.0.1")
+        .help("The address to listen on, or a name that has one")
+}
+
 fn line_option<'a>(alloc: Global) -> Arg<'a>
     ensures rule { rule_of result ≡ line_rule }
     ensures local { result.global ≡ false }
@@ -312,7 +344,7 @@ fn line_option<'a>(alloc: Global) -> Arg<'a>
     )
 }
 
-// An option that is given or not.
+// An option without a value.
 fn flag_option<'a>(alloc: Global, name: &'static str, help: &'static str) -> Arg<'a>
     ensures rule { rule_of result ≡ flag_rule name.now }
     ensures local { result.global ≡ false }

@@ -1,4 +1,4 @@
-//! Facts of definitions alone.
+//! Facts about the definitions alone.
 
 ghost use Rattle.std.specs.Prelude.{◌≡◌, true, false, [], ◌∷◌, codes};
 ghost use Rattle.clap.specs.Words.{takes};
@@ -6,7 +6,7 @@ ghost use Rattle.tn_words.specs.Commands.{tn};
 ghost use Rattle.tn_words.specs.Words.{AskFor, AsksForHelp};
 ghost use Rattle.tn_words.specs.declared.words.Asked.TheVariants.{Local, Replay, World};
 
-/// Each subcommand's name alone is taken, and asks for its run.
+/// The name of a subcommand is accepted alone, and asks for its run.
 pub fn names_ask()
     ensures local { AskFor (codes "tn" ∷ codes "local" ∷ []) Local }
     ensures replay { AskFor (codes "tn" ∷ codes "replay" ∷ []) Replay }
@@ -16,7 +16,7 @@ pub fn names_ask()
     ensures world_taken { takes tn (codes "tn" ∷ codes "world" ∷ []) ≡ true }
 {}
 
-/// A word more is not taken, nor is none; `--help` asks for help.
+/// An extra word is not accepted, nor is no subcommand; `--help` asks for help.
 pub fn other_words()
     ensures more { takes tn (codes "tn" ∷ codes "local" ∷ codes "x" ∷ []) ≡ false }
     ensures none { takes tn (codes "tn" ∷ []) ≡ false }

@@ -4,7 +4,7 @@
 //! let asked = read_words(alloc, &["tn", "connect", "--port", "2323"])?;
 //! ```
 //!
-//! It runs nothing of what is asked for.
+//! It runs nothing itself.
 #![tactic(auto)]
 
 pub use settings::{Connecting, Serving};

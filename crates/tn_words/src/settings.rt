@@ -3,33 +3,38 @@
 use tn_discipline::Limit;
 
 /// How to serve.
-#[derive(Clone, Copy, Debug, PartialEq, Eq)]
+#[derive(Debug, Drop, PartialEq, Eq)]
 pub struct Serving {
-    /// The port of this machine, of 1 to 65,535.
+    /// The address to listen on, or a name that has one.
+    pub host: String,
+    /// The port, from 1 to 65,535.
     pub port: u16,
-    /// How many sessions there may be at once, of 1 to 64.
-    pub limit: u16,
-    /// After how many accepted connections to end, of 1 to 1,000,000.
+    /// The most sessions at once, from 1 to 64.
+    pub sessions: u16,
+    /// After how many accepted connections to end, from 1 to 1,000,000.
     pub count: u32,
-    /// How often the job in the background ticks, of 0 to 1,000; there is none where it is 0.
+    /// How often the job in the background ticks, from 0 to 1,000; at 0 there is no such job.
     pub ticks: u16,
-    /// How many bytes a line has at most.
-    pub line: Limit,
+    /// The most bytes in a line.
+    pub line_limit: Limit,
+    /// After how many seconds without a byte from the client a session ends, from 0 to 86,400; at 0 it never
+    /// does.
+    pub idle: u32,
     /// Whether the client is asked to edit the lines.
     pub local: bool,
-    /// Whether each connection is noted.
+    /// Whether connections and the ends of their sessions are logged.
     pub verbose: bool,
 }
 
 /// How to connect.
 #[derive(Clone, Copy, Debug, PartialEq, Eq)]
 pub struct Connecting {
-    /// The port of this machine, of 1 to 65,535.
+    /// The port on this machine, from 1 to 65,535.
     pub port: u16,
-    /// The width of the window in characters, or 0 for none that is told.
+    /// The width of the window in characters; 0 if it is not known.
     pub width: u16,
-    /// The height of the window in lines, or 0 for none that is told.
+    /// The height of the window in lines; 0 if it is not known.
     pub height: u16,
-    /// How many bytes a line has at most.
-    pub line: Limit,
+    /// The most bytes in a line.
+    pub line_limit: Limit,
 }

@@ -1,13 +1,13 @@
 //! The words of the command line.
 
-ghost use Rattle.std.specs.Prelude.{◌≡◌, None, IfOk, IfErr, IfSome, map};
+ghost use Rattle.std.specs.Prelude.{◌≡◌, None, IfOk, IfErr, IfSome, codes, map, string_bytes};
 ghost use Rattle.clap.specs.Words.{kind_of, rows_of, found_of, subcommand_rows_of};
-ghost use Rattle.tn_words.specs.Words.{AskFor, AsksIn, AsksNothing, AsksServe, AsksConnect, HasNumber, MissesNumber};
+ghost use Rattle.tn_words.specs.Words.{AskFor, AsksIn, AsksNothing, AsksServe, AsksConnect, HasNumber, HasText, MissesNumber};
 ghost use Rattle.tn_words.specs.Words.{Refuses, TellsKind};
 
 use crate::commands::{
-    CONNECT, COUNT, HEIGHT, LIMIT, LINE, LOCAL, LOCALLY, PORT, REPLAY, SERVE, TICKS, VERBOSE,
-    WIDTH, WORLD, Whole, tn_command,
+    CONNECT, COUNT, HEIGHT, HOST, IDLE, LIMIT, LINE, LOCAL, LOCALLY, PORT, REPLAY, SERVE, TICKS,
+    VERBOSE, WIDTH, WORLD, Whole, tn_command,
 };
 use crate::settings::{Connecting, Serving};
 use clap::error::ErrorKind;
@@ -17,7 +17,7 @@ use thiserror::Error as ErrorText;
 use tn_discipline::Limit;
 
 /// What the words ask for.
-#[derive(Clone, Copy, Debug, PartialEq, Eq)]
+#[derive(Debug, Drop, PartialEq, Eq)]
 pub enum Asked {
     Local,
     Replay,
@@ -26,7 +26,7 @@ pub enum Asked {
     Connect(Connecting),
 }
 
-/// Why the words ask for no run.
+/// Why nothing is run for the words.
 #[derive(Debug, Drop, ErrorText)]
 pub enum WordsFault {
     /// The words are not accepted.
@@ -59,37 +59,63 @@ pub fn read_words(alloc: Global, words: &[&str]) -> Result<Asked, WordsFault>
         Ok(matches) => matches,
         Err(error) => return Err(words_fault(alloc, &error)),
     };
-    match asked_of(&matches) {
+    let found = asked_of(alloc, &matches)?;
+    match found {
         Some(asked) => Ok(asked),
         None => Err(WordsFault::Usage),
     }
 }
 
-fn asked_of(matches: &ArgMatches<'_>) -> Option<Asked>
-    ensures asked { IfSome result (AsksIn (subcommand_rows_of matches.now)) }
-    ensures none { result ≡ None → AsksNothing (subcommand_rows_of matches.now) }
+fn asked_of(alloc: Global, matches: &ArgMatches<'_>) -> Result<Option<Asked>, AllocError>
+    ensures asked { IfOk result (λ found. IfSome found (AsksIn (subcommand_rows_of matches.now))) }
+    ensures none { IfOk result (λ found. found ≡ None → AsksNothing (subcommand_rows_of matches.now)) }
 {
-    let (name, words) = matches.subcommand()?;
+    let Some((name, words)) = matches.subcommand() else {
+        return Ok(None);
+    };
     match name {
-        LOCAL => Some(Asked::Local),
-        REPLAY => Some(Asked::Replay),
-        WORLD => Some(Asked::World),
-        SERVE => Some(Asked::Serve(serving(words)?)),
-        CONNECT => Some(Asked::Connect(connecting(words)?)),
-        _ => None,
+        LOCAL => Ok(Some(Asked::Local)),
+        REPLAY => Ok(Some(Asked::Replay)),
+        WORLD => Ok(Some(Asked::World)),
+        SERVE => match serving(alloc, words)? {
+            Some(serving) => Ok(Some(Asked::Serve(serving))),
+            None => Ok(None),
+        },
+        CONNECT => match connecting(words) {
+            Some(connecting) => Ok(Some(Asked::Connect(connecting))),
+            None => Ok(None),
+        },
+        _ => Ok(None),
     }
 }
 
-fn serving(words: &ArgMatches<'_>) -> Option<Serving>
+fn serving(alloc: Global, words: &ArgMatches<'_>) -> Result<Option<Serving>, AllocError>
+    ensures asked { IfOk result (λ found. IfSome found (AsksServe (rows_of (found_of words.now)))) }
+    ensures none { IfOk result (λ found. found ≡ None →
+        (asked : Serving) → ¬ AsksServe (rows_of (found_of words.now)) asked) }
+{
+    match words.get_str(HOST) {
+        Some(host) => {
+            let host = String::from_str(alloc, host)?;
+            Ok(serving_at(host, words))
+        },
+        None => Ok(None),
+    }
+}
+
+fn serving_at(host: String, words: &ArgMatches<'_>) -> Option<Serving>
+    requires host { HasText (rows_of (found_of words.now)) (codes "host") (string_bytes host) }
     ensures asked { IfSome result (AsksServe (rows_of (found_of words.now))) }
     ensures none { result ≡ None → (asked : Serving) → ¬ AsksServe (rows_of (found_of words.now)) asked }
 {
     Some(Serving {
+        host,
         port: number(words, PORT)? as u16,
-        limit: number(words, LIMIT)? as u16,
+        sessions: number(words, LIMIT)? as u16,
         count: number(words, COUNT)?,
         ticks: number(words, TICKS)? as u16,
-        line: Limit::new(number(words, LINE)? as u16)?,
+        line_limit: Limit::new(number(words, LINE)? as u16)?,
+        idle: number(words, IDLE)?,
         local: words.get_flag(LOCALLY),
         verbose: words.get_flag(VERBOSE),
     })
@@ -103,11 +129,11 @@ fn connecting(words: &ArgMatches<'_>) -> Option<Connecting>
         port: number(words, PORT)? as u16,
         width: number(words, WIDTH)? as u16,
         height: number(words, HEIGHT)? as u16,
-        line: Limit::new(number(words, LINE)? as u16)?,
+        line_limit: Limit::new(number(words, LINE)? as u16)?,
     })
 }
 
-// The number that an option has, in its range.
+// The number of an option, if it is within its range.
 fn number(words: &ArgMatches<'_>, whole: Whole) -> Option<u32>
     ensures some { IfSome result
         (HasNumber (rows_of (found_of words.now)) whole.name.now whole.least whole.most) }

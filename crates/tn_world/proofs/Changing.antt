@@ -4,7 +4,7 @@ use Rattle.std.proofs.Common.{◌≡◌, ◌≤◌, inl, inr, ℕ, ◌+◌, Bool
 use Rattle.tn_discipline.specs.declared.reads.Entry.{Entry}
 use Rattle.tn_discipline.specs.Admitted.{is_dropped}
 use Rattle.tn_discipline.specs.Canon.{Canon, typed_half}
-use Rattle.tn_discipline.specs.Limits.{most_counted}
+use Rattle.tn_discipline.specs.Limits.{max_counted}
 use Rattle.tn_discipline.specs.Steps.{half_after, half_next, gain_next}
 use Rattle.tn_discipline.specs.Keys.{role_of_mapped, role_of_key, roles_of}
 use Rattle.tn_discipline.specs.declared.termios.Settings.{Settings}
@@ -48,8 +48,8 @@ same_role s key h =
     ∙ ap (λ (x : Bool). role_of_key (record { chars = s.chars; flags = record flags { icrnl = s.flags.icrnl; inlcr = x; igncr = false } }) key) (sym inlcr)
     ∙ ap (λ (x : Bool). role_of_key (record { chars = s.chars; flags = record flags { icrnl = s.flags.icrnl; inlcr = s.flags.inlcr; igncr = x } }) key) (sym igncr)
 
-fits_at : (s : Canon) (typed half held : List ℕ) → typed_half s typed ≡ half ++ held → length (half ++ held) ≤ most_counted s.limit
-fits_at s typed half held line = subst (λ x. length x ≤ most_counted s.limit) line (half_of-fits s.limit (roles_of s.settings typed))
+fits_at : (s : Canon) (typed half held : List ℕ) → typed_half s typed ≡ half ++ held → length (half ++ held) ≤ max_counted s.limit
+fits_at s typed half held line = subst (λ x. length x ≤ max_counted s.limit) line (half_of-fits s.limit (roles_of s.settings typed))
 
 -- the count at the client, after one more key
 count-step : (limit : ℕ) (s : Settings) (key : ℕ) (trapped plain : ℕ) (half : List ℕ) (b : Bool) → s.flags.isig ≡ b → allows_local s.flags ≡ true → (if b then trapped else plain) ≡ length half → (if b then count_next limit trapped (role_of_key (settings_by true s.chars) key) else count_next limit plain (role_of_key (settings_by false s.chars) key)) ≡ length (half_next limit half (role_of_key s key))

@@ -126,45 +126,28 @@ IsChatter (Some payload.ForwardYes) = Unit {0}
 IsChatter (Some payload.ForwardNo) = Unit {0}
 IsChatter (Some (payload.Slc triples)) = ⊥
 
+-- what holds where there is none, and of each that changes nothing, holds of all of them
+by_chatter : (P : Option Payload → Type 0) (p : Option Payload) → IsChatter p → P None → ((width height : ℕ) → P (Some (payload.Naws width height))) → P (Some payload.ForwardYes) → P (Some payload.ForwardNo) → P p
+by_chatter P None i lacking sized wills wonts = lacking
+by_chatter P (Some (payload.Naws width height)) i lacking sized wills wonts = sized width height
+by_chatter P (Some (payload.Mode mask)) i lacking sized wills wonts = absurd i
+by_chatter P (Some (payload.ForwardOn mask)) i lacking sized wills wonts = absurd i
+by_chatter P (Some payload.ForwardOff) i lacking sized wills wonts = absurd i
+by_chatter P (Some payload.ForwardYes) i lacking sized wills wonts = wills
+by_chatter P (Some payload.ForwardNo) i lacking sized wills wonts = wonts
+by_chatter P (Some (payload.Slc triples)) i lacking sized wills wonts = absurd i
+
 pub chatter-mode : (m : ℕ) (p : Option Payload) → IsChatter p → mode_by m p ≡ m
-chatter-mode m None i = refl
-chatter-mode m (Some (payload.Naws width height)) i = refl
-chatter-mode m (Some (payload.Mode mask)) i = absurd i
-chatter-mode m (Some (payload.ForwardOn mask)) i = absurd i
-chatter-mode m (Some payload.ForwardOff) i = absurd i
-chatter-mode m (Some payload.ForwardYes) i = refl
-chatter-mode m (Some payload.ForwardNo) i = refl
-chatter-mode m (Some (payload.Slc triples)) i = absurd i
+chatter-mode m p i = by_chatter (λ p. mode_by m p ≡ m) p i refl (λ _ _. refl) refl refl
 
 pub chatter-chars : (c : Characters) (p : Option Payload) → IsChatter p → chars_by c p ≡ c
-chatter-chars c None i = refl
-chatter-chars c (Some (payload.Naws width height)) i = refl
-chatter-chars c (Some (payload.Mode mask)) i = absurd i
-chatter-chars c (Some (payload.ForwardOn mask)) i = absurd i
-chatter-chars c (Some payload.ForwardOff) i = absurd i
-chatter-chars c (Some payload.ForwardYes) i = refl
-chatter-chars c (Some payload.ForwardNo) i = refl
-chatter-chars c (Some (payload.Slc triples)) i = absurd i
+chatter-chars c p i = by_chatter (λ p. chars_by c p ≡ c) p i refl (λ _ _. refl) refl refl
 
 pub chatter-heard : (p : Option Payload) → IsChatter p → heard_payload p ≡ chatter
-chatter-heard None i = refl
-chatter-heard (Some (payload.Naws width height)) i = refl
-chatter-heard (Some (payload.Mode mask)) i = absurd i
-chatter-heard (Some (payload.ForwardOn mask)) i = absurd i
-chatter-heard (Some payload.ForwardOff) i = absurd i
-chatter-heard (Some payload.ForwardYes) i = refl
-chatter-heard (Some payload.ForwardNo) i = refl
-chatter-heard (Some (payload.Slc triples)) i = absurd i
+chatter-heard p i = by_chatter (λ p. heard_payload p ≡ chatter) p i refl (λ _ _. refl) refl refl
 
 pub chatter-forward : (f : Option Mask) (p : Option Payload) → IsChatter p → forward_by f p ≡ f
-chatter-forward f None i = refl
-chatter-forward f (Some (payload.Naws width height)) i = refl
-chatter-forward f (Some (payload.Mode mask)) i = absurd i
-chatter-forward f (Some (payload.ForwardOn mask)) i = absurd i
-chatter-forward f (Some payload.ForwardOff) i = absurd i
-chatter-forward f (Some payload.ForwardYes) i = refl
-chatter-forward f (Some payload.ForwardNo) i = refl
-chatter-forward f (Some (payload.Slc triples)) i = absurd i
+chatter-forward f p i = by_chatter (λ p. forward_by f p ≡ f) p i refl (λ _ _. refl) refl refl
 
 -- a forward mask is taken or dropped, and the answer says nothing of lines
 abbrev pub forward_of : Option Mask → Payload
@@ -181,14 +164,7 @@ forward-answered canon f m c =
     record { fit = a.0; calm = a.1; says_so = λ v. ap (λ (xs : List machine.Item). read_all canon v xs) a.2 }
 
 pub chatter-answered : (canon : Canon) (m : ℕ) (c : Characters) (p : Option Payload) → IsChatter p → SaysItems canon [] (payload_answers m c p)
-chatter-answered canon m c None i = writes-none canon
-chatter-answered canon m c (Some (payload.Naws width height)) i = writes-none canon
-chatter-answered canon m c (Some (payload.Mode mask)) i = absurd i
-chatter-answered canon m c (Some (payload.ForwardOn mask)) i = absurd i
-chatter-answered canon m c (Some payload.ForwardOff) i = absurd i
-chatter-answered canon m c (Some payload.ForwardYes) i = writes-none canon
-chatter-answered canon m c (Some payload.ForwardNo) i = writes-none canon
-chatter-answered canon m c (Some (payload.Slc triples)) i = absurd i
+chatter-answered canon m c p i = by_chatter (λ p. SaysItems canon [] (payload_answers m c p)) p i (writes-none canon) (λ _ _. writes-none canon) (writes-none canon) (writes-none canon)
 
 pub chatter-if : (b : Bool) (p : Option Payload) → IsChatter p → IsChatter (if b then p else None)
 chatter-if true p i = i
@@ -253,15 +229,16 @@ table-unanswered m c false is = refl
 pub table-answered : (canon : Canon) (m : ℕ) (c : Characters) (b : Bool) → c ≡ standard_characters → SaysItems canon [] (payload_answers m c (table_if b))
 table-answered canon m c b is = subst (λ (xs : List Item). SaysItems canon [] xs) (sym (table-unanswered m c b is)) (writes-none canon)
 
+-- a payload that is short counts where the first test holds
+if_short : (b : Bool) (p : Payload) → (if b && true then Some p else None) ≡ (if b then Some p else None)
+if_short true p = refl
+if_short false p = refl
+
 -- where LINEMODE is on, a mode that is said is one that counts; where it is off, it counts for nothing
 pub said-mode : (o : Options) (option : ℕ) (params : List ℕ) (mask : ℕ) → payload_of option params ≡ Some (payload.Mode mask) → payload_at o (Sub option params) ≡ (if linemode o then Some (payload.Mode mask) else None)
 said-mode o option params mask e =
     let told : (option ≡ 34) × (params ≡ 1 ∷ mask ∷ []) = says option params (payload.Mode mask) e in
-    ap (λ (n : ℕ). payload_at o (Sub n params)) told.0 ∙ ap (λ (xs : List ℕ). payload_at o (Sub 34 xs)) told.1 ∙ by_test (linemode o)
-  where
-    by_test : (b : Bool) → (if b && true then Some (payload.Mode mask) else None) ≡ (if b then Some (payload.Mode mask) else None)
-    by_test true = refl
-    by_test false = refl
+    ap (λ (n : ℕ). payload_at o (Sub n params)) told.0 ∙ ap (λ (xs : List ℕ). payload_at o (Sub 34 xs)) told.1 ∙ if_short (linemode o) (payload.Mode mask)
 
 -- the same of a forward mask
 short_params : (n : ℕ) → n ≤ 512 → nat_le n 512 ≡ true
@@ -275,20 +252,12 @@ said-on o option params mask e =
     ap (λ (p : Option Payload). if ((option == 34) && linemode o) && nat_le (length params) 512 then p else None) e
     ∙ ap (λ (b : Bool). if ((option == 34) && linemode o) && b then Some (payload.ForwardOn mask) else None) long
     ∙ ap (λ (n : ℕ). if ((n == 34) && linemode o) && true then Some (payload.ForwardOn mask) else None) told.0
-    ∙ by_test (linemode o)
-  where
-    by_test : (b : Bool) → (if b && true then Some (payload.ForwardOn mask) else None) ≡ (if b then Some (payload.ForwardOn mask) else None)
-    by_test true = refl
-    by_test false = refl
+    ∙ if_short (linemode o) (payload.ForwardOn mask)
 
 said-off : (o : Options) (option : ℕ) (params : List ℕ) → payload_of option params ≡ Some payload.ForwardOff → payload_at o (Sub option params) ≡ (if linemode o then Some payload.ForwardOff else None)
 said-off o option params e =
     let told = says option params payload.ForwardOff e in
-    ap (λ (n : ℕ). payload_at o (Sub n params)) told.0 ∙ ap (λ (xs : List ℕ). payload_at o (Sub 34 xs)) told.1 ∙ by_test (linemode o)
-  where
-    by_test : (b : Bool) → (if b && true then Some payload.ForwardOff else None) ≡ (if b then Some payload.ForwardOff else None)
-    by_test true = refl
-    by_test false = refl
+    ap (λ (n : ℕ). payload_at o (Sub n params)) told.0 ∙ ap (λ (xs : List ℕ). payload_at o (Sub 34 xs)) told.1 ∙ if_short (linemode o) payload.ForwardOff
 
 pub said-forward : (o : Options) (option : ℕ) (params : List ℕ) (f : Option Mask) → payload_of option params ≡ Some (forward_of f) → payload_at o (Sub option params) ≡ (if linemode o then Some (forward_of f) else None)
 said-forward o option params (Some mask) e = said-on o option params mask e

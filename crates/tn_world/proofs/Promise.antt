@@ -95,16 +95,16 @@ quiet_always w [] q = tt
 quiet_always w (e ∷ events) q = λ mid does. (q.0, quiet_always mid events q.1)
 
 -- the world whose lists are reset
-pub anew_settled : (w : World) → IsSettled w → IsSettled (with_new_lists w)
-anew_settled w m =
+pub new_lists_settled : (w : World) → IsSettled w → IsSettled (with_new_lists w)
+new_lists_settled w m =
     record {
       idle = record { to_server = m.idle.to_server; to_client = m.idle.to_client; server_stopped = m.idle.server_stopped; server_failed = m.idle.server_failed; client_stopped = m.idle.client_stopped; client_failed = m.idle.client_failed };
       agreed = record { linemode = m.agreed.linemode; mask = m.agreed.mask; chars = m.agreed.chars; server_steady = m.agreed.server_steady; client_steady = m.agreed.client_steady };
       empty = record { half = m.empty.half; held = m.empty.held; ahead = m.empty.ahead; counts = m.empty.counts; waiting = m.empty.waiting };
     }
 
-pub anew_sound : (w : World) → HasPast w → HasPast (with_new_lists w)
-anew_sound w s =
+pub new_lists_sound : (w : World) → HasPast w → HasPast (with_new_lists w)
+new_lists_sound w s =
     record {
       history = s.history;
       server = s.server;
@@ -122,7 +122,7 @@ pub mark_follows : (w : World) → HasPast w → IsSettled w → Follows (canon_
 mark_follows w s m =
     record {
       start = with_new_lists w;
-      begins = inl (record { past = anew_sound w s; settled = anew_settled w m; rules = refl; typed = refl; taken = refl });
+      begins = inl (record { past = new_lists_sound w s; settled = new_lists_settled w m; rules = refl; typed = refl; taken = refl });
       events = [];
       passes = refl;
     }

@@ -10,7 +10,7 @@ use Rattle.tn_option.specs.declared.q_method.QState.TheVariants.{No, Yes, WantNo
 use Rattle.tn_option.specs.declared.q_method.Side.TheVariants.{Us}
 use Rattle.tn_server.specs.Terms as terms
 use Rattle.tn_wire.specs.Words.{differ}
-use Rattle.tn_world.proofs.Stages.{Question, linemode, naws, ours, theirs, echo, Progress, before, done, asks, grants, next, left, Lead, server_at, client_at, opening_at, IsOpening, both_on, both_off, asked_on, asked_off, granted_on, granted_off, pair_at, Stage, IsAtStage, same_question, not_done, wish_step}
+use Rattle.tn_world.proofs.Stages.{Question, linemode, naws, ours, theirs, echo, Progress, before, done, asks, grants, next, left, Lead, server_at, opening_at, IsOpening, both_on, both_off, asked_on, asked_off, granted_on, granted_off, pair_at, Stage, IsAtStage, same_question, not_done, wish_step}
 
 -- WHILE A SERVER READS, once no word was on its way to the client: the opening, all of whose questions the client has
 -- heard

@@ -13,7 +13,6 @@ use Rattle.tn_nvt.specs.Feeding.{DecoderState, Advances}
 use Rattle.tn_nvt.specs.Spelling.{spells}
 use Rattle.tn_nvt.specs.declared.items.Item.{Item}
 use Rattle.tn_nvt.specs.declared.items.Item.TheVariants.{Sub}
-use Rattle.tn_option.specs.EnginePair.{EnginePair}
 use Rattle.tn_wire.specs.OptionWords.{words_in}
 use Rattle.tn_server.specs.Calls as server
 use Rattle.tn_server.specs.Replies as server_says

@@ -1,7 +1,7 @@
 -- A talk that began with the opening words is at one of these stages: the client has heard the first of the five
 -- questions, and the server the first of its answers; or all are answered, and the server's wishes for ECHO alone are
 -- talked of. The Bool: a contrary wish is queued behind the question (RFC 1143).
-use Rattle.std.proofs.Common.{◌≡◌, ◌⊎◌, inl, inr, ℕ, Bool, true, false, not, Option, Some, None, List, [], ◌∷◌, ◌++◌, map, refl, sym, ap, ◌∙◌, subst, append-nil}
+use Rattle.std.proofs.Common.{◌≡◌, ◌⊎◌, inl, inr, ℕ, Bool, true, false, not, Option, None, List, [], ◌∷◌, ◌++◌, map, refl, sym, ap, ◌∙◌, subst, append-nil}
 use Rattle.std.specs.Prelude.{option_to_list}
 use Rattle.std.proofs.lemmas.List.{map-append}
 use Rattle.tn_codes.specs.declared.codes.Verb.{Verb}

@@ -3,7 +3,7 @@ use Rattle.std.proofs.Common.{◌≡◌, ℕ, Bool, true, false, Option, Some, N
 use Rattle.std.specs.Prelude.{option_map}
 use Rattle.tn_discipline.specs.Characters.{char_fault}
 use Rattle.tn_discipline.specs.declared.characters.CharFault.{CharFault}
-use Rattle.tn_pty.specs.Terminal.{most_waiting}
+use Rattle.tn_pty.specs.Terminal.{max_waiting}
 use Rattle.tn_pty.specs.declared.pty.PtyFault.TheVariants as pty
 use Rattle.tn_server.specs.Course as server_courses
 use Rattle.tn_server.specs.Events as server_calls
@@ -44,14 +44,14 @@ never_mask true f = cc
 never_mask false f = cc
 
 -- a delivery
-far_behind : (old new : World) (n : ℕ) → HasPast old → ServerRefusesDelivery old n far new → length new.server.terminal.entries ≡ most_waiting
+far_behind : (old new : World) (n : ℕ) → HasPast old → ServerRefusesDelivery old n far new → length new.server.terminal.entries ≡ max_waiting
 far_behind old new n s r = go (by_test old.server.failed refl)
   where
     by_test : (b : Bool) → old.server.failed ≡ b → old.server.failed ≡ false
     by_test true is = absurd (never_failed (r.first is))
     by_test false is = is
 
-    go : old.server.failed ≡ false → length new.server.terminal.entries ≡ most_waiting
+    go : old.server.failed ≡ false → length new.server.terminal.entries ≡ max_waiting
     go runs =
         let x = r.halts tt in
         let c = s.server_course runs in
@@ -60,7 +60,7 @@ far_behind old new n s r = go (by_test old.server.failed refl)
         let why = x.cause (has_read old.server.decoder (server_courses.stream c.0) (server_calls.items at.history) at.reads) at.history at.leads in
         ap length (sym (waits_are h new.server (x.leads at.history at.leads))) ∙ many_wait h x.left x.here x.back why
 
-far_at : (old new : World) (e : Event) → HasPast old → Refuses old e (cause.Server far) new → length new.server.terminal.entries ≡ most_waiting
+far_at : (old new : World) (e : Event) → HasPast old → Refuses old e (cause.Server far) new → length new.server.terminal.entries ≡ max_waiting
 far_at old new (ToServer n) s r = far_behind old new n s r
 far_at old new (Key key) s r = absurd r.0
 far_at old new (ToClient n) s r = absurd r.0

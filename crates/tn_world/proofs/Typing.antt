@@ -3,7 +3,7 @@ use Rattle.std.proofs.Common.{◌≡◌, ◌≤◌, ◌<◌, ℕ, ◌+◌, ◌-�
 use Rattle.std.proofs.Math.Seq.{take-append-add}
 use Rattle.tn_discipline.specs.declared.reads.Entry.{Entry}
 use Rattle.tn_discipline.specs.Canon.{Canon}
-use Rattle.tn_discipline.specs.Limits.{most_counted}
+use Rattle.tn_discipline.specs.Limits.{max_counted}
 use Rattle.tn_discipline.specs.Steps.{front, half_next, gain_next}
 use Rattle.tn_discipline.specs.Characters.{is_set_to}
 use Rattle.tn_discipline.specs.Keys.{mapped_key, signal_of, role_by_signal, role_or_ignored, role_of_key, literal_role}
@@ -81,8 +81,8 @@ empty_of : (xs : List ℕ) → length xs ≡ 0 → xs ≡ []
 empty_of [] h = refl
 empty_of (x ∷ xs) h = absurd (omega arith)
 
-full : (limit : ℕ) (h held : List ℕ) (ahead : ℕ) (t : Bool) → length h ≡ ahead → (ahead + length held == most_counted limit) ≡ t → (length (h ++ held) == most_counted limit) ≡ t
-full limit h held ahead t count test = ap (λ n. n == most_counted limit) (length-append h held ∙ ap (λ n. n + length held) count) ∙ test
+full : (limit : ℕ) (h held : List ℕ) (ahead : ℕ) (t : Bool) → length h ≡ ahead → (ahead + length held == max_counted limit) ≡ t → (length (h ++ held) == max_counted limit) ≡ t
+full limit h held ahead t count test = ap (λ n. n == max_counted limit) (length-append h held ∙ ap (λ n. n + length held) count) ∙ test
 
 below : (most n : ℕ) → n ≤ most → (n == most) ≡ false → n < most
 below most n h e = grind arith
@@ -90,7 +90,7 @@ below most n h e = grind arith
 room : (most : ℕ) (h held : List ℕ) (b : ℕ) → length (h ++ held) ≤ most → (length (h ++ held) == most) ≡ false → length h + length (held ++ b ∷ []) ≤ most
 room most h held b fits test = omega (arith, below most (length (h ++ held)) fits test, length-append h held, length-append held (b ∷ []))
 
-ordinary-follows : (s : Canon) (l : Bool) (h : List ℕ) (w : List Entry) (c : Client) (b : ℕ) (t f : Bool) → (c.ahead + length c.held == most_counted s.limit) ≡ t → literal_role s.settings.chars b ≡ role.Ordinary b → AreOrdinary s.settings.chars c.held → length h ≡ c.ahead → length (h ++ c.held) ≤ most_counted s.limit → Follows s l h w c.held (role.Ordinary b) (ordinary_key t f c b)
+ordinary-follows : (s : Canon) (l : Bool) (h : List ℕ) (w : List Entry) (c : Client) (b : ℕ) (t f : Bool) → (c.ahead + length c.held == max_counted s.limit) ≡ t → literal_role s.settings.chars b ≡ role.Ordinary b → AreOrdinary s.settings.chars c.held → length h ≡ c.ahead → length (h ++ c.held) ≤ max_counted s.limit → Follows s l h w c.held (role.Ordinary b) (ordinary_key t f c b)
 ordinary-follows s l h w c b true f test literal plain count fits =
     let is_full = full s.limit h c.held c.ahead true count test in
     record {
@@ -106,7 +106,7 @@ ordinary-follows s l h w c b false true test literal plain count fits =
     record {
       half = h ++ (c.held ++ b ∷ []);
       reads =
-          read-bytes s l h w (c.held ++ b ∷ []) more (room (most_counted s.limit) h c.held b fits is_full)
+          read-bytes s l h w (c.held ++ b ∷ []) more (room (max_counted s.limit) h c.held b fits is_full)
           ∙ ap (λ x. server_at l true (h ++ (c.held ++ b ∷ [])) x) (sym (ap (λ (t : Bool). w ++ (if t then [] else [])) is_full ∙ append-nil w));
       line = ap (λ (t : Bool). if t then h ++ c.held else (h ++ c.held) ++ b ∷ []) is_full ∙ append_assoc h c.held (b ∷ []) ∙ sym (append-nil (h ++ (c.held ++ b ∷ [])));
       ahead = length-append h (c.held ++ b ∷ []) ∙ ap (λ n. n + length (c.held ++ b ∷ [])) count;
@@ -174,9 +174,9 @@ kill-follows s l h w c false nowhere count =
       plain = tt;
     }
 
-pub key-follows : (s : Canon) (l : Bool) (h : List ℕ) (w : List Entry) (c : Client) (r : Role) → IsLiteral s.settings.chars r → AreOrdinary s.settings.chars c.held → length h ≡ c.ahead → length (h ++ c.held) ≤ most_counted s.limit → Follows s l h w c.held r (edit_key s.limit c r)
+pub key-follows : (s : Canon) (l : Bool) (h : List ℕ) (w : List Entry) (c : Client) (r : Role) → IsLiteral s.settings.chars r → AreOrdinary s.settings.chars c.held → length h ≡ c.ahead → length (h ++ c.held) ≤ max_counted s.limit → Follows s l h w c.held r (edit_key s.limit c r)
 key-follows s l h w c (role.Ordinary b) literal plain count fits =
-    ordinary-follows s l h w c b (c.ahead + length c.held == most_counted s.limit) (c.forward b) refl literal plain count fits
+    ordinary-follows s l h w c b (c.ahead + length c.held == max_counted s.limit) (c.forward b) refl literal plain count fits
 key-follows s l h w c role.Nl literal plain count fits =
     record { half = []; reads = read-bytes_then s l h w c.held newline plain (omega (arith, length-append h c.held)); line = refl; ahead = refl; plain = tt }
 key-follows s l h w c (role.Eol b) literal plain count fits =

@@ -2,7 +2,7 @@
 use Rattle.std.specs.Prelude.{◌≡◌, ℕ, ◌<◌, Bool, true, false, min, Option, None, List, [], ◌∷◌, ◌++◌, length, take, drop, MatchOption, option_to_list}
 use Rattle.tn_discipline.specs.Canon.{Canon}
 use Rattle.tn_discipline.specs.declared.reads.Entry.{Entry}
-use Rattle.tn_pty.specs.Terminal.{most_waiting}
+use Rattle.tn_pty.specs.Terminal.{max_waiting}
 use Rattle.tn_pty.specs.declared.pty.PtyFault.TheVariants.{Closed, TooFarAhead}
 use Rattle.tn_server.specs.Events as server_calls
 use Rattle.tn_server.specs.Faults as faults
@@ -255,6 +255,6 @@ pub record StopsWithin (old : World) (events : List Event) (at : ℕ) (cause : C
 
 -- where the fault is that too many entries wait, as many do as there may be; a terminal is never found shut
 abbrev pub ShowsCause : Cause → World → Type 0
-ShowsCause (cause.Server (server_faults.Pty TooFarAhead)) w = length w.server.terminal.entries ≡ most_waiting
+ShowsCause (cause.Server (server_faults.Pty TooFarAhead)) w = length w.server.terminal.entries ≡ max_waiting
 ShowsCause (cause.Server (server_faults.Pty Closed)) w = ⊥
 ShowsCause c w = Unit {0}

@@ -1,5 +1,8 @@
 //! Why a run ended before its last event.
 
+ghost use Rattle.std.specs.Prelude.{◌≡◌};
+ghost use Rattle.tn_world.specs.declared.faults.Cause.TheVariants as cause;
+
 use std::alloc::AllocError;
 use thiserror::Error;
 use tn_client::ClientFault;
@@ -17,6 +20,30 @@ pub enum Cause {
     /// The world itself found no memory, and nothing changed.
     #[error("out of memory")]
     Memory,
+}
+
+impl From<ServerFault> for Cause {
+    ghost from_gives = { λ fault given. given ≡ cause.Server fault };
+
+    fn from(fault: ServerFault) -> Cause {
+        Cause::Server(fault)
+    }
+}
+
+impl From<ClientFault> for Cause {
+    ghost from_gives = { λ fault given. given ≡ cause.Client fault };
+
+    fn from(fault: ClientFault) -> Cause {
+        Cause::Client(fault)
+    }
+}
+
+impl From<AllocError> for Cause {
+    ghost from_gives = { λ _ given. given ≡ cause.Memory };
+
+    fn from(_error: AllocError) -> Cause {
+        Cause::Memory
+    }
 }
 
 /// The event, counted from 0, that was refused, and why. Those before it are done.

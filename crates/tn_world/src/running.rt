@@ -81,17 +81,10 @@ impl World {
         if self.client_stopped {
             return Ok(());
         }
-        match self.typed.reserve(1) {
-            Ok(()) => {},
-            Err(_) => return Err(Cause::Memory),
-        }
-        match self.client.key(key, &mut self.to_server, &mut self.echoed) {
-            Ok(()) => {
-                self.typed.push_reserved(key);
-                Ok(())
-            },
-            Err(fault) => Err(Cause::Client(fault)),
-        }
+        self.typed.reserve(1)?;
+        self.client.key(key, &mut self.to_server, &mut self.echoed)?;
+        self.typed.push_reserved(key);
+        Ok(())
     }
 
     pub(crate) fn reach_server(&mut self, count: usize) -> Result<(), Cause>
@@ -101,14 +94,9 @@ impl World {
         if self.server_stopped {
             return Ok(());
         }
-        let piece = match take_front(self.alloc, &mut self.to_server, count) {
-            Ok(piece) => piece,
-            Err(_) => return Err(Cause::Memory),
-        };
-        match self.server.feed(&piece, &mut self.to_client) {
-            Ok(()) => Ok(()),
-            Err(fault) => Err(Cause::Server(fault)),
-        }
+        let piece = take_front(self.alloc, &mut self.to_server, count)?;
+        self.server.feed(&piece, &mut self.to_client)?;
+        Ok(())
     }
 
     pub(crate) fn reach_client(&mut self, count: usize) -> Result<(), Cause>
@@ -118,17 +106,10 @@ impl World {
         if self.client_stopped {
             return Ok(());
         }
-        let piece = match take_front(self.alloc, &mut self.to_client, count) {
-            Ok(piece) => piece,
-            Err(_) => return Err(Cause::Memory),
-        };
-        match self
-            .client
-            .feed(&piece, &mut self.to_server, &mut self.shown)
-        {
-            Ok(()) => Ok(()),
-            Err(fault) => Err(Cause::Client(fault)),
-        }
+        let piece = take_front(self.alloc, &mut self.to_client, count)?;
+        self.client
+            .feed(&piece, &mut self.to_server, &mut self.shown)?;
+        Ok(())
     }
 
     fn write(&mut self, bytes: &Text)
@@ -146,10 +127,7 @@ impl World {
         if self.server_stopped {
             return Ok(());
         }
-        match self.server.pull(most, &mut self.to_client) {
-            Ok(_) => {},
-            Err(fault) => return Err(Cause::Server(fault)),
-        }
+        self.server.pull(most, &mut self.to_client)?;
         Ok(())
     }
 
@@ -157,18 +135,11 @@ impl World {
         ensures ok { OnOk result (RunsEvent self.old event.Take self.new) }
         ensures err { IfErr result (λ cause. Refuses self.old event.Take cause self.new) }
     {
-        match self.taken.reserve(1) {
-            Ok(()) => {},
-            Err(_) => return Err(Cause::Memory),
+        self.taken.reserve(1)?;
+        if let Some(entry) = self.server.take(&mut self.to_client)? {
+            self.taken.push_reserved(entry);
         }
-        match self.server.take(&mut self.to_client) {
-            Ok(Some(entry)) => {
-                self.taken.push_reserved(entry);
-                Ok(())
-            },
-            Ok(None) => Ok(()),
-            Err(fault) => Err(Cause::Server(fault)),
-        }
+        Ok(())
     }
 
     fn wish(&mut self, editing: Editing) -> Result<(), Cause>
@@ -178,10 +149,8 @@ impl World {
         if self.server_stopped {
             return Ok(());
         }
-        match self.server.wish(editing, &mut self.to_client) {
-            Ok(_) => Ok(()),
-            Err(fault) => Err(Cause::Server(fault)),
-        }
+        self.server.wish(editing, &mut self.to_client)?;
+        Ok(())
     }
 
     fn set_char(&mut self, func: Func, value: Option<u8>) -> Result<(), Cause>
@@ -191,10 +160,7 @@ impl World {
         if self.server_stopped {
             return Ok(());
         }
-        match self.server.set_char(func, value, &mut self.to_client) {
-            Ok(()) => {},
-            Err(fault) => return Err(Cause::Server(fault)),
-        }
+        self.server.set_char(func, value, &mut self.to_client)?;
         Ok(())
     }
 
@@ -205,10 +171,8 @@ impl World {
         if self.server_stopped {
             return Ok(());
         }
-        match self.server.set_echo(on, &mut self.to_client) {
-            Ok(()) => Ok(()),
-            Err(fault) => Err(Cause::Server(fault)),
-        }
+        self.server.set_echo(on, &mut self.to_client)?;
+        Ok(())
     }
 
     fn mask(&mut self, mask: Option<Mask>) -> Result<(), Cause>
@@ -218,10 +182,8 @@ impl World {
         if self.server_stopped {
             return Ok(());
         }
-        match self.server.set_mask(mask, &mut self.to_client) {
-            Ok(()) => Ok(()),
-            Err(fault) => Err(Cause::Server(fault)),
-        }
+        self.server.set_mask(mask, &mut self.to_client)?;
+        Ok(())
     }
 
     fn resize(&mut self, width: u16, height: u16) -> Result<(), Cause>
@@ -231,10 +193,7 @@ impl World {
         if self.client_stopped {
             return Ok(());
         }
-        match self.client.resize(width, height, &mut self.to_server) {
-            Ok(()) => {},
-            Err(fault) => return Err(Cause::Client(fault)),
-        }
+        self.client.resize(width, height, &mut self.to_server)?;
         Ok(())
     }
 
@@ -245,10 +204,8 @@ impl World {
         if self.client_stopped {
             return Ok(());
         }
-        match self.client.propose(func, value, &mut self.to_server) {
-            Ok(()) => Ok(()),
-            Err(fault) => Err(Cause::Client(fault)),
-        }
+        self.client.propose(func, value, &mut self.to_server)?;
+        Ok(())
     }
 }
 

@@ -114,7 +114,7 @@ impl World {
     /// line is half typed. Where it is, the lists of typed keys and taken entries are reset.
     pub fn mark(&mut self) -> bool
         ensures settled { result ≡ true ↔ IsSettled self.old }
-        ensures anew { result ≡ true → self.new ≡ with_new_lists self.old }
+        ensures reset { result ≡ true → self.new ≡ with_new_lists self.old }
         ensures else_same { result ≡ false → self.new ≡ self.old }
         ensures follows { result ≡ true → Follows (canon_of self.old) self.new }
     {

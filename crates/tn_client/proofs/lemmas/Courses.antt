@@ -12,7 +12,7 @@ use Rattle.tn_client.specs.Replies.{items_said}
 use Rattle.tn_client.specs.Screen.{text_shown}
 use Rattle.tn_client.specs.Calls.{End, LeadsTo, ReadsNothing, Advances, Feeds, IsStopCause, StopsWithin}
 use Rattle.tn_client.specs.Course.{Course, started, fed, called, stream, IsCall, ReadsAs, CourseLeadsTo}
-use Rattle.tn_wire.specs.Fronts.{IsRead}
+use Rattle.tn_wire.specs.Prefixes.{IsRead}
 use Rattle.tn_client.proofs.lemmas.Histories.{items-gets, gets-append}
 use Rattle.tn_wire.proofs.lemmas.Cutting.{cons_some, back_some}
 

@@ -1,7 +1,6 @@
 -- What an event does to the half line.
 use Rattle.std.proofs.Common.{◌≡◌, ℕ, Bool, true, false, take, refl, sym, ap, ◌∙◌}
 use Rattle.std.proofs.lemmas.List.{length-take-le}
-use Rattle.tn_discipline.specs.HalfLine.{HalfLine}
 use Rattle.tn_discipline.specs.Advancing as discipline
 use Rattle.tn_linemode.specs.Modes.{edits}
 use Rattle.tn_nvt.specs.Feeding.{failed}

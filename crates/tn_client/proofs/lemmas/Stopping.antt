@@ -1,9 +1,9 @@
 -- What a refused piece leaves, seen from the piece's items.
-use Rattle.std.proofs.Common.{◌≡◌, ℕ, List, [], ◌∷◌, ◌++◌, refl, sym, ap, ◌∙◌, subst, append_assoc}
+use Rattle.std.proofs.Common.{◌≡◌, ℕ, List, [], ◌∷◌, ◌++◌, sym, ap, ◌∙◌, subst}
 use Rattle.tn_nvt.specs.Feeding.{DecoderState}
 use Rattle.tn_nvt.specs.declared.items.Item.{Item}
-use Rattle.tn_wire.specs.Fronts.{IsRead}
-use Rattle.tn_wire.proofs.lemmas.Reading.{same_more, part_in_two}
+use Rattle.tn_wire.proofs.lemmas.Reading.{stopped_in}
+use Rattle.tn_wire.proofs.lemmas.Cutting.{added_on, parted_on, front_on}
 use Rattle.tn_client.specs.Course.{Course, fed, stream, ReadsAs, CourseLeadsTo}
 use Rattle.tn_client.specs.Events.{History, next, got, items, gets}
 use Rattle.tn_client.specs.Replies.{replies, items_said}
@@ -19,12 +19,8 @@ front_said h [] more part here back why =
     let m = sent-gets h more in
     (m.0, m.1 ∙ ap (λ (xs : List Item). items_said h ++ (xs ++ m.0)) (sym why.0))
 front_said h (item ∷ left) more part here back why =
-    let m = sent-gets (next h (got item)) (left ++ more) in (
-      why.rest ++ m.0,
-      m.1 ∙ append_assoc (items_said h) (replies h (got item)) m.0
-          ∙ ap (λ (xs : List Item). items_said h ++ (xs ++ m.0)) why.whole
-          ∙ ap (λ (xs : List Item). items_said h ++ xs) (append_assoc part why.rest m.0),
-    )
+    let m = sent-gets (next h (got item)) (left ++ more) in
+    (why.rest ++ m.0, front_on (replies h (got item)) part why.rest m.0 (items_said h) _ m.1 why.whole)
 
 pub stopped : (c : Course) (old : End) (piece before after seen now : List ℕ) (h whole : History) → CourseLeadsTo c old → StopsWithin old piece before after seen now → ReadsAs c h → ReadsAs (fed c piece) whole → StopsBetween h whole before after seen now
 stopped c old piece before after seen now h whole a s leads also =
@@ -33,31 +29,17 @@ stopped c old piece before after seen now h whole a s leads also =
     go : also.0 ≡ a.history → StopsBetween a.history whole before after seen now
     go same =
         let k = a.history in
-        let had = items k in
-        let here = s.reads (stream c) had a.reads in
-        let all : IsRead (stream c ++ (s.front ++ s.back)) (had ++ also.1) =
-        subst (λ (bytes : List ℕ). IsRead (stream c ++ bytes) (had ++ also.1)) s.whole
-        (subst (λ (x : History). IsRead (stream c ++ piece) (items x ++ also.1)) same also.3) in
-        let t = part_in_two (stream c) s.front s.back had also.1 (a.reads.rest, a.reads.reading) (had ++ (s.done ++ s.left), here.rest, here.reading) all in
-        let first : t.first ≡ s.done ++ s.left = same_more (stream c ++ s.front) had had t.first (s.done ++ s.left) refl t.front (here.rest, here.reading) in
-        let u = front_said (gets k s.done) s.left t.second s.part s.here s.back (s.cause k (stream c) had a.leads a.reads) in
-        let v = shown-gets (gets k s.done) (s.left ++ t.second) in
-        let on : whole ≡ gets (gets k s.done) (s.left ++ t.second) =
-        also.4 ∙ ap (λ (x : History). gets x also.1) same
-        ∙ ap (gets k) (t.whole ∙ ap (λ (xs : List Item). xs ++ t.second) first ∙ append_assoc s.done s.left t.second)
-        ∙ gets-append k s.done (s.left ++ t.second) in
+        let here = s.reads (stream c) (items k) a.reads in
+        let others = stopped_in items gets gets-append also.0 k whole (stream c) piece s.front s.back also.1 s.done s.left same s.whole (a.reads.rest, a.reads.reading) (here.rest, here.reading) also.3 also.4 in
+        let u = front_said (gets k s.done) s.left others.0 s.part s.here s.back (s.cause k (stream c) (items k) a.leads a.reads) in
+        let v = shown-gets (gets k s.done) (s.left ++ others.0) in
         record {
           said = s.said ++ s.part;
           unsaid = u.0;
           appended = s.appended;
-          sends =
-              ap items_said on ∙ u.1 ∙ ap (λ (xs : List Item). xs ++ (s.part ++ u.0)) (s.sends k a.leads)
-              ∙ append_assoc (items_said k) s.said (s.part ++ u.0)
-              ∙ ap (λ (xs : List Item). items_said k ++ xs) (sym (append_assoc s.said s.part u.0));
+          sends = ap items_said others.1 ∙ parted_on s.said s.part u.0 (items_said k) _ _ (s.sends k a.leads) u.1;
           text = s.text;
           unshown = v.0;
           displayed = s.displayed;
-          shows =
-              ap text_shown on ∙ v.1 ∙ ap (λ (xs : List ℕ). xs ++ v.0) (s.shows k a.leads)
-              ∙ append_assoc (text_shown k) s.text v.0;
+          shows = ap text_shown others.1 ∙ added_on s.text v.0 (text_shown k) _ _ (s.shows k a.leads) v.1;
         }

@@ -11,10 +11,13 @@ use Rattle.tn_client_core.specs.declared.messages.Mark.TheVariants as mark
 use Rattle.tn_client_core.specs.declared.messages.Origin.{Origin}
 use Rattle.tn_client_core.specs.declared.messages.Origin.TheVariants.{Keys, Net}
 use Rattle.tn_client_core.specs.declared.messages.Told.{Told}
+use Rattle.tn_messages.proofs.lemmas.Folding.{run_takes}
+use Rattle.tn_messages.proofs.lemmas.Pieces.{brings_none}
+use Rattle.tn_messages.specs.Pieces.{TakesFront}
 use Rattle.tn_nvt.proofs.lemmas.Reading.{reads_none}
-use Rattle.tn_term.specs.declared.messages.Message.{Message}
-use Rattle.tn_term.specs.declared.messages.Message.TheVariants.{Piece, HangUp, ReadFailed, Take, Said, Refused, Left}
-use Rattle.tn_wire.specs.Fronts.{IsRead}
+use Rattle.tn_messages.specs.declared.messages.Message.{Message}
+use Rattle.tn_messages.specs.declared.messages.Message.TheVariants.{Piece, HangUp, ReadFailed, Take, Said, Refused, Left}
+use Rattle.tn_wire.specs.Prefixes.{IsRead}
 
 true_false : true ≡ false → ⊥
 true_false e = cc
@@ -53,22 +56,10 @@ piece_taken c Net piece new t = record {
 }
 
 none_from : (side from : Origin) (m : Message) → ((piece : List ℕ) → m ≡ Piece piece → ⊥) → brought_from side from m ≡ []
-none_from Keys Keys (Piece piece) other = absurd (other piece refl)
-none_from Net Net (Piece piece) other = absurd (other piece refl)
+none_from Keys Keys m other = brings_none m other
+none_from Net Net m other = brings_none m other
 none_from Keys Net m other = refl
 none_from Net Keys m other = refl
-none_from Keys Keys HangUp other = refl
-none_from Keys Keys ReadFailed other = refl
-none_from Keys Keys Take other = refl
-none_from Keys Keys (Said job text after) other = refl
-none_from Keys Keys Refused other = refl
-none_from Keys Keys Left other = refl
-none_from Net Net HangUp other = refl
-none_from Net Net ReadFailed other = refl
-none_from Net Net Take other = refl
-none_from Net Net (Said job text after) other = refl
-none_from Net Net Refused other = refl
-none_from Net Net Left other = refl
 
 turned : (c : Run) (from : Origin) (m : Message) (new : Run) → ((piece : List ℕ) → m ≡ Piece piece → ⊥) → new.history ≡ c.history → new.stream ≡ c.stream → Takes c from m new
 turned c from m new other same stream = plain c from m new (none_from Keys from m other) (none_from Net from m other) same stream
@@ -98,78 +89,43 @@ takes_as c from m whole new same stream t = record {
       subst P (sym stream) (subst Q (sym same) (t.reads_on r));
 }
 
-turn_takes : (c : Run) (told : Told) (m : Mark) (new : Run) → c.progress.over ≡ false → Turns c (told, m) new → Takes c told.from told.message new
-turn_takes c told mark.Whole new on t = handled c told new on t
-turn_takes c told mark.WriteFailed new on t = takes_as c told.from told.message t.1 new (ap (λ (r : Run). r.history) t.3) (ap (λ (r : Run). r.stream) t.3) (handled c told t.1 on t.2)
-turn_takes c told mark.ShowFailed new on t = takes_as c told.from told.message t.1 new (ap (λ (r : Run). r.history) t.3) (ap (λ (r : Run). r.stream) t.3) (handled c told t.1 on t.2)
-turn_takes c told (mark.Refused f) new on t = takes_as c told.from told.message t.1 new (ap (λ (r : Run). r.history) t.3) (ap (λ (r : Run). r.stream) t.3) (handled c told t.1 on t.2)
-
-abbrev tolds : List (Told × Mark) → List Told
-tolds ms = map (λ m. m.0) ms
+turn_takes : (c new : Run) (m : Told × Mark) → c.progress.over ≡ false → Turns c m new → Takes c m.0.from m.0.message new
+turn_takes c new (told, mark.Whole) on t = handled c told new on t
+turn_takes c new (told, mark.WriteFailed) on t = takes_as c told.from told.message t.1 new (ap (λ (r : Run). r.history) t.3) (ap (λ (r : Run). r.stream) t.3) (handled c told t.1 on t.2)
+turn_takes c new (told, mark.ShowFailed) on t = takes_as c told.from told.message t.1 new (ap (λ (r : Run). r.history) t.3) (ap (λ (r : Run). r.stream) t.3) (handled c told t.1 on t.2)
+turn_takes c new (told, mark.Refused f) on t = takes_as c told.from told.message t.1 new (ap (λ (r : Run). r.history) t.3) (ap (λ (r : Run). r.stream) t.3) (handled c told t.1 on t.2)
 
 -- nothing has any effect
-turn_stays : (c : Run) (told : Told) (m : Mark) (new : Run) → c.progress.over ≡ true → Turns c (told, m) new → new ≡ c
-turn_stays c told mark.Whole new off t = let P : Bool → Type 0 = λ b. ActsUnless b c told new in subst P off t
-turn_stays c told mark.WriteFailed new off t = absurd (true_false (sym off ∙ t.0))
-turn_stays c told mark.ShowFailed new off t = absurd (true_false (sym off ∙ t.0))
-turn_stays c told (mark.Refused f) new off t = absurd (true_false (sym off ∙ t.0))
+turn_stays : (c new : Run) (m : Told × Mark) → c.progress.over ≡ true → Turns c m new → new ≡ c
+turn_stays c new (told, mark.Whole) off t = let P : Bool → Type 0 = λ b. ActsUnless b c told new in subst P off t
+turn_stays c new (told, mark.WriteFailed) off t = absurd (true_false (sym off ∙ t.0))
+turn_stays c new (told, mark.ShowFailed) off t = absurd (true_false (sym off ∙ t.0))
+turn_stays c new (told, mark.Refused f) off t = absurd (true_false (sym off ∙ t.0))
 
-run_stays : (c : Run) (ms : List (Told × Mark)) (new : Run) → c.progress.over ≡ true → Runs c ms new → new ≡ c
-run_stays c [] new off r = sym r
-run_stays c ((told, m) ∷ ms) new off r =
-    let same = turn_stays c told m r.0 off r.1 in
-    run_stays r.0 ms new (ap (λ (x : Run). x.progress.over) same ∙ off) r.2 ∙ same
+-- the history's items are those of the stream
+abbrev Reads : Run → Type 0
+Reads c = IsRead c.stream (items c.history)
 
--- what the messages bring from here on
-record TakesOn (c : Run) (ms : List (Told × Mark)) (new : Run) : Type 0 where
-  untyped : List ℕ
-  typed_on : keys c.history ++ brought Keys (tolds ms) ≡ keys new.history ++ untyped
-  unread : List ℕ
-  fed_on : c.stream ++ brought Net (tolds ms) ≡ new.stream ++ unread
-  read_on : IsRead c.stream (items c.history) → IsRead new.stream (items new.history)
-  all : new.progress.over ≡ false → (untyped ≡ []) × (unread ≡ [])
-
-run_takes : (c : Run) (ms : List (Told × Mark)) (new : Run) → Runs c ms new → TakesOn c ms new
-run_takes c [] new r = record {
-  untyped = [];
-  typed_on = ap (λ (x : Run). keys x.history ++ []) r;
-  unread = [];
-  fed_on = ap (λ (x : Run). x.stream ++ []) r;
-  read_on = λ read. subst (λ (x : Run). IsRead x.stream (items x.history)) r read;
-  all = λ on. (refl, refl);
-}
-run_takes c ((told, m) ∷ ms) new r = by_test c.progress.over refl (run_takes r.0 ms new r.2)
-  where
-    by_test : (b : Bool) → c.progress.over ≡ b → TakesOn r.0 ms new → TakesOn c ((told, m) ∷ ms) new
-    by_test true off later =
-        let same = run_stays c ((told, m) ∷ ms) new off r in
-        record {
-          untyped = brought Keys (told ∷ tolds ms);
-          typed_on = ap (λ (x : Run). keys x.history ++ brought Keys (told ∷ tolds ms)) (sym same);
-          unread = brought Net (told ∷ tolds ms);
-          fed_on = ap (λ (x : Run). x.stream ++ brought Net (told ∷ tolds ms)) (sym same);
-          read_on = λ read. subst (λ (x : Run). IsRead x.stream (items x.history)) (sym same) read;
-          all = λ on. absurd (true_false (sym off ∙ (ap (λ (x : Run). x.progress.over) (sym same) ∙ on)));
-        }
-    by_test false on later =
-        let t = turn_takes c told m r.0 on r.1 in
-        record {
-          untyped = later.untyped;
-          typed_on = sym (append_assoc (keys c.history) (brought_from Keys told.from told.message) (brought Keys (tolds ms))) ∙ ap (λ (ks : List ℕ). ks ++ brought Keys (tolds ms)) (sym t.types_on) ∙ later.typed_on;
-          unread = later.unread;
-          fed_on = sym (append_assoc c.stream (brought_from Net told.from told.message) (brought Net (tolds ms))) ∙ ap (λ (bs : List ℕ). bs ++ brought Net (tolds ms)) (sym t.feeds_on) ∙ later.fed_on;
-          read_on = λ read. later.read_on (t.reads_on read);
-          all = later.all;
-        }
+-- what messages bring from one side is taken in order
+side_takes : (side : Origin) (taken : Run → List ℕ) → ((c new : Run) (from : Origin) (m : Message) → Takes c from m new → taken new ≡ taken c ++ brought_from side from m) → (ms : List (Told × Mark)) (c new : Run) → Runs c ms new → Reads c → TakesFront new.progress.over (taken c ++ brought side (map (λ m. m.0) ms)) (taken new) × Reads new
+side_takes side taken more ms c new runs read =
+    run_takes Turns (λ (r : Run). r.progress.over) Reads taken (λ (m : Told × Mark). m.0) (λ (told : Told). brought_from side told.from told.message) (record {
+      on = λ p q m on t h. let one = turn_takes p q m on t in (more p q m.0.from m.0.message one, one.reads_on h);
+      off = λ p q m off t h.
+          let same = turn_stays p q m off t in
+          (ap (λ (r : Run). r.progress.over) same ∙ off, ap taken same, subst Reads (sym same) h);
+    }) ms c new runs read
 
 pub in_order : (width height limit : ℕ) (ms : List (Told × Mark)) (new : Run) → Runs (start width height limit) ms new → TakesInOrder (map (λ m. m.0) ms) new
 in_order width height limit ms new r =
-    let t = run_takes (start width height limit) ms new r in
+    let c = start width height limit in
+    let ks = side_takes Keys (λ (x : Run). keys x.history) (λ p q from m t. t.types_on) ms c new r ([], reads_none) in
+    let ns = side_takes Net (λ (x : Run). x.stream) (λ p q from m t. t.feeds_on) ms c new r ([], reads_none) in
     record {
-      untyped = t.untyped;
-      typed = t.typed_on;
-      unread = t.unread;
-      fed = t.fed_on;
-      read = t.read_on ([], reads_none);
-      all = t.all;
+      untyped = ks.0.rest;
+      typed = ks.0.front;
+      unread = ns.0.rest;
+      fed = ns.0.front;
+      read = ns.1;
+      all = λ on. (ks.0.whole on, ns.0.whole on);
     }

@@ -7,7 +7,7 @@ use Rattle.tn_discipline.specs.declared.keys.Role.{Role}
 use Rattle.tn_discipline.specs.declared.keys.Role.TheVariants as role
 use Rattle.tn_discipline.specs.declared.reads.Entry.{Entry}
 use Rattle.tn_discipline.specs.declared.reads.Entry.TheVariants as entry
-use Rattle.tn_discipline.specs.Limits.{most_counted}
+use Rattle.tn_discipline.specs.Limits.{max_counted}
 use Rattle.tn_discipline.specs.Admitted.{next_count, is_dropped, admitted_after, admitted_roles, count_after, count_of}
 use Rattle.tn_discipline.specs.Pieces.{Piece, Pieces, closing_bytes, cut_before, pieces_of}
 use Rattle.tn_discipline.specs.Kept.{kept_backwards, kept_bytes}
@@ -173,21 +173,21 @@ module _ (limit : ℕ) where
   entries-next h r = entries-one_more h r ∙ ap (λ n. entries_of limit h ++ (if is_dropped limit n r then [] else gain_after (half_of limit h) r)) (sym (length-half_of h))
 
   -- a half line fits
-  fits_by_test : (b : Bool) (n : ℕ) (r : Role) → (is_dropped limit n r ≡ b) → n ≤ most_counted limit → (if b then n else next_count n r) ≤ most_counted limit
+  fits_by_test : (b : Bool) (n : ℕ) (r : Role) → (is_dropped limit n r ≡ b) → n ≤ max_counted limit → (if b then n else next_count n r) ≤ max_counted limit
   fits_by_test true n r e h = h
   fits_by_test false n (role.Ordinary byte) e h = grind arith
   fits_by_test false n _ e h = omega arith
 
-  fits_both : (b : Bool) (n : ℕ) (r : Role) (h : List Role) → (is_dropped limit n r ≡ b) → count_after limit n h ≤ most_counted limit → (next_count n r ≤ most_counted limit → count_after limit (next_count n r) h ≤ most_counted limit) → n ≤ most_counted limit → (if b then count_after limit n h else count_after limit (next_count n r) h) ≤ most_counted limit
+  fits_both : (b : Bool) (n : ℕ) (r : Role) (h : List Role) → (is_dropped limit n r ≡ b) → count_after limit n h ≤ max_counted limit → (next_count n r ≤ max_counted limit → count_after limit (next_count n r) h ≤ max_counted limit) → n ≤ max_counted limit → (if b then count_after limit n h else count_after limit (next_count n r) h) ≤ max_counted limit
   fits_both true n r h e same more small = same
   fits_both false n r h e same more small = more (fits_by_test false n r e small)
 
-  fits_after : (n : ℕ) (h : List Role) → n ≤ most_counted limit → count_after limit n h ≤ most_counted limit
+  fits_after : (n : ℕ) (h : List Role) → n ≤ max_counted limit → count_after limit n h ≤ max_counted limit
   fits_after n [] e = e
   fits_after n (r ∷ h) e = fits_both (is_dropped limit n r) n r h refl (fits_after n h e) (λ small. fits_after (next_count n r) h small) e
 
-  pub half_of-fits : (h : List Role) → length (half_of limit h) ≤ most_counted limit
-  half_of-fits h = subst (λ n. n ≤ most_counted limit) (sym (length-half_of h)) (fits_after 0 h (omega arith))
+  pub half_of-fits : (h : List Role) → length (half_of limit h) ≤ max_counted limit
+  half_of-fits h = subst (λ n. n ≤ max_counted limit) (sym (length-half_of h)) (fits_after 0 h (omega arith))
 
   -- the same for more keys
   pub half-all : (h roles : List Role) → half_of limit (h ++ roles) ≡ half_all limit (half_of limit h) roles

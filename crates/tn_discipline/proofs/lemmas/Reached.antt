@@ -3,7 +3,7 @@ use Rattle.std.proofs.Common.{◌≡◌, ℕ, ◌+◌, ◌<◌, ◌==◌, Bool, 
 use Rattle.std.specs.Prelude.{replicate}
 use Rattle.std.proofs.lemmas.List.{reverse-append, reverse-reverse, length-reverse, length-replicate, map-append}
 use Rattle.tn_discipline.specs.HalfLine.{HalfLine, line_length}
-use Rattle.tn_discipline.specs.Limits.{most_counted}
+use Rattle.tn_discipline.specs.Limits.{max_counted}
 use Rattle.tn_discipline.specs.Admitted.{count_of}
 use Rattle.tn_discipline.specs.Entries.{half_of}
 use Rattle.tn_discipline.specs.Advancing.{LeadsTo}
@@ -15,7 +15,7 @@ use Rattle.tn_discipline.proofs.lemmas.Histories.{half-one_more, length-half_of}
 abbrev pub typed : List ℕ → List Role
 typed bytes = map (λ b. role.Ordinary b) bytes
 
-not_full : (n limit : ℕ) → n + 1 < limit → (n == most_counted limit) ≡ false
+not_full : (n limit : ℕ) → n + 1 < limit → (n == max_counted limit) ≡ false
 not_full n limit h = grind arith
 
 one_more : (limit : ℕ) (history : List Role) (bytes : List ℕ) (b : ℕ) → half_of limit history ≡ bytes → length bytes + 1 < limit → half_of limit (history ++ role.Ordinary b ∷ []) ≡ bytes ++ b ∷ []

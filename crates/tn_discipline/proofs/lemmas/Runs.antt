@@ -6,7 +6,7 @@ use Rattle.tn_discipline.specs.declared.keys.Role.TheVariants as role
 use Rattle.tn_discipline.specs.declared.reads.Entry.{Entry}
 use Rattle.tn_discipline.specs.declared.termios.Settings.{Settings}
 use Rattle.tn_discipline.specs.declared.half_line.Effect.TheVariants as effect
-use Rattle.tn_discipline.specs.Limits.{most_counted}
+use Rattle.tn_discipline.specs.Limits.{max_counted}
 use Rattle.tn_discipline.specs.Entries.{entries_of}
 use Rattle.tn_discipline.specs.Keys.{roles_of, role_of_key, roles_from}
 use Rattle.tn_discipline.specs.HalfLine.{HalfLine, line_length, is_full, effect_of, line_after, effect_entries}
@@ -65,19 +65,19 @@ ordinary_advance (byte ∷ bytes) line =
     advances_both line next (line_after_all next (ordinary_roles bytes)) (role.Ordinary byte ∷ []) (ordinary_roles bytes) [] [] one (ordinary_advance bytes next)
 
 -- the line has room
-pub not_full : (line : HalfLine) → line_length line < most_counted line.limit → is_full line ≡ false
+pub not_full : (line : HalfLine) → line_length line < max_counted line.limit → is_full line ≡ false
 not_full line h = grind arith
 
 -- and has none
-pub is_filled : (line : HalfLine) → line_length line ≡ most_counted line.limit → is_full line ≡ true
+pub is_filled : (line : HalfLine) → line_length line ≡ max_counted line.limit → is_full line ≡ true
 is_filled line h = grind arith
 
 -- a byte that fits is kept
-pub one_kept : (line : HalfLine) (byte : ℕ) → line_length line < most_counted line.limit → line_after line (role.Ordinary byte) ≡ record line { held = line.held ++ byte ∷ [] }
+pub one_kept : (line : HalfLine) (byte : ℕ) → line_length line < max_counted line.limit → line_after line (role.Ordinary byte) ≡ record line { held = line.held ++ byte ∷ [] }
 one_kept line byte fits = ap (λ (t : Bool). if t then line else record line { held = line.held ++ byte ∷ [] }) (not_full line fits)
 
 -- bytes that fit are kept
-pub all_kept : (bytes : List ℕ) (line : HalfLine) → line_length line + length bytes ≤ most_counted line.limit → line_after_all line (ordinary_roles bytes) ≡ record line { held = line.held ++ bytes }
+pub all_kept : (bytes : List ℕ) (line : HalfLine) → line_length line + length bytes ≤ max_counted line.limit → line_after_all line (ordinary_roles bytes) ≡ record line { held = line.held ++ bytes }
 all_kept [] line fits = ap (λ (held : List ℕ). record line { held = held }) (sym (append-nil line.held))
 all_kept (byte ∷ bytes) line fits =
     let mid = record line { held = line.held ++ byte ∷ [] } in
@@ -86,18 +86,18 @@ all_kept (byte ∷ bytes) line fits =
     ∙ ap (λ (held : List ℕ). record line { held = held }) (append_assoc line.held (byte ∷ []) bytes)
 
 -- bytes that don't fit are dropped
-pub all_dropped : (bytes : List ℕ) (line : HalfLine) → line_length line ≡ most_counted line.limit → line_after_all line (ordinary_roles bytes) ≡ line
+pub all_dropped : (bytes : List ℕ) (line : HalfLine) → line_length line ≡ max_counted line.limit → line_after_all line (ordinary_roles bytes) ≡ line
 all_dropped [] line full = refl
 all_dropped (byte ∷ bytes) line full =
     ap (λ (l : HalfLine). line_after_all l (ordinary_roles bytes)) (ap (λ (t : Bool). if t then line else record line { held = line.held ++ byte ∷ [] }) (is_filled line full))
     ∙ all_dropped bytes line full
 
-rest_dropped : (line : HalfLine) (rest : List ℕ) → (0 < length rest → line_length line ≡ most_counted line.limit) → line_after_all line (ordinary_roles rest) ≡ line
+rest_dropped : (line : HalfLine) (rest : List ℕ) → (0 < length rest → line_length line ≡ max_counted line.limit) → line_after_all line (ordinary_roles rest) ≡ line
 rest_dropped line [] full = refl
 rest_dropped line (byte ∷ rest) full = all_dropped (byte ∷ rest) line (full (omega arith))
 
 -- as many as fit are kept, and the others are dropped
-pub front_kept : (line : HalfLine) (bytes : List ℕ) (n : ℕ) → n ≡ min (most_counted line.limit - line_length line) (length bytes) → line_length line ≤ most_counted line.limit → line_after_all line (ordinary_roles bytes) ≡ record line { held = line.held ++ take n bytes }
+pub front_kept : (line : HalfLine) (bytes : List ℕ) (n : ℕ) → n ≡ min (max_counted line.limit - line_length line) (length bytes) → line_length line ≤ max_counted line.limit → line_after_all line (ordinary_roles bytes) ≡ record line { held = line.held ++ take n bytes }
 front_kept line bytes n is fits =
     let mid = record line { held = line.held ++ take n bytes } in
     let front = length-take n bytes in

@@ -5,7 +5,7 @@ use Rattle.std.proofs.lemmas.List.{take-append-drop, take_all, drop_more, length
 use Rattle.std.proofs.lemmas.List.Elements.{All-take, All-drop}
 use Rattle.tn_discipline.specs.HalfLine.{HalfLine, line_length, is_full, effect_of, line_after}
 use Rattle.tn_discipline.specs.Keys.{roles_of, role_of_key}
-use Rattle.tn_discipline.specs.Limits.{most_counted}
+use Rattle.tn_discipline.specs.Limits.{max_counted}
 use Rattle.tn_discipline.specs.RolesTable.{IsPlain}
 use Rattle.tn_discipline.specs.Runs.{line_after_all, each_role}
 use Rattle.tn_discipline.specs.Advancing.{Advances}
@@ -174,7 +174,7 @@ same_kept : (old : Terminal) (xs ys : List ℕ) (q r : List Symbol) → xs ≡ y
 same_kept old xs ys q r x y = rw (x, y)
 
 -- keys that fit
-pub typed_kept : (echo : Bool) (keys : List ℕ) (old : Terminal) → ArePlain old keys → line_length old.line + length keys ≤ most_counted old.line.limit
+pub typed_kept : (echo : Bool) (keys : List ℕ) (old : Terminal) → ArePlain old keys → line_length old.line + length keys ≤ max_counted old.line.limit
     → typed_after_all echo old keys ≡ with_kept old keys (queue_shown (echo && old.settings.flags.echo) old.queue (map (λ b. Byte b) keys))
 typed_kept echo [] old plain fits =
     let shown = echo && old.settings.flags.echo in
@@ -183,14 +183,14 @@ typed_kept echo (key ∷ keys) old plain fits =
     let shown = echo && old.settings.flags.echo in
     let queue = queue_shown shown old.queue (Byte key ∷ []) in
     let mid = with_kept old (key ∷ []) queue in
-    let room : line_length old.line < most_counted old.line.limit = omega (arith, fits) in
+    let room : line_length old.line < max_counted old.line.limit = omega (arith, fits) in
     ap (λ t. typed_after_all echo t keys)
     (typed_one echo old key false (record (old.line) { held = old.line.held ++ key ∷ [] }) (plain_first old key keys plain) (not_full old.line room) (one_kept old.line key room))
     ∙ typed_kept echo keys mid (plain_rest old key keys plain) (omega (arith, fits, length-append old.line.held (key ∷ [])))
     ∙ same_kept old _ _ _ _ (append_assoc old.line.held (key ∷ []) keys) (shown_more shown old.queue (Byte key) (map (λ b. Byte b) keys))
 
 -- keys that don't
-pub typed_dropped : (echo : Bool) (keys : List ℕ) (old : Terminal) → ArePlain old keys → (0 < length keys → line_length old.line ≡ most_counted old.line.limit)
+pub typed_dropped : (echo : Bool) (keys : List ℕ) (old : Terminal) → ArePlain old keys → (0 < length keys → line_length old.line ≡ max_counted old.line.limit)
     → typed_after_all echo old keys ≡ record old { queue = queue_shown (echo && old.settings.flags.echo) old.queue (map (λ b. Byte 7) keys) }
 typed_dropped echo [] old plain full =
     let shown = echo && old.settings.flags.echo in
@@ -209,7 +209,7 @@ plain_front : (old : Terminal) (keys : List ℕ) (n : ℕ) → ArePlain old keys
 plain_front old keys n plain = All-take (IsPlain old.settings) n keys plain
 
 -- keys of which the first fit and the others don't
-pub typed_plain : (echo : Bool) (keys : List ℕ) (old : Terminal) (n : ℕ) → ArePlain old keys → n ≡ min (most_counted old.line.limit - line_length old.line) (length keys) → line_length old.line ≤ most_counted old.line.limit
+pub typed_plain : (echo : Bool) (keys : List ℕ) (old : Terminal) (n : ℕ) → ArePlain old keys → n ≡ min (max_counted old.line.limit - line_length old.line) (length keys) → line_length old.line ≤ max_counted old.line.limit
     → let shown = echo && old.settings.flags.echo in
     typed_after_all echo old keys ≡ with_kept old (take n keys) (queue_shown shown (queue_shown shown old.queue (map (λ b. Byte b) (take n keys))) (map (λ b. Byte 7) (drop n keys)))
 typed_plain echo keys old n plain is fits =
@@ -224,7 +224,7 @@ typed_plain echo keys old n plain is fits =
     ∙ typed_dropped echo (drop n keys) mid (All-drop (IsPlain old.settings) n keys plain) (λ some. omega (arith, is, front, whole, long, some, fits))
 
 -- the same of a line and a queue that are known to be those
-pub typed_shown : (echo shown : Bool) (keys : List ℕ) (old : Terminal) (n : ℕ) (line : HalfLine) (queue : List Symbol) → ArePlain old keys → n ≡ min (most_counted old.line.limit - line_length old.line) (length keys) → line_length old.line < old.line.limit
+pub typed_shown : (echo shown : Bool) (keys : List ℕ) (old : Terminal) (n : ℕ) (line : HalfLine) (queue : List Symbol) → ArePlain old keys → n ≡ min (max_counted old.line.limit - line_length old.line) (length keys) → line_length old.line < old.line.limit
     → line ≡ record (old.line) { held = old.line.held ++ take n keys } → (echo && old.settings.flags.echo) ≡ shown
     → queue ≡ queue_shown shown (queue_shown shown old.queue (map (λ b. Byte b) (take n keys))) (map (λ b. Byte 7) (drop n keys))
     → let new : Terminal = record old { line = line; queue = queue } in new ≡ typed_after_all echo old keys

@@ -1,12 +1,12 @@
 -- What a refused piece leaves, seen from the piece's items.
-use Rattle.std.proofs.Common.{◌≡◌, ◌≢◌, ℕ, List, [], ◌∷◌, ◌++◌, length, refl, sym, ap, ◌∙◌, subst, append_assoc}
+use Rattle.std.proofs.Common.{◌≡◌, ◌≢◌, ℕ, List, [], ◌∷◌, ◌++◌, length, refl, sym, ap, ◌∙◌, subst}
 use Rattle.tn_nvt.specs.Feeding.{DecoderState, failed}
 use Rattle.tn_nvt.specs.Feeding as nvt
 use Rattle.tn_nvt.specs.declared.items.Item.{Item}
-use Rattle.tn_pty.specs.Terminal.{most_waiting}
+use Rattle.tn_pty.specs.Terminal.{max_waiting}
 use Rattle.tn_pty.specs.declared.pty.PtyFault.TheVariants.{TooFarAhead}
-use Rattle.tn_wire.specs.Fronts.{IsRead}
-use Rattle.tn_wire.proofs.lemmas.Reading.{same_more, part_in_two}
+use Rattle.tn_wire.proofs.lemmas.Reading.{stopped_in}
+use Rattle.tn_wire.proofs.lemmas.Cutting.{parted_on, front_on}
 use Rattle.tn_server.specs.Course.{Course, fed, stream, ReadsAs, CourseLeadsTo}
 use Rattle.tn_server.specs.Events.{History, next, got, items, gets}
 use Rattle.tn_server.specs.Lines.{waiting}
@@ -29,19 +29,15 @@ front_said h [] more part rest e =
     no_front [] ys f = refl
     no_front (x ∷ xs) ys f = absurd (cc)
 front_said h (item ∷ left) more part rest e =
-    let m = sent-gets (next h (got item)) (left ++ more) in (
-      rest ++ m.0,
-      m.1 ∙ append_assoc (items_said h) (replies h (got item)) m.0
-          ∙ ap (λ (xs : List Item). items_said h ++ (xs ++ m.0)) e
-          ∙ ap (λ (xs : List Item). items_said h ++ xs) (append_assoc part rest m.0),
-    )
+    let m = sent-gets (next h (got item)) (left ++ more) in
+    (rest ++ m.0, front_on (replies h (got item)) part rest m.0 (items_said h) _ m.1 e)
 
 -- a decoder that has read a stream has not failed
 pub has_read : (d : DecoderState) (bytes : List ℕ) (had : List Item) → nvt.LeadsTo bytes had d → d ≢ failed
 has_read d bytes had r = λ is. (subst (λ x. nvt.LeadsTo bytes had x) is r).stands
 
 -- the pair was too far behind at an item, and then as many waited as may
-pub many_wait : (h : History) (left : List Item) (here : DecoderState) (back : List ℕ) → IsStopCause h left here back (Pty TooFarAhead) → length (waiting h) ≡ most_waiting
+pub many_wait : (h : History) (left : List Item) (here : DecoderState) (back : List ℕ) → IsStopCause h left here back (Pty TooFarAhead) → length (waiting h) ≡ max_waiting
 many_wait h [] here back why = absurd (let f = why.0 in cc)
 many_wait h (item ∷ left) here back why = why.1
 
@@ -52,32 +48,20 @@ stopped c old new piece before after fault h whole a s leads also =
     go : also.0 ≡ a.history → StopsBetween a.history whole fault before after new
     go same =
         let k = a.history in
-        let had = items k in
-        let here = s.reads (stream c) had a.reads in
-        let all : IsRead (stream c ++ (s.front ++ s.back)) (had ++ also.1) =
-        subst (λ (bytes : List ℕ). IsRead (stream c ++ bytes) (had ++ also.1)) s.whole
-        (subst (λ (x : History). IsRead (stream c ++ piece) (items x ++ also.1)) same also.3) in
-        let t = part_in_two (stream c) s.front s.back had also.1 (a.reads.rest, a.reads.reading) (had ++ (s.done ++ s.left), here.rest, here.reading) all in
-        let first : t.first ≡ s.done ++ s.left = same_more (stream c ++ s.front) had had t.first (s.done ++ s.left) refl t.front (here.rest, here.reading) in
+        let here = s.reads (stream c) (items k) a.reads in
+        let others = stopped_in items gets gets-append also.0 k whole (stream c) piece s.front s.back also.1 s.done s.left same s.whole (a.reads.rest, a.reads.reading) (here.rest, here.reading) also.3 also.4 in
         let b = s.begins k a.leads in
-        let u = front_said (gets k s.done) s.left t.second s.part b.0 b.1 in
-        let on : whole ≡ gets (gets k s.done) (s.left ++ t.second) =
-        also.4 ∙ ap (λ (x : History). gets x also.1) same
-        ∙ ap (gets k) (t.whole ∙ ap (λ (xs : List Item). xs ++ t.second) first ∙ append_assoc s.done s.left t.second)
-        ∙ gets-append k s.done (s.left ++ t.second) in
+        let u = front_said (gets k s.done) s.left others.0 s.part b.0 b.1 in
         record {
           done = s.done;
-          left = s.left ++ t.second;
-          goes_on = on;
+          left = s.left ++ others.0;
+          goes_on = others.1;
           leads = s.leads k a.leads;
           said = s.said ++ s.part;
           unsaid = u.0;
           appended = s.appended;
-          sends =
-              ap items_said on ∙ u.1 ∙ ap (λ (xs : List Item). xs ++ (s.part ++ u.0)) (s.sends k a.leads)
-              ∙ append_assoc (items_said k) s.said (s.part ++ u.0)
-              ∙ ap (λ (xs : List Item). items_said k ++ xs) (sym (append_assoc s.said s.part u.0));
+          sends = ap items_said others.1 ∙ parted_on s.said s.part u.0 (items_said k) _ _ (s.sends k a.leads) u.1;
           too_far = λ is.
               many_wait (gets k s.done) s.left s.here s.back
-              (subst (λ (f : ServerFault). IsStopCause (gets k s.done) s.left s.here s.back f) is (s.cause (has_read old.decoder (stream c) had a.reads) k a.leads));
+              (subst (λ (f : ServerFault). IsStopCause (gets k s.done) s.left s.here s.back f) is (s.cause (has_read old.decoder (stream c) (items k) a.reads) k a.leads));
         }

@@ -2,7 +2,7 @@
 use Rattle.std.proofs.Common.{◌≡◌, ℕ, ◌+◌, ◌<◌, Bool, true, false, ◌&&◌, Option, Some, None, List, [], ◌∷◌, ◌++◌, length, drop, refl, sym, ap, ◌∙◌, subst, arith, append-nil, append_assoc, length-append, length-drop, drop-drop, if◌then◌else◌}
 use Rattle.std.proofs.lemmas.Bool.{lt-ltb, le-ltb}
 use Rattle.std.proofs.lemmas.List.{drop-append-le}
-use Rattle.std.specs.List.{FoldsTo}
+use Rattle.tn_messages.proofs.lemmas.Folding.{run_keeps}
 use Rattle.tn_discipline.proofs.lemmas.Histories.{entries-all}
 use Rattle.tn_discipline.specs.Entries.{half_of}
 use Rattle.tn_discipline.specs.Steps.{gain_all}
@@ -16,7 +16,7 @@ use Rattle.tn_nvt.specs.declared.items.Item.{Item}
 use Rattle.tn_server.specs.Events.{History, next, got, took, wrote, gets}
 use Rattle.tn_server.specs.Lines.{entries, taken_count, waiting, roles, role_at}
 use Rattle.tn_server.specs.Terms.{settings, mode}
-use Rattle.tn_term.specs.Giving.{entries_put, Gives, GivesFront}
+use Rattle.tn_term.specs.Giving.{entries_put, Gives, GivesPrefix}
 use Rattle.tn_term.specs.Run.{Run, flushed_history, flush, feed, ask, ask_if, answer, end_if, show, move, stop_job, end_job, in_foreground, after_said, halt_if, is_end, hang_up, ends_by, Acts, ActsUnless, idle, idle_puts, fail, opening, start}
 use Rattle.tn_server.specs.Course.{in_parts}
 use Rattle.tn_server.specs.Events.{limit}
@@ -25,11 +25,11 @@ use Rattle.tn_term.specs.Marks.{Turns, Runs, unput, put_or_not, run_after_openin
 use Rattle.tn_term.specs.declared.messages.Mark.{Mark}
 use Rattle.tn_term.specs.declared.messages.Mark.TheVariants as mark
 use Rattle.tn_server.specs.declared.wishes.Editing.{Editing}
-use Rattle.tn_term.specs.declared.faults.SessionFault.{SessionFault}
-use Rattle.tn_term.specs.declared.faults.Ended.TheVariants.{Fault}
-use Rattle.tn_term.specs.declared.faults.SessionFault.TheVariants as fault
-use Rattle.tn_term.specs.declared.messages.Message.{Message}
-use Rattle.tn_term.specs.declared.messages.Message.TheVariants.{Piece, HangUp, ReadFailed, Take, Said, Refused, Left}
+use Rattle.tn_messages.specs.declared.faults.SessionFault.{SessionFault}
+use Rattle.tn_messages.specs.declared.faults.Ended.TheVariants.{Fault}
+use Rattle.tn_messages.specs.declared.faults.SessionFault.TheVariants as fault
+use Rattle.tn_messages.specs.declared.messages.Message.{Message}
+use Rattle.tn_messages.specs.declared.messages.Message.TheVariants.{Piece, HangUp, ReadFailed, Take, Said, Refused, Left}
 use Rattle.tn_jobs.specs.Jobs.{Jobs}
 
 pub entries_put-append : (ps qs : List (Option Entry)) → entries_put (ps ++ qs) ≡ entries_put ps ++ entries_put qs
@@ -156,10 +156,10 @@ gives_start canon editing = record { all = refl; taken = omega arith }
 
 -- what was put is a prefix of the history's entries
 
-front_of : (ps : List (Option Entry)) (h : History) → Gives ps h → GivesFront ps h
+front_of : (ps : List (Option Entry)) (h : History) → Gives ps h → GivesPrefix ps h
 front_of ps h g = (waiting h, g.all)
 
-front_none : (ps qs : List (Option Entry)) (h : History) → entries_put qs ≡ [] → GivesFront ps h → GivesFront (ps ++ qs) h
+front_none : (ps qs : List (Option Entry)) (h : History) → entries_put qs ≡ [] → GivesPrefix ps h → GivesPrefix (ps ++ qs) h
 front_none ps qs h e (rest, f) = (
   rest,
   ap (λ (es : List Entry). es ++ rest) (entries_put-append ps qs ∙ ap (λ (es : List Entry). entries_put ps ++ es) e ∙ append-nil (entries_put ps)) ∙ f,
@@ -237,7 +237,7 @@ more_acts c new Left a = more_as c (flush c) new a (more_none c (flush c) refl)
 -- while messages have their effect all is given, and from then on a front
 record InOrder (c : Run) : Type 0 where
   gives : c.progress.over ≡ false → Gives c.puts c.history
-  front : GivesFront c.puts c.history
+  front : GivesPrefix c.puts c.history
 
 true_false : true ≡ false → ⊥
 true_false e = cc
@@ -245,13 +245,13 @@ true_false e = cc
 in_order_as : (c d : Run) → d ≡ c → InOrder c → InOrder d
 in_order_as c d e i = let P : Run → Type 0 = λ u. InOrder u in subst P (sym e) i
 
-failed_in_order : (f : SessionFault) (c : Run) → GivesFront c.puts c.history → InOrder (fail f c)
+failed_in_order : (f : SessionFault) (c : Run) → GivesPrefix c.puts c.history → InOrder (fail f c)
 failed_in_order f c g = record {
   gives = λ e. absurd (true_false e);
   front = front_none c.puts (end_if c.progress.asks) c.history (none_at_end c.progress.asks) g;
 }
 
-unput_front : (m : Message) (c whole : Run) → More c whole → Gives whole.puts whole.history → GivesFront c.puts whole.history
+unput_front : (m : Message) (c whole : Run) → More c whole → Gives whole.puts whole.history → GivesPrefix c.puts whole.history
 unput_front m c whole (more, e) g = (
   entries_put more ++ waiting whole.history,
   sym (append_assoc (entries_put c.puts) (entries_put more) (waiting whole.history))
@@ -275,28 +275,24 @@ handled_in_order true c new m e a i =
     })
 handled_in_order false c new m e a i = let g = gives_acts c new m a (i.gives e) in record { gives = λ f. g; front = front_of new.puts new.history g }
 
-turned_in_order : (c new : Run) (m : Message) (k : Mark) → Turns c (m, k) new → InOrder c → InOrder new
-turned_in_order c new m mark.Whole t i = handled_in_order c.progress.over c new m refl t i
-turned_in_order c new m mark.WriteFailed t i =
+turned_in_order : (c new : Run) (m : Message × Mark) → Turns c m new → InOrder c → InOrder new
+turned_in_order c new (m, mark.Whole) t i = handled_in_order c.progress.over c new m refl t i
+turned_in_order c new (m, mark.WriteFailed) t i =
     let g = gives_acts c t.1 m (acts_of c.progress.over c t.1 m t.0 t.2) (i.gives t.0) in
     in_order_as (fail fault.Write t.1) new t.3 (failed_in_order fault.Write t.1 (front_of t.1.puts t.1.history g))
-turned_in_order c new m (mark.Refused f put) t i =
+turned_in_order c new (m, mark.Refused f put) t i =
     let a = acts_of c.progress.over c t.1 m t.0 t.2 in
     in_order_as (fail (fault.Server f) (put_or_not put m c t.1)) new t.3 (refused_in_order put (fault.Server f) m c t.1 (more_acts c t.1 m a) (gives_acts c t.1 m a (i.gives t.0)))
-
-all_in_order : (marked : List (Message × Mark)) (c new : Run) → FoldsTo Turns c marked new → InOrder c → InOrder new
-all_in_order [] c new f i = in_order_as c new (sym f) i
-all_in_order ((m, k) ∷ marked) c new f i = all_in_order marked f.0 new f.2 (turned_in_order c f.0 m k f.1 i)
 
 started_in_order : (b : Bool) (canon : Canon) (editing : Editing) (jobs : Jobs) → InOrder (run_after_opening b (start canon editing jobs))
 started_in_order true canon editing jobs = let g = gives_start canon editing in record { gives = λ e. g; front = front_of [] (opening canon editing) g }
 started_in_order false canon editing jobs = failed_in_order fault.Write (start canon editing jobs) (front_of [] (opening canon editing) (gives_start canon editing))
 
-pub puts_are_front : (b : Bool) (canon : Canon) (editing : Editing) (jobs : Jobs) (marked : List (Message × Mark)) (new : Run) → Runs (run_after_opening b (start canon editing jobs)) marked new → GivesFront new.puts new.history
-puts_are_front b canon editing jobs marked new r = (all_in_order marked (run_after_opening b (start canon editing jobs)) new r (started_in_order b canon editing jobs)).front
+pub puts_are_front : (b : Bool) (canon : Canon) (editing : Editing) (jobs : Jobs) (marked : List (Message × Mark)) (new : Run) → Runs (run_after_opening b (start canon editing jobs)) marked new → GivesPrefix new.puts new.history
+puts_are_front b canon editing jobs marked new r = (run_keeps Turns InOrder turned_in_order marked (run_after_opening b (start canon editing jobs)) new r (started_in_order b canon editing jobs)).front
 
 -- what was taken of what was put
-pub taken_are_front : (taken_count rest puts : List (Option Entry)) (h : History) → taken_count ++ rest ≡ puts → GivesFront puts h → GivesFront taken_count h
+pub taken_are_front : (taken_count rest puts : List (Option Entry)) (h : History) → taken_count ++ rest ≡ puts → GivesPrefix puts h → GivesPrefix taken_count h
 taken_are_front taken_count rest puts h e (others, f) = (
   entries_put rest ++ others,
   sym (append_assoc (entries_put taken_count) (entries_put rest) others)

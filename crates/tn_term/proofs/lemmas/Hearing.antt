@@ -1,6 +1,6 @@
 -- What was heard of the pieces, and the entries that it gives.
 use Rattle.std.proofs.Common.{◌≡◌, ℕ, Bool, true, false, ◌&&◌, Option, Some, None, List, [], ◌∷◌, ◌++◌, map, refl, sym, ap, ◌∙◌, subst, append-nil, append_assoc}
-use Rattle.std.specs.List.{FoldsTo}
+use Rattle.tn_messages.proofs.lemmas.Folding.{run_takes}
 use Rattle.tn_discipline.proofs.lemmas.Histories.{entries-all}
 use Rattle.tn_discipline.specs.Canon.{Canon}
 use Rattle.tn_discipline.specs.Entries.{half_of}
@@ -20,18 +20,19 @@ use Rattle.tn_server.specs.Events.{History, next, got, took, items, gets, limit}
 use Rattle.tn_server.specs.Lines.{entries, roles, role_at, waiting}
 use Rattle.tn_server.specs.Terms.{settings, mode}
 use Rattle.tn_server.specs.declared.wishes.Editing.{Editing}
-use Rattle.tn_wire.specs.Fronts.{IsRead}
+use Rattle.tn_wire.specs.Prefixes.{IsRead}
 use Rattle.tn_term.proofs.Alike.{OfItems, SameLines, lines_self, lines_took, lines_flushed, lines_parts, same_entries, of_items_gets, items_parts}
 use Rattle.tn_term.proofs.lemmas.Giving.{acts_of}
-use Rattle.tn_term.specs.Hearing.{bytes_in, heard, Hears, entries_by}
+use Rattle.tn_messages.specs.Pieces.{bytes_in}
+use Rattle.tn_term.specs.Hearing.{heard, Hears, entries_by}
 use Rattle.tn_term.specs.Marks.{Turns, Runs, put_or_not, run_after_opening}
 use Rattle.tn_term.specs.Run.{Run, Acts, ActsUnless, flushed_history, flush, feed, ask, ask_if, answer, hang_up, ends_by, move, stop_job, end_job, in_foreground, after_said, halt_if, is_end, show, fail, opening, start}
-use Rattle.tn_term.specs.declared.faults.Ended.TheVariants.{Fault}
-use Rattle.tn_term.specs.declared.faults.SessionFault.TheVariants as fault
+use Rattle.tn_messages.specs.declared.faults.Ended.TheVariants.{Fault}
+use Rattle.tn_messages.specs.declared.faults.SessionFault.TheVariants as fault
 use Rattle.tn_term.specs.declared.messages.Mark.{Mark}
 use Rattle.tn_term.specs.declared.messages.Mark.TheVariants as mark
-use Rattle.tn_term.specs.declared.messages.Message.{Message}
-use Rattle.tn_term.specs.declared.messages.Message.TheVariants.{Piece, HangUp, ReadFailed, Take, Said, Refused, Left}
+use Rattle.tn_messages.specs.declared.messages.Message.{Message}
+use Rattle.tn_messages.specs.declared.messages.Message.TheVariants.{Piece, HangUp, ReadFailed, Take, Said, Refused, Left}
 
 -- the history of a stream
 record Heard (first : History) (stream : List ℕ) (h : History) : Type 0 where
@@ -185,53 +186,13 @@ turned_off m (mark.Refused f put) c new off t = absurd (true_false (sym off ∙ 
 
 -- ALL MESSAGES
 
-abbrev messages : List (Message × Mark) → List Message
-messages marked = map (λ m. m.0) marked
+turned_hearing : (first : History) (c new : Run) (m : Message × Mark) → c.progress.over ≡ false → Turns c m new → Heard first c.stream c.history → (new.stream ≡ c.stream ++ bytes_in m.0) × Heard first new.stream new.history
+turned_hearing first c new m on t h = let one = turned_on first m.0 m.1 c new on t h in (one.stream, one.heard_on)
 
-record Ran (first : History) (marked : List (Message × Mark)) (c new : Run) : Type 0 where
-  front : List ℕ
-  unheard : List ℕ
-  all : heard (messages marked) ≡ front ++ unheard
-  stream : new.stream ≡ c.stream ++ front
-  heard_on : Heard first new.stream new.history
-
-ran_none : (first : History) (c new : Run) → c ≡ new → Heard first c.stream c.history → Ran first [] c new
-ran_none first c new e h =
-    let P : Run → Type 0 = λ u. Ran first [] c u in
-    subst P e (record { front = []; unheard = []; all = refl; stream = sym (append-nil c.stream); heard_on = h })
-
-stopped : (marked : List (Message × Mark)) (c new : Run) → c.progress.over ≡ true → FoldsTo Turns c marked new → Stays c new
-stopped [] c new off f = let P : Run → Type 0 = λ u. Stays c u in subst P f (record { over = off; stream = refl; history = refl })
-stopped ((m, k) ∷ marked) c new off f =
-    let one = turned_off m k c f.0 off f.1 in
-    let more = stopped marked f.0 new one.over f.2 in
-    record { over = more.over; stream = more.stream ∙ one.stream; history = more.history ∙ one.history }
-
-ran_from : (b : Bool) (first : History) (m : Message) (k : Mark) (marked : List (Message × Mark)) (c mid new : Run) → c.progress.over ≡ b → Turns c (m, k) mid → FoldsTo Turns mid marked new → Heard first c.stream c.history → (Heard first mid.stream mid.history → Ran first marked mid new) → Ran first ((m, k) ∷ marked) c new
-ran_from false first m k marked c mid new on t f h next_ran =
-    let one = turned_on first m k c mid on t h in
-    let more = next_ran one.heard_on in
-    record {
-      front = bytes_in m ++ more.front;
-      unheard = more.unheard;
-      all = ap (λ (bs : List ℕ). bytes_in m ++ bs) more.all ∙ sym (append_assoc (bytes_in m) more.front more.unheard);
-      stream = more.stream ∙ ap (λ (bs : List ℕ). bs ++ more.front) one.stream ∙ append_assoc c.stream (bytes_in m) more.front;
-      heard_on = more.heard_on;
-    }
-ran_from true first m k marked c mid new off t f h next_ran =
-    let stop = turned_off m k c mid off t in
-    let rest = stopped marked mid new stop.over f in
-    record {
-      front = [];
-      unheard = heard (messages ((m, k) ∷ marked));
-      all = refl;
-      stream = rest.stream ∙ stop.stream ∙ sym (append-nil c.stream);
-      heard_on = heard_as first c.history new.history c.stream new.stream (rest.stream ∙ stop.stream) (rest.history ∙ stop.history) h;
-    }
-
-ran : (first : History) (marked : List (Message × Mark)) (c new : Run) → FoldsTo Turns c marked new → Heard first c.stream c.history → Ran first marked c new
-ran first [] c new f h = ran_none first c new f h
-ran first ((m, k) ∷ marked) c new f h = ran_from c.progress.over first m k marked c f.0 new refl f.1 f.2 h (λ g. ran first marked f.0 new f.2 g)
+turned_stays : (first : History) (c new : Run) (m : Message × Mark) → c.progress.over ≡ true → Turns c m new → Heard first c.stream c.history → (new.progress.over ≡ true) × (new.stream ≡ c.stream) × Heard first new.stream new.history
+turned_stays first c new m off t h =
+    let s = turned_off m.0 m.1 c new off t in
+    (s.over, s.stream, heard_as first c.history new.history c.stream new.stream s.stream s.history h)
 
 -- before the first message
 begun_history : (b : Bool) (canon : Canon) (editing : Editing) (jobs : Jobs) → (run_after_opening b (start canon editing jobs)).history ≡ opening canon editing
@@ -246,12 +207,13 @@ pub hears : (b : Bool) (canon : Canon) (editing : Editing) (jobs : Jobs) (marked
 hears b canon editing jobs marked new runs =
     let o = opening canon editing in
     let c = run_after_opening b (start canon editing jobs) in
-    let r = ran o marked c new runs (heard_as o o c.history [] c.stream (begun_stream b canon editing jobs) (begun_history b canon editing jobs) (record { read = ([], reads_none); lines = lines_self o })) in
+    let begun = begun_stream b canon editing jobs in
+    let r = run_takes Turns (λ (u : Run). u.progress.over) (λ u. Heard o u.stream u.history) (λ u. u.stream) (λ (m : Message × Mark). m.0) bytes_in (record { on = turned_hearing o; off = turned_stays o }) marked c new runs (heard_as o o c.history [] c.stream begun (begun_history b canon editing jobs) (record { read = ([], reads_none); lines = lines_self o })) in
     record {
-      unheard = r.unheard;
-      stream_first = r.all ∙ ap (λ (bs : List ℕ). bs ++ r.unheard) (sym (r.stream ∙ ap (λ (bs : List ℕ). bs ++ r.front) (begun_stream b canon editing jobs)));
-      read = r.heard_on.read;
-      entries_are = same_entries new.history (gets o (items new.history)) r.heard_on.lines;
+      unheard = r.0.rest;
+      stream_first = ap (λ (bs : List ℕ). bs ++ heard (map (λ m. m.0) marked)) (sym begun) ∙ r.0.front;
+      read = r.1.read;
+      entries_are = same_entries new.history (gets o (items new.history)) r.1.lines;
     }
 
 -- THE ENTRIES OF MORE BYTES

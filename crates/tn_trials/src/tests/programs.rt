@@ -8,6 +8,7 @@ ghost use Rattle.tn_streams.specs.Counting.{told_by};
 use std::alloc::Global;
 use std::io::{self, ErrorKind, Read};
 use std::process::Abort;
+use std::test::Fail;
 use tn_cli::{Asked, CliFault, Connecting, Serving, WordsFault, read_words, run_local, run_replay};
 use tn_discipline::Limit;
 use tn_streams::{Drain, Source, Tally};
@@ -45,33 +46,40 @@ fn words_ask_for_runs(rt: HostRuntime) {
 }
 
 #[test]
-fn words_ask_for_a_server(rt: HostRuntime) {
+fn words_ask_for_a_server(rt: HostRuntime) -> Result<(), Fail> {
     let asked = Asked::Serve(Serving {
+        host: String::from_str(rt.alloc(), "127.0.0.1")?,
         port: 2323,
-        limit: 8,
+        sessions: 8,
         count: 1,
         ticks: 0,
-        line: Limit::standard(),
+        line_limit: Limit::standard(),
+        idle: 0,
         local: false,
         verbose: false,
     });
     asks(&rt, rt.alloc(), "tn serve --port 2323", Some(asked));
+    Ok(())
 }
 
 #[test]
-fn words_ask_for_all_of_a_server(rt: HostRuntime) {
+fn words_ask_for_all_of_a_server(rt: HostRuntime) -> Result<(), Fail> {
     let asked = Asked::Serve(Serving {
+        host: String::from_str(rt.alloc(), "::1")?,
         port: 2323,
-        limit: 64,
+        sessions: 64,
         count: 1_000_000,
         ticks: 1_000,
-        line: Limit::new(4_095).unwrap_or(Limit::standard()),
+        line_limit: Limit::new(4_095).unwrap_or(Limit::standard()),
+        idle: 86_400,
         local: true,
         verbose: true,
     });
     let line =
-        "tn serve --limit=64 --count 1000000 --ticks=1000 --line 4095 --local --verbose --port=2323";
+        "tn serve --limit=64 --count 1000000 --ticks=1000 --host ::1 --line 4095 --idle 86400 \
+                --local --verbose --port=2323";
     asks(&rt, rt.alloc(), line, Some(asked));
+    Ok(())
 }
 
 fn connecting(width: u16, height: u16) -> Option<Asked> {
@@ -79,7 +87,7 @@ fn connecting(width: u16, height: u16) -> Option<Asked> {
         port: 7,
         width,
         height,
-        line: Limit::standard(),
+        line_limit: Limit::standard(),
     }))
 }
 

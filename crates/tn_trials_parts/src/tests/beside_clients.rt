@@ -1,4 +1,4 @@
-//! A client end beside the plain program of its definition.
+//! A client end beside the reference model of its definition.
 
 use crate::plain::client::Client;
 use std::alloc::Global;

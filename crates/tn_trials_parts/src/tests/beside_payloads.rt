@@ -8,7 +8,7 @@ use tn_plain::payloads::read;
 
 const ALPHABET: [u8; 9] = [0, 1, 2, 3, 9, 251, 252, 253, 254];
 
-// Reads as the plain program does, and reads again what it writes.
+// Reads as the reference model does, and reads again what it writes.
 fn is_read_plainly(rt: &impl Abort, alloc: Global, option: u8, bytes: &[u8]) {
     let read_here = read_payload(alloc, option, bytes);
     assert!(rt;

@@ -1,4 +1,4 @@
-//! A server end beside the plain program of its definition.
+//! A server end beside the reference model of its definition.
 
 use crate::plain::server::Server;
 use std::alloc::Global;
@@ -99,7 +99,7 @@ const JOINING: [u8; 15] = [
 // Output that fills most of the screen's queue.
 const LONG: [u8; 700] = [b'y'; 700];
 
-// An end, the plain program beside it, and what their client says.
+// An end, the reference model beside it, and what their client says.
 #[derive(Drop)]
 struct Trial {
     alloc: Global,

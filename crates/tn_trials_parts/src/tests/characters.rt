@@ -34,7 +34,7 @@ fn characters_stay_distinct(rt: HostRuntime) {
         rt.alloc(),
         "set ao 0a; set ec 0a; set ec 0d; set forw1 ff; set el 7f; holder 127; get el; set ec 7f; set ec; \
          set el 7f; get el; get ao; holder 127; holder 21",
-        "Err(NotSettable); Err(Reserved); Err(Reserved); Err(Reserved); Err(Taken); Some(Ec); Some(21); Ok(()); \
-         Ok(()); Ok(()); Some(127); None; Some(El); None",
+        "Err(NotSettable); Err(Reserved); Err(Reserved); Err(Reserved); Err(Taken); Some(Ec); Some(21); \
+         Ok(()); Ok(()); Ok(()); Some(127); None; Some(El); None",
     );
 }

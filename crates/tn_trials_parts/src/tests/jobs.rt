@@ -61,24 +61,26 @@ fn tell_verdict(words: Words<'_>, page: &mut Page) {
 const SCRIPTS: &[(&str, &str)] = &[
     // One job is in the foreground.
     (
-        "add; add; state 0; foreground 0; foreground 1; foreground 0; stops 0; stops 0; state 0; foreground 1; \
-         done 16; background 1; background 1; done 1; state 1; stops 1; state 0",
+        "add; add; state 0; foreground 0; foreground 1; foreground 0; stops 0; stops 0; state 0; \
+         foreground 1; done 16; background 1; background 1; done 1; state 1; stops 1; state 0",
         "Ok(JobId(0)); Ok(JobId(1)); Some(Background); Ok(()); Err(WrongState); Err(WrongState); Ok(()); \
-         Err(WrongState); Some(Stopped(Tstp)); Ok(()); Err(NoSuchJob); Ok(()); Err(WrongState); Ok(()); None; \
-         Err(NoSuchJob); Some(Stopped(Tstp))",
+         Err(WrongState); Some(Stopped(Tstp)); Ok(()); Err(NoSuchJob); Ok(()); Err(WrongState); Ok(()); \
+         None; Err(NoSuchJob); Some(Stopped(Tstp))",
     ),
     // A table holds sixteen jobs.
     (
-        "add; add; add; add; add; add; add; add; add; add; add; add; add; add; add; add; add; done 7; add; add",
+        "add; add; add; add; add; add; add; add; add; add; add; add; add; add; add; add; add; done 7; \
+         add; add",
         "Ok(JobId(0)); Ok(JobId(1)); Ok(JobId(2)); Ok(JobId(3)); Ok(JobId(4)); Ok(JobId(5)); Ok(JobId(6)); \
-         Ok(JobId(7)); Ok(JobId(8)); Ok(JobId(9)); Ok(JobId(10)); Ok(JobId(11)); Ok(JobId(12)); Ok(JobId(13)); \
-         Ok(JobId(14)); Ok(JobId(15)); Err(Full); Ok(()); Ok(JobId(7)); Err(Full)",
+         Ok(JobId(7)); Ok(JobId(8)); Ok(JobId(9)); Ok(JobId(10)); Ok(JobId(11)); Ok(JobId(12)); \
+         Ok(JobId(13)); Ok(JobId(14)); Ok(JobId(15)); Err(Full); Ok(()); Ok(JobId(7)); Err(Full)",
     ),
     // A verdict goes by the state and the step.
     (
         "back-writes stays tostop; back-writes ends tostop; back stays tostop; back ends tostop; back reads; \
-         back-writes reads; back-writes stays; back-writes stops; fore-writes reads tostop; fore stays tostop; \
-         fore-writes stops; fore-writes ends tostop; ended-writes stays; stopped-writes ends",
+         back-writes reads; back-writes stays; back-writes stops; fore-writes reads tostop; \
+         fore stays tostop; fore-writes stops; fore-writes ends tostop; ended-writes stays; \
+         stopped-writes ends",
         "Stopped(Ttou); Stopped(Ttou); Background; Ended; Stopped(Ttin); Stopped(Ttin) written; \
          Background written; Stopped(Tstp) written; Foreground written; Foreground; Stopped(Tstp) written; \
          Ended written; none; none",

@@ -156,13 +156,13 @@ const SCRIPTS: &[(&str, &str)] = &[
     (
         "keys 61627f630d; keys 7f1504; keys 610404; keys 6103620a; keys 1c1a61; held; ahead; erase; \
          close-at forw2 3b; keys 61623b63; held",
-        "Erased; text 61630a; Nothing; Killed(0); eof; text 61; eof; int; text 61620a; quit; tstp; held 61; 0; \
-         Erased; text 61623b; held 63",
+        "Erased; text 61630a; Nothing; Killed(0); eof; text 61; eof; int; text 61620a; quit; tstp; held 61; \
+         0; Erased; text 61623b; held 63",
     ),
     // Edited bytes close a line at its closing characters alone.
     (
-        "close-at forw1 3b; close-at forw2 21; literal 030d; erase; literal 3b; literal 63; literal 21; erase; \
-         keys 61; kill; end-of-file; keys 62; end-of-file; held; ahead",
+        "close-at forw1 3b; close-at forw2 21; literal 030d; erase; literal 3b; literal 63; literal 21; \
+         erase; keys 61; kill; end-of-file; keys 62; end-of-file; held; ahead",
         "Erased; text 033b; text 6321; Nothing; Killed(0); eof; text 62; held; 0",
     ),
     // Bytes that were handed on are ahead.

@@ -133,8 +133,8 @@ const SCRIPTS: &[(&str, &str)] = &[
     ),
     // Keys are typed in runs.
     (
-        "run 61620a63037f64; take; take; take; half; pull 99; run 300x65; half; queued; run 0a 1025; take-lines; \
-         take; take-lines; run 61",
+        "run 61620a63037f64; take; take; take; half; pull 99; run 300x65; half; queued; run 0a 1025; \
+         take-lines; take; take-lines; run 61",
         "text 61620a; int; none; half 64; 8 - - nl - - - - -; half 64253x65.; 300; TooFarAhead; 0; \
          text 0a; 1022; Closed",
     ),

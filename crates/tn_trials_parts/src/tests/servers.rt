@@ -235,7 +235,8 @@ const EDITING: &[(&str, &str)] = &[
     (
         "join; wish local; wish local; feed 61627f; mode; half; feed fffa220107fff0; mode; half; \
          feed 7f04; half; feed 0d0affecfff4; take; take; take; take",
-        "true; sent fffa220103fff0fffc01; false; 0; half 61; 3; half 61; half 617f04; text 617f040a; eof; int; none",
+        "true; sent fffa220103fff0fffc01; false; 0; half 61; 3; half 61; half 617f04; text 617f040a; \
+         eof; int; none",
     ),
     // A signal comes before the line that the client edited.
     (

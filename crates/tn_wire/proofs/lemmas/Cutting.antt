@@ -3,18 +3,32 @@ use Rattle.std.proofs.Common.{◌≡◌, ◌≢◌, ℕ, List, [], ◌∷◌, �
 use Rattle.std.proofs.lemmas.Grind.{flat_map-append}
 use Rattle.tn_nvt.specs.Spelling.{spelling, spells}
 use Rattle.tn_nvt.specs.declared.items.Item.{Item}
-use Rattle.tn_wire.specs.Fronts.{AppendsFront}
+use Rattle.tn_wire.specs.Prefixes.{AppendsPrefix}
 
 pub spells-append : (xs ys : List Item) → spells (xs ++ ys) ≡ spells xs ++ spells ys
 spells-append xs ys = flat_map-append spelling xs ys
 
+-- what was appended, and then more
+pub added_on : {A : Type 0} (a b before first after : List A) → first ≡ before ++ a → after ≡ first ++ b → after ≡ before ++ (a ++ b)
+added_on a b before first after one two = two ∙ ap (λ xs. xs ++ b) one ∙ append_assoc before a b
+
+-- and the front of that was told apart
+pub parted_on : {A : Type 0} (a b c before first after : List A) → first ≡ before ++ a → after ≡ first ++ (b ++ c) → after ≡ before ++ ((a ++ b) ++ c)
+parted_on a b c before first after one two =
+    added_on a (b ++ c) before first after one two ∙ ap (λ xs. before ++ xs) (sym (append_assoc a b c))
+
+-- what was appended has this front
+pub front_on : {A : Type 0} (a part rest b before after : List A) → after ≡ (before ++ a) ++ b → a ≡ part ++ rest → after ≡ before ++ (part ++ (rest ++ b))
+front_on a part rest b before after one two =
+    added_on part (rest ++ b) before (before ++ part) after refl
+    (one ∙ ap (λ xs. (before ++ xs) ++ b) two ∙ ap (λ xs. xs ++ b) (sym (append_assoc before part rest)) ∙ append_assoc (before ++ part) rest b)
+
 -- bytes that spell some items, and behind them bytes that spell more
 pub spelled_on : (a b : List Item) (before first after : List ℕ) → first ≡ before ++ spells a → after ≡ first ++ spells b → after ≡ before ++ spells (a ++ b)
 spelled_on a b before first after one two =
-    two ∙ ap (λ (xs : List ℕ). xs ++ spells b) one ∙ append_assoc before (spells a) (spells b)
-    ∙ ap (λ (xs : List ℕ). before ++ xs) (sym (spells-append a b))
+    added_on (spells a) (spells b) before first after one two ∙ ap (λ (xs : List ℕ). before ++ xs) (sym (spells-append a b))
 
-pub cut_after_two : (whole a b c : List Item) (before first second after : List ℕ) → whole ≡ a ++ (b ++ c) → first ≡ before ++ spells a → second ≡ first ++ spells b → after ≡ second → AppendsFront whole before after
+pub cut_after_two : (whole a b c : List Item) (before first second after : List ℕ) → whole ≡ a ++ (b ++ c) → first ≡ before ++ spells a → second ≡ first ++ spells b → after ≡ second → AppendsPrefix whole before after
 cut_after_two whole a b c before first second after is one two three = record {
   part = a ++ b;
   rest = c;
@@ -22,7 +36,7 @@ cut_after_two whole a b c before first second after is one two three = record {
   appended = three ∙ spelled_on a b before first second one two;
 }
 
-pub cut_after_one : (whole a b : List Item) (before first after : List ℕ) → whole ≡ a ++ b → first ≡ before ++ spells a → AppendsFront b first after → AppendsFront whole before after
+pub cut_after_one : (whole a b : List Item) (before first after : List ℕ) → whole ≡ a ++ b → first ≡ before ++ spells a → AppendsPrefix b first after → AppendsPrefix whole before after
 cut_after_one whole a b before first after is one c = record {
   part = a ++ c.part;
   rest = c.rest;

@@ -1,5 +1,5 @@
 -- Lists of local characters: those that came are short, and their answers fit a subnegotiation.
-use Rattle.std.proofs.Common.{◌≡◌, ◌≢◌, ◌≤◌, ◌<◌, ℕ, ◌+◌, ◌*◌, nat_le, Bool, true, false, Option, Some, None, List, [], ◌∷◌, length, refl, ap, arith, ◌&&◌, if◌then◌else◌}
+use Rattle.std.proofs.Common.{◌≡◌, ◌≢◌, ◌≤◌, ◌<◌, ℕ, ◌+◌, ◌*◌, nat_le, Bool, true, false, Option, Some, None, List, [], ◌∷◌, ◌++◌, length, length-append, refl, ap, ◌∙◌, arith, ◌&&◌, if◌then◌else◌}
 use Rattle.std.specs.List.{flat_map}
 use Rattle.std.proofs.lemmas.Bool.{leb-true}
 use Rattle.std.proofs.lemmas.Bool.Decides.{nat_tests}
@@ -57,11 +57,16 @@ module _ (next : Characters → Triple → Characters) (answer : Characters → 
   empty_of [] h = refl
   empty_of (x ∷ xs) h = absurd (omega (arith, h))
 
-  -- what answers a list shows that the list is not empty
-  pub answered_some : (c : Characters) (triples answers : List Triple) → answers ≡ answers_along next answer c triples → answers ≢ [] → triples ≢ []
-  answered_some c triples answers is some = λ none.
+  -- the answers to a list, behind none, are no more than its triples
+  pub answers_few : (c : Characters) (triples came before answers : List Triple) (most : ℕ) → answers ≡ before ++ answers_along next answer c triples → before ≡ [] → triples ≡ came → length came ≤ most → length answers ≤ most
+  answers_few c triples came before answers most is none same few =
+      omega (arith, ap length is, ap length none, length-append before (answers_along next answer c triples), length-answers_along next answer c triples, ap length same, few)
+
+  -- and show that the list is not empty
+  pub answered_some : (c : Characters) (triples before answers : List Triple) → answers ≡ before ++ answers_along next answer c triples → before ≡ [] → answers ≢ [] → triples ≢ []
+  answered_some c triples before answers is fresh some = λ none.
       let few = length-answers_along next answer c triples in
-      let l = ap length is in
+      let l = ap length (is ∙ ap (λ xs. xs ++ answers_along next answer c triples) fresh) in
       let n = ap length none in
       some (empty_of answers (omega (arith, few, l, n)))
 

@@ -1,10 +1,10 @@
 -- What a piece of a stream brings, by the readings of the stream before it and with it.
-use Rattle.std.proofs.Common.{◌≡◌, ℕ, List, ◌++◌, sym, ap, ◌∙◌, subst, append_assoc}
+use Rattle.std.proofs.Common.{◌≡◌, ℕ, List, ◌++◌, refl, sym, ap, ◌∙◌, subst, append_assoc}
 use Rattle.std.proofs.lemmas.List.{append_cancel_left}
 use Rattle.tn_nvt.specs.Stream.{Reading}
 use Rattle.tn_nvt.specs.declared.items.Item.{Item}
 use Rattle.tn_nvt.proofs.lemmas.Reading.{one_reading, reads_on}
-use Rattle.tn_wire.specs.Fronts.{IsRead}
+use Rattle.tn_wire.specs.Prefixes.{IsRead}
 
 -- the items that a stream brings after the same items are the same
 pub same_more : (bytes : List ℕ) (a b more others : List Item) → a ≡ b → IsRead bytes (a ++ more) → IsRead bytes (b ++ others) → more ≡ others
@@ -33,3 +33,20 @@ part_in_two stream p q had more start r reads =
       front = (r.1, subst (λ (xs : List Item). Reading (stream ++ p) xs r.1) one.1 r.2);
       all = subst (λ (xs : List Item). IsRead ((stream ++ p) ++ q) xs) (two.1 ∙ ap (λ (xs : List Item). xs ++ two.0) one.1) whole;
     }
+
+-- An end stopped in a piece, after its front: what was done of that comes first, then what was left and what the others bring.
+pub stopped_in : {H : Type 0} (items : H → List Item) (gets : H → List Item → H) → ((h : H) (xs ys : List Item) → gets h (xs ++ ys) ≡ gets (gets h xs) ys)
+    → (old start whole : H) (stream piece front back : List ℕ) (more done left : List Item) → old ≡ start → piece ≡ front ++ back
+    → IsRead stream (items start) → IsRead (stream ++ front) (items start ++ (done ++ left)) → IsRead (stream ++ piece) (items old ++ more) → whole ≡ gets old more
+    → (others : List Item) × (whole ≡ gets (gets start done) (left ++ others))
+stopped_in items gets append old start whole stream piece front back more done left same cut began here reads is =
+    let had = items start in
+    let all : IsRead (stream ++ (front ++ back)) (had ++ more) =
+    subst (λ bytes. IsRead (stream ++ bytes) (had ++ more)) cut (subst (λ h. IsRead (stream ++ piece) (items h ++ more)) same reads) in
+    let t = part_in_two stream front back had more began (had ++ (done ++ left), here.0, here.1) all in
+    let first = same_more (stream ++ front) had had t.first (done ++ left) refl t.front here in (
+      t.second,
+      is ∙ ap (λ h. gets h more) same
+          ∙ ap (gets start) (t.whole ∙ ap (λ xs. xs ++ t.second) first ∙ append_assoc done left t.second)
+          ∙ append start done (left ++ t.second),
+    )

@@ -6,7 +6,7 @@ use Rattle.tn_codes.specs.declared.codes.Command.TheVariants.{Eof, Susp, Abort, 
 use Rattle.tn_discipline.specs.declared.reads.Entry.{Entry}
 use Rattle.tn_discipline.specs.Admitted.{is_dropped, next_count}
 use Rattle.tn_discipline.specs.Canon.{Canon}
-use Rattle.tn_discipline.specs.Limits.{most_counted}
+use Rattle.tn_discipline.specs.Limits.{max_counted}
 use Rattle.tn_discipline.specs.Steps.{front, half_next, gain_next}
 use Rattle.tn_discipline.specs.Keys.{role_of_key, role_of_mapped}
 use Rattle.tn_discipline.specs.declared.termios.Settings.{Settings}
@@ -144,7 +144,7 @@ kill_key false = record { held = []; ahead = 0; items = [] }
 -- a key with EDIT
 abbrev pub edit_key : ℕ → Client → Role → Part
 edit_key limit c (role.Ordinary b) =
-    ordinary_key (c.ahead + length c.held == most_counted limit) (c.forward b) c b
+    ordinary_key (c.ahead + length c.held == max_counted limit) (c.forward b) c b
 edit_key limit c role.Nl = record { held = []; ahead = 0; items = bytes c.held ++ newline ∷ [] }
 edit_key limit c (role.Eol b) = record { held = []; ahead = 0; items = bytes c.held ++ byte b ∷ [] }
 edit_key limit c (role.Eol2 b) = record { held = []; ahead = 0; items = bytes c.held ++ byte b ∷ [] }

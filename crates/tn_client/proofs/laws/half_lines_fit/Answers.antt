@@ -1,9 +1,8 @@
 use Rattle.std.proofs.Common.{◌≤◌, ℕ, Bool, true, false, length, if◌then◌else◌, arith}
 use Rattle.tn_discipline.proofs.lemmas.Histories.{half_of-fits}
 use Rattle.tn_discipline.specs.Entries.{half_of}
-use Rattle.tn_discipline.specs.Limits.{most_counted}
+use Rattle.tn_discipline.specs.Limits.{max_counted}
 use Rattle.tn_linemode.specs.Modes.{edits}
-use Rattle.tn_client.specs.Events.{History}
 use Rattle.tn_client.specs.Lines.{line_limit, edited_roles, roles_under}
 use Rattle.tn_client.specs.Terms.{mode}
 use Rattle.tn_client.proofs.laws.half_lines_fit.Goals as goal
@@ -17,4 +16,4 @@ none_or false n most few = few
 
 pub returns-clause-there : goal.returns-clause-there
 returns-clause-there c = λ isig h.
-    none_or (edits (mode h)) (length (half_of (line_limit h) (roles_under isig h))) (most_counted (line_limit h)) (half_of-fits (line_limit h) (roles_under isig h))
+    none_or (edits (mode h)) (length (half_of (line_limit h) (roles_under isig h))) (max_counted (line_limit h)) (half_of-fits (line_limit h) (roles_under isig h))

@@ -5,7 +5,7 @@ use Rattle.tn_session.specs.Stepping.{stays}
 use Rattle.tn_session.proofs.back.advance.Goals as goal
 
 pub returns-in_default : goal.returns-in_default
-returns-in_default g c = none_first c.args.line.now.items c.pop_front.new.self.items c.in_default.ensures.items c.in_default.ensures.rest
+returns-in_default g c = none_first c.args.queue.now.items c.pop_front.new.self.items c.in_default.ensures.items c.in_default.ensures.rest
 
 pub returns-in_default-step : goal.returns-in_default-step
 returns-in_default-step g c = (c.in-Some.field-0, c.pop_front.ensures.items ∙ ap (λ o. option_to_list o ++ c.pop_front.new.self.items) c.in-Some.is)

@@ -12,4 +12,4 @@ use Rattle.tn_session.proofs.back.run_back.Given as goal
 abbrev pub invariant-loop : goal.invariant-loop
 invariant-loop g l =
     IsSeatAt (sends_on l.to) l.pass
-    × ((said : List (JobId × Reaction)) × (view l.pass ≡ sender Back (map (mail Back) (map step_said said))) × Running g.J.Job.fresh g.J.Job.steps l.fn.tostop (ids_of l.fn.line.items) said l.line.items)
+    × ((said : List (JobId × Reaction)) × (view l.pass ≡ sender Back (map (mail Back) (map step_said said))) × Running g.J.Job.fresh g.J.Job.steps l.fn.tostop (ids_of l.fn.queue.items) said l.queue.items)

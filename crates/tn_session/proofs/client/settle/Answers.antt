@@ -1,6 +1,7 @@
 use Rattle.crossbeam_channel.specs.Claims.{view}
 use Rattle.tn_session.proofs.ClientWhole.{settles_two}
-use Rattle.tn_session.proofs.Mailbox.{joins, totals, cut_net, cut_keys}
+use Rattle.tn_session.proofs.Mailbox.{joins, totals, cut}
+use Rattle.tn_session.specs.declared.mail.Sender.TheVariants.{Net, Keys}
 use Rattle.tn_session.proofs.client.settle.Goals as goal
 
 pub absorb-requires-clause-rule : goal.absorb-requires-clause-rule
@@ -13,10 +14,10 @@ pub learn_as-requires-clause-rule : goal.learn_as-requires-clause-rule
 learn_as-requires-clause-rule c = totals c.absorb-2.new.pass.id (view c.absorb-2.new.pass)
 
 pub another-net-requires-clause-rule : goal.another-net-requires-clause-rule
-another-net-requires-clause-rule c = cut_net c.learn_as.new.pass.id (view c.learn_as.new.pass)
+another-net-requires-clause-rule c = cut Net c.learn_as.new.pass.id (view c.learn_as.new.pass)
 
 pub another-keys-requires-clause-rule : goal.another-keys-requires-clause-rule
-another-keys-requires-clause-rule c = cut_keys c.another-net.new.pass.id (view c.another-net.new.pass)
+another-keys-requires-clause-rule c = cut Keys c.another-net.new.pass.id (view c.another-net.new.pass)
 
 pub returns : goal.returns
 returns c =

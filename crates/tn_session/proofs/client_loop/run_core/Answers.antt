@@ -6,6 +6,7 @@ use Rattle.tn_session.proofs.Going.{lefts_of-push, left_small}
 use Rattle.tn_session.proofs.Mailbox.{handles, totals, handled_more}
 use Rattle.tn_session.specs.CoreTurns.{TurnsTold}
 use Rattle.tn_session.specs.declared.mail.Mail.{Mail}
+use Rattle.tn_streams.specs.Known.{known_writer, known_writing}
 use Rattle.tn_session.proofs.client_loop.run_core.Goals as goal
 
 pub recv_as-requires-clause-rule : goal.recv_as-requires-clause-rule
@@ -18,10 +19,10 @@ loop-init g c = (
     [],
     ap (λ (o : Option (List Mail)). record (view c.args.pass) { handled = o }) c.requires.mailbox.1,
     refl,
-    told_none c.args.core.now (g.W.Drain.contents c.args.writer.now) (g.S.Drain.contents c.args.screen.now) (g.W.Drain.told c.args.writer.now) (g.S.Drain.told c.args.screen.now),
+    told_none c.args.core.now (known_writer g.W.Drain.contents g.W.Drain.told c.args.writer.now) (known_writer g.S.Drain.contents g.S.Drain.told c.args.screen.now),
   ),
-  c.requires.out,
-  c.requires.text,
+  c.new-out.ensures.items,
+  c.new-text.ensures.items,
   omega arith,
 )
 
@@ -31,13 +32,15 @@ loop-preserved g c =
     let x = c.in-Ok.mail in
     let small = left_small x.message in
     let more = c.if-lefts-ge-SENDERS.false in
-    let T : Told → Type 0 = λ m. TurnsTold c.loop.core m (g.W.Drain.contents c.loop.writer) (g.W.Drain.contents c.turn.new.writer) (g.S.Drain.contents c.loop.screen) (g.S.Drain.contents c.turn.new.screen) (g.W.Drain.told c.loop.writer) (g.W.Drain.told c.turn.new.writer) (g.S.Drain.told c.loop.screen) (g.S.Drain.told c.turn.new.screen) c.turn.new.core in (
+    let T : Told → Type 0 = λ m. TurnsTold c.loop.core m (known_writing g.W.Drain.contents g.W.Drain.told c.loop.writer c.turn.new.writer) (known_writing g.S.Drain.contents g.S.Drain.told c.loop.screen c.turn.new.screen) c.turn.new.core in
+    let writer = known_writer g.W.Drain.contents g.W.Drain.told in
+    let screen = known_writer g.S.Drain.contents g.S.Drain.told in (
       c.in-Ok.ensures.channel.0,
       (
         i.0 ++ x ∷ [],
         handled_more (view c.args.pass) (view c.loop.pass) (view c.recv_as.new.pass) i.0 x i.1 c.in-Ok.ensures.rule,
         omega (arith, lefts_of-push i.0 x, c.leaves-left.ensures, i.2),
-        told_next c.args.core.now c.loop.core c.turn.new.core i.0 x _ _ _ _ _ _ _ _ _ _ _ _ _ _ c.close-closed.ensures.contents c.close-closed.ensures.told i.3 (subst T c.told_of.ensures c.turn.ensures.turned),
+        told_next c.args.core.now c.loop.core c.turn.new.core i.0 x (writer c.args.writer.now) (writer c.loop.writer) (writer c.turn.new.writer) (writer c.close-closed.new.writer) (screen c.args.screen.now) (screen c.loop.screen) (screen c.turn.new.screen) c.close-closed.ensures.contents c.close-closed.ensures.told i.3 (subst T c.told_of.ensures c.turn.ensures.turned),
       ),
       c.turn.ensures.out,
       c.turn.ensures.text,

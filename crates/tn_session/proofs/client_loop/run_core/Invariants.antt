@@ -5,6 +5,7 @@ use Rattle.tn_session.specs.CoreTurns.{ToldAll, all_told}
 use Rattle.tn_session.specs.Mailbox.{with_handled}
 use Rattle.tn_session.specs.Turns.{lefts_of}
 use Rattle.tn_session.specs.declared.mail.Mail.{Mail}
+use Rattle.tn_streams.specs.Known.{known_writing}
 use Rattle.tn_session.proofs.client_loop.run_core.Given as goal
 
 abbrev pub invariant-loop : goal.invariant-loop
@@ -13,5 +14,5 @@ invariant-loop g l =
     × ((handled : List Mail)
     × (view l.pass ≡ with_handled (view l.fn.pass) handled)
     × (l.lefts ≡ lefts_of handled)
-    × ToldAll l.fn.core (all_told handled) (g.W.Drain.contents l.fn.writer) (g.W.Drain.contents l.writer) (g.S.Drain.contents l.fn.screen) (g.S.Drain.contents l.screen) (g.W.Drain.told l.fn.writer) (g.W.Drain.told l.writer) (g.S.Drain.told l.fn.screen) (g.S.Drain.told l.screen) l.core)
+    × ToldAll l.fn.core (all_told handled) (known_writing g.W.Drain.contents g.W.Drain.told l.fn.writer l.writer) (known_writing g.S.Drain.contents g.S.Drain.told l.fn.screen l.screen) l.core)
     × (l.out.items ≡ []) × (l.text.items ≡ []) × (l.lefts ≤ 2)

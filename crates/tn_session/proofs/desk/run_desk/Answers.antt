@@ -1,31 +1,33 @@
 use Rattle.std.proofs.Common.{◌∷◌, [], ◌++◌, ap, ◌∙◌, sym, inl, inr, Option}
 use Rattle.tn_discipline.specs.declared.reads.Entry.{Entry}
-use Rattle.tn_session.specs.Queue.{taker}
+use Rattle.tn_session.specs.EntryChannel.{taker}
 use Rattle.tn_session.specs.Talk.{desk_sends, entries_of}
-use Rattle.tn_session.proofs.Talk.{said, said_two, said_three, turns_said-push, entries_of-push, ends_done-push, answers-push, role}
+use Rattle.tn_session.proofs.Readers.{said, said_two, said_three, role}
+use Rattle.tn_session.specs.declared.mail.Sender.TheVariants.{Desk}
+use Rattle.tn_session.proofs.Talk.{turns_said-push, entries_of-push, ends_done-push, answers-push}
 use Rattle.tn_session.proofs.desk.run_desk.Goals as goal
 
 pub say-requires-in_default-clause-role : goal.say-requires-in_default-clause-role
-say-requires-in_default-clause-role g c = role _ _ (said _ _ _ _ c.loop.invariant.2.2 c.in_ok-pass.ensures.said)
+say-requires-in_default-clause-role g c = role Desk _ _ (said Desk _ _ _ _ c.loop.invariant.2.2 c.in_ok-pass.ensures.said)
 
 pub returns-in_default-clause-talk : goal.returns-in_default-clause-talk
 returns-in_default-clause-talk g c =
     let i = c.loop.invariant.2 in
-    (i.0, c.args.job, c.loop.job, c.requires.fresh, i.1, inl (said_two _ _ _ _ _ _ i.2 c.in_ok-pass.ensures.said c.in_ok-pass-2.ensures.said, c.in_ok-after_take.ensures.took _ i.3 ∙ ap (λ (o : Option Entry). taker (entries_of i.0 ++ o ∷ [])) c.in_default.is))
+    (i.0, c.args.job, c.loop.job, c.requires.fresh, i.1, inl (said_two Desk _ _ _ _ _ _ i.2 c.in_ok-pass.ensures.said c.in_ok-pass-2.ensures.said, c.in_ok-after_take.ensures.took _ i.3 ∙ ap (λ (o : Option Entry). taker (entries_of i.0 ++ o ∷ [])) c.in_default.is))
 
 pub say-requires-in_default-entry-clause-role : goal.say-requires-in_default-entry-clause-role
-say-requires-in_default-entry-clause-role g c = role _ _ (said _ _ _ _ c.loop.invariant.2.2 c.in_ok-pass.ensures.said)
+say-requires-in_default-entry-clause-role g c = role Desk _ _ (said Desk _ _ _ _ c.loop.invariant.2.2 c.in_ok-pass.ensures.said)
 
 pub say-requires-in_default-entry-2-clause-role : goal.say-requires-in_default-entry-2-clause-role
-say-requires-in_default-entry-2-clause-role g c = role _ _ (said_two _ _ _ _ _ _ c.loop.invariant.2.2 c.in_ok-pass.ensures.said c.in_ok-pass-3.ensures.said)
+say-requires-in_default-entry-2-clause-role g c = role Desk _ _ (said_two Desk _ _ _ _ _ _ c.loop.invariant.2.2 c.in_ok-pass.ensures.said c.in_ok-pass-3.ensures.said)
 
 pub returns-in_default-entry-clause-talk : goal.returns-in_default-entry-clause-talk
 returns-in_default-entry-clause-talk g c =
     let i = c.loop.invariant.2 in
-    (i.0, c.args.job, c.loop.job, c.requires.fresh, i.1, inr (inr (c.in-Some-entry.entry, said_three _ _ _ _ _ _ _ _ i.2 c.in_ok-pass.ensures.said c.in_ok-pass-3.ensures.said c.in_ok-pass-4.ensures.said, c.in_ok-after_take.ensures.took _ i.3 ∙ ap (λ (o : Option Entry). taker (entries_of i.0 ++ o ∷ [])) c.in-Some-entry.is)))
+    (i.0, c.args.job, c.loop.job, c.requires.fresh, i.1, inr (inr (c.in-Some-entry.entry, said_three Desk _ _ _ _ _ _ _ _ i.2 c.in_ok-pass.ensures.said c.in_ok-pass-3.ensures.said c.in_ok-pass-4.ensures.said, c.in_ok-after_take.ensures.took _ i.3 ∙ ap (λ (o : Option Entry). taker (entries_of i.0 ++ o ∷ [])) c.in-Some-entry.is)))
 
 pub say-requires-in-loop-clause-role : goal.say-requires-in-loop-clause-role
-say-requires-in-loop-clause-role g c = role _ _ (said _ _ _ _ c.loop.invariant.2.2 c.in_ok-pass.ensures.said)
+say-requires-in-loop-clause-role g c = role Desk _ _ (said Desk _ _ _ _ c.loop.invariant.2.2 c.in_ok-pass.ensures.said)
 
 pub loop-preserved : goal.loop-preserved
 loop-preserved g c =
@@ -37,13 +39,13 @@ loop-preserved g c =
       (
         i.0 ++ (e, r) ∷ [],
         answers-push g.J.Job.reacts c.args.job i.0 c.loop.job c.entry.new.self e r i.1 c.in-Ok.ensures,
-        said_two _ _ _ _ _ _ i.2 c.in_ok-pass.ensures.said c.in_ok-pass-5.ensures.said ∙ ap desk_sends (sym (turns_said-push c.args.id i.0 e r)),
+        said_two Desk _ _ _ _ _ _ i.2 c.in_ok-pass.ensures.said c.in_ok-pass-5.ensures.said ∙ ap desk_sends (sym (turns_said-push c.args.id i.0 e r)),
         c.in_ok-after_take.ensures.took _ i.3 ∙ ap (λ (o : Option Entry). taker (entries_of i.0 ++ o ∷ [])) c.in-Some-entry.is ∙ ap taker (sym (entries_of-push i.0 e r)),
       ),
     )
 
 pub say-requires-in-Done-clause-role : goal.say-requires-in-Done-clause-role
-say-requires-in-Done-clause-role g c = role _ _ (said_two _ _ _ _ _ _ c.loop.invariant.2.2 c.in_ok-pass.ensures.said c.in_ok-pass-5.ensures.said)
+say-requires-in-Done-clause-role g c = role Desk _ _ (said_two Desk _ _ _ _ _ _ c.loop.invariant.2.2 c.in_ok-pass.ensures.said c.in_ok-pass-5.ensures.said)
 
 pub returns-in-Done-clause-talk : goal.returns-in-Done-clause-talk
 returns-in-Done-clause-talk g c =
@@ -56,7 +58,7 @@ returns-in-Done-clause-talk g c =
       c.requires.fresh,
       answers-push g.J.Job.reacts c.args.job i.0 c.loop.job c.entry.new.self e r i.1 c.in-Ok.ensures,
       inr (inl (
-        said _ _ _ _ (said_two _ _ _ _ _ _ i.2 c.in_ok-pass.ensures.said c.in_ok-pass-5.ensures.said ∙ ap desk_sends (sym (turns_said-push c.args.id i.0 e r))) c.in_ok-pass-in-Done.ensures.said,
+        said Desk _ _ _ _ (said_two Desk _ _ _ _ _ _ i.2 c.in_ok-pass.ensures.said c.in_ok-pass-5.ensures.said ∙ ap desk_sends (sym (turns_said-push c.args.id i.0 e r))) c.in_ok-pass-in-Done.ensures.said,
         c.in_ok-after_take.ensures.took _ i.3 ∙ ap (λ (o : Option Entry). taker (entries_of i.0 ++ o ∷ [])) c.in-Some-entry.is ∙ ap taker (sym (entries_of-push i.0 e r)),
         ends_done-push i.0 e r c.in-Done.is,
       )),

@@ -6,4 +6,4 @@ use Rattle.tn_session.proofs.making.make_jobs.Given as goal
 
 abbrev pub invariant-loop-other : goal.invariant-loop-other
 invariant-loop-other g l =
-    IsMade g.M.Job.Job.fresh l.made × HasMade (l._other + 1) (g.M.Maker.left l.fn.maker) (g.M.Maker.left l.maker) × (length (ids_of l.made.line.items) ≡ l._other)
+    IsMade g.M.Job.Job.fresh l.made × HasMade (l._other + 1) (g.M.Maker.left l.fn.maker) (g.M.Maker.left l.maker) × (length (ids_of l.made.queue.items) ≡ l._other)

@@ -1,11 +1,11 @@
 use Rattle.tn_session.proofs.Makers.{one_more}
-use Rattle.tn_session.proofs.Numbering.{line_more}
+use Rattle.tn_session.proofs.Numbering.{queue_more}
 use Rattle.tn_session.proofs.making.make_more.Goals as goal
 
 pub returns-clause-more : goal.returns-clause-more
 returns-clause-more g c =
-    let m = line_more g.J.Job.fresh c.args.made.table c.add.new.self c.args.made.first c.args.made.line.items c.push_back.new.self.items (record { id = c.in-Ok.id; job = c.args.job }) c.requires.made.numbered c.in-Ok.ensures.adds c.in-Ok-push_back.ensures.items c.requires.fresh c.requires.made.line in
-    record { numbered = m.0; line = m.1; job = c.requires.made.job }
+    let m = queue_more g.J.Job.fresh c.args.made.table c.add.new.self c.args.made.first c.args.made.queue.items c.push_back.new.self.items (record { id = c.in-Ok.id; job = c.args.job }) c.requires.made.numbered c.in-Ok.ensures.adds c.in-Ok-push_back.ensures.items c.requires.fresh c.requires.made.queue in
+    record { numbered = m.0; queue = m.1; job = c.requires.made.job }
 
 pub returns-clause-one : goal.returns-clause-one
-returns-clause-one g c = one_more c.args.made.line.items c.push_back.new.self.items (record { id = c.in-Ok.id; job = c.args.job }) c.in-Ok-push_back.ensures.items
+returns-clause-one g c = one_more c.args.made.queue.items c.push_back.new.self.items (record { id = c.in-Ok.id; job = c.args.job }) c.in-Ok-push_back.ensures.items

@@ -14,5 +14,5 @@ invariant-loop-read g l =
     let foretold = g.Rd.Source.foretold in
     IsSeatAt (sends_on l.to) l.pass
     × ((pieces : List (List ℕ)) × Consumes (remaining l.fn.reader) (remaining l.reader) (concat pieces)
-    × (view l.pass ≡ sends l.who (pieces_of pieces))
+    × (view l.pass ≡ sends l.part.who (pieces_of pieces))
     × HasCome l._read (length pieces) (foretold l.fn.reader) (foretold l.reader) × All IsPiece pieces)

@@ -1,39 +1,40 @@
 use Rattle.crossbeam_channel.specs.Claims.{view}
-use Rattle.tn_session.proofs.Mailbox.{starts, cut_net, cut_desk, cut_back}
-use Rattle.tn_session.proofs.Queue as queue
+use Rattle.tn_session.proofs.Mailbox.{starts, cut}
+use Rattle.tn_session.proofs.EntryChannel as channel
 use Rattle.tn_session.proofs.Whole.{ready_views, ready_hands}
+use Rattle.tn_session.specs.declared.mail.Sender.TheVariants.{Net, Desk, Back}
 use Rattle.tn_session.proofs.session.make_channels.Goals as goal
 
 pub bounded_with-requires-clause-rule : goal.bounded_with-requires-clause-rule
 bounded_with-requires-clause-rule c = starts
 
 pub bounded_with-requires-2-clause-rule : goal.bounded_with-requires-2-clause-rule
-bounded_with-requires-2-clause-rule c = queue.starts
+bounded_with-requires-2-clause-rule c = channel.starts
 
 pub another-net-requires-clause-rule : goal.another-net-requires-clause-rule
-another-net-requires-clause-rule c = cut_net c.in-Ok.pass.id (view c.in-Ok.pass)
+another-net-requires-clause-rule c = cut Net c.in_ok-to.mails.id (view c.in_ok-to.mails)
 
 pub another-desk-requires-clause-rule : goal.another-desk-requires-clause-rule
-another-desk-requires-clause-rule c = cut_desk c.another-net.new.pass.id (view c.another-net.new.pass)
+another-desk-requires-clause-rule c = cut Desk c.another-net.new.pass.id (view c.another-net.new.pass)
 
 pub another-back-requires-clause-rule : goal.another-back-requires-clause-rule
-another-back-requires-clause-rule c = cut_back c.another-desk.new.pass.id (view c.another-desk.new.pass)
+another-back-requires-clause-rule c = cut Back c.another-desk.new.pass.id (view c.another-desk.new.pass)
 
 pub another-took-requires-clause-rule : goal.another-took-requires-clause-rule
-another-took-requires-clause-rule c = queue.cut_taker c.in-Ok-bounded_with.hand.id (view c.in-Ok-bounded_with.hand)
+another-took-requires-clause-rule c = channel.cut_taker c.in_ok-put.hand.id (view c.in_ok-put.hand)
 
 pub returns : goal.returns
 returns c =
-    let b = c.in-Ok.ensures in
-    let q = c.in-Ok-bounded_with.ensures in
-    let v = ready_views (view c.in-Ok.pass) (view c.another-net.new.pass) (view c.another-desk.new.pass) (view c.another-back.new.pass) (view c.another-net.result) (view c.another-desk.result) (view c.another-back.result) b.3 c.another-net.ensures.rule.0 c.another-net.ensures.rule.1 c.another-desk.ensures.rule.0 c.another-desk.ensures.rule.1 c.another-back.ensures.rule.0 c.another-back.ensures.rule.1 in
-    let h = ready_hands (view c.in-Ok-bounded_with.hand) (view c.another-took.new.pass) (view c.another-took.result) q.3 c.another-took.ensures.rule.0 c.another-took.ensures.rule.1 in
+    let b = c.in_ok-to.ensures in
+    let q = c.in_ok-put.ensures in
+    let v = ready_views (view c.in_ok-to.mails) (view c.another-net.new.pass) (view c.another-desk.new.pass) (view c.another-back.new.pass) (view c.another-net.result) (view c.another-desk.result) (view c.another-back.result) b.3 c.another-net.ensures.rule.0 c.another-net.ensures.rule.1 c.another-desk.ensures.rule.0 c.another-desk.ensures.rule.1 c.another-back.ensures.rule.0 c.another-back.ensures.rule.1 in
+    let h = ready_hands (view c.in_ok-put.hand) (view c.another-took.new.pass) (view c.another-took.result) q.3 c.another-took.ensures.rule.0 c.another-took.ensures.rule.1 in
     record {
       one_mailbox = b.0;
       mails = b.1;
-      net_to = c.in-Ok-try_clone.ensures;
-      desk_to = c.in-Ok-try_clone-2.ensures;
-      back_to = c.in-Ok-try_clone-3.ensures;
+      net_to = c.in_ok-net_to.ensures;
+      desk_to = c.in_ok-desk_to.ensures;
+      back_to = c.in_ok-back_to.ensures;
       pass = c.another-back.ensures.channel.0;
       net = c.another-net.ensures.channel.2;
       desk = c.another-desk.ensures.channel.2;
@@ -42,7 +43,7 @@ returns c =
       net_is = v.1;
       desk_is = v.2;
       back_is = v.3;
-      one_queue = q.0;
+      one_channel = q.0;
       entries = q.1;
       hand = c.another-took.ensures.channel.0;
       took = c.another-took.ensures.channel.2;

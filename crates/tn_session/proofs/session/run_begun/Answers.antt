@@ -1,5 +1,5 @@
-use Rattle.tn_session.proofs.Whole.{map_ok}
+use Rattle.std.proofs.lemmas.Result.{IfOk-weaker}
 use Rattle.tn_session.proofs.session.run_begun.Goals as goal
 
 pub returns-clause-ran : goal.returns-clause-ran
-returns-clause-ran g c = map_ok c.run.result _ _ (λ r on. on _ _ _ _ c.open.ensures.opened) c.run.ensures.ran
+returns-clause-ran g c = IfOk-weaker c.run.result _ _ (λ r on. on _ _ _ c.open.ensures.opened) c.run.ensures.ran

@@ -3,24 +3,24 @@ use Rattle.tn_discipline.specs.Canon.{Canon}
 use Rattle.tn_term.proofs.lemmas.Giving.{puts_are_front, taken_are_front}
 use Rattle.tn_term.specs.Marks.{run_after_opening}
 use Rattle.tn_term.specs.Run.{start}
-use Rattle.tn_term.specs.declared.faults.Ended.TheVariants.{HangUp, Fault}
-use Rattle.tn_term.specs.declared.faults.SessionFault.{SessionFault}
-use Rattle.tn_term.specs.declared.faults.SessionFault.TheVariants as fault
+use Rattle.tn_messages.specs.declared.faults.Ended.TheVariants.{HangUp, Fault}
+use Rattle.tn_messages.specs.declared.faults.SessionFault.{SessionFault}
+use Rattle.tn_messages.specs.declared.faults.SessionFault.TheVariants as fault
 use Rattle.tn_session.specs.declared.parties.Report.{Report}
 use Rattle.tn_session.specs.Turning.{ids_of}
 use Rattle.tn_session.proofs.Ending.{may_come, heard_of_reader, took_all, takes_entries, read_cause, write_cause}
 use Rattle.tn_session.proofs.Makers.{some_are, no_first}
-use Rattle.tn_session.proofs.Whole.{map_ok}
+use Rattle.std.proofs.lemmas.Result.{IfOk-weaker}
 use Rattle.tn_session.proofs.session.serve_session.Goals as goal
 
-pub returns-clause-all : goal.returns-clause-all
-returns-clause-all g c = map_ok c.run_begun.result _ _ (λ r ran.
+pub returns-clause-ran : goal.returns-clause-ran
+returns-clause-ran g c = IfOk-weaker c.run_begun.result _ _ (λ r ran.
     let canon : Canon = record { settings = c.args.settings; limit = c.args.limit } in
     let begun = c.in_ok-begun.begun in
     let is = c.in_ok-begun.ensures.begun in
     let jobs = is.jobs in
     let posts = begun.posts in
-    let s = ran canon c.args.editing jobs is.at is.words in
+    let s = ran (record { canon = canon; editing = c.args.editing }) jobs is.at is.words in
     let report = r.0 in
     let front = taken_are_front s.taken s.took_first.0 s.run.puts s.run.history s.took_first.1 (puts_are_front s.wrote_opening canon c.args.editing jobs s.marked s.run s.runs) in
     let hears = c.pieces_are_heard.ensures s.wrote_opening canon c.args.editing jobs s.marked s.run s.runs in
@@ -28,29 +28,25 @@ returns-clause-all g c = map_ok c.run_begun.result _ _ (λ r ran.
     let heard = heard_of_reader s hears hung in
     let all = λ (e : report.ended ≡ HangUp). took_all s (hung e) in
     let begin = run_after_opening s.wrote_opening (start canon c.args.editing jobs) in
-    let caused = λ (f : SessionFault) (e : report.ended ≡ Fault f). c.faults_have_causes.ensures s.wrote_opening canon c.args.editing jobs s.marked s.run f s.runs (sym (ap (λ (r : Report). r.ended) s.report_is) ∙ e) in (
-      record {
-        jobs = jobs;
-        first = posts.first;
-        others = ids_of posts.line.items;
-        numbered = is.numbered;
-        tostop = posts.tostop;
-        by_flag = is.tostop;
-        schedule = s;
-        heard = heard;
-        in_order = front;
-        all_taken = all;
-        by_bytes = takes_entries s hears heard front all;
-        caused = caused;
-        read_failed = λ e. read_cause s begin (caused fault.Read e);
-        write_failed = λ e. write_cause s begin (caused fault.Write e);
-      },
-      c.in_ok-begun.ensures.all,
-    ))
+    let caused = λ (f : SessionFault) (e : report.ended ≡ Fault f). c.faults_have_causes.ensures s.wrote_opening canon c.args.editing jobs s.marked s.run f s.runs (sym (ap (λ (r : Report). r.ended) s.report_is) ∙ e) in
+    record {
+      jobs = jobs;
+      first = posts.first;
+      others = ids_of posts.queue.items;
+      numbered = is.numbered;
+      all = c.in_ok-begun.ensures.all;
+      tostop = posts.tostop;
+      by_flag = is.tostop;
+      schedule = s;
+      heard = heard;
+      in_order = front;
+      all_taken = all;
+      by_bytes = takes_entries s hears heard front all;
+      caused = caused;
+      read_failed = λ e. read_cause s begin (caused fault.Read e);
+      write_failed = λ e. write_cause s begin (caused fault.Write e);
+    })
     c.run_begun.ensures.ran
-
-pub returns-clause-ran : goal.returns-clause-ran
-returns-clause-ran g c = map_ok c.run_begun.result _ _ (λ r s. s.0) (returns-clause-all g c)
 
 pub returns-clause-none : goal.returns-clause-none
 returns-clause-none g c = λ none. absurd (no_first _ none (some_are _ _ c.in_ok-begun.ensures.all))

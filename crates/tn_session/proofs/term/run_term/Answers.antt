@@ -1,13 +1,14 @@
 use Rattle.std.proofs.Common.{ap, refl, sym, ◌∙◌, [], ◌∷◌, ◌++◌, Option, List, option_to_list, arith, append-nil}
 use Rattle.crossbeam_channel.specs.Claims.{view}
-use Rattle.tn_session.specs.Queue.{putter}
+use Rattle.tn_session.specs.EntryChannel.{putter}
 use Rattle.tn_session.specs.declared.mail.Mail.{Mail}
 use Rattle.tn_session.proofs.Mailbox.{handles, totals, handled_more}
 use Rattle.tn_session.proofs.Going.{going_next, going_none, going_kept, lefts_of-push, left_small, puts_two}
+use Rattle.tn_streams.specs.Known.{known_writer}
 use Rattle.tn_session.proofs.term.run_term.Goals as goal
 
 pub recv_as-requires-clause-rule : goal.recv_as-requires-clause-rule
-recv_as-requires-clause-rule g c = (handles c.loop.pass.id (view c.loop.pass) c.loop.invariant.2.0 (ap (λ v. v.handled) c.loop.invariant.2.2), totals c.loop.pass.id (view c.loop.pass))
+recv_as-requires-clause-rule g c = (handles c.loop.mails.id (view c.loop.mails) c.loop.invariant.2.0 (ap (λ v. v.handled) c.loop.invariant.2.2), totals c.loop.mails.id (view c.loop.mails))
 
 pub loop-init : goal.loop-init
 loop-init g c = (
@@ -16,10 +17,10 @@ loop-init g c = (
   (
     [],
     [],
-    ap (λ (o : Option (List Mail)). record (view c.args.pass) { handled = o }) c.requires.mailbox.1,
+    ap (λ (o : Option (List Mail)). record (view c.args.passes.mails) { handled = o }) c.requires.mailbox.1,
     λ k e. e ∙ ap putter (sym (append-nil k)),
     refl,
-    going_kept c.args.term.now _ [] _ _ _ _ _ _ [] c.close-closed.ensures.contents c.close-closed.ensures.told (going_none c.args.term.now (g.W.Drain.contents c.args.writer.now) (g.W.Drain.told c.args.writer.now)),
+    going_kept c.args.term.now _ [] (known_writer g.W.Drain.contents g.W.Drain.told c.args.writer.now) (known_writer g.W.Drain.contents g.W.Drain.told c.args.writer.now) (known_writer g.W.Drain.contents g.W.Drain.told c.close-closed.new.writer) [] c.close-closed.ensures.contents c.close-closed.ensures.told (going_none c.args.term.now (known_writer g.W.Drain.contents g.W.Drain.told c.args.writer.now)),
   ),
   c.requires.out,
   omega arith,
@@ -35,6 +36,7 @@ loop-preserved g c =
     let i = c.loop.invariant.2 in
     let x = c.in-Ok.mail in
     let t = c.in_ok-hand.ensures.turned in
+    let writer = known_writer g.W.Drain.contents g.W.Drain.told in
     let small = left_small x.message in
     let more = c.if-lefts-ge-SENDERS.false in (
       c.in-Ok.ensures.channel.0,
@@ -42,10 +44,10 @@ loop-preserved g c =
       (
         i.0 ++ x ∷ [],
         i.1 ++ (option_to_list t.put ++ option_to_list t.last),
-        handled_more (view c.args.pass) (view c.loop.pass) (view c.recv_as.new.pass) i.0 x i.2 c.in-Ok.ensures.rule,
-        puts_two (view c.args.hand) (view c.loop.hand) (view c.in_ok-hand.hand) i.1 (option_to_list t.put ++ option_to_list t.last) i.3 t.puts,
+        handled_more (view c.args.passes.mails) (view c.loop.mails) (view c.recv_as.new.pass) i.0 x i.2 c.in-Ok.ensures.rule,
+        puts_two (view c.args.passes.hand) (view c.loop.hand) (view c.in_ok-hand.hand) i.1 (option_to_list t.put ++ option_to_list t.last) i.3 t.puts,
         omega (arith, lefts_of-push i.0 x, c.leaves-left.ensures, i.4),
-        going_next c.args.term.now c.loop.term c.turn.new.term i.0 x _ _ _ _ _ _ _ _ i.1 (view c.loop.hand) (view c.in_ok-hand.hand) c.close-closed-in-loop.ensures.contents c.close-closed-in-loop.ensures.told i.5 t,
+        going_next c.args.term.now c.loop.term c.turn.new.term i.0 x (writer c.args.writer.now) (writer c.loop.writer) (writer c.turn.new.writer) (writer c.close-closed-in-loop.new.writer) i.1 (view c.loop.hand) (view c.in_ok-hand.hand) c.close-closed-in-loop.ensures.contents c.close-closed-in-loop.ensures.told i.5 t,
       ),
       c.turn.ensures.out,
       omega (arith, small, more, c.leaves-left.ensures),
@@ -54,6 +56,7 @@ loop-preserved g c =
 pub returns-then-lefts-ge-SENDERS-clause-acted : goal.returns-then-lefts-ge-SENDERS-clause-acted
 returns-then-lefts-ge-SENDERS-clause-acted g c =
     let i = c.loop.invariant.2 in
+    let writer = known_writer g.W.Drain.contents g.W.Drain.told in
     let enough = c.if-lefts-ge-SENDERS.true in
     record {
       handled = i.0;
@@ -61,5 +64,5 @@ returns-then-lefts-ge-SENDERS-clause-acted g c =
       view = i.2;
       hand = i.3;
       lefts = omega (arith, enough, i.4);
-      goes = going_kept c.args.term.now c.loop.term _ _ _ _ _ _ _ i.1 c.finish_unless.ensures.contents c.finish_unless.ensures.told i.5;
+      goes = going_kept c.args.term.now c.loop.term _ (writer c.args.writer.now) (writer c.loop.writer) (writer c.finish_unless.new.writer) i.1 c.finish_unless.ensures.contents c.finish_unless.ensures.told i.5;
     }

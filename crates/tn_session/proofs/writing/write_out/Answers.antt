@@ -1,7 +1,7 @@
 use Rattle.std.proofs.Common.{◌≡◌, Ok, Err, refl, arith, take, drop, length, ◌-◌, length-drop}
 use Rattle.std.proofs.Math.Seq.{take-add}
 use Rattle.tn_session.proofs.Going.{appends_more, appends_kept, take_all, stops_at, stops_now, writes_all, writes_so_many, ok_writes}
-use Rattle.tn_session.specs.Turns.{most_writes}
+use Rattle.tn_session.specs.Turns.{max_writes}
 use Rattle.tn_streams.proofs.lemmas.Telling.{made_more, accounts_made, accounts_failed, accounts_passed, write_stays, write_fails}
 use Rattle.tn_streams.specs.Telling.{CountsWrite}
 use Rattle.tn_session.proofs.writing.write_out.Goals as goal
@@ -21,7 +21,7 @@ returns-then-at-bytes-clause-writes g c =
     writes_all _ _ c.loop-write.at c.args.bytes.now (omega (arith, at_end)) c.loop-write.invariant.1
 
 pub returns-then-at-bytes-clause-tells : goal.returns-then-at-bytes-clause-tells
-returns-then-at-bytes-clause-tells g c = accounts_made most_writes c.loop-write._write _ _ c.loop-write.invariant.2
+returns-then-at-bytes-clause-tells g c = accounts_made max_writes c.loop-write._write _ _ c.loop-write.invariant.2
 
 pub returns-in-Ok-eq0-clause-writes : goal.returns-in-Ok-eq0-clause-writes
 returns-in-Ok-eq0-clause-writes g c =
@@ -33,7 +33,7 @@ returns-in-Err-2-clause-writes g c =
 
 pub returns-in-Err-2-clause-tells : goal.returns-in-Err-2-clause-tells
 returns-in-Err-2-clause-tells g c =
-    accounts_failed (CountsWrite c.args.bytes.now (Err c.in-Err.error)) most_writes c.loop-write._write _ _ _ _ (write_fails c.args.bytes.now c.in-Err.error (c.is_interrupted.ensures.failed c.if-is_interrupted.false)) c.loop-write.invariant.2 c.in-Err.ensures.tells
+    accounts_failed (CountsWrite c.args.bytes.now (Err c.in-Err.error)) max_writes c.loop-write._write _ _ _ _ (write_fails c.args.bytes.now c.in-Err.error (c.is_interrupted.ensures.failed c.if-is_interrupted.false)) c.loop-write.invariant.2 c.in-Err.ensures.tells
 
 pub returns-clause-writes : goal.returns-clause-writes
 returns-clause-writes g c = writes_so_many _ _ _ c.loop-write.at c.args.bytes.now refl c.loop-write.invariant.1
@@ -41,4 +41,4 @@ returns-clause-writes g c = writes_so_many _ _ _ c.loop-write.at c.args.bytes.no
 pub returns-clause-tells : goal.returns-clause-tells
 returns-clause-tells g c =
     let n : c.loop-write._write ≡ 18446744073709551615 = omega (arith, c.loop-write.auto._write-end, c.loop-write-test.false) in
-    accounts_passed most_writes _ _ _ (rw n at c.loop-write.invariant.2)
+    accounts_passed max_writes _ _ _ (rw n at c.loop-write.invariant.2)

@@ -1,9 +1,10 @@
+use Rattle.std.proofs.lemmas.Result.{err_from_is_err_and}
 use Rattle.tn_term.proofs.Following.{follows_pulled}
 use Rattle.tn_term.proofs.Refusing.{symbols_wait}
 use Rattle.tn_term.proofs.terminal.pull_all.Goals as goal
 
-pub returns-in-Ok-clause-ok : goal.returns-in-Ok-clause-ok
-returns-in-Ok-clause-ok c = follows_pulled _ _ _ _ _ c.in-Ok.ensures.ok c.in-Ok.ensures.keeps c.in-Ok.ensures.count
+pub returns-clause-ok : goal.returns-clause-ok
+returns-clause-ok c = follows_pulled _ _ _ _ _ c.in_ok-pull.ensures.ok c.in_ok-pull.ensures.keeps c.in_ok-pull.ensures.count
 
-pub returns-in-Err-clause-grows : goal.returns-in-Err-clause-grows
-returns-in-Err-clause-grows c = λ h at. symbols_wait h (c.in-Err.ensures.grows h at)
+pub returns-in_err-pull-clause-grows : goal.returns-in_err-pull-clause-grows
+returns-in_err-pull-clause-grows c = let p = err_from_is_err_and c.from_residual.result c.from_residual.ensures.1 in rw p.1 (λ h at. symbols_wait h (c.in_err-pull.ensures.grows h at))

@@ -8,11 +8,13 @@ use std::net::{Ipv4Addr, TcpListener, TcpStream};
 use std::process::Abort;
 use std::test::Fail;
 use std::{io, thread};
+use tn_answerer::Answerers;
 use tn_discipline::Limit;
-use tn_loopback::{connect, serve_connection, serve_on};
+use tn_loopback::{Connecting, Host, Serving, SessionOptions, connect, serve_connection, serve_on};
+use tn_program::Answering;
 use tn_roster::{Roster, RosterFault, note};
+use tn_server::Editing;
 use tn_session::Ended;
-use tn_words::{Connecting, Serving};
 
 fn is_no_limit(alloc: Global, limit: usize) -> bool {
     matches!(Roster::new(alloc, limit), Err(RosterFault::BadLimit))
@@ -52,14 +54,19 @@ fn what_became_of_a_connection_is_noted(rt: HostRuntime) {
     }
 }
 
-fn serving(limit: u16, count: u32) -> Serving {
+fn options(idle: u32) -> SessionOptions {
+    SessionOptions {
+        line_limit: Limit::standard(),
+        editing: Editing::Remote,
+        idle,
+    }
+}
+
+fn serving(sessions: u16, count: u32) -> Serving {
     Serving {
-        port: 0,
-        limit,
+        sessions,
         count,
-        ticks: 0,
-        line: Limit::standard(),
-        local: false,
+        options: options(0),
         verbose: false,
     }
 }
@@ -69,7 +76,7 @@ fn connecting(port: u16) -> Connecting {
         port,
         width: 80,
         height: 24,
-        line: Limit::standard(),
+        line_limit: Limit::standard(),
     }
 }
 
@@ -90,44 +97,128 @@ impl Read for OneByOne {
     }
 }
 
+// How the session of the next connection ends, and how many entries it has.
+fn serve_next<H: Host>(
+    rt: H,
+    alloc: Global,
+    listener: &TcpListener,
+    idle: u32,
+) -> Option<(Ended, u64)> {
+    let (stream, _) = listener.accept().ok()?;
+    let jobs = Answerers::new(0);
+    let report = serve_connection(rt, alloc, stream, options(idle), jobs).ok()?;
+    Some((report.ended, report.entries))
+}
+
 #[test]
 fn a_line_comes_back_over_a_connection(rt: HostRuntime) -> Result<(), Fail> {
     let alloc = rt.alloc();
     let listener = TcpListener::bind(&rt, (Ipv4Addr::LOCALHOST, 0))?;
     let port = listener.local_addr()?.port();
-    let server = thread::spawn(&rt, move || -> bool {
-        let Ok((stream, _)) = listener.accept() else {
-            return false;
-        };
-        let report = serve_connection(rt, alloc, stream, &serving(1, 1));
-        matches!(report, Ok(report) if report.ended == Ended::Done && report.entries == 2)
+    let server = thread::spawn(&rt, move || -> Option<(Ended, u64)> {
+        serve_next(rt, alloc, &listener, 0)
     })?;
     let mut screen = Vec::new(alloc);
     let keys = OneByOne { keys: b"a\rexit\r" };
     let connected = connect(rt, alloc, connecting(port), keys, &mut screen);
     assert!(rt; connected.is_ok());
     assert!(rt; screen.as_slice().ends_with(b"bye\r\n"));
-    assert!(rt; server.join(&rt));
+    assert!(rt; server.join(&rt) == Some((Ended::Done, 2)));
+    Ok(())
+}
+
+/// Gives so many lines at once, and then `exit`.
+#[derive(Drop)]
+struct Paste {
+    lines: u32,
+    ended: bool,
+}
+
+impl Read for Paste {
+    fn read(&mut self, buf: &mut [u8]) -> io::Result<usize> {
+        let mut keys = b"abc\r".as_slice();
+        if self.lines == 0 {
+            keys = if self.ended { b"" } else { b"exit\r" };
+            self.ended = true;
+        }
+        self.lines = self.lines.saturating_sub(1);
+        keys.read(buf)
+    }
+}
+
+#[test]
+fn a_paste_arrives_whole_over_a_connection(rt: HostRuntime) -> Result<(), Fail> {
+    let alloc = rt.alloc();
+    let listener = TcpListener::bind(&rt, (Ipv4Addr::LOCALHOST, 0))?;
+    let port = listener.local_addr()?.port();
+    let server = thread::spawn(&rt, move || -> Option<(Ended, u64)> {
+        serve_next(rt, alloc, &listener, 0)
+    })?;
+    let mut screen = Vec::new(alloc);
+    let lines = 5_000;
+    let keys = Paste {
+        lines,
+        ended: false,
+    };
+    let connected = connect(rt, alloc, connecting(port), keys, &mut screen);
+    assert!(rt; connected.is_ok());
+    assert!(rt; screen.as_slice().ends_with(b"bye\r\n"));
+    assert!(rt; server.join(&rt) == Some((Ended::Done, 5_001)));
     Ok(())
 }
 
 #[test]
-fn a_connection_more_than_the_limit_is_told_so(rt: HostRuntime) -> Result<(), Fail> {
+fn a_silent_client_is_let_go(rt: HostRuntime) -> Result<(), Fail> {
+    let alloc = rt.alloc();
+    let listener = TcpListener::bind(&rt, (Ipv4Addr::LOCALHOST, 0))?;
+    let port = listener.local_addr()?.port();
+    let server = thread::spawn(&rt, move || -> Option<(Ended, u64)> {
+        serve_next(rt, alloc, &listener, 1)
+    })?;
+    let client = TcpStream::connect(&rt, (Ipv4Addr::LOCALHOST, port))?;
+    assert!(rt; server.join(&rt) == Some((Ended::HangUp, 0)));
+    drop(client);
+    Ok(())
+}
+
+// The client reads the end of what the server sends, and does not close.
+#[test]
+fn a_client_that_stays_is_closed(rt: HostRuntime) -> Result<(), Fail> {
+    let alloc = rt.alloc();
+    let listener = TcpListener::bind(&rt, (Ipv4Addr::LOCALHOST, 0))?;
+    let port = listener.local_addr()?.port();
+    let server = thread::spawn(&rt, move || -> Option<(Ended, u64)> {
+        serve_next(rt, alloc, &listener, 0)
+    })?;
+    let mut client = TcpStream::connect(&rt, (Ipv4Addr::LOCALHOST, port))?;
+    client.write_all(b"exit\r\0")?;
+    assert!(rt; server.join(&rt) == Some((Ended::Done, 1)));
+    drop(client);
+    Ok(())
+}
+
+#[test]
+fn connections_more_than_the_limit_are_told_so(rt: HostRuntime) -> Result<(), Fail> {
     let alloc = rt.alloc();
     let listener = TcpListener::bind(&rt, (Ipv4Addr::LOCALHOST, 0))?;
     let port = listener.local_addr()?.port();
     let server = thread::spawn(&rt, move || -> bool {
         let mut errors = Vec::new(alloc);
-        let served = serve_on(rt, alloc, &listener, serving(1, 2), &mut errors);
+        let service = Answering { ticks: 0 };
+        let served = serve_on(rt, alloc, &listener, serving(1, 21), service, &mut errors);
         served.is_ok() && errors.is_empty()
     })?;
     let mut first = TcpStream::connect(&rt, (Ipv4Addr::LOCALHOST, port))?;
     let mut opening = [0; 15];
     first.read_exact(&mut opening)?;
-    let mut second = TcpStream::connect(&rt, (Ipv4Addr::LOCALHOST, port))?;
-    let mut told = Vec::new(alloc);
-    second.read_to_end(&mut told)?;
-    assert!(rt; told.as_slice() == b"full\r\n".as_slice());
+    let mut held = Vec::new(alloc);
+    for _ in 0..20 {
+        let mut more = TcpStream::connect(&rt, (Ipv4Addr::LOCALHOST, port))?;
+        let mut told = Vec::new(alloc);
+        more.read_to_end(&mut told)?;
+        assert!(rt; told.as_slice() == b"full\r\n".as_slice());
+        held.push(more)?;
+    }
     first.write_all(b"exit\r\0")?;
     let mut rest = Vec::new(alloc);
     first.read_to_end(&mut rest)?;

@@ -5,7 +5,7 @@ use std::process::Abort;
 use std::test::Fail;
 use tn_client_core::{Core, Mark, Origin, Told};
 use tn_discipline::{Limit, Text};
-use tn_term::{Ended, Message, SessionFault};
+use tn_messages::{Ended, Message, SessionFault};
 
 fn piece(alloc: Global, from: Origin, bytes: &[u8]) -> Result<Told, Fail> {
     let message = Message::Piece(Text::from(Vec::from_slice(alloc, bytes)?));

@@ -1,6 +1,6 @@
 //! That the work goes on in several threads: each waits for what another does.
 
-use super::sessions::{Open, ended, reaction};
+use super::sessions::{ended, reaction};
 use std::alloc::{AllocError, Global};
 use std::io::Read;
 use std::process::Abort;
@@ -12,10 +12,12 @@ use std::{io, thread};
 use tn_discipline::{Entry, Limit, Settings};
 use tn_jobs::{After, Job, JobId, Reaction};
 use tn_server::Editing;
-use tn_session::{Ended, Gate, Maker, Place, Report, SessionFault, client_session, serve_session};
+use tn_session::{
+    Ended, Gate, Maker, Place, Report, SessionFault, Unwatched, client_session, serve_session,
+};
 
 /// How many turns a wait takes at most.
-const MOST_TURNS: u32 = 1_048_576;
+const MAX_TURNS: u32 = 1_048_576;
 
 /// What the threads tell each other.
 #[derive(Drop)]
@@ -33,7 +35,7 @@ impl Flags {
 
 // Waits for a flag, and tells where that takes too long.
 fn wait(flag: &AtomicBool, stuck: &AtomicBool) {
-    for _turn in 0..MOST_TURNS {
+    for _turn in 0..MAX_TURNS {
         if flag.load(Ordering::SeqCst) {
             return;
         }
@@ -235,7 +237,7 @@ fn typed<R: Threads + Wait + Copy + Send + 'static>(
     out: &mut Vec<u8>,
 ) -> Result<Report, Fail> {
     let mut screen = Vec::new(alloc);
-    let gate = Arc::new(alloc, Open)?;
+    let gate = Arc::new(alloc, Unwatched)?;
     let limit = Limit::standard();
     match client_session(rt, alloc, net, keys, out, &mut screen, 80, 24, limit, gate) {
         Ok((report, _ports)) => Ok(report),

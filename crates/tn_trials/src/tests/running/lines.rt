@@ -1,7 +1,7 @@
-//! Lines typed over connections of this machine, beside one local terminal: what the foreground job takes is what
-//! `run_local` prints of the same keys.
+//! Lines typed over connections on this machine, beside one local terminal: what the foreground job takes
+//! is what `run_local` prints for the same keys.
 
-use super::sessions::{Open, reaction};
+use super::sessions::reaction;
 use std::alloc::{AllocError, Global};
 use std::io::{self, Cursor, Read, Write};
 use std::net::{Ipv4Addr, Net, Shutdown, TcpListener, TcpStream};
@@ -14,11 +14,10 @@ use std::{mem, thread};
 use tn_cli::run_local;
 use tn_discipline::{Entry, Limit, Settings, Sig};
 use tn_jobs::{After, Job, Reaction};
-use tn_loopback::{Host, connect};
+use tn_loopback::{Connecting, Host, connect};
 use tn_plain::chance::Dice;
 use tn_server::Editing;
-use tn_session::{Ended, Finish, Maker, serve_session};
-use tn_words::Connecting;
+use tn_session::{Ended, Finish, Maker, Unwatched, serve_session};
 
 /// How many sessions are tried, half of them with lines that the client is asked to edit.
 const SESSIONS: u32 = 100;
@@ -159,7 +158,7 @@ fn serve<R: Threads + Wait + Copy + Send + 'static>(
 ) -> Option<bool> {
     let reader = stream.try_clone().ok()?;
     let mut writer = Sending { stream };
-    let gate = Arc::new(alloc, Open).ok()?;
+    let gate = Arc::new(alloc, Unwatched).ok()?;
     let maker = One { job: Some(job) };
     let (settings, limit) = (Settings::standard(), Limit::standard());
     match serve_session(
@@ -225,7 +224,7 @@ where
         port,
         width: 80,
         height: 24,
-        line: Limit::standard(),
+        line_limit: Limit::standard(),
     };
     let connected = connect(rt, alloc, connecting, typist, &mut Vec::new(alloc));
     let taken = server.join(&rt);

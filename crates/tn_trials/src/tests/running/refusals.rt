@@ -5,7 +5,7 @@ ghost use Rattle.std.specs.Io.{WritesAtMost};
 ghost use Rattle.std.specs.Io.KnownBytes.{WriteAppends};
 ghost use Rattle.tn_streams.specs.Counting.{told_by};
 
-use super::sessions::{Jobs, Open, ended};
+use super::sessions::{Jobs, ended};
 use std::alloc::Global;
 use std::io::{self, ErrorKind};
 use std::process::Abort;
@@ -13,7 +13,7 @@ use std::sync::{Arc, Wait};
 use std::thread::Threads;
 use tn_discipline::{Limit, Settings};
 use tn_server::{Editing, ServerFault};
-use tn_session::{Ended, Finish, Report, SessionFault, serve_session};
+use tn_session::{Ended, Finish, Report, SessionFault, Unwatched, serve_session};
 use tn_streams::{Drain, Source, Tally};
 
 /// Gives some bytes at once, then fails so many times, and then ends; it foretells how many of its calls will
@@ -104,7 +104,7 @@ fn served<R: Threads + Wait + Copy + Send + 'static>(
     failures: u32,
     writer: &mut Failing,
 ) -> Result<Report, SessionFault> {
-    let Ok(gate) = Arc::new(alloc, Open) else {
+    let Ok(gate) = Arc::new(alloc, Unwatched) else {
         return Err(SessionFault::Memory);
     };
     let reader = Once {

@@ -9,7 +9,7 @@ use std::thread::Threads;
 use tn_discipline::{Entry, Limit, Settings, Sig, Text};
 use tn_jobs::{After, Job, Reaction};
 use tn_server::Editing;
-use tn_session::{Ended, Gate, Maker, Place, Report, client_session, serve_session};
+use tn_session::{Ended, Maker, Report, Unwatched, client_session, serve_session};
 
 /// DO LINEMODE, DO NAWS, WILL SUPPRESS-GO-AHEAD, DO SUPPRESS-GO-AHEAD, WILL ECHO.
 const OPENING: usize = 15;
@@ -74,13 +74,6 @@ impl Maker for Jobs {
     }
 }
 
-#[derive(Drop)]
-pub(crate) struct Open;
-
-impl Gate for Open {
-    fn at(&self, _place: Place) {}
-}
-
 // A session over this input, and how it ended.
 fn served<R: Threads + Wait + Copy + Send + 'static>(
     rt: R,
@@ -94,7 +87,7 @@ fn served<R: Threads + Wait + Copy + Send + 'static>(
     let mut settings = Settings::standard();
     settings.flags.tostop = tostop;
     let limit = Limit::standard();
-    let gate = Arc::new(alloc, Open)?;
+    let gate = Arc::new(alloc, Unwatched)?;
     let maker = Jobs { left: jobs };
     match serve_session(rt, alloc, input, out, settings, limit, editing, maker, gate) {
         Ok((report, _ports)) => Ok(report),
@@ -187,7 +180,7 @@ fn typed<R: Threads + Wait + Copy + Send + 'static>(
     screen: &mut Vec<u8>,
 ) -> Result<Report, Fail> {
     let limit = Limit::standard();
-    let gate = Arc::new(alloc, Open)?;
+    let gate = Arc::new(alloc, Unwatched)?;
     let (net, keys) = (Cursor::new([]), Cursor::new(*b"a\r"));
     match client_session(rt, alloc, net, keys, out, screen, 80, 24, limit, gate) {
         Ok((report, _ports)) => Ok(report),

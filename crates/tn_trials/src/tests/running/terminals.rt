@@ -5,8 +5,9 @@ use std::process::Abort;
 use std::test::Fail;
 use tn_discipline::{Entry, Limit, Settings, Text};
 use tn_jobs::{After, JobId, Table};
+use tn_messages::{Ended, Message, SessionFault};
 use tn_server::Editing;
-use tn_term::{Ended, Message, SessionFault, Term};
+use tn_term::Term;
 
 /// The opening words, the text `a` with a new line, and GA. The client has not let the server echo.
 const WRITTEN: [u8; 20] = [

@@ -5,22 +5,26 @@ use Rattle.tn_words.proofs.commands.serve_command.Goals as goal
 
 pub returns-clause-shape : goal.returns-clause-shape
 returns-clause-shape c =
-    let a1 = with_one_more c.described-command.result c.in_ok-arg.field-0 c.port_option.result _ _ c.in_ok-arg.ensures c.port_option.ensures.local c.port_option.ensures.rule c.described-command.ensures.app in
-    let a2 = with_one_more c.in_ok-arg.field-0 c.in_ok-arg-2.field-0 c.whole_option.result _ _ c.in_ok-arg-2.ensures c.whole_option.ensures.local c.whole_option.ensures.rule a1 in
-    let a3 = with_one_more c.in_ok-arg-2.field-0 c.in_ok-arg-3.field-0 c.whole_option-2.result _ _ c.in_ok-arg-3.ensures c.whole_option-2.ensures.local c.whole_option-2.ensures.rule a2 in
-    let a4 = with_one_more c.in_ok-arg-3.field-0 c.in_ok-arg-4.field-0 c.whole_option-3.result _ _ c.in_ok-arg-4.ensures c.whole_option-3.ensures.local c.whole_option-3.ensures.rule a3 in
-    let a5 = with_one_more c.in_ok-arg-4.field-0 c.in_ok-arg-5.field-0 c.line_option.result _ _ c.in_ok-arg-5.ensures c.line_option.ensures.local c.line_option.ensures.rule a4 in
-    let a6 = with_one_more c.in_ok-arg-5.field-0 c.in_ok-arg-6.field-0 c.flag_option.result _ _ c.in_ok-arg-6.ensures c.flag_option.ensures.local c.flag_option.ensures.rule a5 in
-    let a7 = with_one_more c.in_ok-arg-6.field-0 c.in_ok-command.command c.flag_option-2.result _ _ c.in_ok-command.ensures c.flag_option-2.ensures.local c.flag_option-2.ensures.rule a6 in
-    ap (λ (a : App). a.top) a7
+    let a1 = with_one_more c.described-command.result c.in_ok-arg.field-0 c.host_option.result _ _ c.in_ok-arg.ensures c.host_option.ensures.local c.host_option.ensures.rule c.described-command.ensures.app in
+    let a2 = with_one_more c.in_ok-arg.field-0 c.in_ok-arg-2.field-0 c.port_option.result _ _ c.in_ok-arg-2.ensures c.port_option.ensures.local c.port_option.ensures.rule a1 in
+    let a3 = with_one_more c.in_ok-arg-2.field-0 c.in_ok-arg-3.field-0 c.whole_option.result _ _ c.in_ok-arg-3.ensures c.whole_option.ensures.local c.whole_option.ensures.rule a2 in
+    let a4 = with_one_more c.in_ok-arg-3.field-0 c.in_ok-arg-4.field-0 c.whole_option-2.result _ _ c.in_ok-arg-4.ensures c.whole_option-2.ensures.local c.whole_option-2.ensures.rule a3 in
+    let a5 = with_one_more c.in_ok-arg-4.field-0 c.in_ok-arg-5.field-0 c.whole_option-3.result _ _ c.in_ok-arg-5.ensures c.whole_option-3.ensures.local c.whole_option-3.ensures.rule a4 in
+    let a6 = with_one_more c.in_ok-arg-5.field-0 c.in_ok-arg-6.field-0 c.line_option.result _ _ c.in_ok-arg-6.ensures c.line_option.ensures.local c.line_option.ensures.rule a5 in
+    let a7 = with_one_more c.in_ok-arg-6.field-0 c.in_ok-arg-7.field-0 c.whole_option-4.result _ _ c.in_ok-arg-7.ensures c.whole_option-4.ensures.local c.whole_option-4.ensures.rule a6 in
+    let a8 = with_one_more c.in_ok-arg-7.field-0 c.in_ok-arg-8.field-0 c.flag_option.result _ _ c.in_ok-arg-8.ensures c.flag_option.ensures.local c.flag_option.ensures.rule a7 in
+    let a9 = with_one_more c.in_ok-arg-8.field-0 c.in_ok-command.command c.flag_option-2.result _ _ c.in_ok-command.ensures c.flag_option-2.ensures.local c.flag_option-2.ensures.rule a8 in
+    ap (λ (a : App). a.top) a9
 
 pub returns-clause-local : goal.returns-clause-local
 returns-clause-local c =
-    let a1 = still_local c.described-command.result c.in_ok-arg.field-0 c.port_option.result c.in_ok-arg.ensures c.port_option.ensures.local c.described-command.ensures.local in
-    let a2 = still_local c.in_ok-arg.field-0 c.in_ok-arg-2.field-0 c.whole_option.result c.in_ok-arg-2.ensures c.whole_option.ensures.local a1 in
-    let a3 = still_local c.in_ok-arg-2.field-0 c.in_ok-arg-3.field-0 c.whole_option-2.result c.in_ok-arg-3.ensures c.whole_option-2.ensures.local a2 in
-    let a4 = still_local c.in_ok-arg-3.field-0 c.in_ok-arg-4.field-0 c.whole_option-3.result c.in_ok-arg-4.ensures c.whole_option-3.ensures.local a3 in
-    let a5 = still_local c.in_ok-arg-4.field-0 c.in_ok-arg-5.field-0 c.line_option.result c.in_ok-arg-5.ensures c.line_option.ensures.local a4 in
-    let a6 = still_local c.in_ok-arg-5.field-0 c.in_ok-arg-6.field-0 c.flag_option.result c.in_ok-arg-6.ensures c.flag_option.ensures.local a5 in
-    let a7 = still_local c.in_ok-arg-6.field-0 c.in_ok-command.command c.flag_option-2.result c.in_ok-command.ensures c.flag_option-2.ensures.local a6 in
-    a7
+    let a1 = still_local c.described-command.result c.in_ok-arg.field-0 c.host_option.result c.in_ok-arg.ensures c.host_option.ensures.local c.described-command.ensures.local in
+    let a2 = still_local c.in_ok-arg.field-0 c.in_ok-arg-2.field-0 c.port_option.result c.in_ok-arg-2.ensures c.port_option.ensures.local a1 in
+    let a3 = still_local c.in_ok-arg-2.field-0 c.in_ok-arg-3.field-0 c.whole_option.result c.in_ok-arg-3.ensures c.whole_option.ensures.local a2 in
+    let a4 = still_local c.in_ok-arg-3.field-0 c.in_ok-arg-4.field-0 c.whole_option-2.result c.in_ok-arg-4.ensures c.whole_option-2.ensures.local a3 in
+    let a5 = still_local c.in_ok-arg-4.field-0 c.in_ok-arg-5.field-0 c.whole_option-3.result c.in_ok-arg-5.ensures c.whole_option-3.ensures.local a4 in
+    let a6 = still_local c.in_ok-arg-5.field-0 c.in_ok-arg-6.field-0 c.line_option.result c.in_ok-arg-6.ensures c.line_option.ensures.local a5 in
+    let a7 = still_local c.in_ok-arg-6.field-0 c.in_ok-arg-7.field-0 c.whole_option-4.result c.in_ok-arg-7.ensures c.whole_option-4.ensures.local a6 in
+    let a8 = still_local c.in_ok-arg-7.field-0 c.in_ok-arg-8.field-0 c.flag_option.result c.in_ok-arg-8.ensures c.flag_option.ensures.local a7 in
+    let a9 = still_local c.in_ok-arg-8.field-0 c.in_ok-command.command c.flag_option-2.result c.in_ok-command.ensures c.flag_option-2.ensures.local a8 in
+    a9

@@ -3,7 +3,7 @@ use Rattle.clap.specs.Words.{found_of, rows_of, subcommand_rows_of}
 use Rattle.tn_words.proofs.Asking.{connects_not, name_in}
 use Rattle.tn_words.proofs.words.asked_of.Goals as goal
 
-pub returns-in_err-connecting-in-connect-clause-none : goal.returns-in_err-connecting-in-connect-clause-none
-returns-in_err-connecting-in-connect-clause-none c none =
+pub returns-in-None-connecting-clause-none : goal.returns-in-None-connecting-clause-none
+returns-in-None-connecting-clause-none c none =
     let m = c.args.matches.now in
-    connects_not (subcommand_rows_of m) c.in_ok-name.name.now (rows_of (found_of c.in_ok-name.words.now)) (sym (name_in m) ∙ sym c.in_ok-name.ensures.name) (sym c.in_ok-name.ensures.rows) c.in-connect.is (c.connecting.ensures.none c.in_err-connecting-in-connect.was)
+    connects_not (subcommand_rows_of m) c.in-Some.name.now (rows_of (found_of c.in-Some.words.now)) (sym (name_in m) ∙ sym c.in-Some.ensures.name) (sym c.in-Some.ensures.rows) c.in-connect.is (c.connecting.ensures.none c.in-None-connecting.is)

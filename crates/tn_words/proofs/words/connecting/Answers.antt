@@ -14,4 +14,4 @@ returns-in_err-number-3-clause-none c none asked asks =
 
 pub returns-in_err-number-4-clause-none : goal.returns-in_err-number-4-clause-none
 returns-in_err-number-4-clause-none c none asked asks =
-    c.number-4.ensures.none c.in_err-number-4.was asked.line asks.line
+    c.number-4.ensures.none c.in_err-number-4.was asked.line_limit asks.line

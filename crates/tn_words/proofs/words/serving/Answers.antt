@@ -1,43 +1,16 @@
-use Rattle.std.proofs.Common.{◌≡◌, ◌∙◌, rules, codes}
+use Rattle.std.proofs.Common.{◌≡◌, ◌∙◌, sym, ap, Some, is_some, true, false, codes, option_map}
 use Rattle.clap.specs.Words.{found_of}
-use Rattle.clap.proofs.WalkLemmas.{one_text-rows}
+use Rattle.clap.proofs.WalkLemmas.{first_value-rows}
 use Rattle.tn_words.proofs.words.serving.Goals as goal
 
-pub returns-in_err-number-clause-none : goal.returns-in_err-number-clause-none
-returns-in_err-number-clause-none c none asked asks =
-    c.number.ensures.none c.in_err-number.was asked.port asks.port
-
-pub returns-in_err-number-2-clause-none : goal.returns-in_err-number-2-clause-none
-returns-in_err-number-2-clause-none c none asked asks =
-    c.number-2.ensures.none c.in_err-number-2.was asked.limit asks.limit
-
-pub returns-in_err-number-3-clause-none : goal.returns-in_err-number-3-clause-none
-returns-in_err-number-3-clause-none c none asked asks =
-    c.number-3.ensures.none c.in_err-number-3.was asked.count asks.count
-
-pub returns-in_err-number-4-clause-none : goal.returns-in_err-number-4-clause-none
-returns-in_err-number-4-clause-none c none asked asks =
-    c.number-4.ensures.none c.in_err-number-4.was asked.ticks asks.ticks
-
-pub returns-in_err-number-5-clause-none : goal.returns-in_err-number-5-clause-none
-returns-in_err-number-5-clause-none c none asked asks =
-    c.number-5.ensures.none c.in_err-number-5.was asked.line asks.line
-
-pub returns-clause-asked : goal.returns-clause-asked
-returns-clause-asked c = record {
-  port = search rules;
-  limit = search rules;
-  count = search rules;
-  ticks = search rules;
-  line = search rules;
-  edited = record {
-    given = λ is. c.get_flag.ensures.value (one_text-rows (found_of c.args.words.now) (codes "local") ∙ is);
-    not_given = λ is. c.get_flag.ensures.other (one_text-rows (found_of c.args.words.now) (codes "local") ∙ is);
-    unknown = λ is. c.get_flag.ensures.none (one_text-rows (found_of c.args.words.now) (codes "local") ∙ is);
-  };
-  verbose = record {
-    given = λ is. c.get_flag-2.ensures.value (one_text-rows (found_of c.args.words.now) (codes "verbose") ∙ is);
-    not_given = λ is. c.get_flag-2.ensures.other (one_text-rows (found_of c.args.words.now) (codes "verbose") ∙ is);
-    unknown = λ is. c.get_flag-2.ensures.none (one_text-rows (found_of c.args.words.now) (codes "verbose") ∙ is);
-  };
+pub serving_at-requires : goal.serving_at-requires
+serving_at-requires c = record {
+  host = sym (first_value-rows (found_of c.args.words.now) (codes "host"))
+      ∙ (sym c.get_str.ensures ∙ (ap (option_map (λ s. s.now)) c.in-Some.is ∙ ap Some (sym c.in_ok-host-in-Some.ensures.ok)));
 }
+
+pub returns-in-None-clause-none : goal.returns-in-None-clause-none
+returns-in-None-clause-none c none asked asks =
+    let found = sym (ap (option_map (λ s. s.now)) c.in-None.is)
+    ∙ (c.get_str.ensures ∙ (first_value-rows (found_of c.args.words.now) (codes "host") ∙ asks.host)) in
+    let bad : false ≡ true = ap is_some found in absurd (cc)

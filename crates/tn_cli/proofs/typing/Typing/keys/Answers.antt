@@ -1,4 +1,4 @@
-use Rattle.std.proofs.Common.{◌-◌, length, take, drop, subst, arith}
+use Rattle.std.proofs.Common.{◌-◌, length, drop, subst, arith}
 use Rattle.std.proofs.lemmas.List.{take_all, length-drop, length-take}
 use Rattle.tn_cli.specs.Typing.{Types}
 use Rattle.tn_cli.proofs.Items.{types_nothing}
@@ -13,8 +13,8 @@ loop-typed-preserved c =
     let keys = c.args.keys.now in
     let i = c.loop-typed.typed in
     record {
-      within = omega (arith, c.in-Ok.ensures.within, length-take (length keys - i) (drop i keys), length-drop i keys, c.loop-typed.invariant.within);
-      types = types_front c.args.self.now c.loop-typed.self c.front.new.self keys i c.in-Ok.count c.loop-typed.invariant.types c.in-Ok.ensures.types;
+      within = omega (arith, c.in_ok-typed.ensures.within, length-take (length keys - i) (drop i keys), length-drop i keys, c.loop-typed.invariant.within);
+      types = types_front c.args.self.now c.loop-typed.self c.front.new.self keys i c.in_ok-typed.field-0 c.loop-typed.invariant.types c.in_ok-typed.ensures.types;
     }
 
 pub returns : goal.returns

@@ -1,17 +1,19 @@
 use Rattle.std.proofs.Common.{ap}
+use Rattle.std.proofs.lemmas.Result.{err_from_is_err_and}
 use Rattle.tn_client_core.proofs.Doing.{does_keys, stops_keys}
 use Rattle.tn_client_core.specs.declared.progress.Progress.{Progress}
 use Rattle.tn_client_core.proofs.machine.Core.keys.Goals as goal
 
-pub returns-in-Ok-clause-ok : goal.returns-in-Ok-clause-ok
-returns-in-Ok-clause-ok c =
-    does_keys c.args.keys.now c.args.self.now _ c.type_all.new.end _ _ _ _ c.requires (ap (λ (p : Progress). record { end = c.type_all.new.end; progress = p }) c.fed-self.ensures) c.in-Ok.ensures.ok
+pub returns-clause-ok : goal.returns-clause-ok
+returns-clause-ok c =
+    does_keys c.args.keys.now c.args.self.now _ c.type_all.new.end _ _ _ _ c.requires (ap (λ (p : Progress). record { end = c.type_all.new.end; progress = p }) c.fed-self.ensures) c.in_ok-type_all.ensures.ok
 
-pub returns-in-Err-clause-err : goal.returns-in-Err-clause-err
-returns-in-Err-clause-err c =
-    stops_keys c.args.keys.now c.args.self.now _ c.type_all.new.end _ _ _ _ c.requires (ap (λ (p : Progress). record { end = c.type_all.new.end; progress = p }) c.fed-self.ensures) c.in-Err.ensures.err
+pub returns-in_err-type_all-clause-err : goal.returns-in_err-type_all-clause-err
+returns-in_err-type_all-clause-err c =
+    let p = err_from_is_err_and c.from_residual.result c.from_residual.ensures.1 in
+    rw p.1 (stops_keys c.args.keys.now c.args.self.now _ c.type_all.new.end _ _ _ _ c.requires (ap (λ (p : Progress). record { end = c.type_all.new.end; progress = p }) c.fed-self.ensures) c.in_err-type_all.ensures.err)
 
-pub returns-in-Err-clause-cause : goal.returns-in-Err-clause-cause
-returns-in-Err-clause-cause c = λ d at.
-    let l = at.live c.requires in
-    c.in-Err.ensures.cause d.history l.leads l.failed
+pub returns-in_err-type_all-clause-cause : goal.returns-in_err-type_all-clause-cause
+returns-in_err-type_all-clause-cause c =
+    let p = err_from_is_err_and c.from_residual.result c.from_residual.ensures.1 in
+    rw (p.1, p.2) (λ d at. let l = at.live c.requires in c.in_err-type_all.ensures.cause d.history l.leads l.failed)

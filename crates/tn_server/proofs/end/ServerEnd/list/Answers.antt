@@ -1,18 +1,15 @@
-use Rattle.std.proofs.Common.{◌++◌, List, length, sym, ap, ◌∙◌, arith}
+use Rattle.std.proofs.Common.{sym, ◌∙◌, arith}
 use Rattle.std.proofs.lemmas.Grind.{common_steps}
 use Rattle.std.proofs.lemmas.Result.{err_from_is_err_and}
-use Rattle.tn_codes.specs.declared.triples.Triple.{Triple}
 use Rattle.tn_linemode.specs.Exchange.{server_answers, server_next, server_answer}
-use Rattle.tn_linemode.proofs.lemmas.Answering.{length-answers_along}
-use Rattle.tn_wire.proofs.lemmas.Listing.{answered_some, wanted_some}
+use Rattle.tn_wire.proofs.lemmas.Listing.{answers_few, answered_some, wanted_some}
 use Rattle.tn_server.proofs.Listing.{asked_some}
 use Rattle.tn_server.proofs.end.ServerEnd.list.Goals as goal
 
 pub put_list-requires : goal.put_list-requires
 unfolding server_answers
 put_list-requires c =
-    let all = c.in_ok-is_asked.ensures.answers ∙ ap (λ (xs : List Triple). xs ++ server_answers c.self.inside.table c.as_slice.result.now) c.new-answers.ensures.items in
-    omega (arith, ap length all, length-answers_along server_next server_answer c.self.inside.table c.as_slice.result.now, ap length c.as_slice.ensures, c.requires)
+    answers_few server_next server_answer c.self.inside.table c.as_slice.result.now _ _ _ _ (c.deref.ensures.value ∙ c.in_ok-is_asked.ensures.answers) c.new-answers.ensures.items c.as_slice.ensures c.requires
 
 pub returns-in_err-is_asked-clause-some : goal.returns-in_err-is_asked-clause-some
 unfolding server_answers
@@ -25,8 +22,7 @@ pub returns-in_err-put_list-clause-some : goal.returns-in_err-put_list-clause-so
 unfolding server_answers
 returns-in_err-put_list-clause-some c =
     let p = err_from_is_err_and c.from_residual-in_err-put_list.result c.from_residual-in_err-put_list.ensures.1 in
-    let all = c.in_ok-is_asked.ensures.answers ∙ ap (λ (xs : List Triple). xs ++ server_answers c.self.inside.table c.as_slice.result.now) c.new-answers.ensures.items in
-    let some = answered_some server_next server_answer c.self.inside.table c.as_slice.result.now _ (c.deref.ensures.value ∙ all) c.in_err-put_list.ensures.some in
+    let some = answered_some server_next server_answer c.self.inside.table c.as_slice.result.now _ _ (c.deref.ensures.value ∙ c.in_ok-is_asked.ensures.answers) c.new-answers.ensures.items c.in_err-put_list.ensures.some in
     rw p.1 (rw c.as_slice.ensures at some)
 
 pub returns-in_err-announce-clause-some : goal.returns-in_err-announce-clause-some

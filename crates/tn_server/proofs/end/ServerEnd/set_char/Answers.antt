@@ -3,6 +3,6 @@ use Rattle.tn_discipline.specs.declared.characters.CharFault.{CharFault}
 use Rattle.tn_server.specs.declared.faults.ServerFault.TheVariants.{Char}
 use Rattle.tn_server.proofs.end.ServerEnd.set_char.Goals as goal
 
-pub returns-in-Ok-put_char-clause-accepted : goal.returns-in-Ok-put_char-clause-accepted
-returns-in-Ok-put_char-clause-accepted c =
+pub returns-clause-accepted : goal.returns-clause-accepted
+returns-clause-accepted c =
     rw (← c.self.view_is, c.if-self.false) (ap (λ (f : Option CharFault). option_map Char f) c.in-Ok.ensures.accepted)

@@ -20,6 +20,6 @@ pub returns-then-not-owes_ga-clause-ok : goal.returns-then-not-owes_ga-clause-ok
 returns-then-not-owes_ga-clause-ok c =
     rw (← c.self.view_is, c.in_default.ensures.none.1) (goes_idle _ false c.args.out.now.items c.args.out.now.items c.in_default.ensures.none.0 (sym c.if-not-owes_ga.true ∙ c.owes_ga.ensures) (sym (append-nil c.args.out.now.items)))
 
-pub returns-in-Ok-clause-ok : goal.returns-in-Ok-clause-ok
-returns-in-Ok-clause-ok c =
-    rw (← c.self.view_is, c.in_default.ensures.none.1) (goes_idle _ true c.args.out.now.items c.put_cmd.new.out.items c.in_default.ensures.none.0 (sym c.if-not-owes_ga.false ∙ c.owes_ga.ensures) c.in-Ok.ensures.ok)
+pub returns-clause-ok : goal.returns-clause-ok
+returns-clause-ok c =
+    rw (← c.self.view_is, c.in_default.ensures.none.1) (goes_idle _ true c.args.out.now.items c.put_cmd.new.out.items c.in_default.ensures.none.0 (sym c.if-not-owes_ga.false ∙ c.owes_ga.ensures) c.in_ok-put_cmd.ensures.ok)

@@ -1,8 +1,8 @@
 use Rattle.std.proofs.Common.{None, ℕ, List, [], IfErr, refl, subst}
-use Rattle.tn_term.specs.declared.messages.Message.TheVariants.{HangUp, ReadFailed, Left}
-use Rattle.tn_term.specs.declared.faults.Ended.TheVariants.{Fault}
-use Rattle.tn_term.specs.declared.faults.SessionFault.TheVariants as fault
-use Rattle.tn_term.specs.declared.messages.Message.TheVariants.{Said, Refused}
+use Rattle.tn_messages.specs.declared.messages.Message.TheVariants.{HangUp, ReadFailed, Left}
+use Rattle.tn_messages.specs.declared.faults.Ended.TheVariants.{Fault}
+use Rattle.tn_messages.specs.declared.faults.SessionFault.TheVariants as fault
+use Rattle.tn_messages.specs.declared.messages.Message.TheVariants.{Said, Refused}
 use Rattle.tn_term.specs.Reaching.{RefusesFor}
 use Rattle.tn_term.specs.Run.{hang_up, ends_by}
 use Rattle.tn_term.proofs.Doing.{does_nothing, does_then}

@@ -2,7 +2,7 @@ use Rattle.std.proofs.Common.{ap, ◌∙◌, None}
 use Rattle.tn_jobs.specs.Jobs.{Jobs, with_state}
 use Rattle.tn_term.specs.Counting.{after_end}
 use Rattle.tn_term.specs.declared.progress.Progress.{Progress}
-use Rattle.tn_term.specs.declared.faults.Ended.TheVariants.{Done}
+use Rattle.tn_messages.specs.declared.faults.Ended.TheVariants.{Done}
 use Rattle.tn_term.proofs.Doing.{does_turn}
 use Rattle.tn_term.proofs.terminal.Term.end.Goals as goal
 

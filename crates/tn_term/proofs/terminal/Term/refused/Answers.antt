@@ -1,8 +1,8 @@
 use Rattle.std.proofs.Common.{[]}
 use Rattle.tn_term.proofs.Handling.{handled_refused, stops_refused}
 use Rattle.tn_term.specs.Run.{ends_by}
-use Rattle.tn_term.specs.declared.faults.Ended.TheVariants.{Fault}
-use Rattle.tn_term.specs.declared.faults.SessionFault.TheVariants as fault
+use Rattle.tn_messages.specs.declared.faults.Ended.TheVariants.{Fault}
+use Rattle.tn_messages.specs.declared.faults.SessionFault.TheVariants as fault
 use Rattle.tn_term.proofs.terminal.Term.refused.Goals as goal
 
 pub returns-in-Ok-clause-ok : goal.returns-in-Ok-clause-ok

@@ -1,4 +1,4 @@
-use Rattle.std.proofs.Common.{None, Option, Result, OnErr, IfErr, true, ◌≡◌, subst, sym, ◌∙◌}
+use Rattle.std.proofs.Common.{None, Option, OnErr, IfErr, true, ◌≡◌, subst, sym, ◌∙◌}
 use Rattle.tn_jobs.specs.declared.verdicts.Verdict.{Verdict}
 use Rattle.tn_term.specs.Reaching.{LeadsTo, SayBreaksOff}
 use Rattle.tn_term.specs.Refusing.{WaitsWithText}

@@ -1,6 +1,7 @@
 use Rattle.std.proofs.Common.{◌≡◌, ℕ, List, ◌∷◌, [], ◌++◌, take, drop, length, min, ap, sym, ◌∙◌, append_assoc, append-nil, take-append-drop, length-take, arith}
 use Rattle.std.specs.List.{concat}
 use Rattle.std.proofs.lemmas.List.Elements.{All-push, All-append, All-cons}
+use Rattle.std.proofs.lemmas.Result.{err_from_is_err_and}
 use Rattle.tn_term.proofs.Breaking.{in_single, breaks_parts}
 use Rattle.std.proofs.lemmas.List.Folds.{concat-append}
 use Rattle.tn_term.specs.Run.{IsPart}
@@ -29,26 +30,28 @@ loop-rest-preserved c =
       i.0 ++ part ∷ [],
       whole i.0 c.min.result part c.split_at.result.1.now c.loop-rest.rest.now c.args.text.now c.split_at.ensures.front c.split_at.ensures.back i.1,
       All-push IsPart i.0 part i.2 (short c.loop-rest.rest.now c.min.result part c.min.ensures c.split_at.ensures.front),
-      does_push i.0 part c.args.self.now c.loop-rest.self c.show_part.new.self _ _ _ i.3 c.in-Ok.ensures.ok,
+      does_push i.0 part c.args.self.now c.loop-rest.self c.show_part.new.self _ _ _ i.3 c.in_ok-show_part.ensures.ok,
       c.show_part.ensures.progress ∙ i.4,
     )
 
-pub returns-in-Err-clause-err : goal.returns-in-Err-clause-err
-returns-in-Err-clause-err c =
+pub returns-in_err-show_part-clause-err : goal.returns-in_err-show_part-clause-err
+returns-in_err-show_part-clause-err c =
+    let p = err_from_is_err_and c.from_residual.result c.from_residual.ensures.1 in
     let i = c.loop-rest.invariant in
     let part = c.split_at.result.0.now in
     let rest = in_single c.split_at.result.1.now in
-    let old = c.loop-rest.rest.now in (
+    let old = c.loop-rest.rest.now in rw p.1 (
       i.0 ++ part ∷ rest.0,
       ap concat (sym (append_assoc i.0 (part ∷ []) rest.0)) ∙ concat-append (i.0 ++ part ∷ []) rest.0 ∙ ap (λ (xs : List ℕ). concat (i.0 ++ part ∷ []) ++ xs) rest.1
           ∙ whole i.0 c.min.result part c.split_at.result.1.now old c.args.text.now c.split_at.ensures.front c.split_at.ensures.back i.1,
       All-append IsPart i.0 (part ∷ rest.0) i.2 (All-cons IsPart part rest.0 (short old c.min.result part c.min.ensures c.split_at.ensures.front) rest.2),
-      breaks_parts i.0 part rest.0 c.args.self.now c.loop-rest.self c.show_part.new.self _ _ _ i.3 c.in-Err.ensures.err,
+      breaks_parts i.0 part rest.0 c.args.self.now c.loop-rest.self c.show_part.new.self _ _ _ i.3 c.in_err-show_part.ensures.err,
     )
 
-pub returns-in-Err-clause-grows : goal.returns-in-Err-clause-grows
-returns-in-Err-clause-grows c =
+pub returns-in_err-show_part-clause-grows : goal.returns-in_err-show_part-clause-grows
+returns-in_err-show_part-clause-grows c =
+    let p = err_from_is_err_and c.from_residual.result c.from_residual.ensures.1 in
     let i = c.loop-rest.invariant in
     let part = c.split_at.result.0.now in
     let later = c.split_at.result.1.now in
-    wait_within i.0 part later c.args.text.now c.args.self.now c.loop-rest.self _ _ (inner i.0 c.min.result part later c.loop-rest.rest.now c.args.text.now c.split_at.ensures.front c.split_at.ensures.back i.1) i.3 c.in-Err.ensures.grows
+    rw p.1 (wait_within i.0 part later c.args.text.now c.args.self.now c.loop-rest.self _ _ (inner i.0 c.min.result part later c.loop-rest.rest.now c.args.text.now c.split_at.ensures.front c.split_at.ensures.back i.1) i.3 c.in_err-show_part.ensures.grows)

@@ -1,6 +1,6 @@
 use Rattle.std.proofs.Common.{ap, inl, inr}
 use Rattle.tn_term.specs.declared.progress.Progress.{Progress}
-use Rattle.tn_term.specs.declared.messages.Message.TheVariants.{Take}
+use Rattle.tn_messages.specs.declared.messages.Message.TheVariants.{Take}
 use Rattle.tn_term.proofs.Handling.{with_ok, with_stuck, handled_take, stops_take, stops_ask}
 use Rattle.tn_term.proofs.Refusing.{on_err, wait_asked}
 use Rattle.tn_term.proofs.terminal.Term.take.Goals as goal

@@ -1,8 +1,8 @@
 use Rattle.tn_world.proofs.Bodies.{takes_sound}
 use Rattle.tn_world.proofs.world.World.take.Goals as goal
 
-pub invariant_of-self-in-Ok-Some : goal.invariant_of-self-in-Ok-Some
-invariant_of-self-in-Ok-Some c = takes_sound _ _ _ _ c.in-Ok-Some.ensures.ok c.in-Ok-Some.ensures.keeps c.self.invariant
+pub invariant_of-self-in-Some : goal.invariant_of-self-in-Some
+invariant_of-self-in-Some c = takes_sound _ _ _ _ c.in_ok-entry.ensures.ok c.in_ok-entry.ensures.keeps c.self.invariant
 
-pub invariant_of-self-in-Ok-None : goal.invariant_of-self-in-Ok-None
-invariant_of-self-in-Ok-None c = takes_sound _ _ _ _ c.in-Ok-None.ensures.ok c.in-Ok-None.ensures.keeps c.self.invariant
+pub invariant_of-self-in_default : goal.invariant_of-self-in_default
+invariant_of-self-in_default c = takes_sound _ _ _ _ c.in_ok-entry.ensures.ok c.in_ok-entry.ensures.keeps c.self.invariant

@@ -1,0 +1,56 @@
+-- How a run of a subcommand ends: its outcome, its input, its output, and the calls that failed.
+use Rattle.std.specs.Prelude.{◌≡◌, ◌≢◌, ⊤, ℕ, ◌<◌, ◌≤◌, List, length, Option, IfSome, Result, Err, OnOk, OnErr, IsErrOf}
+use Rattle.tn_cli.specs.Playing.{AppendsText, PlaysScript, PlaysScriptPrefix, StopsAtBadLine, StopsAtRefusedLine}
+use Rattle.tn_cli.specs.Replay.{Replays, ReplaysPrefix}
+use Rattle.tn_cli.specs.Scripts.{lines_of}
+use Rattle.tn_cli.specs.Streams.{max_input, max_reads, max_writes}
+use Rattle.tn_cli.specs.Typing.{PrintsKeys, PrintsKeysPrefix}
+use Rattle.tn_cli.specs.declared.fault.CliFault.{CliFault}
+use Rattle.tn_cli.specs.declared.fault.CliFault.TheVariants as fault
+use Rattle.tn_streams.specs.Telling.{Calls, HasFailed}
+
+-- What every run promises, where its reader tells the bytes that it will give. `Prints` relates such an
+-- input and the output before and after a run that ends well, and `PrintsPrefix` does where a write fails.
+-- Too long an input gives `TooLong`, unless a read fails: no other fault comes before it.
+pub record EndsRun (Prints PrintsPrefix : List ℕ → Option (List ℕ) → Option (List ℕ) → Type 0)
+    (ended : Result ⊤ CliFault) (input old new : Option (List ℕ)) : Type 0 where
+  pub ok : OnOk ended (IfSome input (λ bytes. Prints bytes old new))
+  pub write : IsErrOf ended fault.Write → IfSome input (λ bytes. PrintsPrefix bytes old new)
+  pub short : ended ≢ Err fault.TooLong → ended ≢ Err fault.Read
+      → IfSome input (λ bytes. length bytes ≤ max_input)
+  pub too_long : IsErrOf ended fault.TooLong → IfSome input (λ bytes. max_input < length bytes)
+
+-- What every run promises, where its reader and its writer tell how many of their calls failed. `Read`: a
+-- read failed, or 2,097,152 were made. `Write`: a write failed, or took none of its bytes, or 2^64 - 1 were
+-- made.
+pub record EndsByCalls (ended : Result ⊤ CliFault) (reads reads_after writes writes_after : Option Calls)
+    : Type 0 where
+  pub read_failed : IsErrOf ended fault.Read → HasFailed max_reads reads reads_after
+  pub write_failed : IsErrOf ended fault.Write → HasFailed max_writes writes writes_after
+
+-- Of keys and of a stream: no line of them is at fault, and after any fault but `Write` nothing was written.
+pub record EndsPlainly (Prints PrintsPrefix : List ℕ → Option (List ℕ) → Option (List ℕ) → Type 0)
+    (ended : Result ⊤ CliFault) (input old new : Option (List ℕ)) : Type 0 where
+  pub run : EndsRun Prints PrintsPrefix ended input old new
+  pub unwritten : OnErr ended (ended ≢ Err fault.Write → new ≡ old)
+  pub no_script : (line : ℕ) → ended ≢ Err (fault.Script line)
+  pub no_world : (line : ℕ) → ended ≢ Err (fault.World line)
+
+-- how typing keys at one local terminal ends
+abbrev pub EndsLocal : Result ⊤ CliFault → Option (List ℕ) → Option (List ℕ) → Option (List ℕ) → Type 0
+EndsLocal = EndsPlainly PrintsKeys PrintsKeysPrefix
+
+-- how replaying a client's stream ends
+abbrev pub EndsReplay : Result ⊤ CliFault → Option (List ℕ) → Option (List ℕ) → Option (List ℕ) → Type 0
+EndsReplay = EndsPlainly Replays ReplaysPrefix
+
+-- How a script ends. Where a line of it is no command, or is refused, the lines before it were done, and what
+-- they print was written.
+pub record EndsWorld (ended : Result ⊤ CliFault) (input old new : Option (List ℕ)) : Type 0 where
+  pub run : EndsRun PlaysScript PlaysScriptPrefix ended input old new
+  pub script : (line : ℕ) → IsErrOf ended (fault.Script line)
+      → IfSome input (λ text. AppendsText (StopsAtBadLine (lines_of text) line) old new)
+  pub world : (line : ℕ) → IsErrOf ended (fault.World line)
+      → IfSome input (λ text. AppendsText (StopsAtRefusedLine (lines_of text) line) old new)
+  pub unwritten : OnErr ended (ended ≢ Err fault.Write → ((line : ℕ) → ended ≢ Err (fault.Script line))
+      → ((line : ℕ) → ended ≢ Err (fault.World line)) → new ≡ old)

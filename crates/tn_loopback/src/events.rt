@@ -1,0 +1,14 @@
+//! What the threads of a server tell the one that starts and joins its sessions.
+
+use std::net::{SocketAddr, TcpStream};
+
+/// What happened at a server.
+#[derive(Drop)]
+pub(crate) enum Event {
+    /// A connection was accepted, from this address where it is known.
+    Came(TcpStream, SocketAddr),
+    /// No connection can be accepted any more.
+    Broke,
+    /// The session with this number has ended, and its thread is about to.
+    Ended(usize),
+}

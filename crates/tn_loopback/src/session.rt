@@ -1,0 +1,136 @@
+//! One session of a server over a connection.
+
+use crate::attended::{Attended, Standing};
+use crate::connection::Connection;
+use crate::events::Event;
+use crate::finished::Finished;
+use crate::host::Host;
+use crate::settings::SessionOptions;
+use crossbeam_channel::Sender;
+use std::alloc::Global;
+use std::net::TcpStream;
+use std::sync::Arc;
+use std::sync::atomic::Ordering;
+use std::thread;
+use std::thread::JoinHandle;
+use tn_discipline::Settings;
+use tn_session::{Maker, Report, SessionFault, Unwatched, serve_session};
+
+/// A session that is to run over a connection that was accepted.
+#[derive(Drop)]
+pub(crate) struct Session<H, M> {
+    pub(crate) rt: H,
+    pub(crate) alloc: Global,
+    pub(crate) stream: TcpStream,
+    pub(crate) options: SessionOptions,
+    pub(crate) jobs: M,
+}
+
+impl<H, M> Session<H, M>
+where
+    H: Host,
+    M: Maker + Drop + Send + 'static,
+    M::Job: Send + 'static,
+{
+    /// Runs it in a thread of its own, where one can be had, which sends at last that the session with this
+    /// number has ended.
+    pub(crate) fn start(
+        self,
+        number: usize,
+        events: Sender<Event, Global>,
+    ) -> Option<JoinHandle<Finished>> {
+        let rt = self.rt;
+        let work = move || -> Finished {
+            let finished = self.run();
+            let _ = events.send(&rt, Event::Ended(number));
+            finished
+        };
+        thread::spawn(&rt, work).ok()
+    }
+}
+
+impl<H, M> Session<H, M>
+where
+    H: Host,
+    M: Maker + Drop,
+    M::Job: Send + 'static,
+{
+    fn run(self) -> Finished {
+        match Standing::new(self.alloc) {
+            Ok(standing) => {
+                let report = self.converse(&standing);
+                let idle = standing.idle.load(Ordering::SeqCst);
+                Finished { report, idle }
+            },
+            Err(_) => Finished {
+                report: Err(SessionFault::Memory),
+                idle: false,
+            },
+        }
+    }
+
+    fn converse(self, standing: &Arc<Standing, Global>) -> Result<Report, SessionFault> {
+        let Session {
+            rt,
+            alloc,
+            stream,
+            options,
+            jobs,
+        } = self;
+        let (Ok(theirs), Ok(ours)) = (Arc::try_clone(standing), Arc::try_clone(standing)) else {
+            return Err(SessionFault::Memory);
+        };
+        let Ok((stream, writer)) = Connection::split(stream) else {
+            return Err(SessionFault::Start);
+        };
+        let mut writer = writer.with_standing(ours);
+        let Ok(reader) = Attended::new(rt, stream, theirs, options.idle) else {
+            return Err(SessionFault::Start);
+        };
+        let Ok(gate) = Arc::new(alloc, Unwatched) else {
+            return Err(SessionFault::Memory);
+        };
+        let SessionOptions {
+            line_limit,
+            editing,
+            ..
+        } = options;
+        let settings = Settings::standard();
+        let (report, _ports) = serve_session(
+            rt,
+            alloc,
+            reader,
+            &mut writer,
+            settings,
+            line_limit,
+            editing,
+            jobs,
+            gate,
+        )?;
+        Ok(report)
+    }
+}
+
+/// Runs one session over a connection that was accepted, in threads of its own, until it has ended. `jobs`
+/// makes its jobs.
+pub fn serve_connection<H, M>(
+    rt: H,
+    alloc: Global,
+    stream: TcpStream,
+    options: SessionOptions,
+    jobs: M,
+) -> Result<Report, SessionFault>
+where
+    H: Host,
+    M: Maker + Drop,
+    M::Job: Send + 'static,
+{
+    let session = Session {
+        rt,
+        alloc,
+        stream,
+        options,
+        jobs,
+    };
+    session.run().report
+}

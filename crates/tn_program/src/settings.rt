@@ -1,0 +1,55 @@
+//! What was asked for, as sessions over connections take it.
+
+ghost use Rattle.std.specs.Prelude.{◌≡◌};
+ghost use Rattle.tn_program.specs.Settings.{connecting_as, editing_as};
+
+use std::alloc::{AllocError, Global};
+use tn_answerer::{Answerer, Answerers};
+use tn_loopback::{Connecting, Service, SessionOptions};
+use tn_server::Editing;
+
+/// Gives each session the jobs of `tn serve`.
+#[derive(Clone, Copy, Drop)]
+pub struct Answering {
+    /// How often the job in the background ticks; there is none where it is 0.
+    pub ticks: u16,
+}
+
+impl Service for Answering {
+    type Job = Answerer;
+
+    type Jobs = Answerers;
+
+    fn session(&mut self, _alloc: Global, _number: usize) -> Result<Answerers, AllocError> {
+        Ok(Answerers::new(self.ticks))
+    }
+}
+
+// What is the same of all sessions that were asked for.
+pub(crate) fn options_of(asked: &tn_words::Serving) -> SessionOptions
+    ensures line_limit { result.line_limit ≡ asked.now.line_limit }
+    ensures editing { result.editing ≡ editing_as asked.now.local }
+    ensures idle { result.idle ≡ asked.now.idle }
+{
+    let editing = if asked.local {
+        Editing::Local
+    } else {
+        Editing::Remote
+    };
+    SessionOptions {
+        line_limit: asked.line_limit,
+        editing,
+        idle: asked.idle,
+    }
+}
+
+pub(crate) fn connecting_of(asked: tn_words::Connecting) -> Connecting
+    ensures { result ≡ connecting_as asked }
+{
+    Connecting {
+        port: asked.port,
+        width: asked.width,
+        height: asked.height,
+        line_limit: asked.line_limit,
+    }
+}

@@ -1,0 +1,37 @@
+//! The others are told how far an end has come.
+
+ghost use Rattle.std.specs.Prelude.{◌≡◌};
+ghost use Rattle.std.specs.Io.KnownBytes.{Keeps};
+
+use crate::parties::Finish;
+use std::sync::atomic::{AtomicBool, Ordering};
+
+/// How far an end has come.
+#[derive(Clone, Copy)]
+pub(crate) struct Standing {
+    /// The thread that may be told to stop is to do so.
+    pub(crate) stops: bool,
+    /// No more comes from this end.
+    pub(crate) closes: bool,
+}
+
+/// Tells a thread to stop where it is to, and the writer once that no more comes from this end. Answers
+/// whether the writer was told, now or before.
+pub(crate) fn close<W: Finish>(
+    writer: &mut W,
+    stop: &AtomicBool,
+    standing: Standing,
+    closed: bool,
+) -> bool
+    ensures contents { Keeps (W.contents writer.old) (W.contents writer.new) }
+    ensures told { W.told writer.new ≡ W.told writer.old }
+{
+    if standing.stops {
+        stop.store(true, Ordering::SeqCst);
+    }
+    if standing.closes && !closed {
+        writer.finish();
+        return true;
+    }
+    closed
+}

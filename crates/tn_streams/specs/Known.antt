@@ -1,0 +1,30 @@
+-- What is known of a reader and of a writer.
+use Rattle.std.specs.Prelude.{ℕ, Option, List}
+use Rattle.tn_streams.specs.Foretelling.{Failures}
+use Rattle.tn_streams.specs.Telling.{Calls}
+
+-- a reader: the bytes that it gives, and what it foretells of its calls
+pub record KnownReader : Type 0 where
+  pub bytes : Option (List ℕ)
+  pub failures : Option Failures
+
+-- a writer: the bytes that it holds, and what it tells of its calls
+pub record KnownWriter : Type 0 where
+  pub bytes : Option (List ℕ)
+  pub calls : Option Calls
+
+-- a writer before and after
+pub record KnownWriting : Type 0 where
+  pub before : KnownWriter
+  pub after : KnownWriter
+
+-- a value as it is known by these functions of its type, those of `Source` or of `Drain`
+abbrev pub known_reader : {R : Type 0} → (R → Option (List ℕ)) → (R → Option Failures) → R → KnownReader
+known_reader bytes failures reader = record { bytes = bytes reader; failures = failures reader }
+
+abbrev pub known_writer : {W : Type 0} → (W → Option (List ℕ)) → (W → Option Calls) → W → KnownWriter
+known_writer bytes calls writer = record { bytes = bytes writer; calls = calls writer }
+
+abbrev pub known_writing : {W : Type 0} → (W → Option (List ℕ)) → (W → Option Calls) → W → W → KnownWriting
+known_writing bytes calls old new =
+    record { before = known_writer bytes calls old; after = known_writer bytes calls new }

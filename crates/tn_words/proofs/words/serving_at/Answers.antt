@@ -1,0 +1,49 @@
+use Rattle.std.proofs.Common.{◌∙◌, rules, codes}
+use Rattle.clap.specs.Words.{found_of}
+use Rattle.clap.proofs.WalkLemmas.{one_text-rows}
+use Rattle.tn_words.proofs.words.serving_at.Goals as goal
+
+pub returns-in_err-number-clause-none : goal.returns-in_err-number-clause-none
+returns-in_err-number-clause-none c none asked asks =
+    c.number.ensures.none c.in_err-number.was asked.port asks.port
+
+pub returns-in_err-number-2-clause-none : goal.returns-in_err-number-2-clause-none
+returns-in_err-number-2-clause-none c none asked asks =
+    c.number-2.ensures.none c.in_err-number-2.was asked.sessions asks.limit
+
+pub returns-in_err-number-3-clause-none : goal.returns-in_err-number-3-clause-none
+returns-in_err-number-3-clause-none c none asked asks =
+    c.number-3.ensures.none c.in_err-number-3.was asked.count asks.count
+
+pub returns-in_err-number-4-clause-none : goal.returns-in_err-number-4-clause-none
+returns-in_err-number-4-clause-none c none asked asks =
+    c.number-4.ensures.none c.in_err-number-4.was asked.ticks asks.ticks
+
+pub returns-in_err-number-5-clause-none : goal.returns-in_err-number-5-clause-none
+returns-in_err-number-5-clause-none c none asked asks =
+    c.number-5.ensures.none c.in_err-number-5.was asked.line_limit asks.line
+
+pub returns-in_err-number-6-clause-none : goal.returns-in_err-number-6-clause-none
+returns-in_err-number-6-clause-none c none asked asks =
+    c.number-6.ensures.none c.in_err-number-6.was asked.idle asks.idle
+
+pub returns-clause-asked : goal.returns-clause-asked
+returns-clause-asked c = record {
+  host = c.requires.host;
+  port = search rules;
+  limit = search rules;
+  count = search rules;
+  ticks = search rules;
+  line = search rules;
+  idle = search rules;
+  edited = record {
+    given = λ is. c.get_flag.ensures.value (one_text-rows (found_of c.args.words.now) (codes "local") ∙ is);
+    not_given = λ is. c.get_flag.ensures.other (one_text-rows (found_of c.args.words.now) (codes "local") ∙ is);
+    unknown = λ is. c.get_flag.ensures.none (one_text-rows (found_of c.args.words.now) (codes "local") ∙ is);
+  };
+  verbose = record {
+    given = λ is. c.get_flag-2.ensures.value (one_text-rows (found_of c.args.words.now) (codes "verbose") ∙ is);
+    not_given = λ is. c.get_flag-2.ensures.other (one_text-rows (found_of c.args.words.now) (codes "verbose") ∙ is);
+    unknown = λ is. c.get_flag-2.ensures.none (one_text-rows (found_of c.args.words.now) (codes "verbose") ∙ is);
+  };
+}
