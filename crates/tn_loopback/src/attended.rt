@@ -114,9 +114,10 @@ impl<H: Clock + Copy + Wait> Read for Attended<H> {
     }
 }
 
+// The read waited for its time. A peer that keepalive gave up is another error.
 fn is_timeout(read: &io::Result<usize>) -> bool {
     match read {
         Ok(_) => false,
-        Err(error) => matches!(error.kind(), ErrorKind::WouldBlock | ErrorKind::TimedOut),
+        Err(error) => error.kind() == ErrorKind::WouldBlock,
     }
 }

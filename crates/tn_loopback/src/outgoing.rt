@@ -8,12 +8,38 @@ use std::sync::atomic::{AtomicUsize, Ordering};
 use std::sync::{Arc, Wait};
 use tn_session::Finish;
 
-/// How many writes of a session wait at most. Keys come in pieces of one write each, of which a session has
-/// at most 66 on their way, so that keys alone never fill it.
+/// How many writes of a session wait at most. A piece of keys makes one write, and at most 66 pieces are on
+/// their way once no more keys are read, so that keys alone never fill it.
 const MAX_WRITES: usize = 256;
 
-/// With more bytes than this waiting, no more keys are read.
-const MARK: usize = 4_096;
+/// With more writes or more bytes than these waiting, no more keys are read.
+const WRITES_MARK: usize = 128;
+
+const BYTES_MARK: usize = 4_096;
+
+/// What waits to be sent.
+#[derive(Drop)]
+pub(crate) struct Waiting {
+    writes: AtomicUsize,
+    bytes: AtomicUsize,
+}
+
+impl Waiting {
+    fn add(&self, bytes: usize) {
+        self.writes.fetch_add(1, Ordering::SeqCst);
+        self.bytes.fetch_add(bytes, Ordering::SeqCst);
+    }
+
+    fn remove(&self, bytes: usize) {
+        self.writes.fetch_sub(1, Ordering::SeqCst);
+        self.bytes.fetch_sub(bytes, Ordering::SeqCst);
+    }
+
+    fn is_little(&self) -> bool {
+        self.writes.load(Ordering::SeqCst) <= WRITES_MARK
+            && self.bytes.load(Ordering::SeqCst) <= BYTES_MARK
+    }
+}
 
 /// What a session writes: it waits for the thread that sends it.
 #[derive(Drop)]
@@ -21,7 +47,7 @@ pub(crate) struct Outgoing<H> {
     rt: H,
     alloc: Global,
     pieces: Option<Sender<Vec<u8>, Global>>,
-    waiting: Arc<AtomicUsize, Global>,
+    waiting: Arc<Waiting, Global>,
 }
 
 /// Sends what waits.
@@ -30,15 +56,15 @@ pub(crate) struct Sending<H, W> {
     rt: H,
     writer: W,
     pieces: Receiver<Vec<u8>, Global>,
-    waiting: Arc<AtomicUsize, Global>,
+    waiting: Arc<Waiting, Global>,
     sent: Sender<(), Global>,
 }
 
-/// Lets keys be read once few bytes wait.
+/// Lets keys be read once little waits.
 #[derive(Drop)]
 pub(crate) struct Throttle<H> {
     rt: H,
-    waiting: Arc<AtomicUsize, Global>,
+    waiting: Arc<Waiting, Global>,
     sent: Receiver<(), Global>,
 }
 
@@ -53,7 +79,11 @@ where
 {
     let (sender, pieces) = bounded(alloc, MAX_WRITES)?;
     let (sent, throttled) = bounded(alloc, 1)?;
-    let waiting = Arc::new(alloc, AtomicUsize::new(0))?;
+    let waiting = Waiting {
+        writes: AtomicUsize::new(0),
+        bytes: AtomicUsize::new(0),
+    };
+    let waiting = Arc::new(alloc, waiting)?;
     let throttle = Throttle {
         rt,
         waiting: Arc::try_clone(&waiting)?,
@@ -82,7 +112,7 @@ impl<H: Wait> Write for Outgoing<H> {
         };
         let mut piece = Vec::new(self.alloc);
         piece.extend_from_slice(buf)?;
-        self.waiting.fetch_add(buf.len(), Ordering::SeqCst);
+        self.waiting.add(buf.len());
         match pieces.send(&self.rt, piece) {
             Ok(()) => Ok(buf.len()),
             Err(_) => Err(io::Error::from(ErrorKind::BrokenPipe)),
@@ -118,7 +148,7 @@ impl<H: Copy + Wait, W: Drop + Finish + Write> Sending<H, W> {
             if writer.write_all(&piece).is_err() {
                 return false;
             }
-            waiting.fetch_sub(piece.len(), Ordering::SeqCst);
+            waiting.remove(piece.len());
             let _ = sent.try_send(&rt, ());
         }
         false
@@ -126,10 +156,10 @@ impl<H: Copy + Wait, W: Drop + Finish + Write> Sending<H, W> {
 }
 
 impl<H: Wait> Throttle<H> {
-    /// Waits as long as more bytes wait than the mark, and somebody sends them.
+    /// Waits as long as more waits than the marks, and somebody sends it.
     pub(crate) fn wait(&self) {
         for _ in self.rt.forever() {
-            if self.waiting.load(Ordering::SeqCst) <= MARK || self.sent.recv(&self.rt).is_err() {
+            if self.waiting.is_little() || self.sent.recv(&self.rt).is_err() {
                 return;
             }
         }

@@ -97,11 +97,7 @@ pub fn serve_on<H: Host, V: Service + Drop, E: Write>(
         turned_away: VecDeque::new(alloc),
     };
     open.serve_all(&receiver, errors);
-    let Open {
-        serving,
-        running,
-        ..
-    } = open;
+    let Open { running, .. } = open;
     let served = running.join_all(&rt, errors);
     drop(receiver);
     acceptor.join(&rt);
