@@ -1,5 +1,5 @@
 -- What was written, and one message after another.
-use Rattle.std.proofs.Common.{◌≡◌, ℕ, ◌+◌, ◌≤◌, nat_le, Bool, true, false, not, ◌||◌, ◌&&◌, ◌⊎◌, ⊎_elim, inl, inr, map, List, [], ◌∷◌, ◌++◌, Option, Some, None, Result, Ok, option_to_list, refl, sym, ap, ◌∙◌, subst, append_assoc, append-nil, take-append-drop, arith, length, take, drop, zero, suc}
+use Rattle.std.proofs.Common.{◌≡◌, ℕ, ◌+◌, ◌≤◌, nat_le, Bool, true, false, not, ◌||◌, ◌&&◌, ◌⊎◌, ⊎_elim, inl, inr, map, List, [], ◌∷◌, ◌++◌, Option, Some, None, Result, Ok, refl, sym, ap, ◌∙◌, subst, append_assoc, append-nil, take-append-drop, arith, length, take, drop, zero, suc}
 use Rattle.std.proofs.lemmas.Bool.{false_from_ne_true, not-false, not-true}
 use Rattle.std.proofs.lemmas.Fn.{FoldsTo-push}
 use Rattle.std.specs.Io.KnownBytes.{Appends, Keeps, WriteAppends}
@@ -15,8 +15,10 @@ use Rattle.tn_streams.specs.Known.{KnownWriter, KnownWriting}
 use Rattle.tn_streams.specs.Telling.{Calls}
 use Rattle.tn_term.specs.Marks.{Turns, is_whole, all_whole, no_write_failed, no_writes_failed}
 use Rattle.tn_term.specs.Reaching.{IsTurn, LeadsTo}
-use Rattle.tn_term.specs.Run.{Run, fail}
+use Rattle.tn_term.specs.Run.{Run, fail, puts_of}
 use Rattle.tn_messages.specs.declared.faults.SessionFault.TheVariants as fault
+use Rattle.tn_term.specs.declared.messages.Put.{Put}
+use Rattle.tn_term.specs.declared.messages.Put.TheVariants.{Nothing}
 use Rattle.tn_term.specs.declared.messages.Mark.{Mark}
 use Rattle.tn_term.specs.declared.messages.Mark.TheVariants as mark
 use Rattle.tn_messages.specs.declared.messages.Message.{Message}
@@ -70,7 +72,7 @@ writes_so_many true x y n bytes e h = let all : length bytes ≤ n = grind arith
 writes_so_many false x y n bytes e h = stops_at x y n bytes h
 
 -- where less was written than is to be, as if the rest had not been sent
-turn_front : (m : Mark) (old new : Term) (message : Message) (front back bytes : List ℕ) (put last : Option (Option Entry)) → bytes ≡ front ++ back → is_whole m ≡ false → IsTurn m old message bytes put last new → IsTurn m old message front put last new
+turn_front : (m : Mark) (old new : Term) (message : Message) (front back bytes : List ℕ) (put last : Put) → bytes ≡ front ++ back → is_whole m ≡ false → IsTurn m old message bytes put last new → IsTurn m old message front put last new
 turn_front m old new message front back bytes put last e broken t = record {
   leads = λ c at.
       let l = t.leads c at in (
@@ -88,14 +90,14 @@ turn_front m old new message front back bytes put last e broken t = record {
 }
 
 -- a write failed after a message that was done wholly
-turn_unwritten : (old mid new : Term) (message : Message) (front back bytes : List ℕ) (put last : Option (Option Entry)) → bytes ≡ front ++ back → (old.progress.over ≡ true → ⊥) → IsTurn mark.Whole old message bytes put None mid → ((c : Run) → LeadsTo c mid → LeadsTo (fail fault.Write c) new) → ((c : Run) → LeadsTo c mid → (fail fault.Write c).puts ≡ c.puts ++ option_to_list last) → new.progress.over ≡ true → IsTurn mark.WriteFailed old message front put last new
+turn_unwritten : (old mid new : Term) (message : Message) (front back bytes : List ℕ) (put last : Put) → bytes ≡ front ++ back → (old.progress.over ≡ true → ⊥) → IsTurn mark.Whole old message bytes put Nothing mid → ((c : Run) → LeadsTo c mid → LeadsTo (fail fault.Write c) new) → ((c : Run) → LeadsTo c mid → (fail fault.Write c).puts ≡ c.puts ++ puts_of last) → new.progress.over ≡ true → IsTurn mark.WriteFailed old message front put last new
 turn_unwritten old mid new message front back bytes put last e on t leads puts over = record {
   leads = λ c at.
       let l = t.leads c at in (
         fail fault.Write l.0,
         (false_from_ne_true c.progress.over (λ off. on (ap (λ (p : Progress). p.over) at.progress ∙ off)), l.0, l.1, refl),
         leads l.0 l.2,
-        puts l.0 l.2 ∙ ap (λ (ps : List (Option Entry)). ps ++ option_to_list last) (l.3 ∙ ap (λ (ps : List (Option Entry)). c.puts ++ ps) (append-nil (option_to_list put))) ∙ append_assoc c.puts (option_to_list put) (option_to_list last),
+        puts l.0 l.2 ∙ ap (λ (ps : List (Option Entry)). ps ++ puts_of last) (l.3 ∙ ap (λ (ps : List (Option Entry)). c.puts ++ ps) (append-nil (puts_of put))) ∙ append_assoc c.puts (puts_of put) (puts_of last),
         back,
         l.5 ∙ ap (λ (bs : List ℕ). spells (items_said c.history) ++ bs) (ap (λ (bs : List ℕ). bytes ++ bs) (l.6 refl) ∙ append-nil bytes ∙ e),
         λ w. absurd (false_true w),
@@ -121,7 +123,7 @@ all_told : (written : Bool) (m : Mark) (a b : Option Calls) → no_write_failed 
 all_told written m a b well told = subst (λ (w : Bool). Tells w a b) (sym well) (accounts_well max_writes written a b told)
 
 -- all was written, or the message was refused
-pub turned_on : (written : Bool) (m : Mark) (old new : Term) (message : Message) (bytes : List ℕ) (writer : KnownWriting) (v w : Hand) (put last : Option (Option Entry)) → (written || not (is_whole m)) ≡ true → no_write_failed m ≡ true → Writes written writer.before.bytes writer.after.bytes bytes → Tells written writer.before.calls writer.after.calls → IsTurn m old message bytes put last new → Puts v (option_to_list put ++ option_to_list last) w → TurnsMessage old message writer v w new
+pub turned_on : (written : Bool) (m : Mark) (old new : Term) (message : Message) (bytes : List ℕ) (writer : KnownWriting) (v w : Hand) (put last : Put) → (written || not (is_whole m)) ≡ true → no_write_failed m ≡ true → Writes written writer.before.bytes writer.after.bytes bytes → Tells written writer.before.calls writer.after.calls → IsTurn m old message bytes put last new → Puts v (puts_of put ++ puts_of last) w → TurnsMessage old message writer v w new
 turned_on true m old new message bytes writer v w put last e well h told t p = record { mark = m; bytes = bytes; put = put; last = last; wrote = h; tells = all_told true m writer.before.calls writer.after.calls well told; turn = t; puts = p }
 turned_on false m old new message bytes writer v w put last e well h told t p = record {
   mark = m;
@@ -140,12 +142,12 @@ whole_mark mark.WriteFailed e = absurd (false_true e)
 whole_mark (mark.Refused f put) e = absurd (false_true e)
 
 -- a write failed
-pub turned_off : (written : Bool) (m : Mark) (old mid new : Term) (message : Message) (bytes : List ℕ) (writer : KnownWriting) (v w : Hand) (put other last : Option (Option Entry)) → (written || not (is_whole m)) ≡ false → Writes written writer.before.bytes writer.after.bytes bytes → Tells written writer.before.calls writer.after.calls → (bytes ≡ [] → written ≡ true) → IsTurn m old message bytes put other mid → (is_whole m ≡ true → other ≡ None) → ((c : Run) → LeadsTo c mid → LeadsTo (fail fault.Write c) new) → ((c : Run) → LeadsTo c mid → (fail fault.Write c).puts ≡ c.puts ++ option_to_list last) → new.progress.over ≡ true → Puts v (option_to_list put ++ option_to_list last) w → TurnsMessage old message writer v w new
+pub turned_off : (written : Bool) (m : Mark) (old mid new : Term) (message : Message) (bytes : List ℕ) (writer : KnownWriting) (v w : Hand) (put other last : Put) → (written || not (is_whole m)) ≡ false → Writes written writer.before.bytes writer.after.bytes bytes → Tells written writer.before.calls writer.after.calls → (bytes ≡ [] → written ≡ true) → IsTurn m old message bytes put other mid → (is_whole m ≡ true → other ≡ Nothing) → ((c : Run) → LeadsTo c mid → LeadsTo (fail fault.Write c) new) → ((c : Run) → LeadsTo c mid → (fail fault.Write c).puts ≡ c.puts ++ puts_of last) → new.progress.over ≡ true → Puts v (puts_of put ++ puts_of last) w → TurnsMessage old message writer v w new
 turned_off true m old mid new message bytes writer v w put other last e h told some t unsaid leads puts over p = absurd (true_false e)
 turned_off false m old mid new message bytes writer v w put other last e h told some t unsaid leads puts over p =
     let is_all = not-false (is_whole m) e in
     let M : Mark → Type 0 = λ n. IsTurn n old message bytes put other mid in
-    let L : Option (Option Entry) → Type 0 = λ o. IsTurn mark.Whole old message bytes put o mid in
+    let L : Put → Type 0 = λ o. IsTurn mark.Whole old message bytes put o mid in
     let t' = subst L (unsaid is_all) (subst M (whole_mark m is_all) t) in
     record {
       mark = mark.WriteFailed;
@@ -200,7 +202,7 @@ and_false false b e = inl refl
 abbrev pub from_to : KnownWriter → KnownWriter → KnownWriting
 from_to x y = record { before = x; after = y }
 
-pub going_on : (a b d : Term) (ms : List Message) (m : Message) (x y z : KnownWriter) (puts : List (Option Entry)) (v w : Hand) → GoesOn a ms (from_to x y) puts b → (t : TurnsMessage b m (from_to y z) v w d) → GoesOn a (ms ++ m ∷ []) (from_to x z) (puts ++ (option_to_list t.put ++ option_to_list t.last)) d
+pub going_on : (a b d : Term) (ms : List Message) (m : Message) (x y z : KnownWriter) (puts : List (Option Entry)) (v w : Hand) → GoesOn a ms (from_to x y) puts b → (t : TurnsMessage b m (from_to y z) v w d) → GoesOn a (ms ++ m ∷ []) (from_to x z) (puts ++ (puts_of t.put ++ puts_of t.last)) d
 going_on a b d ms m x y z puts v w one t = record {
   marked = one.marked ++ (m, t.mark) ∷ [];
   whole = map-push one.marked (m, t.mark) ms one.whole;
@@ -214,7 +216,7 @@ going_on a b d ms m x y z puts v w one t = record {
         q.0,
         FoldsTo-push Turns c one.marked p.0 (m, t.mark) q.0 p.1 q.1,
         q.2,
-        q.3 ∙ ap (λ (ps : List (Option Entry)). ps ++ (option_to_list t.put ++ option_to_list t.last)) p.3 ∙ append_assoc c.puts puts (option_to_list t.put ++ option_to_list t.last),
+        q.3 ∙ ap (λ (ps : List (Option Entry)). ps ++ (puts_of t.put ++ puts_of t.last)) p.3 ∙ append_assoc c.puts puts (puts_of t.put ++ puts_of t.last),
         rest.0,
         rest.1,
         λ e. rest.2 (sym (whole-push one.marked m t.mark) ∙ e),
@@ -262,9 +264,9 @@ messages-push : (xs : List Mail) (x : Mail) → messages_of (xs ++ x ∷ []) ≡
 messages-push [] x = refl
 messages-push (y ∷ ys) x = ap (λ (ms : List Message). y.message ∷ ms) (messages-push ys x)
 
-pub going_next : (a b d : Term) (xs : List Mail) (x : Mail) (u y w z : KnownWriter) (puts : List (Option Entry)) (v h : Hand) → Keeps w.bytes z.bytes → z.calls ≡ w.calls → GoesOn a (messages_of xs) (from_to u y) puts b → (t : TurnsMessage b x.message (from_to y w) v h d) → GoesOn a (messages_of (xs ++ x ∷ [])) (from_to u z) (puts ++ (option_to_list t.put ++ option_to_list t.last)) d
+pub going_next : (a b d : Term) (xs : List Mail) (x : Mail) (u y w z : KnownWriter) (puts : List (Option Entry)) (v h : Hand) → Keeps w.bytes z.bytes → z.calls ≡ w.calls → GoesOn a (messages_of xs) (from_to u y) puts b → (t : TurnsMessage b x.message (from_to y w) v h d) → GoesOn a (messages_of (xs ++ x ∷ [])) (from_to u z) (puts ++ (puts_of t.put ++ puts_of t.last)) d
 going_next a b d xs x u y w z puts v h k told one t =
-    let more = puts ++ (option_to_list t.put ++ option_to_list t.last) in
+    let more = puts ++ (puts_of t.put ++ puts_of t.last) in
     let P : List Message → Type 0 = λ ms. GoesOn a ms (from_to u z) more d in
     subst P (sym (messages-push xs x)) (going_kept a d _ u w z more k told (going_on a b d (messages_of xs) x.message u y w puts v h one t))
 

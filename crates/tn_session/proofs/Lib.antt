@@ -3,9 +3,11 @@ pub mod Mailbox
 pub mod EntryChannel
 pub mod Reading
 pub mod Readers
+pub mod Credits
 pub mod Talk
 pub mod Turning
 pub mod Going
+pub mod Reach
 pub mod Lefts
 pub mod Sent
 pub mod Numbering

@@ -16,7 +16,8 @@ use Rattle.tn_streams.specs.Prefixes.{IsPrefixOf}
 abbrev pub handler : List Mail → View
 handler h = record { handled = Some h; net = None; desk = None; back = None; keys = Some [] }
 
--- nothing was sent, handled, put or taken; the mailbox holds 64 messages, and the channel of entries two
+-- nothing was sent, handled, put or taken; the mailbox holds 64 messages, and the channel of entries two; each
+-- pass has its seat
 pub record IsReady (c : Channels) : Type 0 where
   pub one_mailbox : receives_on c.ends.from ≡ sends_on c.ends.to
   pub mails : ruled_capacity (sends_on c.ends.to) ≡ 64
@@ -37,6 +38,9 @@ pub record IsReady (c : Channels) : Type 0 where
   pub took : IsSeatAt (sends_on c.ends.put) c.take.pass
   pub hand_is : view c.passes.hand ≡ putter []
   pub took_is : view c.take.pass ≡ taker []
+  pub one_credit : receives_on c.credits.from ≡ sends_on c.ends.give
+  pub give : IsSeatAt (sends_on c.ends.give) c.passes.give
+  pub credits : IsSeatAt (sends_on c.ends.give) c.credits.pass
 
 -- whatever the lists are: they are those of the new passes too, what was handled begins an interleaving of
 -- what was sent, and what was taken begins what was put

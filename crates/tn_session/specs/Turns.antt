@@ -1,5 +1,5 @@
 -- The messages that were handled, and what was put and written.
-use Rattle.std.specs.Prelude.{◌≡◌, ℕ, ◌+◌, ◌≤◌, Bool, true, false, Option, List, [], ◌∷◌, ◌++◌, map, option_to_list}
+use Rattle.std.specs.Prelude.{◌≡◌, ℕ, ◌+◌, ◌≤◌, Bool, true, false, Option, List, [], ◌∷◌, ◌++◌, map}
 use Rattle.std.specs.Io.KnownBytes.{Appends}
 use Rattle.tn_discipline.specs.declared.reads.Entry.{Entry}
 use Rattle.tn_nvt.specs.Spelling.{spells}
@@ -13,8 +13,11 @@ use Rattle.tn_streams.specs.Known.{KnownWriting}
 use Rattle.tn_streams.specs.Telling.{Calls, AccountsFor}
 use Rattle.tn_term.specs.Marks.{Runs, all_whole, no_write_failed, no_writes_failed}
 use Rattle.tn_term.specs.Reaching.{LeadsTo, IsTurn}
-use Rattle.tn_term.specs.Run.{Run}
+use Rattle.tn_term.specs.Run.{Run, puts_of}
+use Rattle.tn_term.specs.Welcoming.{too_far_ahead}
 use Rattle.tn_term.specs.declared.messages.Mark.{Mark}
+use Rattle.tn_term.specs.declared.messages.Put.{Put}
+use Rattle.tn_messages.specs.declared.faults.Ended.{Ended}
 use Rattle.tn_messages.specs.declared.messages.Message.{Message}
 use Rattle.tn_messages.specs.declared.messages.Message.TheVariants.{Left}
 use Rattle.tn_term.specs.declared.terminal.Term.{Term}
@@ -38,13 +41,13 @@ pub record TurnsMessage (old : Term) (message : Message) (writer : KnownWriting)
     : Type 0 where
   pub mark : Mark
   pub bytes : List ℕ
-  pub put : Option (Option Entry)
-  pub last : Option (Option Entry)
+  pub put : Put
+  pub last : Put
   pub wrote : Appends writer.before.bytes writer.after.bytes bytes
   pub tells : Tells (no_write_failed mark) writer.before.calls writer.after.calls
   pub turn : IsTurn mark old message bytes put last new
   pub puts : (l : List (Option Entry)) → v ≡ putter l
-      → w ≡ putter (l ++ (option_to_list put ++ option_to_list last))
+      → w ≡ putter (l ++ (puts_of put ++ puts_of last))
 
 -- Some messages with their marks, from wherever the terminal may have been: these bytes were written, the
 -- first of those that the run sends, and all of them unless something failed.
@@ -74,6 +77,11 @@ lefts_of (x ∷ xs) = left_one x.message + lefts_of xs
 
 abbrev pub messages_of : List Mail → List Message
 messages_of mails = map (λ x. x.message) mails
+
+-- it did not come to end so because too many entries waited
+abbrev pub StaysInReach : Term → Ended → Type 0
+StaysInReach old ended =
+    (c : Run) → LeadsTo c old → ended ≡ too_far_ahead → c.progress.ended ≡ too_far_ahead
 
 -- what the terminal did: of the views and the writer before and after
 pub record HandlesAll (old : Term) (v w : View) (before_hand after_hand : Hand) (writer : KnownWriting)

@@ -205,22 +205,20 @@ where
     let part = ReaderPart {
         who: Sender::Net,
         place: Place::NetPiece,
-        credits: None,
         stop: None,
         gate,
     };
-    let Some(net) = start_reader(rt, alloc, net, readers.net, part) else {
+    let Some(net) = start_reader(rt, alloc, net, readers.net, part, None) else {
         writer.finish();
         return Err(SessionFault::Start);
     };
     let part = ReaderPart {
         who: Sender::Keys,
         place: Place::KeysPiece,
-        credits: None,
         stop: Some(told.stop),
         gate: told.gate,
     };
-    let Some(keys) = start_reader(rt, alloc, keys, readers.keys, part) else {
+    let Some(keys) = start_reader(rt, alloc, keys, readers.keys, part, None) else {
         writer.finish();
         drop(ends);
         net.join(&rt);

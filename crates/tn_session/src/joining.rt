@@ -31,6 +31,7 @@ pub(crate) fn settle(ends: &Ends, passes: Passes, returned: Returned) -> Ports
     let Passes {
         mut mails,
         mut hand,
+        give: _,
     } = passes;
     let Returned {
         net,

@@ -1,19 +1,20 @@
 //! The threads that read: one from the network, and in a client's session one the keys.
 
-ghost use Rattle.std.specs.Prelude.{◌≡◌, [], true, is_some, IfSome};
+ghost use Rattle.std.specs.Prelude.{◌≡◌, List, [], true, is_some, IfSome};
 ghost use Rattle.crossbeam_channel.specs.Claims.{view, IsSeatAt};
 ghost use Rattle.crossbeam_channel.specs.Ends.{sends_on};
+ghost use Rattle.tn_session.specs.Credits.{HaveTaken, IsSeated, pieces_among};
 ghost use Rattle.tn_session.specs.Mailbox.{sender};
 ghost use Rattle.tn_session.specs.Reader.{ReaderSends};
 ghost use Rattle.tn_session.specs.Reading.{Gives, IsForetold};
+ghost use Rattle.tn_session.specs.declared.mail.Mail.{Mail as MailT};
 ghost use Rattle.tn_streams.specs.Known.{known_reader};
 
 use crate::channels::{MailPass, MailSeat};
-use crate::credit::{Credit, take_credit};
+use crate::credit::{CreditSeat, take_credit};
 use crate::mail::Sender;
 use crate::parties::{Gate, Place};
 use crate::sending::say;
-use crossbeam_channel::Receiver;
 use std::alloc::Global;
 use std::sync::atomic::{AtomicBool, Ordering};
 use std::sync::{Arc, Wait};
@@ -51,13 +52,12 @@ fn read_piece<Rd: Source>(reader: &mut Rd, alloc: Global) -> Got
     }
 }
 
-/// The part of a thread that reads: who it is, the place that the gate is told, its credits where it takes
-/// one for each piece, its flag where it may be stopped, and its gate.
+/// The part of a thread that reads: who it is, the place that the gate is told, its flag where it may be
+/// stopped, and its gate.
 #[derive(Drop)]
 pub(crate) struct ReaderPart<G> {
     pub(crate) who: Sender,
     pub(crate) place: Place,
-    pub(crate) credits: Option<Receiver<Credit>>,
     pub(crate) stop: Option<Arc<AtomicBool, Global>>,
     pub(crate) gate: Arc<G, Global>,
 }
@@ -72,8 +72,8 @@ fn is_stopped<G: Gate>(part: &ReaderPart<G>) -> bool
     }
 }
 
-/// Sends the pieces that the reader gives, each for a credit where these are, and then how it ended: after
-/// 4,294,967,295 reads as if one had failed. Where there is a flag and it is set after a piece, it leaves.
+/// Sends the pieces that the reader gives, each for a credit where these are needed, and then how it ended:
+/// after 4,294,967,295 reads as if one had failed. Where there is a flag and it is set after a piece, it leaves.
 /// `None` where the other end is gone.
 pub(crate) fn run_reader<R: Wait, Rd: Source + Drop, G: Gate>(
     rt: &R,
@@ -81,17 +81,21 @@ pub(crate) fn run_reader<R: Wait, Rd: Source + Drop, G: Gate>(
     seat: MailSeat,
     mut reader: Rd,
     part: &ReaderPart<G>,
+    credits: &mut Option<CreditSeat>,
 ) -> Option<MailPass>
     requires mailbox { IsSeatAt (sends_on seat.to) seat.pass × (view seat.pass ≡ sender part.now.who []) }
+    requires credits { IsSeated credits.old }
     ensures seat { IfSome result (λ p. IsSeatAt (sends_on seat.to) p) }
     ensures sent { IfSome result (λ p. ReaderSends part.now.who (is_some part.now.stop)
         (known_reader Rd.remaining Rd.foretold reader) (view p)) }
+    ensures credited { IfSome result (λ p. (mails : List MailT) → view p ≡ sender part.now.who mails →
+        HaveTaken (pieces_among mails) credits.old credits.new) }
 {
     let MailSeat { to, mut pass } = seat;
     for _read in 0..u32::MAX {
         match read_piece(&mut reader, alloc) {
             Got::Bytes(text) => {
-                take_credit(rt, part.credits.as_ref())?;
+                take_credit(rt, credits)?;
                 pass = say(rt, &to, pass, part.who, Message::Piece(text))?;
                 part.gate.at(part.place);
                 if is_stopped(part) {

@@ -1,6 +1,6 @@
 //! A running session, from its first job to its report.
 
-ghost use Rattle.std.specs.Prelude.{◌≡◌, [], false, is_some, Some, IfOk, IfErr, IsErrOf};
+ghost use Rattle.std.specs.Prelude.{◌≡◌, ◌≢◌, [], false, is_some, Some, IfOk, IfErr, IsErrOf};
 ghost use Rattle.crossbeam_channel.specs.Claims.{view, IsSeatAt};
 ghost use Rattle.crossbeam_channel.specs.Ends.{sends_on, receives_on};
 ghost use Rattle.tn_session.specs.Facts.{job_facts, session_result};
@@ -9,11 +9,13 @@ ghost use Rattle.tn_session.specs.Makers.{AreAll, IsMakerFault};
 ghost use Rattle.tn_session.specs.EntryChannel.{putter};
 ghost use Rattle.tn_session.specs.Session.{IsBegun, IsOpening, IsRun, IsRefusal, IsOfThreads, RunsOn, RunningSession, report_of};
 ghost use Rattle.tn_session.specs.Turning.{IsQueue, ids_of, queue_of};
+ghost use Rattle.tn_session.specs.Turns.{StaysInReach};
 ghost use Rattle.tn_streams.specs.Known.{known_reader, known_writing};
+ghost use Rattle.tn_term.specs.Welcoming.{too_far_ahead};
 
 use crate::back::Runner;
 use crate::channels::{AllRoles, CutBack, CutDesk, CutNet, MailSeat, View};
-use crate::credit::{CREDITS, Credit};
+use crate::credit::{CREDITS, Credit, CreditSeat, CutReader, Freely, Tally};
 use crate::entries::{CutTaker, EntrySeat, Hand, InTurn};
 use crate::joining::settle;
 use crate::mail::{Mail, Sender};
@@ -24,7 +26,7 @@ use crate::sharing::{Shared, share};
 use crate::term::{Ends, Passes, run_term};
 use crate::threads::{Started, Watch, start_back, start_desk, start_reader};
 use crate::writing::write_out;
-use crossbeam_channel::{Receiver, bounded, bounded_with};
+use crossbeam_channel::bounded_with;
 use std::alloc::{AllocError, Global};
 use std::collections::VecDeque;
 use std::sync::{Arc, Wait};
@@ -52,7 +54,7 @@ struct Channels {
     desk: MailSeat,
     back: MailSeat,
     take: EntrySeat,
-    credits: Receiver<Credit>,
+    credits: CreditSeat,
 }
 
 // Makes the channels and splits their passes.
@@ -66,11 +68,14 @@ fn make_channels(alloc: Global) -> Result<Channels, AllocError>
     let (put, take, mut hand) = bounded_with::<Option<Entry>, Hand, InTurn, Global>(
         alloc, ENTRIES,
     )?;
-    let (give, credits) = bounded(alloc, CREDITS)?;
+    let (give, credits, mut credit) = bounded_with::<Credit, Tally, Freely, Global>(
+        alloc, CREDITS,
+    )?;
     let net = to.another::<CutNet>(&mut mails);
     let desk = to.another::<CutDesk>(&mut mails);
     let back = to.another::<CutBack>(&mut mails);
     let took = put.another::<CutTaker>(&mut hand);
+    let taken = give.another::<CutReader>(&mut credit);
     Ok(Channels {
         ends: Ends {
             to,
@@ -78,7 +83,11 @@ fn make_channels(alloc: Global) -> Result<Channels, AllocError>
             put,
             give,
         },
-        passes: Passes { mails, hand },
+        passes: Passes {
+            mails,
+            hand,
+            give: credit,
+        },
         net: MailSeat {
             to: net_to,
             pass: net,
@@ -95,7 +104,10 @@ fn make_channels(alloc: Global) -> Result<Channels, AllocError>
             from: take,
             pass: took,
         },
-        credits,
+        credits: CreditSeat {
+            from: credits,
+            pass: taken,
+        },
     })
 }
 
@@ -196,6 +208,7 @@ where
     requires mailbox { (receives_on ends.from ≡ sends_on ends.to) ×
         IsSeatAt (sends_on ends.to) passes.mails × (view passes.mails ≡ handler []) }
     requires entries { IsSeatAt (sends_on ends.put) passes.hand × (view passes.hand ≡ putter []) }
+    requires credits { IsSeatAt (sends_on ends.give) passes.give }
     requires net { (sends_on started.net.promise.to.value ≡ sends_on ends.to) ×
         (started.net.promise.who ≡ Sender.Net) × (is_some started.net.promise.stop.value ≡ false) }
     requires desk { (sends_on started.desk.promise.to.value ≡ sends_on ends.to) ×
@@ -211,6 +224,7 @@ where
         })
         (known_reader Rd.remaining Rd.foretold started.net.promise.reader.value)
         (known_writing W.contents W.told writer.old writer.new) term.old (session_result r.0 r.1)) }
+    ensures in_reach { IfOk result (λ r. StaysInReach term.old r.0.ended) }
 {
     let Some(passes) = run_term(rt, &ends, passes, term, out, writer, watch) else {
         writer.finish();
@@ -253,6 +267,7 @@ where
         })
         (known_reader Rd.remaining Rd.foretold reader)
         (known_writing W.contents W.told writer.old writer.new) begun.term (session_result r.0 r.1)) }
+    ensures in_reach { IfOk result (λ r. StaysInReach begun.term r.0.ended) }
 {
     let Channels {
         ends,
@@ -277,11 +292,10 @@ where
     let part = ReaderPart {
         who: Sender::Net,
         place: Place::NetPiece,
-        credits: Some(credits),
         stop: None,
         gate: net_gate,
     };
-    let Some(net) = start_reader(rt, alloc, net, reader, part) else {
+    let Some(net) = start_reader(rt, alloc, net, reader, part, Some(credits)) else {
         writer.finish();
         return Err(SessionFault::Start);
     };
@@ -357,6 +371,7 @@ where
         })
         begun.term begun.out.items (known_reader Rd.remaining Rd.foretold reader)
         (known_writing W.contents W.told writer.old writer.new) (session_result r.0 r.1)) }
+    ensures in_reach { IfOk result (λ r. StaysInReach begun.term r.0.ended) }
 {
     let Ok(outfit) = equip(alloc, gate) else {
         return Err(SessionFault::Memory);
@@ -367,7 +382,8 @@ where
 
 /// Runs a session over a connection: its reader and its writer, a terminal with these settings whose
 /// lines have at most `limit` bytes, edited at one side, and the jobs that `maker` makes. An `Err` is
-/// `Memory`, `Start` or `Channel`, and tells nothing of what was handled; all else ends in the report.
+/// `Memory`, `Start` or `Channel`, and tells nothing of what was handled; all else ends in the report. It
+/// reads on only while its foreground job keeps up, so no report tells that too many entries waited.
 pub fn serve_session<R, Rd, W, M, G>(
     rt: R,
     alloc: Global,
@@ -393,6 +409,7 @@ where
         (record { canon = record { settings = settings; limit = limit }; editing = editing })
         (known_reader Rd.remaining Rd.foretold reader)
         (known_writing W.contents W.told writer.old writer.new) (session_result r.0 r.1)) }
+    ensures in_reach { IfOk result (λ r. r.0.ended ≢ too_far_ahead) }
 {
     pieces_are_heard();
     all_goes_before_a_hang_up();

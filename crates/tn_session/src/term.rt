@@ -1,29 +1,29 @@
 //! The thread of the terminal: mails are handled until all senders have left.
 
-ghost use Rattle.std.specs.Prelude.{◌≡◌, ◌≤◌, ◌||◌, not, ◌++◌, List, Option, Some, [], true, false, IfOk, IfSome, option_to_list};
+ghost use Rattle.std.specs.Prelude.{◌≡◌, ◌≤◌, ◌||◌, not, ◌++◌, ◌∷◌, List, Option, Some, [], true, false, IfOk, IfSome};
 ghost use Rattle.std.specs.Io.KnownBytes.{Keeps};
 ghost use Rattle.crossbeam_channel.specs.Claims.{view, IsSeatAt};
 ghost use Rattle.crossbeam_channel.specs.Ends.{sends_on, receives_on};
 ghost use Rattle.tn_discipline.specs.declared.reads.Entry.{Entry as EntryT};
 ghost use Rattle.tn_session.specs.EntryChannel.{putter};
-ghost use Rattle.tn_session.specs.Turns.{HandlesAll, TurnsMessage, left_one};
+ghost use Rattle.tn_session.specs.Turns.{HandlesAll, StaysInReach, TurnsMessage, left_one};
 ghost use Rattle.tn_streams.specs.Known.{known_writing};
 ghost use Rattle.tn_term.specs.Marks.{is_whole};
+ghost use Rattle.tn_term.specs.Run.{puts_of};
 
 use crate::channels::{Handles, MailPass, MailReceiver, MailSender};
 use crate::closing::{Standing, close};
-use crate::credit::{Credit, give_credit, is_piece};
+use crate::credit::{CreditPass, CreditSender, give_credit, is_piece};
 use crate::entries::{EntryPass, EntrySender, Puts};
 use crate::mail::Mail;
 use crate::parties::{Finish, Gate, Place};
 use crate::threads::Watch;
 use crate::writing::write_out;
-use crossbeam_channel::Sender;
 use std::sync::Wait;
 use tn_discipline::Entry;
 use tn_jobs::JobId;
 use tn_messages::Message;
-use tn_term::{Mark, Outcome, Progress, Term};
+use tn_term::{Mark, Outcome, Progress, Put, Term};
 
 /// How many threads send mails.
 const SENDERS: u64 = 3;
@@ -34,35 +34,48 @@ pub(crate) struct Ends {
     pub(crate) to: MailSender,
     pub(crate) from: MailReceiver,
     pub(crate) put: EntrySender,
-    pub(crate) give: Sender<Credit>,
+    pub(crate) give: CreditSender,
 }
 
-/// The terminal's passes: of the mailbox, and of the entries.
+/// The terminal's passes: of the mailbox, of the entries, and of the credits.
 #[derive(Drop)]
 pub(crate) struct Passes {
     pub(crate) mails: MailPass,
     pub(crate) hand: EntryPass,
+    pub(crate) give: CreditPass,
 }
 
-// Puts what goes to the foreground job, if anything does. `None` where the other end is gone.
-fn put_if<R: Wait>(
+// Puts an entry, or their end. `None` where the other end is gone.
+fn put_entry<R: Wait>(
     rt: &R,
     entries: &EntrySender,
     mut hand: EntryPass,
-    put: Option<Option<Entry>>,
+    entry: Option<Entry>,
 ) -> Option<EntryPass>
     requires seat { IsSeatAt (sends_on entries.now) hand }
     requires role { (l : List (Option EntryT)) × (view hand ≡ putter l) }
     ensures seat { IfSome result (λ h. IsSeatAt (sends_on entries.now) h) }
     ensures put { IfSome result (λ h. (l : List (Option EntryT)) → view hand ≡ putter l →
-        view h ≡ putter (l ++ option_to_list put)) }
+        view h ≡ putter (l ++ entry ∷ [])) }
 {
-    let Some(entry) = put else {
-        return Some(hand);
-    };
     match entries.send_as::<Puts, R>(rt, &mut hand, entry) {
         Ok(()) => Some(hand),
         Err(_) => None,
+    }
+}
+
+// Puts what goes to the foreground job, if anything does. `None` where the other end is gone.
+fn put_if<R: Wait>(rt: &R, entries: &EntrySender, hand: EntryPass, put: Put) -> Option<EntryPass>
+    requires seat { IsSeatAt (sends_on entries.now) hand }
+    requires role { (l : List (Option EntryT)) × (view hand ≡ putter l) }
+    ensures seat { IfSome result (λ h. IsSeatAt (sends_on entries.now) h) }
+    ensures put { IfSome result (λ h. (l : List (Option EntryT)) → view hand ≡ putter l →
+        view h ≡ putter (l ++ puts_of put)) }
+{
+    match put {
+        Put::Nothing => Some(hand),
+        Put::Entry(entry) => put_entry(rt, entries, hand, Some(entry)),
+        Put::End => put_entry(rt, entries, hand, None),
     }
 }
 
@@ -156,7 +169,8 @@ fn finish_unless<W: Finish>(closed: bool, writer: &mut W)
 }
 
 /// Handles the mails until all senders have left, and gives a credit for the next piece once it is welcome.
-/// `None` where the other end of a channel is gone.
+/// `None` where the other end of a channel is gone, or a piece comes that is not welcome: the thread that
+/// reads waits for a credit before each piece, but no rule of the channels says so here.
 pub(crate) fn run_term<R: Wait, W: Finish, G: Gate>(
     rt: &R,
     ends: &Ends,
@@ -170,29 +184,35 @@ pub(crate) fn run_term<R: Wait, W: Finish, G: Gate>(
         ((view passes.mails).handled ≡ Some []) }
     requires entries { (l : List (Option EntryT)) × IsSeatAt (sends_on ends.now.put) passes.hand ×
         (view passes.hand ≡ putter l) }
+    requires credits { IsSeatAt (sends_on ends.now.give) passes.give }
     requires out { out.old.items ≡ [] }
     ensures mailbox { IfSome result (λ p. IsSeatAt (receives_on ends.now.from) p.mails) }
     ensures entries { IfSome result (λ p. IsSeatAt (sends_on ends.now.put) p.hand) }
     ensures acted { IfSome result (λ p.
         HandlesAll term.old (view passes.mails) (view p.mails) (view passes.hand) (view p.hand)
         (known_writing W.contents W.told writer.old writer.new) term.new) }
+    ensures in_reach { IfSome result (λ p. StaysInReach term.old term.new.progress.ended) }
 {
     let Passes {
         mut mails,
         mut hand,
+        mut give,
     } = passes;
     let mut lefts = 0u64;
     let mut closed = close(writer, &*watch.stop, standing_of(term.progress()), false);
-    let mut owed = give_credit(rt, &ends.give, true, term);
+    let mut owed = give_credit(rt, &ends.give, &mut give, true, term);
     for _ in rt.forever() {
         if lefts >= SENDERS {
             finish_unless(closed, writer);
-            return Some(Passes { mails, hand });
+            return Some(Passes { mails, hand, give });
         }
         let Ok(mail) = ends.from.recv_as::<Handles, R>(rt, &mut mails) else {
             return None;
         };
         let Mail { from: _, message } = mail;
+        if !term.welcomes(&message) {
+            return None;
+        }
         let left = leaves(&message);
         let job = job_of(&message);
         let piece = is_piece(&message);
@@ -201,7 +221,7 @@ pub(crate) fn run_term<R: Wait, W: Finish, G: Gate>(
         tell_took(&*watch.gate, before, term.progress().entries);
         tell_said(&*watch.gate, job);
         closed = close(writer, &*watch.stop, standing_of(term.progress()), closed);
-        owed = give_credit(rt, &ends.give, owed || piece, term);
+        owed = give_credit(rt, &ends.give, &mut give, owed || piece, term);
         lefts += left;
     }
     unreachable!()

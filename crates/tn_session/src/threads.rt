@@ -3,6 +3,7 @@
 ghost use Rattle.std.specs.Prelude.{◌≡◌, [], is_some, IfSome};
 ghost use Rattle.crossbeam_channel.specs.Claims.{view, IsSeatAt};
 ghost use Rattle.crossbeam_channel.specs.Ends.{sends_on, receives_on};
+ghost use Rattle.tn_session.specs.Credits.{IsSeated};
 ghost use Rattle.tn_session.specs.Mailbox.{sender};
 ghost use Rattle.tn_session.specs.EntryChannel.{taker};
 ghost use Rattle.tn_session.specs.Reader.{ReaderSends};
@@ -14,6 +15,7 @@ ghost use Rattle.tn_streams.specs.Known.{known_reader};
 
 use crate::back::{Runner, run_back};
 use crate::channels::{MailPass, MailSeat, MailSender};
+use crate::credit::CreditSeat;
 use crate::desk::run_desk;
 use crate::entries::{EntryPass, EntryReceiver, EntrySeat};
 use crate::mail::Sender;
@@ -100,7 +102,8 @@ pub(crate) struct Watch<G> {
     pub(crate) stop: Arc<AtomicBool, Global>,
 }
 
-/// Starts a thread that reads, for this part. `None` where it can't be started.
+/// Starts a thread that reads, for this part, and with the seat where it takes credits if it needs any. `None`
+/// where it can't be started.
 pub(crate) fn start_reader<
     R: Threads + Wait + Copy + Send + 'static,
     Rd: Source + Drop + Send + 'static,
@@ -111,8 +114,10 @@ pub(crate) fn start_reader<
     seat: MailSeat,
     reader: Rd,
     part: ReaderPart<G>,
+    credits: Option<CreditSeat>,
 ) -> Option<PromisedHandle<Option<MailPass>, ReaderSays<Rd>>>
     requires mailbox { IsSeatAt (sends_on seat.to) seat.pass × (view seat.pass ≡ sender part.who []) }
+    requires credits { IsSeated credits }
     ensures { IfSome result (λ h. (sends_on h.promise.to.value ≡ sends_on seat.to) ×
         (h.promise.reader.value ≡ reader) × (h.promise.who ≡ part.who) ×
         (is_some h.promise.stop.value ≡ is_some part.stop)) }
@@ -124,11 +129,15 @@ pub(crate) fn start_reader<
         stop: Snapshot::of(&part.stop),
     };
     let work = move || -> Option<MailPass>
-        requires { IsSeatAt (sends_on seat.to) seat.pass × (view seat.pass ≡ sender part.who []) }
+        requires { IsSeatAt (sends_on seat.to) seat.pass × (view seat.pass ≡ sender part.who []) ×
+            IsSeated credits }
         ensures { IfSome result (λ p. IsSeatAt (sends_on seat.to) p ×
             ReaderSends part.who (is_some part.stop) (known_reader Rd.remaining Rd.foretold reader)
             (view p)) }
-    { run_reader(&rt, alloc, seat, reader, &part) };
+    {
+        let mut credits = credits;
+        run_reader(&rt, alloc, seat, reader, &part, &mut credits)
+    };
     match thread::spawn_with(&rt, promise, work) {
         Ok(handle) => Some(handle),
         Err(_) => None,

@@ -78,7 +78,7 @@ turn_moves c new m (mark.Refused f put) t =
     let done = put_or_not put m c t.1 in
     moves_on c m k (ended_of done) (ended_of new) (fault.Server f) (ap ended_of t.3) (moves_to c m k (ended_of t.1) (ended_of done) (unput_ended put m c t.1) (handles_moves c.progress.over c t.1 m k t.2)) (put, refl, t.4)
 
-turned : (c new : Run) (m : Message × Mark) → Turns c m new → Moves (ended_of c) (EndsAt c m.0 m.1) (ended_of new)
+pub turned : (c new : Run) (m : Message × Mark) → Turns c m new → Moves (ended_of c) (EndsAt c m.0 m.1) (ended_of new)
 turned c new m t = turn_moves c new m.0 m.1 t
 
 ended_at : (opens : Bool) (c : Run) (marked : List (Message × Mark)) (f : SessionFault) → IsEndedAt c marked (ended.Fault f) → IsFaultCause opens c marked f

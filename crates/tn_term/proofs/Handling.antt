@@ -1,5 +1,5 @@
 -- Each message is handled as its definition says.
-use Rattle.std.proofs.Common.{◌≡◌, ℕ, Bool, true, false, not, ◌&&◌, ◌==◌, length, arith, List, [], ◌∷◌, ◌++◌, Option, Some, None, Result, Ok, Err, IfOk, IfErr, option_to_list, refl, sym, ap, ◌∙◌, subst, append-nil}
+use Rattle.std.proofs.Common.{◌≡◌, ℕ, Bool, true, false, not, ◌&&◌, ◌==◌, length, arith, List, [], ◌∷◌, ◌++◌, Option, Some, None, Result, Ok, Err, IfOk, IfErr, refl, sym, ap, ◌∙◌, subst, append-nil}
 use Rattle.tn_discipline.specs.declared.reads.Entry.{Entry}
 use Rattle.tn_jobs.specs.Jobs.{Jobs, state_at, is_foreground}
 use Rattle.tn_jobs.specs.declared.held_jobs.JobId.{JobId}
@@ -12,10 +12,12 @@ use Rattle.tn_messages.specs.declared.messages.Message.{Message}
 use Rattle.tn_messages.specs.declared.messages.Message.TheVariants.{Piece, HangUp, ReadFailed, Take, Said, Refused, Left}
 use Rattle.tn_messages.specs.declared.faults.Ended.TheVariants.{Fault}
 use Rattle.tn_messages.specs.declared.faults.SessionFault.TheVariants as fault
+use Rattle.tn_term.specs.declared.messages.Put.{Put}
+use Rattle.tn_term.specs.declared.messages.Put.TheVariants.{Nothing}
 use Rattle.tn_term.specs.declared.progress.Progress.{Progress}
 use Rattle.tn_term.specs.declared.terminal.Term.{Term}
 use Rattle.tn_term.specs.declared.terminal.Stuck.{Stuck}
-use Rattle.tn_term.specs.Run.{Run, flush, hang_up, ends_by, feed, ask, ask_if, show, move, after_said, halt, halt_if, is_end, in_foreground, verdict, verdict_at, has_text, writes, answer, Cuts, Acts, ActsUnless}
+use Rattle.tn_term.specs.Run.{Run, puts_of, flush, hang_up, ends_by, feed, ask, ask_if, show, move, after_said, halt, halt_if, is_end, in_foreground, verdict, verdict_at, has_text, writes, answer, Cuts, Acts, ActsUnless}
 use Rattle.tn_term.specs.Reaching.{LeadsTo, AdvancesRun, BreaksOff, Feeds, FeedBreaksOff, Says, SayBreaksOff, DoesWhole, StopsWithin, HaltsIf}
 use Rattle.tn_term.proofs.Doing.{does_then, does_same, does_halt_if, foreground_as}
 use Rattle.tn_term.proofs.Breaking.{breaks_after, breaks_same, breaks_halt_if, grows_then, grows_ask, grows_ask_if, grows_flushed, spelled_more, rest_more}
@@ -35,7 +37,7 @@ does_last f g a b d x y z p one two = does_puts (λ c. g (f c)) a d x z (p ++ []
 on_as : (c : Run) (t : Term) → t.progress.over ≡ false → LeadsTo c t → false ≡ c.progress.over
 on_as c t on at = sym on ∙ ap (λ (p : Progress). p.over) at.progress
 
-pub handled_by : (message : Message) (change : Run → Run) (old new : Term) (x y : List ℕ) (put : Option (Option Entry)) → old.progress.over ≡ false → ((c : Run) → LeadsTo c old → Acts c message (change c)) → AdvancesRun change old x y (option_to_list put) new → DoesWhole old message x y put new
+pub handled_by : (message : Message) (change : Run → Run) (old new : Term) (x y : List ℕ) (put : Put) → old.progress.over ≡ false → ((c : Run) → LeadsTo c old → Acts c message (change c)) → AdvancesRun change old x y (puts_of put) new → DoesWhole old message x y put new
 handled_by message change old new x y put on acts d = record {
   said = d.said;
   appended = d.appended;
@@ -47,29 +49,29 @@ handled_by message change old new x y put on acts d = record {
 asks_as : (c : Run) (t : Term) (b : Bool) → t.progress.asks ≡ b → LeadsTo c t → c.progress.asks ≡ b
 asks_as c t b e at = ap (λ (p : Progress). p.asks) (sym at.progress) ∙ e
 
-pub handled_piece : (piece : List ℕ) (asks : Bool) (old mid last new : Term) (x y z w : List ℕ) (put : Option (Option Entry)) → old.progress.over ≡ false → old.progress.asks ≡ asks → Feeds old piece x y mid → AdvancesRun (ask_if asks) mid y z (option_to_list put) last → AdvancesRun flush last z w [] new → DoesWhole old (Piece piece) x w put new
+pub handled_piece : (piece : List ℕ) (asks : Bool) (old mid last new : Term) (x y z w : List ℕ) (put : Put) → old.progress.over ≡ false → old.progress.asks ≡ asks → Feeds old piece x y mid → AdvancesRun (ask_if asks) mid y z (puts_of put) last → AdvancesRun flush last z w [] new → DoesWhole old (Piece piece) x w put new
 handled_piece piece asks old mid last new x y z w put on is after_piece asked flushed =
-    let all = does_last (λ c. ask_if asks (feed piece after_piece.items c)) flush old last new x z w (option_to_list put) (does_then (feed piece after_piece.items) (ask_if asks) old mid last x y z [] (option_to_list put) after_piece.does asked) flushed in
+    let all = does_last (λ c. ask_if asks (feed piece after_piece.items c)) flush old last new x z w (puts_of put) (does_then (feed piece after_piece.items) (ask_if asks) old mid last x y z [] (puts_of put) after_piece.does asked) flushed in
     handled_by (Piece piece) (λ c. flush (ask_if c.progress.asks (feed piece after_piece.items c))) old new x w put on (λ c at. (after_piece.items, after_piece.reads c at, refl)) (
-    does_same (λ c. flush (ask_if asks (feed piece after_piece.items c))) (λ c. flush (ask_if c.progress.asks (feed piece after_piece.items c))) old new x w (option_to_list put) (λ c at. ap (λ (b : Bool). flush (ask_if b (feed piece after_piece.items c))) (asks_as c old asks is at)) all
+    does_same (λ c. flush (ask_if asks (feed piece after_piece.items c))) (λ c. flush (ask_if c.progress.asks (feed piece after_piece.items c))) old new x w (puts_of put) (λ c at. ap (λ (b : Bool). flush (ask_if b (feed piece after_piece.items c))) (asks_as c old asks is at)) all
     )
 
-pub handled_take : (old mid new : Term) (x y z : List ℕ) (put : Option (Option Entry)) → old.progress.over ≡ false → AdvancesRun ask old x y (option_to_list put) mid → AdvancesRun flush mid y z [] new → DoesWhole old Take x z put new
+pub handled_take : (old mid new : Term) (x y z : List ℕ) (put : Put) → old.progress.over ≡ false → AdvancesRun ask old x y (puts_of put) mid → AdvancesRun flush mid y z [] new → DoesWhole old Take x z put new
 handled_take old mid new x y z put on asked flushed =
-    handled_by Take (λ c. flush (ask c)) old new x z put on (λ c at. refl) (does_last ask flush old mid new x y z (option_to_list put) asked flushed)
+    handled_by Take (λ c. flush (ask c)) old new x z put on (λ c at. refl) (does_last ask flush old mid new x y z (puts_of put) asked flushed)
 
-pub does_judged : (id : ℕ) (parts : List (List ℕ)) (v : Verdict) (state : JobState) (b : Bool) (old moved mid new : Term) (x y : List ℕ) (put : Option (Option Entry)) → old.progress.over ≡ false → state_at old.table id ≡ Some state → b ≡ (is_end v.next && is_foreground (Some state)) → AdvancesRun (move id v.next) old x x [] moved → AdvancesRun (λ c. flush (show parts c)) moved x y [] mid → HaltsIf b mid (option_to_list put) new → AdvancesRun (after_said id parts (Some v)) old x y (option_to_list put) new
+pub does_judged : (id : ℕ) (parts : List (List ℕ)) (v : Verdict) (state : JobState) (b : Bool) (old moved mid new : Term) (x y : List ℕ) (put : Put) → old.progress.over ≡ false → state_at old.table id ≡ Some state → b ≡ (is_end v.next && is_foreground (Some state)) → AdvancesRun (move id v.next) old x x [] moved → AdvancesRun (λ c. flush (show parts c)) moved x y [] mid → HaltsIf b mid (puts_of put) new → AdvancesRun (after_said id parts (Some v)) old x y (puts_of put) new
 does_judged id parts v state b old moved mid new x y put on held is one two three =
-    does_same (λ c. halt_if b (flush (show parts (move id v.next c)))) (after_said id parts (Some v)) old new x y (option_to_list put) (λ c at. ap (λ (u : Bool). halt_if u (flush (show parts (move id v.next c)))) (same c at)) (does_then (λ c. flush (show parts (move id v.next c))) (halt_if b) old mid new x y y [] (option_to_list put) (does_then (move id v.next) (λ c. flush (show parts c)) old moved mid x x y [] [] one two) (does_halt_if b mid new (option_to_list put) y three))
+    does_same (λ c. halt_if b (flush (show parts (move id v.next c)))) (after_said id parts (Some v)) old new x y (puts_of put) (λ c at. ap (λ (u : Bool). halt_if u (flush (show parts (move id v.next c)))) (same c at)) (does_then (λ c. flush (show parts (move id v.next c))) (halt_if b) old mid new x y y [] (puts_of put) (does_then (move id v.next) (λ c. flush (show parts c)) old moved mid x x y [] [] one two) (does_halt_if b mid new (puts_of put) y three))
   where
     same : (c : Run) → LeadsTo c old → (is_end v.next && in_foreground c id) ≡ b
     same c at = ap (λ (u : Bool). is_end v.next && u) (foreground_as old c id state (is_foreground (Some state)) on held refl at) ∙ sym is
 
-pub says_none : (id : ℕ) (text : List ℕ) (v : Option Verdict) (old new : Term) (x y : List ℕ) → v ≡ None → AdvancesRun flush old x y [] new → Says id text v old x y None new
+pub says_none : (id : ℕ) (text : List ℕ) (v : Option Verdict) (old new : Term) (x y : List ℕ) → v ≡ None → AdvancesRun flush old x y [] new → Says id text v old x y Nothing new
 says_none id text v old new x y e d = rw e (record { parts = []; cuts = refl; does = d })
 
 -- a call was refused once all of the message but this change was done
-pub stops_by : (message : Message) (change : Run → Run) (old new : Term) (x y : List ℕ) (put : Option (Option Entry)) → old.progress.over ≡ false → ((c : Run) → LeadsTo c old → Acts c message (change c)) → BreaksOff change old x y (option_to_list put) new → StopsWithin old message true x y put new
+pub stops_by : (message : Message) (change : Run → Run) (old new : Term) (x y : List ℕ) (put : Put) → old.progress.over ≡ false → ((c : Run) → LeadsTo c old → Acts c message (change c)) → BreaksOff change old x y (puts_of put) new → StopsWithin old message true x y put new
 stops_by message change old new x y put on acts b = record {
   part = b.part;
   appended = b.appended;
@@ -79,7 +81,7 @@ stops_by message change old new x y put on acts b = record {
       (change c, subst P (on_as c old on at) (acts c at), s.0, s.1, b.progress c at, b.puts c at);
 }
 
-pub breaks_none : (id : ℕ) (text : List ℕ) (v : Option Verdict) (old new : Term) (x y : List ℕ) → v ≡ None → BreaksOff flush old x y [] new → SayBreaksOff id text v old x y None new
+pub breaks_none : (id : ℕ) (text : List ℕ) (v : Option Verdict) (old new : Term) (x y : List ℕ) → v ≡ None → BreaksOff flush old x y [] new → SayBreaksOff id text v old x y Nothing new
 breaks_none id text v old new x y e b = rw e (record { parts = []; cuts = refl; breaks = b })
 
 pub same_verdict : (id : ℕ) (text : List ℕ) (after : After) (old : Term) (c : Run) → old.progress.over ≡ false → LeadsTo c old → verdict_at (state_at old.table id) (has_text text) after old.tostop ≡ verdict c id text after
@@ -93,11 +95,11 @@ acts_said id text after old parts on cuts c at =
     let same = same_verdict id.0 text after old c on at in
     (parts, subst P same cuts, ap (λ (v : Option Verdict). after_said id.0 parts v c) same)
 
-pub handled_said : (id : JobId) (text : List ℕ) (after : After) (old new : Term) (x y : List ℕ) (put : Option (Option Entry)) → old.progress.over ≡ false → Says id.0 text (verdict_at (state_at old.table id.0) (has_text text) after old.tostop) old x y put new → DoesWhole old (Said id text after) x y put new
+pub handled_said : (id : JobId) (text : List ℕ) (after : After) (old new : Term) (x y : List ℕ) (put : Put) → old.progress.over ≡ false → Says id.0 text (verdict_at (state_at old.table id.0) (has_text text) after old.tostop) old x y put new → DoesWhole old (Said id text after) x y put new
 handled_said id text after old new x y put on s =
     handled_by (Said id text after) (after_said id.0 s.parts (verdict_at (state_at old.table id.0) (has_text text) after old.tostop)) old new x y put on (acts_said id text after old s.parts on s.cuts) s.does
 
-pub stops_said : (id : JobId) (text : List ℕ) (after : After) (old new : Term) (x y : List ℕ) (put : Option (Option Entry)) → old.progress.over ≡ false → SayBreaksOff id.0 text (verdict_at (state_at old.table id.0) (has_text text) after old.tostop) old x y put new → StopsWithin old (Said id text after) true x y put new
+pub stops_said : (id : JobId) (text : List ℕ) (after : After) (old new : Term) (x y : List ℕ) (put : Put) → old.progress.over ≡ false → SayBreaksOff id.0 text (verdict_at (state_at old.table id.0) (has_text text) after old.tostop) old x y put new → StopsWithin old (Said id text after) true x y put new
 stops_said id text after old new x y put on s =
     stops_by (Said id text after) (after_said id.0 s.parts (verdict_at (state_at old.table id.0) (has_text text) after old.tostop)) old new x y put on (acts_said id text after old s.parts on s.cuts) s.breaks
 
@@ -105,26 +107,26 @@ pub with_ok : {A E : Type 0} (H : A → Type 0) (D : Type 0) (r : Result A E) (p
 with_ok {A} H D (Ok x) p make e = subst H (sym e.0) (make e.1)
 with_ok H D (Err e) p make is = tt
 
-pub with_stuck : (old : Term) (m : Message) (x y : List ℕ) (new : Term) (D : Type 0) (r : Result (Option (Option Entry)) Stuck) (p : Option (Option Entry)) → (D → StopsWithin old m true x y p new) → IfErr r (λ s. (s.put ≡ p) × (s.given ≡ true) × D) → IfErr r (λ s. StopsWithin old m s.given x y s.put new)
+pub with_stuck : (old : Term) (m : Message) (x y : List ℕ) (new : Term) (D : Type 0) (r : Result Put Stuck) (p : Put) → (D → StopsWithin old m true x y p new) → IfErr r (λ s. (s.put ≡ p) × (s.given ≡ true) × D) → IfErr r (λ s. StopsWithin old m s.given x y s.put new)
 with_stuck old m x y new D (Ok a) p make is = tt
 with_stuck old m x y new D (Err s) p make e =
-    let P : Option (Option Entry) → Type 0 = λ q. StopsWithin old m s.given x y q new in
+    let P : Put → Type 0 = λ q. StopsWithin old m s.given x y q new in
     let Q : Bool → Type 0 = λ g. StopsWithin old m g x y p new in
     subst P (sym e.0) (subst Q (sym e.1) (make e.2))
 
-pub with_broken : (id : ℕ) (text : List ℕ) (v : Option Verdict) (old : Term) (x y : List ℕ) (new : Term) (D : Type 0) (r : Result (Option (Option Entry)) Stuck) (p : Option (Option Entry)) → (D → SayBreaksOff id text v old x y p new) → IfErr r (λ s. (s.put ≡ p) × (s.given ≡ true) × D) → IfErr r (λ s. (s.given ≡ true) × SayBreaksOff id text v old x y s.put new)
+pub with_broken : (id : ℕ) (text : List ℕ) (v : Option Verdict) (old : Term) (x y : List ℕ) (new : Term) (D : Type 0) (r : Result Put Stuck) (p : Put) → (D → SayBreaksOff id text v old x y p new) → IfErr r (λ s. (s.put ≡ p) × (s.given ≡ true) × D) → IfErr r (λ s. (s.given ≡ true) × SayBreaksOff id text v old x y s.put new)
 with_broken id text v old x y new D (Ok a) p make is = tt
 with_broken id text v old x y new D (Err s) p make e =
-    let P : Option (Option Entry) → Type 0 = λ q. SayBreaksOff id text v old x y q new in
+    let P : Put → Type 0 = λ q. SayBreaksOff id text v old x y q new in
     (e.1, subst P (sym e.0) (make e.2))
 
-pub said_stuck : (id : JobId) (text : List ℕ) (after : After) (old new : Term) (x y : List ℕ) (r : Result (Option (Option Entry)) Stuck) → old.progress.over ≡ false → IfErr r (λ s. (s.given ≡ true) × SayBreaksOff id.0 text (verdict_at (state_at old.table id.0) (has_text text) after old.tostop) old x y s.put new) → IfErr r (λ s. StopsWithin old (Said id text after) s.given x y s.put new)
+pub said_stuck : (id : JobId) (text : List ℕ) (after : After) (old new : Term) (x y : List ℕ) (r : Result Put Stuck) → old.progress.over ≡ false → IfErr r (λ s. (s.given ≡ true) × SayBreaksOff id.0 text (verdict_at (state_at old.table id.0) (has_text text) after old.tostop) old x y s.put new) → IfErr r (λ s. StopsWithin old (Said id text after) s.given x y s.put new)
 said_stuck id text after old new x y (Ok a) on is = tt
 said_stuck id text after old new x y (Err s) on e =
     let Q : Bool → Type 0 = λ g. StopsWithin old (Said id text after) g x y s.put new in
     subst Q (sym e.0) (stops_said id text after old new x y s.put on e.1)
 
-pub said_whole : (id : JobId) (text : List ℕ) (after : After) (old new : Term) (x y : List ℕ) (r : Result (Option (Option Entry)) Stuck) → old.progress.over ≡ false → IfOk r (λ put. Says id.0 text (verdict_at (state_at old.table id.0) (has_text text) after old.tostop) old x y put new) → IfOk r (λ put. DoesWhole old (Said id text after) x y put new)
+pub said_whole : (id : JobId) (text : List ℕ) (after : After) (old new : Term) (x y : List ℕ) (r : Result Put Stuck) → old.progress.over ≡ false → IfOk r (λ put. Says id.0 text (verdict_at (state_at old.table id.0) (has_text text) after old.tostop) old x y put new) → IfOk r (λ put. DoesWhole old (Said id text after) x y put new)
 said_whole id text after old new x y (Ok put) on e = handled_said id text after old new x y put on e
 said_whole id text after old new x y (Err s) on e = tt
 
@@ -141,50 +143,50 @@ verdict_judged found state text after stops empty v e f g =
     ∙ ap (λ (b : Bool). judged state b after stops) (has_text_is text ∙ ap not (sym f))
     ∙ sym g
 
-pub handled_hang_up : (old mid new : Term) (x y : List ℕ) (put : Option (Option Entry)) → old.progress.over ≡ false → AdvancesRun hang_up old x x (option_to_list put) mid → AdvancesRun flush mid x y [] new → DoesWhole old HangUp x y put new
+pub handled_hang_up : (old mid new : Term) (x y : List ℕ) (put : Put) → old.progress.over ≡ false → AdvancesRun hang_up old x x (puts_of put) mid → AdvancesRun flush mid x y [] new → DoesWhole old HangUp x y put new
 handled_hang_up old mid new x y put on one two =
-    handled_by HangUp (λ c. flush (hang_up c)) old new x y put on (λ c at. refl) (does_last hang_up flush old mid new x x y (option_to_list put) one two)
+    handled_by HangUp (λ c. flush (hang_up c)) old new x y put on (λ c at. refl) (does_last hang_up flush old mid new x x y (puts_of put) one two)
 
-pub handled_fault : (old marked mid new : Term) (x y : List ℕ) (put : Option (Option Entry)) → old.progress.over ≡ false → AdvancesRun (ends_by (Fault fault.Read)) old x x [] marked → AdvancesRun hang_up marked x x (option_to_list put) mid → AdvancesRun flush mid x y [] new → DoesWhole old ReadFailed x y put new
+pub handled_fault : (old marked mid new : Term) (x y : List ℕ) (put : Put) → old.progress.over ≡ false → AdvancesRun (ends_by (Fault fault.Read)) old x x [] marked → AdvancesRun hang_up marked x x (puts_of put) mid → AdvancesRun flush mid x y [] new → DoesWhole old ReadFailed x y put new
 handled_fault old marked mid new x y put on one two three =
-    handled_by ReadFailed (λ c. flush (hang_up (ends_by (Fault fault.Read) c))) old new x y put on (λ c at. refl) (does_last (λ c. hang_up (ends_by (Fault fault.Read) c)) flush old mid new x x y (option_to_list put) (does_then (ends_by (Fault fault.Read)) hang_up old marked mid x x x [] (option_to_list put) one two) three)
+    handled_by ReadFailed (λ c. flush (hang_up (ends_by (Fault fault.Read) c))) old new x y put on (λ c at. refl) (does_last (λ c. hang_up (ends_by (Fault fault.Read) c)) flush old mid new x x y (puts_of put) (does_then (ends_by (Fault fault.Read)) hang_up old marked mid x x x [] (puts_of put) one two) three)
 
-pub handled_refused : (old marked mid new : Term) (x y : List ℕ) (put : Option (Option Entry)) → old.progress.over ≡ false → AdvancesRun (ends_by (Fault fault.Memory)) old x x [] marked → AdvancesRun flush marked x y [] mid → HaltsIf true mid (option_to_list put) new → DoesWhole old Refused x y put new
+pub handled_refused : (old marked mid new : Term) (x y : List ℕ) (put : Put) → old.progress.over ≡ false → AdvancesRun (ends_by (Fault fault.Memory)) old x x [] marked → AdvancesRun flush marked x y [] mid → HaltsIf true mid (puts_of put) new → DoesWhole old Refused x y put new
 handled_refused old marked mid new x y put on one two three =
-    handled_by Refused (λ c. halt (flush (ends_by (Fault fault.Memory) c))) old new x y put on (λ c at. refl) (does_then (λ c. flush (ends_by (Fault fault.Memory) c)) halt old mid new x y y [] (option_to_list put) (does_then (ends_by (Fault fault.Memory)) flush old marked mid x x y [] [] one two) (does_halt_if true mid new (option_to_list put) y three))
+    handled_by Refused (λ c. halt (flush (ends_by (Fault fault.Memory) c))) old new x y put on (λ c at. refl) (does_then (λ c. flush (ends_by (Fault fault.Memory) c)) halt old mid new x y y [] (puts_of put) (does_then (ends_by (Fault fault.Memory)) flush old marked mid x x y [] [] one two) (does_halt_if true mid new (puts_of put) y three))
 
-pub handled_left : (old new : Term) (x y : List ℕ) → old.progress.over ≡ false → AdvancesRun flush old x y [] new → DoesWhole old Left x y None new
-handled_left old new x y on one = handled_by Left flush old new x y None on (λ c at. refl) one
+pub handled_left : (old new : Term) (x y : List ℕ) → old.progress.over ≡ false → AdvancesRun flush old x y [] new → DoesWhole old Left x y Nothing new
+handled_left old new x y on one = handled_by Left flush old new x y Nothing on (λ c at. refl) one
 
 breaks_last : (f g : Run → Run) (a b d : Term) (x y z : List ℕ) (p : List (Option Entry)) → AdvancesRun f a x y p b → BreaksOff g b y z [] d → BreaksOff (λ c. g (f c)) a x z p d
 breaks_last f g a b d x y z p one two =
     let P : List (Option Entry) → Type 0 = λ ps. BreaksOff (λ c. g (f c)) a x z ps d in
     subst P (append-nil p) (breaks_after f g a b d x y z p [] one two)
 
-pub stops_hang_up : (old mid new : Term) (x y : List ℕ) (put : Option (Option Entry)) → old.progress.over ≡ false → AdvancesRun hang_up old x x (option_to_list put) mid → BreaksOff flush mid x y [] new → StopsWithin old HangUp true x y put new
+pub stops_hang_up : (old mid new : Term) (x y : List ℕ) (put : Put) → old.progress.over ≡ false → AdvancesRun hang_up old x x (puts_of put) mid → BreaksOff flush mid x y [] new → StopsWithin old HangUp true x y put new
 stops_hang_up old mid new x y put on one two =
-    stops_by HangUp (λ c. flush (hang_up c)) old new x y put on (λ c at. refl) (breaks_last hang_up flush old mid new x x y (option_to_list put) one two)
+    stops_by HangUp (λ c. flush (hang_up c)) old new x y put on (λ c at. refl) (breaks_last hang_up flush old mid new x x y (puts_of put) one two)
 
-pub stops_fault : (old marked mid new : Term) (x y : List ℕ) (put : Option (Option Entry)) → old.progress.over ≡ false → AdvancesRun (ends_by (Fault fault.Read)) old x x [] marked → AdvancesRun hang_up marked x x (option_to_list put) mid → BreaksOff flush mid x y [] new → StopsWithin old ReadFailed true x y put new
+pub stops_fault : (old marked mid new : Term) (x y : List ℕ) (put : Put) → old.progress.over ≡ false → AdvancesRun (ends_by (Fault fault.Read)) old x x [] marked → AdvancesRun hang_up marked x x (puts_of put) mid → BreaksOff flush mid x y [] new → StopsWithin old ReadFailed true x y put new
 stops_fault old marked mid new x y put on one two three =
-    stops_by ReadFailed (λ c. flush (hang_up (ends_by (Fault fault.Read) c))) old new x y put on (λ c at. refl) (breaks_last (λ c. hang_up (ends_by (Fault fault.Read) c)) flush old mid new x x y (option_to_list put) (does_then (ends_by (Fault fault.Read)) hang_up old marked mid x x x [] (option_to_list put) one two) three)
+    stops_by ReadFailed (λ c. flush (hang_up (ends_by (Fault fault.Read) c))) old new x y put on (λ c at. refl) (breaks_last (λ c. hang_up (ends_by (Fault fault.Read) c)) flush old mid new x x y (puts_of put) (does_then (ends_by (Fault fault.Read)) hang_up old marked mid x x x [] (puts_of put) one two) three)
 
-pub stops_refused : (old marked mid new : Term) (x y : List ℕ) (put : Option (Option Entry)) → old.progress.over ≡ false → AdvancesRun (ends_by (Fault fault.Memory)) old x x [] marked → BreaksOff flush marked x y [] mid → HaltsIf true mid (option_to_list put) new → StopsWithin old Refused true x y put new
+pub stops_refused : (old marked mid new : Term) (x y : List ℕ) (put : Put) → old.progress.over ≡ false → AdvancesRun (ends_by (Fault fault.Memory)) old x x [] marked → BreaksOff flush marked x y [] mid → HaltsIf true mid (puts_of put) new → StopsWithin old Refused true x y put new
 stops_refused old marked mid new x y put on one two three =
-    stops_by Refused (λ c. halt (flush (ends_by (Fault fault.Memory) c))) old new x y put on (λ c at. refl) (breaks_halt_if true (λ c. flush (ends_by (Fault fault.Memory) c)) old mid new x y [] (option_to_list put) (breaks_after (ends_by (Fault fault.Memory)) flush old marked mid x x y [] [] one two) three)
+    stops_by Refused (λ c. halt (flush (ends_by (Fault fault.Memory) c))) old new x y put on (λ c at. refl) (breaks_halt_if true (λ c. flush (ends_by (Fault fault.Memory) c)) old mid new x y [] (puts_of put) (breaks_after (ends_by (Fault fault.Memory)) flush old marked mid x x y [] [] one two) three)
 
-pub stops_left : (old new : Term) (x y : List ℕ) → old.progress.over ≡ false → BreaksOff flush old x y [] new → StopsWithin old Left true x y None new
-stops_left old new x y on one = stops_by Left flush old new x y None on (λ c at. refl) one
+pub stops_left : (old new : Term) (x y : List ℕ) → old.progress.over ≡ false → BreaksOff flush old x y [] new → StopsWithin old Left true x y Nothing new
+stops_left old new x y on one = stops_by Left flush old new x y Nothing on (λ c at. refl) one
 
-pub stops_take : (old mid new : Term) (x y z : List ℕ) (put : Option (Option Entry)) → old.progress.over ≡ false → AdvancesRun ask old x y (option_to_list put) mid → BreaksOff flush mid y z [] new → StopsWithin old Take true x z put new
+pub stops_take : (old mid new : Term) (x y z : List ℕ) (put : Put) → old.progress.over ≡ false → AdvancesRun ask old x y (puts_of put) mid → BreaksOff flush mid y z [] new → StopsWithin old Take true x z put new
 stops_take old mid new x y z put on asked stuck =
-    stops_by Take (λ c. flush (ask c)) old new x z put on (λ c at. refl) (breaks_last ask flush old mid new x y z (option_to_list put) asked stuck)
+    stops_by Take (λ c. flush (ask c)) old new x z put on (λ c at. refl) (breaks_last ask flush old mid new x y z (puts_of put) asked stuck)
 
-pub stops_piece : (piece : List ℕ) (asks : Bool) (old mid last new : Term) (x y z w : List ℕ) (put : Option (Option Entry)) → old.progress.over ≡ false → old.progress.asks ≡ asks → Feeds old piece x y mid → AdvancesRun (ask_if asks) mid y z (option_to_list put) last → BreaksOff flush last z w [] new → StopsWithin old (Piece piece) true x w put new
+pub stops_piece : (piece : List ℕ) (asks : Bool) (old mid last new : Term) (x y z w : List ℕ) (put : Put) → old.progress.over ≡ false → old.progress.asks ≡ asks → Feeds old piece x y mid → AdvancesRun (ask_if asks) mid y z (puts_of put) last → BreaksOff flush last z w [] new → StopsWithin old (Piece piece) true x w put new
 stops_piece piece asks old mid last new x y z w put on is after_piece asked stuck =
-    let all = breaks_last (λ c. ask_if asks (feed piece after_piece.items c)) flush old last new x z w (option_to_list put) (does_then (feed piece after_piece.items) (ask_if asks) old mid last x y z [] (option_to_list put) after_piece.does asked) stuck in
+    let all = breaks_last (λ c. ask_if asks (feed piece after_piece.items c)) flush old last new x z w (puts_of put) (does_then (feed piece after_piece.items) (ask_if asks) old mid last x y z [] (puts_of put) after_piece.does asked) stuck in
     stops_by (Piece piece) (λ c. flush (ask_if c.progress.asks (feed piece after_piece.items c))) old new x w put on (λ c at. (after_piece.items, after_piece.reads c at, refl)) (
-    breaks_same (λ c. flush (ask_if asks (feed piece after_piece.items c))) (λ c. flush (ask_if c.progress.asks (feed piece after_piece.items c))) old new x w (option_to_list put) (λ c at. ap (λ (b : Bool). flush (ask_if b (feed piece after_piece.items c))) (asks_as c old asks is at)) all
+    breaks_same (λ c. flush (ask_if asks (feed piece after_piece.items c))) (λ c. flush (ask_if c.progress.asks (feed piece after_piece.items c))) old new x w (puts_of put) (λ c at. ap (λ (b : Bool). flush (ask_if b (feed piece after_piece.items c))) (asks_as c old asks is at)) all
     )
 
 -- what a message that gave nothing leaves: its request waits
@@ -204,7 +206,7 @@ unput_take c = by (waiting c.history)
     by (w ∷ ws) = refl
 
 -- the entries could not be asked for
-pub stops_ask : (old mid new : Term) (x y : List ℕ) → old.progress.over ≡ false → mid ≡ old → y ≡ x → new ≡ record mid { progress = after_request mid.progress } → StopsWithin old Take false x y None new
+pub stops_ask : (old mid new : Term) (x y : List ℕ) → old.progress.over ≡ false → mid ≡ old → y ≡ x → new ≡ record mid { progress = after_request mid.progress } → StopsWithin old Take false x y Nothing new
 stops_ask old mid new x y on same is now = record {
   part = [];
   appended = is ∙ sym (append-nil x);
@@ -221,7 +223,7 @@ stops_ask old mid new x y on same is now = record {
 }
 
 -- a piece could not be fed
-pub stops_feed : (piece : List ℕ) (old new : Term) (x y : List ℕ) → old.progress.over ≡ false → FeedBreaksOff old piece x y new → StopsWithin old (Piece piece) false x y None new
+pub stops_feed : (piece : List ℕ) (old new : Term) (x y : List ℕ) → old.progress.over ≡ false → FeedBreaksOff old piece x y new → StopsWithin old (Piece piece) false x y Nothing new
 stops_feed piece old new x y on f = record {
   part = f.part;
   appended = f.appended;
@@ -242,7 +244,7 @@ stops_feed piece old new x y on f = record {
 }
 
 -- a piece was fed, and then the entries could not be asked for
-pub stops_fed : (piece : List ℕ) (old mid new : Term) (x y z : List ℕ) → old.progress.over ≡ false → old.progress.asks ≡ true → Feeds old piece x y mid → new ≡ mid → z ≡ y → StopsWithin old (Piece piece) false x z None new
+pub stops_fed : (piece : List ℕ) (old mid new : Term) (x y z : List ℕ) → old.progress.over ≡ false → old.progress.asks ≡ true → Feeds old piece x y mid → new ≡ mid → z ≡ y → StopsWithin old (Piece piece) false x z Nothing new
 stops_fed piece old mid new x y z on asks after_piece same is = record {
   part = spells after_piece.does.said;
   appended = is ∙ after_piece.does.appended;
@@ -262,9 +264,9 @@ stops_fed piece old mid new x y z on asks after_piece same is = record {
       );
 }
 
-pub breaks_judged : (id : ℕ) (parts : List (List ℕ)) (v : Verdict) (state : JobState) (b : Bool) (old moved mid new : Term) (x y : List ℕ) (put : Option (Option Entry)) → old.progress.over ≡ false → state_at old.table id ≡ Some state → b ≡ (is_end v.next && is_foreground (Some state)) → AdvancesRun (move id v.next) old x x [] moved → BreaksOff (λ c. flush (show parts c)) moved x y [] mid → HaltsIf b mid (option_to_list put) new → BreaksOff (after_said id parts (Some v)) old x y (option_to_list put) new
+pub breaks_judged : (id : ℕ) (parts : List (List ℕ)) (v : Verdict) (state : JobState) (b : Bool) (old moved mid new : Term) (x y : List ℕ) (put : Put) → old.progress.over ≡ false → state_at old.table id ≡ Some state → b ≡ (is_end v.next && is_foreground (Some state)) → AdvancesRun (move id v.next) old x x [] moved → BreaksOff (λ c. flush (show parts c)) moved x y [] mid → HaltsIf b mid (puts_of put) new → BreaksOff (after_said id parts (Some v)) old x y (puts_of put) new
 breaks_judged id parts v state b old moved mid new x y put on held is one two three =
-    breaks_same (λ c. halt_if b (flush (show parts (move id v.next c)))) (after_said id parts (Some v)) old new x y (option_to_list put) (λ c at. ap (λ (u : Bool). halt_if u (flush (show parts (move id v.next c)))) (same c at)) (breaks_halt_if b (λ c. flush (show parts (move id v.next c))) old mid new x y [] (option_to_list put) (breaks_after (move id v.next) (λ c. flush (show parts c)) old moved mid x x y [] [] one two) three)
+    breaks_same (λ c. halt_if b (flush (show parts (move id v.next c)))) (after_said id parts (Some v)) old new x y (puts_of put) (λ c at. ap (λ (u : Bool). halt_if u (flush (show parts (move id v.next c)))) (same c at)) (breaks_halt_if b (λ c. flush (show parts (move id v.next c))) old mid new x y [] (puts_of put) (breaks_after (move id v.next) (λ c. flush (show parts c)) old moved mid x x y [] [] one two) three)
   where
     same : (c : Run) → LeadsTo c old → (is_end v.next && in_foreground c id) ≡ b
     same c at = ap (λ (u : Bool). is_end v.next && u) (foreground_as old c id state (is_foreground (Some state)) on held refl at) ∙ sym is

@@ -7,3 +7,4 @@ pub mod Reaching
 pub mod Giving
 pub mod Hearing
 pub mod Agreeing
+pub mod Welcoming

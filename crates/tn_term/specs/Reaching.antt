@@ -1,5 +1,5 @@
 -- Where a run leads the terminal, and what a call adds to it, whatever the run was.
-use Rattle.std.specs.Prelude.{◌≡◌, ℕ, ◌<◌, All, Bool, true, false, Option, List, [], ◌++◌, option_to_list}
+use Rattle.std.specs.Prelude.{◌≡◌, ℕ, ◌<◌, All, Bool, true, false, Option, List, [], ◌++◌}
 use Rattle.tn_discipline.specs.declared.reads.Entry.{Entry}
 use Rattle.tn_nvt.specs.Spelling.{spells}
 use Rattle.tn_nvt.specs.Feeding as nvt
@@ -11,10 +11,11 @@ use Rattle.tn_server.specs.Calls as server
 use Rattle.tn_term.specs.Marks.{Turns, is_whole, put_or_not}
 use Rattle.tn_term.specs.Counting.{after_piece, after_halt}
 use Rattle.tn_term.specs.Refusing.{IsRefusalCause}
-use Rattle.tn_term.specs.Run.{Run, Handles, Reads, feed, writes, Cuts, after_said, end_if}
+use Rattle.tn_term.specs.Run.{Run, Handles, Reads, feed, writes, Cuts, after_said, end_if, puts_of}
 use Rattle.tn_jobs.specs.declared.verdicts.Verdict.{Verdict}
 use Rattle.tn_server.specs.declared.faults.ServerFault.{ServerFault}
 use Rattle.tn_term.specs.declared.messages.Mark.{Mark}
+use Rattle.tn_term.specs.declared.messages.Put.{Put}
 use Rattle.tn_messages.specs.declared.messages.Message.{Message}
 use Rattle.tn_term.specs.declared.terminal.Term.{Term}
 
@@ -89,41 +90,41 @@ HaltsIf true old put new =
     (new ≡ record old { progress = after_halt old.progress }) × (put ≡ end_if old.progress.asks)
 HaltsIf false old put new = (new ≡ old) × (put ≡ [])
 
--- A reaction that has this verdict. It takes eight, of which five are those of every relation here: the terminal
--- and the output, each before and after, and what is put.
+-- A reaction that has this verdict. It takes eight, of which five are those of every relation here: the
+-- terminal and the output, each before and after, and what is put.
 pub record Says (id : ℕ) (text : List ℕ) (v : Option Verdict) (old : Term) (before after : List ℕ)
-    (put : Option (Option Entry)) (new : Term) : Type 0 where
+    (put : Put) (new : Term) : Type 0 where
   pub parts : List (List ℕ)
   pub cuts : Cuts (writes v) text parts
-  pub does : AdvancesRun (after_said id parts v) old before after (option_to_list put) new
+  pub does : AdvancesRun (after_said id parts v) old before after (puts_of put) new
 
 -- the same, with the same eight, where a call was refused
 pub record SayBreaksOff (id : ℕ) (text : List ℕ) (v : Option Verdict) (old : Term) (before after : List ℕ)
-    (put : Option (Option Entry)) (new : Term) : Type 0 where
+    (put : Put) (new : Term) : Type 0 where
   pub parts : List (List ℕ)
   pub cuts : Cuts (writes v) text parts
-  pub breaks : BreaksOff (after_said id parts v) old before after (option_to_list put) new
+  pub breaks : BreaksOff (after_said id parts v) old before after (puts_of put) new
 
 -- a message was done wholly: wherever the terminal may have been, it is now where the message leads
-pub record DoesWhole (old : Term) (message : Message) (before after : List ℕ) (put : Option (Option Entry))
+pub record DoesWhole (old : Term) (message : Message) (before after : List ℕ) (put : Put)
     (new : Term) : Type 0 where
   pub said : List Item
   pub appended : after ≡ before ++ spells said
   pub leads : (c : Run) → LeadsTo c old →
       (next : Run) × Handles c message next × LeadsTo next new
       × (items_said next.history ≡ items_said c.history ++ said)
-      × (next.puts ≡ c.puts ++ option_to_list put)
+      × (next.puts ≡ c.puts ++ puts_of put)
 
 -- a call of a message was refused: a prefix of what the whole message sends was appended
 pub record StopsWithin (old : Term) (message : Message) (given : Bool) (before after : List ℕ)
-    (put : Option (Option Entry)) (new : Term) : Type 0 where
+    (put : Put) (new : Term) : Type 0 where
   pub part : List ℕ
   pub appended : after ≡ before ++ part
   pub leads : (c : Run) → LeadsTo c old →
       (whole : Run) × Handles c message whole × (rest : List ℕ)
       × (spells (items_said whole.history) ≡ spells (items_said c.history) ++ (part ++ rest))
       × (new.progress ≡ (put_or_not given message c whole).progress)
-      × ((put_or_not given message c whole).puts ≡ c.puts ++ option_to_list put)
+      × ((put_or_not given message c whole).puts ≡ c.puts ++ puts_of put)
 
 -- the call was refused for its cause, wherever the terminal may have been
 abbrev pub RefusesFor : Term → Message → ServerFault → Type 0
@@ -132,10 +133,10 @@ RefusesFor old message f = (c : Run) → LeadsTo c old → IsRefusalCause c mess
 -- One message with its mark, from wherever the terminal may have been: these bytes were given, the first of
 -- those that the run sends, and all of them unless something failed.
 pub record IsTurn (mark : Mark) (old : Term) (message : Message) (bytes : List ℕ)
-    (put last : Option (Option Entry)) (new : Term) : Type 0 where
+    (put last : Put) (new : Term) : Type 0 where
   pub leads : (c : Run) → LeadsTo c old →
       (next : Run) × Turns c (message, mark) next × LeadsTo next new
-      × (next.puts ≡ c.puts ++ (option_to_list put ++ option_to_list last))
+      × (next.puts ≡ c.puts ++ (puts_of put ++ puts_of last))
       × (rest : List ℕ)
       × (spells (items_said next.history) ≡ spells (items_said c.history) ++ (bytes ++ rest))
       × (is_whole mark ≡ true → rest ≡ [])

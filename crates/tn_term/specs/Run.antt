@@ -24,6 +24,8 @@ use Rattle.tn_messages.specs.declared.faults.SessionFault.{SessionFault}
 use Rattle.tn_messages.specs.declared.faults.SessionFault.TheVariants as fault
 use Rattle.tn_messages.specs.declared.messages.Message.{Message}
 use Rattle.tn_messages.specs.declared.messages.Message.TheVariants.{Piece, HangUp, ReadFailed, Take, Said, Refused, Left}
+use Rattle.tn_term.specs.declared.messages.Put.{Put}
+use Rattle.tn_term.specs.declared.messages.Put.TheVariants as put
 use Rattle.tn_term.specs.declared.progress.Progress.{Progress}
 
 -- All that has happened at the terminal: at its server end, with the pieces joined; what was put for the
@@ -42,6 +44,12 @@ flushed_history h = next h (pulled (length (queue h)))
 -- a part of a text is no longer than the queue
 abbrev pub IsPart : List ℕ → Type 0
 IsPart part = length part ≤ 4096
+
+-- what goes to the foreground job: nothing, an entry, or the end of its entries
+abbrev pub puts_of : Put → List (Option Entry)
+puts_of put.Nothing = []
+puts_of (put.Entry entry) = Some entry ∷ []
+puts_of put.End = None ∷ []
 
 -- no entry answers the request: the end does, where no more bytes come
 abbrev pub end_if : Bool → List (Option Entry)

@@ -9,11 +9,14 @@ ghost use Rattle.tn_term.specs.Agreeing.{Agree};
 ghost use Rattle.tn_term.specs.Ending.{IsFaultCause};
 ghost use Rattle.tn_term.specs.Giving.{GivesPrefix};
 ghost use Rattle.tn_term.specs.Hearing.{Hears, HangsUp, MayAllCome};
-ghost use Rattle.tn_term.specs.Marks.{Runs, run_after_opening};
+ghost use Rattle.tn_term.specs.Marks.{Turns, Runs, run_after_opening};
+ghost use Rattle.tn_term.specs.Reaching.{LeadsTo};
 ghost use Rattle.tn_term.specs.Run.{Run, start};
 ghost use Rattle.tn_messages.specs.declared.faults.Ended.TheVariants.{HangUp, Fault};
 ghost use Rattle.tn_messages.specs.declared.faults.SessionFault.{SessionFault};
+ghost use Rattle.tn_term.specs.Welcoming.{IsWelcome, too_far_ahead};
 ghost use Rattle.tn_term.specs.declared.messages.Mark.{Mark};
+ghost use Rattle.tn_term.specs.declared.terminal.Term.{Term};
 ghost use Rattle.tn_messages.specs.declared.messages.Message.{Message};
 
 use tn_jobs::laws::one_job_changes;
@@ -65,4 +68,12 @@ pub fn faults_have_causes()
         Runs (run_after_opening opens (start canon editing jobs)) marked new →
         new.progress.ended ≡ Fault fault →
         IsFaultCause opens (run_after_opening opens (start canon editing jobs)) marked fault }
+{}
+
+/// No welcome message ends a session because too many entries wait: a piece of at most 512 bytes completes at
+/// most 513 items, each makes at most one entry, and at most 511 entries waited before.
+pub fn welcome_messages_find_room()
+    ensures { (c new : Run) (term : Term) (message : Message) (mark : Mark) → LeadsTo c term →
+        IsWelcome c message → Turns c (message, mark) new → new.progress.ended ≡ too_far_ahead →
+        c.progress.ended ≡ too_far_ahead }
 {}

@@ -3,8 +3,10 @@
 //! ```
 //! let mut term = Term::start(alloc, settings, limit, Editing::Remote, jobs, &mut out)?;
 //! let outcome = term.handle(Message::Piece(bytes), &mut out); // `out` is to be sent to the network
-//! if let Some(put) = outcome.put {
-//!     // to the foreground job: an entry, or `None`, the end of its entries
+//! match outcome.put {
+//!     Put::Nothing => {},
+//!     Put::Entry(entry) => {}, // to the foreground job
+//!     Put::End => {},          // the end of its entries
 //! }
 //! ```
 //!
@@ -20,7 +22,7 @@
 //! says by `is_welcoming` when to.
 #![tactic(auto)]
 
-pub use messages::{Mark, Outcome};
+pub use messages::{Mark, Outcome, Put};
 pub use progress::Progress;
 pub use terminal::Term;
 

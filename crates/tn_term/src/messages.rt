@@ -15,11 +15,20 @@ pub enum Mark {
     Refused { fault: ServerFault, put: bool },
 }
 
-/// What a message led to: what goes to the foreground job, where `None` within is the end of its
-/// entries; what goes there once something failed; and how far the message was done.
+/// What goes to the foreground job.
+#[derive(Debug, Drop, PartialEq, Eq)]
+pub enum Put {
+    Nothing,
+    Entry(Entry),
+    /// The end of its entries.
+    End,
+}
+
+/// What a message led to: what goes to the foreground job; what goes there once something failed; and
+/// how far the message was done.
 #[derive(Drop)]
 pub struct Outcome {
-    pub put: Option<Option<Entry>>,
-    pub last: Option<Option<Entry>>,
+    pub put: Put,
+    pub last: Put,
     pub mark: Mark,
 }

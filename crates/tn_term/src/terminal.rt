@@ -1,6 +1,6 @@
 //! The terminal of a session, which alone uses the server end.
 
-ghost use Rattle.std.specs.Prelude.{◌≡◌, ◌≤◌, ◌<◌, ◌&&◌, ℕ, List, length, true, false, OnOk, OnErr, IfOk, IfErr, IfNone, None, Some, [], ◌∷◌, ◌++◌, option_to_list, All, MatchResult};
+ghost use Rattle.std.specs.Prelude.{◌≡◌, ◌≤◌, ◌<◌, ◌&&◌, ℕ, List, length, true, false, OnOk, OnErr, IfOk, IfErr, IfNone, None, Some, [], ◌∷◌, ◌++◌, All, MatchResult};
 ghost use Rattle.std.specs.List.{concat};
 ghost use Rattle.tn_discipline.specs.Canon.{Canon};
 ghost use Rattle.tn_jobs.specs.Jobs.{state_at, with_state, is_stopped, is_foreground};
@@ -16,9 +16,11 @@ ghost use Rattle.tn_term.specs.Marks.{is_whole, no_write_failed};
 ghost use Rattle.tn_term.specs.Run as run;
 ghost use Rattle.tn_term.specs.Run.{Run};
 ghost use Rattle.tn_term.specs.Reaching.{FollowsPath, AdvancesRun, BreaksOff, Feeds, FeedBreaksOff, HaltsIf, Says, SayBreaksOff, DoesWhole, StopsWithin, RefusesFor, IsTurn, LeadsTo};
+ghost use Rattle.tn_term.specs.declared.messages.Put.TheVariants.{Nothing};
+ghost use Rattle.tn_term.specs.Welcoming.{IsWelcome, IsUnwelcome};
 ghost use Rattle.tn_term.specs.Refusing.{SymbolsWait, SymbolsWaitWithin, WaitsWithText, WaitsWithRequest};
 
-use crate::messages::{Mark, Outcome};
+use crate::messages::{Mark, Outcome, Put};
 use crate::progress::Progress;
 use std::alloc::Global;
 use tn_discipline::{Entry, Limit, Settings};
@@ -31,6 +33,9 @@ const MAX_SYMBOLS: usize = 4096;
 
 /// How many entries may wait for one more piece to be welcome.
 const MAX_BEFORE_PIECE: usize = 511;
+
+/// How many bytes a welcome piece has at most.
+const MAX_PIECE: usize = 512;
 
 /// The terminal of a session.
 #[derive(Drop)]
@@ -46,18 +51,18 @@ pub struct Term {
 #[derive(Drop)]
 struct Stuck {
     fault: ServerFault,
-    put: Option<Option<Entry>>,
+    put: Put,
     given: bool,
 }
 
 impl From<ServerFault> for Stuck {
-    ghost from_gives = { λ fault given. given ≡ record { fault = fault; put = None; given = false } };
+    ghost from_gives = { λ fault given. given ≡ record { fault = fault; put = Nothing; given = false } };
 
     // Nothing goes to the foreground job.
     fn from(fault: ServerFault) -> Stuck {
         Stuck {
             fault,
-            put: None,
+            put: Put::Nothing,
             given: false,
         }
     }
@@ -198,10 +203,10 @@ impl Term {
 
     // The first entry that waits is asked for: it goes to the foreground job, or the request waits or is
     // answered by the end.
-    fn ask(&mut self, out: &mut Vec<u8>) -> Result<Option<Option<Entry>>, ServerFault>
+    fn ask(&mut self, out: &mut Vec<u8>) -> Result<Put, ServerFault>
         requires { self.old.progress.over ≡ false }
         ensures ok { IfOk result (λ put.
-            AdvancesRun run.ask self.old out.old.items out.new.items (option_to_list put) self.new) }
+            AdvancesRun run.ask self.old out.old.items out.new.items (run.puts_of put) self.new) }
         ensures over { self.new.progress.over ≡ false }
         ensures err { OnErr result (self.new ≡ self.old) }
         ensures err_appends { OnErr result (out.new.items ≡ out.old.items) }
@@ -211,7 +216,7 @@ impl Term {
         match self.end.take(out) {
             Ok(Some(entry)) => {
                 self.progress = self.progress.answered();
-                Ok(Some(Some(entry)))
+                Ok(Put::Entry(entry))
             },
             Ok(None) => {
                 let put = end_if(self.progress.at_end);
@@ -244,9 +249,9 @@ impl Term {
     }
 
     // A request that waits is answered by the end, and no more bytes come.
-    fn hang_up(&mut self) -> Option<Option<Entry>>
+    fn hang_up(&mut self) -> Put
         requires { self.old.progress.over ≡ false }
-        ensures does { (x : List ℕ) → AdvancesRun run.hang_up self.old x x (option_to_list result) self.new }
+        ensures does { (x : List ℕ) → AdvancesRun run.hang_up self.old x x (run.puts_of result) self.new }
         ensures over { self.new.progress.over ≡ false }
     {
         let put = end_if(self.progress.asks);
@@ -255,9 +260,9 @@ impl Term {
     }
 
     // A request that waits is answered by the end, and nothing has any effect from here on.
-    fn halt(&mut self) -> Option<Option<Entry>>
+    fn halt(&mut self) -> Put
         ensures is { self.new ≡ record self.old { progress = counting.after_halt self.old.progress } }
-        ensures put { option_to_list result ≡ run.end_if self.old.progress.asks }
+        ensures put { run.puts_of result ≡ run.end_if self.old.progress.asks }
     {
         let put = end_if(self.progress.asks);
         self.progress = self.progress.halted();
@@ -318,11 +323,7 @@ impl Term {
     }
 
     // What is done once a message has had its effect.
-    fn finish(
-        &mut self,
-        put: Option<Option<Entry>>,
-        out: &mut Vec<u8>,
-    ) -> Result<Option<Option<Entry>>, Stuck>
+    fn finish(&mut self, put: Put, out: &mut Vec<u8>) -> Result<Put, Stuck>
         requires { self.old.progress.over ≡ false }
         ensures ok { IfOk result (λ p. (p ≡ put) ×
             AdvancesRun run.flush self.old out.old.items out.new.items [] self.new) }
@@ -349,7 +350,7 @@ impl Term {
         state: JobState,
         verdict: Verdict,
         out: &mut Vec<u8>,
-    ) -> Result<Option<Option<Entry>>, Stuck>
+    ) -> Result<Put, Stuck>
         requires on { self.old.progress.over ≡ false }
         requires held { state_at self.old.table id.0 ≡ Some state }
         requires runs { is_stopped state ≡ false }
@@ -375,14 +376,14 @@ impl Term {
         }
     }
 
-    fn halt_if(&mut self, is_over: bool) -> Option<Option<Entry>>
+    fn halt_if(&mut self, is_over: bool) -> Put
         requires { self.old.progress.over ≡ false }
-        ensures { HaltsIf is_over self.old (option_to_list result) self.new }
+        ensures { HaltsIf is_over self.old (run.puts_of result) self.new }
     {
         if is_over {
             return self.halt();
         }
-        None
+        Put::Nothing
     }
 
     fn said(
@@ -391,7 +392,7 @@ impl Term {
         text: &[u8],
         after: After,
         out: &mut Vec<u8>,
-    ) -> Result<Option<Option<Entry>>, Stuck>
+    ) -> Result<Put, Stuck>
         requires { self.old.progress.over ≡ false }
         ensures ok { IfOk result (λ put.
             Says id.0 text.now
@@ -407,15 +408,15 @@ impl Term {
             c.history text.now) }
     {
         let Some(state) = self.table.state(id) else {
-            return self.finish(None, out);
+            return self.finish(Put::Nothing, out);
         };
         match judge(state, !text.is_empty(), after, self.tostop) {
             Some(verdict) => self.judged(id, text, state, verdict, out),
-            None => self.finish(None, out),
+            None => self.finish(Put::Nothing, out),
         }
     }
 
-    fn piece(&mut self, piece: &[u8], out: &mut Vec<u8>) -> Result<Option<Option<Entry>>, Stuck>
+    fn piece(&mut self, piece: &[u8], out: &mut Vec<u8>) -> Result<Put, Stuck>
         requires { self.old.progress.over ≡ false }
         ensures ok { IfOk result (λ put.
             DoesWhole self.old (Message.Piece piece.now) out.old.items out.new.items put self.new) }
@@ -430,11 +431,11 @@ impl Term {
             let put = self.ask(out)?;
             self.finish(put, out)
         } else {
-            self.finish(None, out)
+            self.finish(Put::Nothing, out)
         }
     }
 
-    fn take(&mut self, out: &mut Vec<u8>) -> Result<Option<Option<Entry>>, Stuck>
+    fn take(&mut self, out: &mut Vec<u8>) -> Result<Put, Stuck>
         requires { self.old.progress.over ≡ false }
         ensures ok { IfOk result (λ put.
             DoesWhole self.old Message.Take out.old.items out.new.items put self.new) }
@@ -449,14 +450,14 @@ impl Term {
                 self.progress = self.progress.asking();
                 Err(Stuck {
                     fault,
-                    put: None,
+                    put: Put::Nothing,
                     given: false,
                 })
             },
         }
     }
 
-    fn refused(&mut self, out: &mut Vec<u8>) -> Result<Option<Option<Entry>>, Stuck>
+    fn refused(&mut self, out: &mut Vec<u8>) -> Result<Put, Stuck>
         requires { self.old.progress.over ≡ false }
         ensures ok { IfOk result (λ put.
             DoesWhole self.old Message.Refused out.old.items out.new.items put self.new) }
@@ -479,7 +480,7 @@ impl Term {
     }
 
     // A message that has its effect.
-    fn act(&mut self, message: Message, out: &mut Vec<u8>) -> Result<Option<Option<Entry>>, Stuck>
+    fn act(&mut self, message: Message, out: &mut Vec<u8>) -> Result<Put, Stuck>
         requires { self.old.progress.over ≡ false }
         ensures ok { IfOk result (λ put.
             DoesWhole self.old message out.old.items out.new.items put self.new) }
@@ -501,15 +502,15 @@ impl Term {
                 self.finish(put, out)
             },
             Message::Refused => self.refused(out),
-            Message::Left => self.finish(None, out),
+            Message::Left => self.finish(Put::Nothing, out),
         }
     }
 
     // Something failed: nothing has any effect from here on. Answers what goes to the foreground job.
-    fn fails(&mut self, fault: SessionFault) -> Option<Option<Entry>>
+    fn fails(&mut self, fault: SessionFault) -> Put
         ensures progress { self.new.progress ≡
             counting.after_halt (counting.after_end (Ended.Fault fault) self.old.progress) }
-        ensures put { option_to_list result ≡ run.end_if self.old.progress.asks }
+        ensures put { run.puts_of result ≡ run.end_if self.old.progress.asks }
     {
         let put = end_if(self.progress.asks);
         self.progress = self.progress.ends(Ended::Fault(fault)).halted();
@@ -518,10 +519,10 @@ impl Term {
 
     /// Tells that a write failed: nothing has any effect from here on. Answers what goes to the
     /// foreground job.
-    pub fn write_failed(&mut self) -> Option<Option<Entry>>
+    pub fn write_failed(&mut self) -> Put
         ensures leads { (c : Run) → LeadsTo c self.old → LeadsTo (run.fail SessionFault.Write c) self.new }
         ensures puts { (c : Run) → LeadsTo c self.old →
-            (run.fail SessionFault.Write c).puts ≡ c.puts ++ option_to_list result }
+            (run.fail SessionFault.Write c).puts ≡ c.puts ++ run.puts_of result }
         ensures over { self.new.progress.over ≡ true }
     {
         self.fails(SessionFault::Write)
@@ -549,24 +550,37 @@ impl Term {
         }
     }
 
+    /// Whether this message is welcome now: a piece has at most 512 bytes, and comes where one more is
+    /// welcome. Any other message always is. So no welcome message ends the session because too many entries
+    /// wait.
+    pub fn welcomes(&self, message: &Message) -> bool
+        ensures welcome { (c : Run) → LeadsTo c self.now → result ≡ true → IsWelcome c message.now }
+        ensures unwelcome { (c : Run) → LeadsTo c self.now → result ≡ false → IsUnwelcome c message.now }
+    {
+        match message {
+            Message::Piece(piece) => piece.as_slice().len() <= MAX_PIECE && self.is_welcoming(),
+            _ => true,
+        }
+    }
+
     /// Handles one message, and appends what is to be sent to the network.
     pub fn handle(&mut self, message: Message, out: &mut Vec<u8>) -> Outcome
         requires { out.old.items ≡ [] }
         ensures turns { IsTurn result.mark self.old message out.new.items result.put result.last self.new }
-        ensures none { is_whole result.mark ≡ true → result.last ≡ None }
+        ensures none { is_whole result.mark ≡ true → result.last ≡ Put.Nothing }
         ensures unwritten { no_write_failed result.mark ≡ true }
     {
         if self.progress.over {
             return Outcome {
                 put: idle_put(&message),
-                last: None,
+                last: Put::Nothing,
                 mark: Mark::Whole,
             };
         }
         match self.act(message, out) {
             Ok(put) => Outcome {
                 put,
-                last: None,
+                last: Put::Nothing,
                 mark: Mark::Whole,
             },
             Err(Stuck { fault, put, given }) => {
@@ -610,18 +624,18 @@ fn take_out(table: &mut Table, id: JobId, state: JobState)
 }
 
 // What a message leads to once nothing has any effect.
-fn idle_put(message: &Message) -> Option<Option<Entry>>
-    ensures { option_to_list result ≡ run.idle_puts message.now }
+fn idle_put(message: &Message) -> Put
+    ensures { run.puts_of result ≡ run.idle_puts message.now }
 {
     match message {
-        Message::Take => Some(None),
-        _ => None,
+        Message::Take => Put::End,
+        _ => Put::Nothing,
     }
 }
 
 // The end, where a request is answered so.
-fn end_if(ends: bool) -> Option<Option<Entry>>
-    ensures { option_to_list result ≡ run.end_if ends }
+fn end_if(ends: bool) -> Put
+    ensures { run.puts_of result ≡ run.end_if ends }
 {
-    if ends { Some(None) } else { None }
+    if ends { Put::End } else { Put::Nothing }
 }

@@ -1,4 +1,4 @@
-use Rattle.std.proofs.Common.{◌≡◌, [], ◌∷◌, ◌++◌, arith}
+use Rattle.std.proofs.Common.{◌≡◌, [], ◌∷◌, ◌++◌, arith, None}
 use Rattle.std.proofs.lemmas.List.Elements.{All-push}
 use Rattle.std.proofs.lemmas.Option.{IfSome_then}
 use Rattle.tn_session.specs.Reading.{IsPiece}
@@ -6,6 +6,7 @@ use Rattle.tn_messages.specs.declared.messages.Message.TheVariants.{ReadFailed}
 use Rattle.tn_session.proofs.Reading.{consumes_piece, consumes_end, come_piece, come_interrupted, cause_on}
 use Rattle.tn_session.proofs.Readers.{said, said_piece, role, reader_ends, reader_stops}
 use Rattle.tn_streams.proofs.lemmas.Foretelling.{come_passed}
+use Rattle.tn_session.proofs.Credits.{taken_piece, paid_ends, paid_stops}
 use Rattle.tn_session.proofs.net.run_reader.Goals as goal
 
 pub loop-read-preserved : goal.loop-read-preserved
@@ -18,14 +19,17 @@ loop-read-preserved g c =
         said_piece c.args.part.now.who i.0 c.in-Bytes.text _ _ i.2 c.in_ok-pass-in-Bytes.ensures.said,
         come_piece c.loop-read._read i.0 c.in-Bytes.text _ _ _ i.3 c.in-Bytes.ensures.foretold,
         All-push IsPiece i.0 c.in-Bytes.text i.4 c.in-Bytes.ensures.gives.1,
+        taken_piece i.0 c.in-Bytes.text _ _ _ i.5 c.in_ok-take_credit-in-Bytes.ensures.taken,
       ),
+      c.take_credit.ensures.seat,
     )
 
 pub loop-read-preserved-in-Again : goal.loop-read-preserved-in-Again
 loop-read-preserved-in-Again g c =
     let i = c.loop-read.invariant in (
       i.0,
-      (i.1.0, consumes_end _ _ _ _ i.1.1 c.in-Again.ensures.gives, i.1.2, come_interrupted c.loop-read._read i.1.0 _ _ _ i.1.3 c.in-Again.ensures.foretold, i.1.4),
+      (i.1.0, consumes_end _ _ _ _ i.1.1 c.in-Again.ensures.gives, i.1.2, come_interrupted c.loop-read._read i.1.0 _ _ _ i.1.3 c.in-Again.ensures.foretold, i.1.4, i.1.5),
+      i.2,
     )
 
 pub returns-then-is_stopped-clause-sent : goal.returns-then-is_stopped-clause-sent
@@ -51,3 +55,18 @@ returns-clause-sent g c =
     let i = c.loop-read.invariant.1 in
     let n : c.loop-read._read ≡ 4294967295 = omega (arith, c.loop-read.auto._read-end, c.loop-read-test.false) in
     IfSome_then c.say-3.result c.say-3.ensures.said (λ v f. reader_ends c.args.part.now.who _ _ _ i.0 ReadFailed _ _ _ i.1 tt (come_passed 4294967295 _ _ _ (rw n at i.3)) i.2 i.4 c.in_ok-pass.ensures.said f)
+
+pub returns-then-is_stopped-clause-credited : goal.returns-then-is_stopped-clause-credited
+returns-then-is_stopped-clause-credited g c =
+    let i = c.loop-read.invariant.1 in
+    IfSome_then c.say-then-is_stopped.result c.say-then-is_stopped.ensures.said (λ v f. paid_stops c.args.part.now.who i.0 c.in-Bytes.text _ _ _ _ _ _ i.5 c.in_ok-take_credit-in-Bytes.ensures.taken i.2 c.in_ok-pass-in-Bytes.ensures.said f)
+
+pub returns-in-Last-clause-credited : goal.returns-in-Last-clause-credited
+returns-in-Last-clause-credited g c =
+    let i = c.loop-read.invariant.1 in
+    IfSome_then c.say-in-Last-2.result c.say-in-Last-2.ensures.said (λ v f. paid_ends c.args.part.now.who i.0 c.in-Last.last _ _ _ _ _ _ c.in-Last.ensures.gives.1 i.5 i.2 c.in_ok-pass-in-Last.ensures.said f)
+
+pub returns-clause-credited : goal.returns-clause-credited
+returns-clause-credited g c =
+    let i = c.loop-read.invariant.1 in
+    IfSome_then c.say-3.result c.say-3.ensures.said (λ v f. paid_ends c.args.part.now.who i.0 ReadFailed None _ _ _ _ _ tt i.5 i.2 c.in_ok-pass.ensures.said f)

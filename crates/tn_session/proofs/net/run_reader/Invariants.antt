@@ -3,6 +3,7 @@ use Rattle.std.specs.Io.KnownBytes.{Consumes}
 use Rattle.std.specs.List.{concat}
 use Rattle.crossbeam_channel.specs.Claims.{view, IsSeatAt}
 use Rattle.crossbeam_channel.specs.Ends.{sends_on}
+use Rattle.tn_session.specs.Credits.{HaveTaken, IsSeated}
 use Rattle.tn_session.specs.Reader.{sends}
 use Rattle.tn_session.specs.Reading.{IsPiece, pieces_of}
 use Rattle.tn_streams.specs.Foretelling.{HasCome}
@@ -15,4 +16,6 @@ invariant-loop-read g l =
     IsSeatAt (sends_on l.to) l.pass
     × ((pieces : List (List ℕ)) × Consumes (remaining l.fn.reader) (remaining l.reader) (concat pieces)
     × (view l.pass ≡ sends l.part.who (pieces_of pieces))
-    × HasCome l._read (length pieces) (foretold l.fn.reader) (foretold l.reader) × All IsPiece pieces)
+    × HasCome l._read (length pieces) (foretold l.fn.reader) (foretold l.reader) × All IsPiece pieces
+    × HaveTaken (length pieces) l.fn.credits l.credits)
+    × IsSeated l.credits

@@ -1,5 +1,6 @@
 use Rattle.crossbeam_channel.specs.Claims.{view}
 use Rattle.tn_session.proofs.Mailbox.{starts, cut}
+use Rattle.tn_session.proofs.Credits.{cuts}
 use Rattle.tn_session.proofs.EntryChannel as channel
 use Rattle.tn_session.proofs.Whole.{ready_views, ready_hands}
 use Rattle.tn_session.specs.declared.mail.Sender.TheVariants.{Net, Desk, Back}
@@ -10,6 +11,12 @@ bounded_with-requires-clause-rule c = starts
 
 pub bounded_with-requires-2-clause-rule : goal.bounded_with-requires-2-clause-rule
 bounded_with-requires-2-clause-rule c = channel.starts
+
+pub bounded_with-requires-3-clause-rule : goal.bounded_with-requires-3-clause-rule
+bounded_with-requires-3-clause-rule c = tt
+
+pub another-taken-requires-clause-rule : goal.another-taken-requires-clause-rule
+another-taken-requires-clause-rule c = cuts c.in_ok-give.credit.id (view c.in_ok-give.credit)
 
 pub another-net-requires-clause-rule : goal.another-net-requires-clause-rule
 another-net-requires-clause-rule c = cut Net c.in_ok-to.mails.id (view c.in_ok-to.mails)
@@ -49,4 +56,7 @@ returns c =
       took = c.another-took.ensures.channel.2;
       hand_is = h.0;
       took_is = h.1;
+      one_credit = c.in_ok-give.ensures.0;
+      give = c.another-taken.ensures.channel.0;
+      credits = c.another-taken.ensures.channel.2;
     }

@@ -1,5 +1,9 @@
 use Rattle.std.proofs.lemmas.Result.{IfOk-weaker}
+use Rattle.tn_session.proofs.Reach.{reach_opened}
 use Rattle.tn_session.proofs.session.run_begun.Goals as goal
 
 pub returns-clause-ran : goal.returns-clause-ran
 returns-clause-ran g c = IfOk-weaker c.run.result _ _ (λ r on. on _ _ _ c.open.ensures.opened) c.run.ensures.ran
+
+pub returns-clause-in_reach : goal.returns-clause-in_reach
+returns-clause-in_reach g c = IfOk-weaker c.run.result _ _ (λ r reach. reach_opened _ _ _ _ _ c.open.ensures.opened reach) c.run.ensures.in_reach

@@ -1,4 +1,4 @@
-use Rattle.std.proofs.Common.{false, ap, ◌∙◌}
+use Rattle.std.proofs.Common.{false, ap, sym, ◌∙◌}
 use Rattle.crossbeam_channel.specs.Claims.{view}
 use Rattle.tn_session.proofs.Readers.{sends_as}
 use Rattle.tn_session.proofs.Whole.{scheduled}
@@ -7,6 +7,8 @@ use Rattle.tn_session.specs.Session.{report_of}
 use Rattle.tn_session.specs.Turning.{queue_of}
 use Rattle.tn_session.specs.declared.mail.Sender.TheVariants.{Net}
 use Rattle.tn_streams.specs.Known.{known_reader, known_writer}
+use Rattle.tn_session.specs.declared.parties.Report.{Report}
+use Rattle.tn_term.specs.declared.progress.Progress.{Progress}
 use Rattle.tn_session.proofs.session.run_beside.Goals as goal
 
 pub returns-clause-ran : goal.returns-clause-ran
@@ -26,3 +28,6 @@ returns-clause-ran g c began words first opened settings table at ew =
     (sends_as _ Net _ false reader (view returned.net) c.requires.net.1 c.requires.net.2 join.ensures.net.1) join.ensures.desk.2 join.ensures.back.1
     c.settle-ports.ensures (c.report.ensures ∙ ap report_of c.progress.ensures)
     settings table at ew
+
+pub returns-clause-in_reach : goal.returns-clause-in_reach
+returns-clause-in_reach g c d at e = c.in-Some.ensures.in_reach d at (ap (λ (p : Progress). p.ended) (sym c.progress.ensures) ∙ ap (λ (r : Report). r.ended) (sym c.report.ensures) ∙ e)

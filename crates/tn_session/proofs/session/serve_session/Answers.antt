@@ -11,6 +11,7 @@ use Rattle.tn_session.specs.Turning.{ids_of}
 use Rattle.tn_session.proofs.Ending.{may_come, heard_of_reader, took_all, takes_entries, read_cause, write_cause}
 use Rattle.tn_session.proofs.Makers.{some_are, no_first}
 use Rattle.std.proofs.lemmas.Result.{IfOk-weaker}
+use Rattle.tn_session.proofs.Reach.{never_begun}
 use Rattle.tn_session.proofs.session.serve_session.Goals as goal
 
 pub returns-clause-ran : goal.returns-clause-ran
@@ -50,3 +51,6 @@ returns-clause-ran g c = IfOk-weaker c.run_begun.result _ _ (λ r ran.
 
 pub returns-clause-none : goal.returns-clause-none
 returns-clause-none g c = λ none. absurd (no_first _ none (some_are _ _ c.in_ok-begun.ensures.all))
+
+pub returns-clause-in_reach : goal.returns-clause-in_reach
+returns-clause-in_reach g c = IfOk-weaker c.run_begun.result _ _ (λ r reach e. never_begun (reach _ c.in_ok-begun.ensures.begun.at e)) c.run_begun.ensures.in_reach

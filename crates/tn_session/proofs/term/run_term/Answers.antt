@@ -1,9 +1,11 @@
-use Rattle.std.proofs.Common.{ap, refl, sym, ◌∙◌, [], ◌∷◌, ◌++◌, Option, List, option_to_list, arith, append-nil}
+use Rattle.std.proofs.Common.{ap, refl, sym, ◌∙◌, [], ◌∷◌, ◌++◌, Option, List, arith, append-nil}
 use Rattle.crossbeam_channel.specs.Claims.{view}
 use Rattle.tn_session.specs.EntryChannel.{putter}
 use Rattle.tn_session.specs.declared.mail.Mail.{Mail}
+use Rattle.tn_term.specs.Run.{puts_of}
 use Rattle.tn_session.proofs.Mailbox.{handles, totals, handled_more}
 use Rattle.tn_session.proofs.Going.{going_next, going_none, going_kept, lefts_of-push, left_small, puts_two}
+use Rattle.tn_session.proofs.Reach.{reach_start, reach_next}
 use Rattle.tn_streams.specs.Known.{known_writer}
 use Rattle.tn_session.proofs.term.run_term.Goals as goal
 
@@ -24,6 +26,8 @@ loop-init g c = (
   ),
   c.requires.out,
   omega arith,
+  c.give_credit-owed.ensures.seat,
+  reach_start c.args.term.now,
 )
 
 pub turn-requires-clause-role : goal.turn-requires-clause-role
@@ -43,14 +47,16 @@ loop-preserved g c =
       c.in_ok-hand.ensures.seat,
       (
         i.0 ++ x ∷ [],
-        i.1 ++ (option_to_list t.put ++ option_to_list t.last),
+        i.1 ++ (puts_of t.put ++ puts_of t.last),
         handled_more (view c.args.passes.mails) (view c.loop.mails) (view c.recv_as.new.pass) i.0 x i.2 c.in-Ok.ensures.rule,
-        puts_two (view c.args.passes.hand) (view c.loop.hand) (view c.in_ok-hand.hand) i.1 (option_to_list t.put ++ option_to_list t.last) i.3 t.puts,
+        puts_two (view c.args.passes.hand) (view c.loop.hand) (view c.in_ok-hand.hand) i.1 (puts_of t.put ++ puts_of t.last) i.3 t.puts,
         omega (arith, lefts_of-push i.0 x, c.leaves-left.ensures, i.4),
         going_next c.args.term.now c.loop.term c.turn.new.term i.0 x (writer c.args.writer.now) (writer c.loop.writer) (writer c.turn.new.writer) (writer c.close-closed-in-loop.new.writer) i.1 (view c.loop.hand) (view c.in_ok-hand.hand) c.close-closed-in-loop.ensures.contents c.close-closed-in-loop.ensures.told i.5 t,
       ),
       c.turn.ensures.out,
       omega (arith, small, more, c.leaves-left.ensures),
+      c.give_credit-owed-in-loop.ensures.seat,
+      reach_next c.args.term.now c.loop.term c.turn.new.term _ x.message _ _ i.1 _ _ i.5 t (λ d at. c.welcomes.ensures.welcome d at c.if-not-welcomes.false) c.loop.invariant.6,
     )
 
 pub returns-then-lefts-ge-SENDERS-clause-acted : goal.returns-then-lefts-ge-SENDERS-clause-acted

@@ -4,7 +4,7 @@ use Rattle.crossbeam_channel.specs.Ends.{sends_on, receives_on}
 use Rattle.tn_discipline.specs.declared.reads.Entry.{Entry}
 use Rattle.tn_session.specs.Mailbox.{with_handled}
 use Rattle.tn_session.specs.EntryChannel.{putter}
-use Rattle.tn_session.specs.Turns.{GoesOn, lefts_of, messages_of}
+use Rattle.tn_session.specs.Turns.{GoesOn, StaysInReach, lefts_of, messages_of}
 use Rattle.tn_session.specs.declared.mail.Mail.{Mail}
 use Rattle.tn_streams.specs.Known.{known_writing}
 use Rattle.tn_session.proofs.term.run_term.Given as goal
@@ -18,3 +18,4 @@ invariant-loop g l =
     × (l.lefts ≡ lefts_of handled)
     × GoesOn l.fn.term (messages_of handled) (known_writing g.W.Drain.contents g.W.Drain.told l.fn.writer l.writer) puts l.term)
     × (l.out.items ≡ []) × (l.lefts ≤ 3)
+    × IsSeatAt (sends_on l.ends.give) l.give × StaysInReach l.fn.term l.term.progress.ended

@@ -4,9 +4,10 @@ use log::sink::Memory;
 use log::{Level, Logged};
 use std::alloc::Global;
 use std::io::{Read, Write};
-use std::net::{Ipv4Addr, TcpListener, TcpStream};
+use std::net::{Ipv4Addr, Net, TcpListener, TcpStream};
 use std::process::Abort;
 use std::test::Fail;
+use std::thread::JoinHandle;
 use std::{io, thread};
 use tn_answerer::Answerers;
 use tn_discipline::Limit;
@@ -110,14 +111,24 @@ fn serve_next<H: Host>(
     Some((report.ended, report.entries))
 }
 
-#[test]
-fn a_line_comes_back_over_a_connection(rt: HostRuntime) -> Result<(), Fail> {
-    let alloc = rt.alloc();
+// Serves one connection in a thread of its own. Returns the thread, and the port that it listens on.
+fn serve_one<H: Host + Net<Listener = TcpListener, Stream = TcpStream>>(
+    rt: H,
+    alloc: Global,
+    idle: u32,
+) -> Result<(JoinHandle<Option<(Ended, u64)>>, u16), Fail> {
     let listener = TcpListener::bind(&rt, (Ipv4Addr::LOCALHOST, 0))?;
     let port = listener.local_addr()?.port();
     let server = thread::spawn(&rt, move || -> Option<(Ended, u64)> {
-        serve_next(rt, alloc, &listener, 0)
+        serve_next(rt, alloc, &listener, idle)
     })?;
+    Ok((server, port))
+}
+
+#[test]
+fn a_line_comes_back_over_a_connection(rt: HostRuntime) -> Result<(), Fail> {
+    let alloc = rt.alloc();
+    let (server, port) = serve_one(rt, alloc, 0)?;
     let mut screen = Vec::new(alloc);
     let keys = OneByOne { keys: b"a\rexit\r" };
     let connected = connect(rt, alloc, connecting(port), keys, &mut screen);
@@ -149,11 +160,7 @@ impl Read for Paste {
 #[test]
 fn a_paste_arrives_whole_over_a_connection(rt: HostRuntime) -> Result<(), Fail> {
     let alloc = rt.alloc();
-    let listener = TcpListener::bind(&rt, (Ipv4Addr::LOCALHOST, 0))?;
-    let port = listener.local_addr()?.port();
-    let server = thread::spawn(&rt, move || -> Option<(Ended, u64)> {
-        serve_next(rt, alloc, &listener, 0)
-    })?;
+    let (server, port) = serve_one(rt, alloc, 0)?;
     let mut screen = Vec::new(alloc);
     let lines = 5_000;
     let keys = Paste {
@@ -170,11 +177,7 @@ fn a_paste_arrives_whole_over_a_connection(rt: HostRuntime) -> Result<(), Fail> 
 #[test]
 fn a_silent_client_is_let_go(rt: HostRuntime) -> Result<(), Fail> {
     let alloc = rt.alloc();
-    let listener = TcpListener::bind(&rt, (Ipv4Addr::LOCALHOST, 0))?;
-    let port = listener.local_addr()?.port();
-    let server = thread::spawn(&rt, move || -> Option<(Ended, u64)> {
-        serve_next(rt, alloc, &listener, 1)
-    })?;
+    let (server, port) = serve_one(rt, alloc, 1)?;
     let client = TcpStream::connect(&rt, (Ipv4Addr::LOCALHOST, port))?;
     assert!(rt; server.join(&rt) == Some((Ended::HangUp, 0)));
     drop(client);
@@ -185,11 +188,7 @@ fn a_silent_client_is_let_go(rt: HostRuntime) -> Result<(), Fail> {
 #[test]
 fn a_client_that_stays_is_closed(rt: HostRuntime) -> Result<(), Fail> {
     let alloc = rt.alloc();
-    let listener = TcpListener::bind(&rt, (Ipv4Addr::LOCALHOST, 0))?;
-    let port = listener.local_addr()?.port();
-    let server = thread::spawn(&rt, move || -> Option<(Ended, u64)> {
-        serve_next(rt, alloc, &listener, 0)
-    })?;
+    let (server, port) = serve_one(rt, alloc, 0)?;
     let mut client = TcpStream::connect(&rt, (Ipv4Addr::LOCALHOST, port))?;
     client.write_all(b"exit\r\0")?;
     assert!(rt; server.join(&rt) == Some((Ended::Done, 1)));

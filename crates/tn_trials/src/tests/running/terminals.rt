@@ -7,7 +7,7 @@ use tn_discipline::{Entry, Limit, Settings, Text};
 use tn_jobs::{After, JobId, Table};
 use tn_messages::{Ended, Message, SessionFault};
 use tn_server::Editing;
-use tn_term::Term;
+use tn_term::{Put, Term};
 
 /// The opening words, the text `a` with a new line, and GA. The client has not let the server echo.
 const WRITTEN: [u8; 20] = [
@@ -30,12 +30,7 @@ fn text(alloc: Global, bytes: &[u8]) -> Result<Text, Fail> {
 }
 
 // Tells the terminal one message, and keeps what it appends.
-fn tell(
-    alloc: Global,
-    term: &mut Term,
-    message: Message,
-    sent: &mut Vec<u8>,
-) -> Result<Option<Option<Entry>>, Fail> {
+fn tell(alloc: Global, term: &mut Term, message: Message, sent: &mut Vec<u8>) -> Result<Put, Fail> {
     let mut out = Vec::new(alloc);
     let outcome = term.handle(message, &mut out);
     sent.extend_from_slice(&out)?;
@@ -51,7 +46,7 @@ fn reads_a_line(
     tell(alloc, term, Message::Take, sent)?;
     let piece = Message::Piece(text(alloc, b"a\r\0")?);
     let put = tell(alloc, term, piece, sent)?;
-    assert!(rt; put == Some(Some(Entry::Text(text(alloc, b"a\n")?))));
+    assert!(rt; put == Put::Entry(Entry::Text(text(alloc, b"a\n")?)));
     Ok(())
 }
 
@@ -66,7 +61,7 @@ fn writes_it_back(
     tell(alloc, term, Message::Said { job, text, after }, sent)?;
     tell(alloc, term, Message::Take, sent)?;
     let last = tell(alloc, term, Message::HangUp, sent)?;
-    assert!(rt; last == Some(None));
+    assert!(rt; last == Put::End);
     assert!(rt; sent.as_slice() == WRITTEN.as_slice());
     Ok(())
 }
@@ -82,9 +77,9 @@ fn has_no_effect(rt: &impl Abort, alloc: Global, term: &mut Term) -> Result<(), 
     let mut sent = Vec::new(alloc);
     let piece = Message::Piece(text(alloc, b"a\r\0")?);
     tell(alloc, term, Message::Take, &mut sent)?;
-    assert!(rt; term.write_failed() == Some(None));
+    assert!(rt; term.write_failed() == Put::End);
     let put = tell(alloc, term, piece, &mut sent)?;
-    assert!(rt; put.is_none() && sent.is_empty());
+    assert!(rt; put == Put::Nothing && sent.is_empty());
     Ok(())
 }
 

@@ -1,4 +1,4 @@
-use Rattle.std.proofs.Common.{None, ℕ, List, [], IfErr, refl, subst}
+use Rattle.std.proofs.Common.{ℕ, List, [], IfErr, refl, subst}
 use Rattle.tn_messages.specs.declared.messages.Message.TheVariants.{HangUp, ReadFailed, Left}
 use Rattle.tn_messages.specs.declared.faults.Ended.TheVariants.{Fault}
 use Rattle.tn_messages.specs.declared.faults.SessionFault.TheVariants as fault
@@ -7,6 +7,7 @@ use Rattle.tn_term.specs.Reaching.{RefusesFor}
 use Rattle.tn_term.specs.Run.{hang_up, ends_by}
 use Rattle.tn_term.proofs.Doing.{does_nothing, does_then}
 use Rattle.tn_term.proofs.Refusing.{take_cause, said_cause, quiet_cause}
+use Rattle.tn_term.specs.declared.messages.Put.TheVariants.{Nothing}
 use Rattle.tn_term.proofs.Handling.{with_ok, with_stuck, handled_hang_up, handled_fault, handled_left, stops_hang_up, stops_fault, stops_left}
 use Rattle.tn_term.proofs.terminal.Term.act.Goals as goal
 
@@ -32,11 +33,11 @@ returns-in-ReadFailed-clause-err c =
 
 pub returns-in-Left-clause-ok : goal.returns-in-Left-clause-ok
 returns-in-Left-clause-ok c =
-    rw c.in-Left.is (with_ok _ _ c.finish-in-Left.result None (λ d. handled_left c.args.self.now c.finish-in-Left.new.self _ _ c.requires d) c.finish-in-Left.ensures.ok)
+    rw c.in-Left.is (with_ok _ _ c.finish-in-Left.result Nothing (λ d. handled_left c.args.self.now c.finish-in-Left.new.self _ _ c.requires d) c.finish-in-Left.ensures.ok)
 
 pub returns-in-Left-clause-err : goal.returns-in-Left-clause-err
 returns-in-Left-clause-err c =
-    rw c.in-Left.is (with_stuck c.args.self.now Left _ _ c.finish-in-Left.new.self _ c.finish-in-Left.result None (λ d. stops_left c.args.self.now c.finish-in-Left.new.self _ _ c.requires d) c.finish-in-Left.ensures.err)
+    rw c.in-Left.is (with_stuck c.args.self.now Left _ _ c.finish-in-Left.new.self _ c.finish-in-Left.result Nothing (λ d. stops_left c.args.self.now c.finish-in-Left.new.self _ _ c.requires d) c.finish-in-Left.ensures.err)
 
 pub returns-in-HangUp-clause-cause : goal.returns-in-HangUp-clause-cause
 returns-in-HangUp-clause-cause c =

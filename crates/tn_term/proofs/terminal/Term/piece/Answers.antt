@@ -1,7 +1,8 @@
-use Rattle.std.proofs.Common.{None, true, false}
+use Rattle.std.proofs.Common.{true, false}
 use Rattle.std.proofs.lemmas.Result.{err_from_is_err_and}
 use Rattle.tn_messages.specs.declared.messages.Message.TheVariants.{Piece}
 use Rattle.tn_term.proofs.Doing.{does_nothing}
+use Rattle.tn_term.specs.declared.messages.Put.TheVariants.{Nothing}
 use Rattle.tn_term.proofs.Handling.{with_ok, with_stuck, handled_piece, stops_piece, stops_feed, stops_fed}
 use Rattle.tn_term.proofs.Refusing.{asked_cause, fed_cause, answered_cause}
 use Rattle.tn_term.proofs.terminal.Term.piece.Goals as goal
@@ -26,11 +27,11 @@ returns-in_err-put-clause-err c =
 
 pub returns-else-asks-clause-ok : goal.returns-else-asks-clause-ok
 returns-else-asks-clause-ok c =
-    with_ok _ _ c.finish-else-asks.result None (λ d. handled_piece c.args.piece.now false c.args.self.now c.feed.new.self c.feed.new.self c.finish-else-asks.new.self _ _ _ _ None c.requires c.if-asks.false c.in_ok-feed.ensures.ok (does_nothing c.feed.new.self _) d) c.finish-else-asks.ensures.ok
+    with_ok _ _ c.finish-else-asks.result Nothing (λ d. handled_piece c.args.piece.now false c.args.self.now c.feed.new.self c.feed.new.self c.finish-else-asks.new.self _ _ _ _ Nothing c.requires c.if-asks.false c.in_ok-feed.ensures.ok (does_nothing c.feed.new.self _) d) c.finish-else-asks.ensures.ok
 
 pub returns-else-asks-clause-err : goal.returns-else-asks-clause-err
 returns-else-asks-clause-err c =
-    with_stuck c.args.self.now (Piece c.args.piece.now) _ _ c.finish-else-asks.new.self _ c.finish-else-asks.result None (λ d. stops_piece c.args.piece.now false c.args.self.now c.feed.new.self c.feed.new.self c.finish-else-asks.new.self _ _ _ _ None c.requires c.if-asks.false c.in_ok-feed.ensures.ok (does_nothing c.feed.new.self _) d) c.finish-else-asks.ensures.err
+    with_stuck c.args.self.now (Piece c.args.piece.now) _ _ c.finish-else-asks.new.self _ c.finish-else-asks.result Nothing (λ d. stops_piece c.args.piece.now false c.args.self.now c.feed.new.self c.feed.new.self c.finish-else-asks.new.self _ _ _ _ Nothing c.requires c.if-asks.false c.in_ok-feed.ensures.ok (does_nothing c.feed.new.self _) d) c.finish-else-asks.ensures.err
 
 pub returns-in_err-feed-clause-cause : goal.returns-in_err-feed-clause-cause
 returns-in_err-feed-clause-cause c =

@@ -1,18 +1,19 @@
-use Rattle.std.proofs.Common.{None, Option, OnErr, IfErr, true, ◌≡◌, subst, sym, ◌∙◌}
+use Rattle.std.proofs.Common.{Option, OnErr, IfErr, true, ◌≡◌, subst, sym, ◌∙◌}
 use Rattle.tn_jobs.specs.declared.verdicts.Verdict.{Verdict}
 use Rattle.tn_term.specs.Reaching.{LeadsTo, SayBreaksOff}
 use Rattle.tn_term.specs.Refusing.{WaitsWithText}
 use Rattle.tn_term.specs.Run.{Run, writes}
+use Rattle.tn_term.specs.declared.messages.Put.TheVariants.{Nothing}
 use Rattle.tn_term.proofs.Handling.{with_ok, with_broken, says_none, breaks_none, verdict_none, verdict_judged}
 use Rattle.tn_term.proofs.terminal.Term.said.Goals as goal
 
 pub returns-in_default-clause-ok : goal.returns-in_default-clause-ok
 returns-in_default-clause-ok c =
-    with_ok _ _ c.finish.result None (λ d. says_none c.args.id.0 c.args.text.now _ c.args.self.now c.finish.new.self _ _ (verdict_none _ c.args.text.now c.args.after c.args.self.now.tostop (sym c.state.ensures.state ∙ c.in_default.is)) d) c.finish.ensures.ok
+    with_ok _ _ c.finish.result Nothing (λ d. says_none c.args.id.0 c.args.text.now _ c.args.self.now c.finish.new.self _ _ (verdict_none _ c.args.text.now c.args.after c.args.self.now.tostop (sym c.state.ensures.state ∙ c.in_default.is)) d) c.finish.ensures.ok
 
 pub returns-in_default-clause-err : goal.returns-in_default-clause-err
 returns-in_default-clause-err c =
-    with_broken c.args.id.0 c.args.text.now _ c.args.self.now _ _ c.finish.new.self _ c.finish.result None (λ d. breaks_none c.args.id.0 c.args.text.now _ c.args.self.now c.finish.new.self _ _ (verdict_none _ c.args.text.now c.args.after c.args.self.now.tostop (sym c.state.ensures.state ∙ c.in_default.is)) d) c.finish.ensures.err
+    with_broken c.args.id.0 c.args.text.now _ c.args.self.now _ _ c.finish.new.self _ c.finish.result Nothing (λ d. breaks_none c.args.id.0 c.args.text.now _ c.args.self.now c.finish.new.self _ _ (verdict_none _ c.args.text.now c.args.after c.args.self.now.tostop (sym c.state.ensures.state ∙ c.in_default.is)) d) c.finish.ensures.err
 
 pub returns-in-Some-judge-clause-err : goal.returns-in-Some-judge-clause-err
 returns-in-Some-judge-clause-err c =
@@ -21,11 +22,11 @@ returns-in-Some-judge-clause-err c =
 
 pub returns-in-None-clause-ok : goal.returns-in-None-clause-ok
 returns-in-None-clause-ok c =
-    with_ok _ _ c.finish-in-None.result None (λ d. says_none c.args.id.0 c.args.text.now _ c.args.self.now c.finish-in-None.new.self _ _ (verdict_judged _ c.in-Some.state c.args.text.now c.args.after c.args.self.now.tostop c.is_empty.result _ (sym c.state.ensures.state ∙ c.in-Some.is) c.is_empty.ensures c.judge.ensures ∙ c.in-None.is) d) c.finish-in-None.ensures.ok
+    with_ok _ _ c.finish-in-None.result Nothing (λ d. says_none c.args.id.0 c.args.text.now _ c.args.self.now c.finish-in-None.new.self _ _ (verdict_judged _ c.in-Some.state c.args.text.now c.args.after c.args.self.now.tostop c.is_empty.result _ (sym c.state.ensures.state ∙ c.in-Some.is) c.is_empty.ensures c.judge.ensures ∙ c.in-None.is) d) c.finish-in-None.ensures.ok
 
 pub returns-in-None-clause-err : goal.returns-in-None-clause-err
 returns-in-None-clause-err c =
-    with_broken c.args.id.0 c.args.text.now _ c.args.self.now _ _ c.finish-in-None.new.self _ c.finish-in-None.result None (λ d. breaks_none c.args.id.0 c.args.text.now _ c.args.self.now c.finish-in-None.new.self _ _ (verdict_judged _ c.in-Some.state c.args.text.now c.args.after c.args.self.now.tostop c.is_empty.result _ (sym c.state.ensures.state ∙ c.in-Some.is) c.is_empty.ensures c.judge.ensures ∙ c.in-None.is) d) c.finish-in-None.ensures.err
+    with_broken c.args.id.0 c.args.text.now _ c.args.self.now _ _ c.finish-in-None.new.self _ c.finish-in-None.result Nothing (λ d. breaks_none c.args.id.0 c.args.text.now _ c.args.self.now c.finish-in-None.new.self _ _ (verdict_judged _ c.in-Some.state c.args.text.now c.args.after c.args.self.now.tostop c.is_empty.result _ (sym c.state.ensures.state ∙ c.in-Some.is) c.is_empty.ensures c.judge.ensures ∙ c.in-None.is) d) c.finish-in-None.ensures.err
 
 pub returns-in_default-clause-grows : goal.returns-in_default-clause-grows
 returns-in_default-clause-grows c =

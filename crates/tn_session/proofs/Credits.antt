@@ -1,0 +1,98 @@
+-- Each pass counts the credits that it takes, and the thread that reads takes one for each piece.
+use Rattle.std.proofs.Common.{◌≡◌, ℕ, ◌+◌, List, [], ◌∷◌, ◌++◌, Option, Some, None, refl, sym, ap, ◌∙◌, subst, arith, length, length-append, map}
+use Rattle.std.proofs.lemmas.List.{map-append}
+use Rattle.crossbeam_channel.specs.Fifo.{Pushes, Pops, Forks, Learns}
+use Rattle.tn_messages.specs.declared.messages.Message.{Message}
+use Rattle.tn_messages.specs.declared.messages.Message.TheVariants.{Piece, HangUp, ReadFailed, Take, Said, Refused, Left}
+use Rattle.tn_session.specs.Credits.{AnyTally, none_taken, one_taken, HaveTaken, piece_one, pieces_among}
+use Rattle.tn_session.specs.Mailbox.{mail, sender}
+use Rattle.tn_session.specs.Reader.{sends}
+use Rattle.tn_session.specs.Reading.{IsEnding, pieces_of}
+use Rattle.tn_session.specs.declared.channels.View.{View}
+use Rattle.tn_session.specs.declared.credit.Credit.{Credit}
+use Rattle.tn_session.specs.declared.credit.CreditSeat.{CreditSeat}
+use Rattle.tn_session.specs.declared.credit.Tally.{Tally}
+use Rattle.tn_session.specs.declared.mail.Mail.{Mail}
+use Rattle.tn_session.specs.declared.mail.Sender.{Sender}
+use Rattle.tn_session.specs.declared.mail.Sender.TheVariants.{Net, Desk, Back, Keys}
+use Rattle.tn_session.proofs.Readers.{Says, said, said_two, said_piece}
+
+-- THE RULE
+
+pub gives : (n pass : ℕ) (v : Tally) (x : Credit) → Pushes AnyTally n pass v x (λ w. w ≡ v)
+gives n pass v x items views room kept at = (v, tt, refl)
+
+pub takes : (pass : ℕ) (v : Tally) → Pops AnyTally pass v (λ x w. w ≡ one_taken v x)
+takes pass v x items views kept at = (one_taken v x, tt, refl)
+
+pub learns : (pass : ℕ) (v : Tally) → Learns AnyTally pass v (λ items. Unit {0})
+learns pass v items views kept at = tt
+
+pub cuts : (pass : ℕ) (v : Tally) → Forks AnyTally pass v v none_taken
+cuts pass v items views kept at = tt
+
+-- COUNTING
+
+pub taken_one : (v w : Tally) (x : Credit) → w ≡ one_taken v x → length w.taken ≡ length v.taken + 1
+taken_one v w x e = ap (λ (t : Tally). length t.taken) e ∙ length-append v.taken (x ∷ [])
+
+pub taken_none : (o : Option CreditSeat) → HaveTaken 0 o o
+taken_none None = tt
+taken_none (Some seat) = omega arith
+
+pub taken_more : (n : ℕ) (a b d : Option CreditSeat) → HaveTaken n a b → HaveTaken 1 b d → HaveTaken (n + 1) a d
+taken_more n None None None p q = tt
+taken_more n None None (Some d) p q = absurd q
+taken_more n None (Some b) d p q = absurd p
+taken_more n (Some a) None d p q = absurd p
+taken_more n (Some a) (Some b) None p q = absurd q
+taken_more n (Some a) (Some b) (Some d) p q = omega (arith, p, q)
+
+pub taken_piece : (ps : List (List ℕ)) (p : List ℕ) (a b d : Option CreditSeat) → HaveTaken (length ps) a b → HaveTaken 1 b d → HaveTaken (length (ps ++ p ∷ [])) a d
+taken_piece ps p a b d h one = subst (λ (n : ℕ). HaveTaken n a d) (sym (length-append ps (p ∷ []))) (taken_more (length ps) a b d h one)
+
+pieces-append : (xs ys : List Mail) → pieces_among (xs ++ ys) ≡ pieces_among xs + pieces_among ys
+pieces-append [] ys = omega arith
+pieces-append (x ∷ xs) ys = omega (arith, pieces-append xs ys)
+
+count_pieces : (who : Sender) (ps : List (List ℕ)) → pieces_among (map (mail who) (pieces_of ps)) ≡ length ps
+count_pieces who [] = refl
+count_pieces who (p ∷ ps) = omega (arith, count_pieces who ps)
+
+sender_is : (who : Sender) (a b : List Mail) → sender who a ≡ sender who b → a ≡ b
+sender_is Net a b e = let same : Some a ≡ Some b = ap (λ (v : View). v.net) e in cc
+sender_is Desk a b e = let same : Some a ≡ Some b = ap (λ (v : View). v.desk) e in cc
+sender_is Back a b e = let same : Some a ≡ Some b = ap (λ (v : View). v.back) e in cc
+sender_is Keys a b e = let same : Some a ≡ Some b = ap (λ (v : View). v.keys) e in cc
+
+no_piece : (last : Message) (left : Option (List ℕ)) → IsEnding last left → piece_one last ≡ 0
+no_piece HangUp left e = refl
+no_piece ReadFailed left e = refl
+no_piece Refused left e = refl
+no_piece (Piece p) left e = absurd e
+no_piece Take left e = refl
+no_piece (Said id text after) left e = refl
+no_piece Left left e = refl
+
+counted : (who : Sender) (ps : List (List ℕ)) (close : List Message) (v : View) (mails : List Mail) → v ≡ sends who (pieces_of ps ++ close) → pieces_among (map (mail who) close) ≡ 0 → v ≡ sender who mails → pieces_among mails ≡ length ps
+counted who ps close v mails e none f =
+    let all = map (mail who) (pieces_of ps) ++ map (mail who) close in
+    let same : mails ≡ all = sender_is who mails all (sym f ∙ e ∙ ap (sender who) (map-append (mail who) (pieces_of ps) close)) in
+    omega (arith, ap pieces_among same, pieces-append (map (mail who) (pieces_of ps)) (map (mail who) close), count_pieces who ps, none)
+
+as_many : (n m : ℕ) (a b : Option CreditSeat) → n ≡ m → HaveTaken m a b → HaveTaken n a b
+as_many n m a b e h = subst (λ (k : ℕ). HaveTaken k a b) (sym e) h
+
+-- the reading ended
+pub paid_ends : (who : Sender) (ps : List (List ℕ)) (last : Message) (left : Option (List ℕ)) (v w u : View) (a b : Option CreditSeat) → IsEnding last left → HaveTaken (length ps) a b → v ≡ sends who (pieces_of ps) → Says who last v w → Says who Left w u → (mails : List Mail) → u ≡ sender who mails → HaveTaken (pieces_among mails) a b
+paid_ends who ps last left v w u a b ending taken old one two mails e =
+    let whole = said_two who (pieces_of ps) last Left v w u old one two in
+    as_many (pieces_among mails) (length ps) a b (counted who ps (last ∷ Left ∷ []) u mails whole (omega (arith, no_piece last left ending)) e) taken
+
+-- it was stopped after a piece
+pub paid_stops : (who : Sender) (ps : List (List ℕ)) (p : List ℕ) (v w u : View) (a b d : Option CreditSeat) → HaveTaken (length ps) a b → HaveTaken 1 b d → v ≡ sends who (pieces_of ps) → Says who (Piece p) v w → Says who Left w u → (mails : List Mail) → u ≡ sender who mails → HaveTaken (pieces_among mails) a d
+paid_stops who ps p v w u a b d taken one_more old one two mails e =
+    let all = ps ++ p ∷ [] in
+    let whole = said who (pieces_of all) Left w u (said_piece who ps p v w old one) two in
+    let count : pieces_among mails ≡ length ps + 1 = counted who all (Left ∷ []) u mails whole refl e ∙ length-append ps (p ∷ []) in
+    as_many (pieces_among mails) (length ps + 1) a d count (taken_more (length ps) a b d taken one_more)

@@ -1,0 +1,7 @@
+use Rattle.std.proofs.Common.{ap}
+use Rattle.crossbeam_channel.specs.Claims.{view}
+use Rattle.tn_session.proofs.EntryChannel.{puts, leaves}
+use Rattle.tn_session.proofs.term.put_entry.Goals as goal
+
+pub send_as-requires-clause-rule : goal.send_as-requires-clause-rule
+send_as-requires-clause-rule g c = (puts _ c.args.hand.id (view c.args.hand) c.args.entry c.requires.role.0 (ap (λ v. v.put) c.requires.role.1), leaves c.args.hand.id (view c.args.hand))

@@ -1,0 +1,40 @@
+-- The credits of a session: the thread that reads the network takes one for each piece that it sends.
+use Rattle.std.specs.Prelude.{◌≡◌, ℕ, ◌+◌, List, Option, Some, None, [], ◌∷◌, ◌++◌, length, ⊤}
+use Rattle.crossbeam_channel.specs.Claims.{view, IsSeatAt}
+use Rattle.crossbeam_channel.specs.Ends.{receives_on}
+use Rattle.tn_messages.specs.declared.messages.Message.{Message}
+use Rattle.tn_messages.specs.declared.messages.Message.TheVariants.{Piece}
+use Rattle.tn_session.specs.declared.credit.Credit.{Credit}
+use Rattle.tn_session.specs.declared.credit.CreditSeat.{CreditSeat}
+use Rattle.tn_session.specs.declared.credit.Tally.{Tally}
+use Rattle.tn_session.specs.declared.mail.Mail.{Mail}
+
+abbrev pub none_taken : Tally
+none_taken = record { taken = [] }
+
+abbrev pub one_taken : Tally → Credit → Tally
+one_taken v x = record { taken = v.taken ++ x ∷ [] }
+
+-- each pass counts its own, whatever the channel holds
+abbrev pub AnyTally : List Credit → List Tally → Type 0
+AnyTally items views = ⊤
+
+-- a thread that needs no credit, or one at its seat
+abbrev pub IsSeated : Option CreditSeat → Type 0
+IsSeated None = ⊤
+IsSeated (Some seat) = IsSeatAt (receives_on seat.from) seat.pass
+
+-- so many credits more were taken, where any are needed
+abbrev pub HaveTaken : ℕ → Option CreditSeat → Option CreditSeat → Type 0
+HaveTaken n None None = ⊤
+HaveTaken n (Some old) (Some new) = length (view new.pass).taken ≡ length (view old.pass).taken + n
+HaveTaken n _ _ = ⊥
+
+abbrev pub piece_one : Message → ℕ
+piece_one (Piece piece) = 1
+piece_one _ = 0
+
+-- how many of these are pieces
+abbrev pub pieces_among : List Mail → ℕ
+pieces_among [] = 0
+pieces_among (x ∷ xs) = piece_one x.message + pieces_among xs
