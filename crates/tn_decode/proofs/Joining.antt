@@ -5,7 +5,7 @@ use Rattle.std.specs.List.{flat_map}
 use Rattle.tn_nvt.specs.declared.items.Item.{Item}
 use Rattle.tn_nvt.specs.declared.items.Item.TheVariants.{Byte, Newline, Cmd, Neg, Sub}
 use Rattle.tn_decode.specs.Texts.{data_text, item_text}
-use Rattle.tn_decode.specs.Lines.{Part, run, single, byte_before, item_before, parts_of, part_lines, pieces_of, lines_of, whole_line, decoded, EndsLine, IsSingle, max_data}
+use Rattle.tn_decode.specs.Lines.{Part, run, single, byte_before, parts_of, part_lines, lines_of, whole_line, decoded, EndsLine, IsSingle, max_data}
 use Rattle.tn_decode.proofs.Cutting.{pieces_first, pieces_one}
 
 -- data before parts, which join data right behind them

@@ -1,5 +1,5 @@
-use Rattle.std.proofs.Common.{◌∷◌, [], List, ℕ, slice_index_or, refl}
-use Rattle.hex.specs.Hex.{encode_with, lower_digits}
+use Rattle.std.proofs.Common.{refl}
+use Rattle.hex.specs.Hex.{encode_with}
 use Rattle.tn_decode.proofs.words.hex_digits.Goals as goal
 
 pub returns : goal.returns
