@@ -9,11 +9,13 @@ const OPTIONS: &str = "0=BINARY 1=ECHO 3=SUPPRESS-GO-AHEAD 5=STATUS 6=TIMING-MAR
         25=END-OF-RECORD 31=NAWS 32=TERMINAL-SPEED 33=TOGGLE-FLOW-CONTROL 34=LINEMODE \
         35=X-DISPLAY-LOCATION 36=ENVIRON 37=AUTHENTICATION 38=ENCRYPT 39=NEW-ENVIRON";
 
-const FUNCS: &str = "1=SYNCH 2=BRK 3=IP 4=AO 5=AYT 6=EOR 7=ABORT 8=EOF 9=SUSP 10=EC 11=EL 12=EW 13=RP \
+const FUNCS: &str =
+    "1=SYNCH 2=BRK 3=IP 4=AO 5=AYT 6=EOR 7=ABORT 8=EOF 9=SUSP 10=EC 11=EL 12=EW 13=RP \
         14=LNEXT 15=XON 16=XOFF 17=FORW1 18=FORW2 19=MCL 20=MCR 21=MCWL 22=MCWR 23=MCBOL 24=MCEOL 25=INSRT \
         26=OVER 27=ECR 28=EWR 29=EBOL 30=EEOL";
 
-const COMMANDS: &str = "236=EOF 237=SUSP 238=ABORT 239=EOR 241=NOP 242=DM 243=BRK 244=IP 245=AO 246=AYT \
+const COMMANDS: &str =
+    "236=EOF 237=SUSP 238=ABORT 239=EOR 241=NOP 242=DM 243=BRK 244=IP 245=AO 246=AYT \
         247=EC 248=EL 249=GA";
 
 // The name behind a number, or the number.
@@ -176,25 +178,30 @@ fn put_mask(octets: &[u8], text: &mut String) {
 
 fn put_triples(octets: &[u8], text: &mut String) {
     put(text, " SLC");
-    let mut rest = octets;
-    let mut between = " ";
-    while let [func, flags, value, tail @ ..] = rest {
-        put(text, between);
-        put_name(FUNCS, *func, text);
-        put(text, match flags % 4 {
+    for (place, triple) in octets.chunks(3).enumerate() {
+        put(text, if place == 0 { " " } else { ", " });
+        if let [func, flags, value] = triple {
+            put_name(FUNCS, *func, text);
+            put_modifier(*flags, text);
+            put_digits(*value, text);
+        }
+    }
+}
+
+fn put_modifier(flags: u8, text: &mut String) {
+    put(
+        text,
+        match flags % 4 {
             0 => " NOSUPPORT",
             1 => " CANTCHANGE",
             2 => " VALUE",
             _ => " DEFAULT",
-        });
-        for (bit, name) in [(128, "|ACK"), (64, "|FLUSHIN"), (32, "|FLUSHOUT")] {
-            if flags & bit == bit {
-                put(text, name);
-            }
+        },
+    );
+    for (bit, name) in [(128, "|ACK"), (64, "|FLUSHIN"), (32, "|FLUSHOUT")] {
+        if flags & bit == bit {
+            put(text, name);
         }
-        put(text, " ");
-        put_digits(*value, text);
-        between = ", ";
-        rest = tail;
     }
+    put(text, " ");
 }
