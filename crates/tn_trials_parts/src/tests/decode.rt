@@ -69,8 +69,14 @@ fn each_form_has_its_line(rt: HostRuntime) {
                 newline\n\
                 data \"b\"\n",
         ),
-        ("ffecffedffeeffef", "IAC EOF\nIAC SUSP\nIAC ABORT\nIAC EOR\n"),
-        ("fff1fff2fff3fff4fff5", "IAC NOP\nIAC DM\nIAC BRK\nIAC IP\nIAC AO\n"),
+        (
+            "ffecffedffeeffef",
+            "IAC EOF\nIAC SUSP\nIAC ABORT\nIAC EOR\n",
+        ),
+        (
+            "fff1fff2fff3fff4fff5",
+            "IAC NOP\nIAC DM\nIAC BRK\nIAC IP\nIAC AO\n",
+        ),
         ("fff6fff7fff8fff9", "IAC AYT\nIAC EC\nIAC EL\nIAC GA\n"),
         (
             "fffb01fffc03fffd05fffe06",
@@ -125,7 +131,10 @@ fn each_form_has_its_line(rt: HostRuntime) {
                 IAC SB LINEMODE WILL FORWARDMASK\n\
                 IAC SB LINEMODE WONT FORWARDMASK\n",
         ),
-        ("fffa22fd0280.31x00.fff0", "IAC SB LINEMODE DO FORWARDMASK 00\n"),
+        (
+            "fffa22fd0280.31x00.fff0",
+            "IAC SB LINEMODE DO FORWARDMASK 00\n",
+        ),
         (
             "fffa2203fff0fffa22030a8208fff0",
             "IAC SB LINEMODE SLC\n\
@@ -174,7 +183,9 @@ fn each_line_has_its_prefix(rt: HostRuntime) {
 
 // Appends a part of a stream, which may be no item.
 fn say(dice: &mut Dice, stream: &mut Vec<u8>) {
-    let codes = [0, 10, 13, 31, 34, 92, 97, 240, 244, 250, 251, 252, 253, 254, 255];
+    let codes = [
+        0, 10, 13, 31, 34, 92, 97, 240, 244, 250, 251, 252, 253, 254, 255,
+    ];
     match dice.roll(6) {
         0 => {
             for _ in 0..dice.roll(150) {
