@@ -228,7 +228,7 @@ fn say_parameters(dice: &mut Dice, stream: &mut Vec<u8>) {
         1 => 4,
         _ => dice.roll(40),
     };
-    say_sub(option, &params[..count], stream);
+    say_sub(option, &params[..count.min(params.len())], stream);
 }
 
 #[test]
