@@ -1,3 +1,4 @@
+pub mod Decoding
 pub mod Ends
 pub mod Inputs
 pub mod Items

@@ -1,5 +1,6 @@
 -- How a run of a subcommand ends: its outcome, its input, its output, and the calls that failed.
 use Rattle.std.specs.Prelude.{◌≡◌, ◌≢◌, ⊤, ℕ, ◌<◌, ◌≤◌, List, length, Option, IfSome, Result, Err, OnOk, OnErr, IsErrOf}
+use Rattle.tn_cli.specs.Decode.{Decodes, DecodesPrefix}
 use Rattle.tn_cli.specs.Playing.{AppendsText, PlaysScript, PlaysScriptPrefix, StopsAtBadLine, StopsAtRefusedLine}
 use Rattle.tn_cli.specs.Replay.{Replays, ReplaysPrefix}
 use Rattle.tn_cli.specs.Scripts.{lines_of}
@@ -43,6 +44,10 @@ EndsLocal = EndsPlainly PrintsKeys PrintsKeysPrefix
 -- how replaying a client's stream ends
 abbrev pub EndsReplay : Result ⊤ CliFault → Option (List ℕ) → Option (List ℕ) → Option (List ℕ) → Type 0
 EndsReplay = EndsPlainly Replays ReplaysPrefix
+
+-- how decoding a stream ends
+abbrev pub EndsDecode : Result ⊤ CliFault → Option (List ℕ) → Option (List ℕ) → Option (List ℕ) → Type 0
+EndsDecode = EndsPlainly Decodes DecodesPrefix
 
 -- How a script ends. Where a line of it is no command, or is refused, the lines before it were done, and what
 -- they print was written.

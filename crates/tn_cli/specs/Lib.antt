@@ -1,3 +1,4 @@
+pub mod Decode
 pub mod Ends
 pub mod Faults
 pub mod Playing

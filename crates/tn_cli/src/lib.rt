@@ -8,6 +8,7 @@
 //! serves and connects, and `tn_program` is the program that runs what its words ask for.
 #![tactic(auto)]
 
+pub use decode::run_decode;
 pub use fault::CliFault;
 pub use local::run_local;
 pub use replay::run_replay;
@@ -15,6 +16,7 @@ pub use tn_roster::note;
 pub use tn_words::{Asked, Connecting, Serving, WordsFault, read_words};
 pub use world::run_world;
 
+mod decode;
 mod fault;
 mod local;
 mod playing;

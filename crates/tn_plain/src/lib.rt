@@ -7,6 +7,7 @@
 pub mod canonical;
 pub mod chance;
 pub mod characters;
+pub mod decode;
 pub mod options;
 pub mod page;
 pub mod payloads;

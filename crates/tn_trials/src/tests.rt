@@ -2,6 +2,7 @@
 
 mod agreement;
 mod beside_terminals;
+mod decoding;
 mod forward;
 mod keys;
 mod midline;

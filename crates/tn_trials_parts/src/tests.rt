@@ -14,6 +14,7 @@ mod beside_streams;
 mod characters;
 mod clients;
 mod codes;
+mod decode;
 mod faults;
 mod hostile;
 mod jobs;

@@ -1,0 +1,4 @@
+pub mod Alone
+pub mod Cutting
+pub mod Joining
+pub mod lemmas
