@@ -3,7 +3,7 @@
 ghost use Rattle.std.specs.Prelude.{◌≡◌, ◌≢◌, ◌↔◌, ◌⊎◌, ℕ, None, [], ◌∷◌, IfSome, MatchOption};
 ghost use Rattle.tn_nvt.specs.Feeding.{failed, LeadsTo, Feeds, StopsWithin, IsLetGo};
 ghost use Rattle.tn_c_parts.specs.Bytes.{Copies};
-ghost use Rattle.tn_c_parts.specs.Codes.{code_number};
+ghost use Rattle.tn_c_parts.specs.Codes.{code_number as number};
 ghost use Rattle.tn_c_parts.specs.Items.{item_seen, parameters_of};
 ghost use Rattle.tn_c_parts.specs.declared.codes.Code.TheVariants as code;
 ghost use Rattle.tn_c.specs.Holding.{HoldsDecoder, OnDecoder, decoder_absence};
@@ -17,16 +17,16 @@ use tn_c_parts::{Code, HeldDecoder, ItemSeen};
 /// Puts a decoder into the handle that has read nothing.
 #[unsafe(no_mangle)]
 pub extern "C" fn tn_decoder_start(alloc: Global, handle: &mut Handle) -> u32
-    ensures started { handle.old.held ≢ None → result ≡ code_number code.Started }
-    ensures codes { handle.old.held ≡ None → (result ≡ code_number code.Done)
-        ⊎ (result ≡ code_number code.Memory) }
-    ensures decoder { result ≡ code_number code.Done → HoldsDecoder handle.new.held (λ decoder.
+    ensures started { handle.old.held ≢ None → result ≡ number code.Started }
+    ensures codes { handle.old.held ≡ None → (result ≡ number code.Done)
+        ⊎ (result ≡ number code.Memory) }
+    ensures decoder { result ≡ number code.Done → HoldsDecoder handle.new.held (λ decoder.
         LeadsTo [] [] decoder.decoder) }
-    ensures waiting { result ≡ code_number code.Done → HoldsDecoder handle.new.held (λ decoder.
+    ensures waiting { result ≡ number code.Done → HoldsDecoder handle.new.held (λ decoder.
         decoder.waiting ≡ []) }
-    ensures item { result ≡ code_number code.Done → HoldsDecoder handle.new.held (λ decoder.
+    ensures item { result ≡ number code.Done → HoldsDecoder handle.new.held (λ decoder.
         decoder.item ≡ None) }
-    ensures err { result ≢ code_number code.Done → handle.new.held ≡ handle.old.held }
+    ensures err { result ≢ number code.Done → handle.new.held ≡ handle.old.held }
 {
     if handle.is_started(alloc) {
         return Code::Started.number();
@@ -39,26 +39,25 @@ pub extern "C" fn tn_decoder_start(alloc: Global, handle: &mut Handle) -> u32
 #[unsafe(no_mangle)]
 pub extern "C" fn tn_decoder_feed(alloc: Global, handle: &mut Handle, bytes: &[u8]) -> u32
     ensures refused { IfSome (decoder_absence handle.old.held) (λ code.
-        (result ≡ code_number code) × (handle.new.held ≡ handle.old.held)) }
+        (result ≡ number code) × (handle.new.held ≡ handle.old.held)) }
     ensures codes { OnDecoder handle.old.held handle.new.held (λ _ _.
-        (result ≡ code_number code.Done) ⊎ ((result ≡ code_number code.Memory) ⊎ (result ≡ code_number
-        code.Failed))) }
+        (result ≡ number code.Done) ⊎ ((result ≡ number code.Memory) ⊎ (result ≡ number code.Failed))) }
     ensures ok { OnDecoder handle.old.held handle.new.held (λ before after.
-        result ≡ code_number code.Done → Feeds before.decoder bytes.now before.waiting after.waiting
-        after.decoder) }
+        result ≡ number code.Done →
+        Feeds before.decoder bytes.now before.waiting after.waiting after.decoder) }
     ensures memory { OnDecoder handle.old.held handle.new.held (λ before after.
-        result ≡ code_number code.Memory → (room : ℕ) × StopsWithin before.decoder bytes.now
-        before.waiting after.waiting room) }
+        result ≡ number code.Memory → (room : ℕ) ×
+        StopsWithin before.decoder bytes.now before.waiting after.waiting room) }
     ensures memory_fails { OnDecoder handle.old.held handle.new.held (λ _ after.
-        result ≡ code_number code.Memory → after.decoder ≡ failed) }
+        result ≡ number code.Memory → after.decoder ≡ failed) }
     ensures lets_go { OnDecoder handle.old.held handle.new.held (λ before _.
-        IsLetGo before.decoder bytes.now → result ≡ code_number code.Done) }
+        IsLetGo before.decoder bytes.now → result ≡ number code.Done) }
     ensures failed { OnDecoder handle.old.held handle.new.held (λ before _.
-        (result ≡ code_number code.Failed) ↔ (before.decoder ≡ failed)) }
+        (result ≡ number code.Failed) ↔ (before.decoder ≡ failed)) }
     ensures failed_stays { OnDecoder handle.old.held handle.new.held (λ _ after.
-        result ≡ code_number code.Failed → after.decoder ≡ failed) }
+        result ≡ number code.Failed → after.decoder ≡ failed) }
     ensures failed_waiting { OnDecoder handle.old.held handle.new.held (λ before after.
-        result ≡ code_number code.Failed → after.waiting ≡ before.waiting) }
+        result ≡ number code.Failed → after.waiting ≡ before.waiting) }
     ensures item { OnDecoder handle.old.held handle.new.held (λ before after. after.item ≡ before.item) }
 {
     call_held!(handle, alloc, Decoder, decoder => decoder.feed(bytes))
@@ -68,8 +67,8 @@ pub extern "C" fn tn_decoder_feed(alloc: Global, handle: &mut Handle, bytes: &[u
 #[unsafe(no_mangle)]
 pub extern "C" fn tn_decoder_take(alloc: Global, handle: &mut Handle, item: &mut ItemSeen) -> u32
     ensures refused { IfSome (decoder_absence handle.old.held) (λ code.
-        (result ≡ code_number code) × (handle.new.held ≡ handle.old.held)) }
-    ensures done { OnDecoder handle.old.held handle.new.held (λ _ _. result ≡ code_number code.Done) }
+        (result ≡ number code) × (handle.new.held ≡ handle.old.held)) }
+    ensures done { OnDecoder handle.old.held handle.new.held (λ _ _. result ≡ number code.Done) }
     ensures decoder { OnDecoder handle.old.held handle.new.held (λ before after.
         after.decoder ≡ before.decoder) }
     ensures item { OnDecoder handle.old.held handle.new.held (λ before after.
@@ -90,8 +89,8 @@ pub extern "C" fn tn_decoder_parameters(
     count: &mut usize,
 ) -> u32
     ensures refused { IfSome (decoder_absence handle.old.held) (λ code.
-        (result ≡ code_number code) × (handle.new.held ≡ handle.old.held)) }
-    ensures done { OnDecoder handle.old.held handle.new.held (λ _ _. result ≡ code_number code.Done) }
+        (result ≡ number code) × (handle.new.held ≡ handle.old.held)) }
+    ensures done { OnDecoder handle.old.held handle.new.held (λ _ _. result ≡ number code.Done) }
     ensures copies { OnDecoder handle.old.held handle.new.held (λ before _.
         Copies (parameters_of before.item) buf.old buf.new count.new) }
     ensures same { handle.new.held ≡ handle.old.held }

@@ -17,11 +17,13 @@ use handle::Handle;
 use std::alloc::Global;
 
 mod calls;
+mod client;
 mod decoder;
 mod handle;
 mod held;
 mod line;
 mod parts;
+mod server;
 
 /// Gives up what the handle holds, if it holds something, and all of its memory.
 #[unsafe(no_mangle)]

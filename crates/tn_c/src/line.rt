@@ -7,7 +7,7 @@ ghost use Rattle.tn_discipline.specs.HalfLine.{empty_line, line_after, effect_of
 ghost use Rattle.tn_discipline.specs.Keys.{role_of_key, roles_of};
 ghost use Rattle.tn_discipline.specs.Limits.{is_limit};
 ghost use Rattle.tn_c_parts.specs.Bytes.{Copies};
-ghost use Rattle.tn_c_parts.specs.Codes.{code_number};
+ghost use Rattle.tn_c_parts.specs.Codes.{code_number as number};
 ghost use Rattle.tn_c_parts.specs.Entries.{effect_number, entry_given, text_of};
 ghost use Rattle.tn_c_parts.specs.Terminals.{flags_given};
 ghost use Rattle.tn_c_parts.specs.declared.codes.Code.TheVariants as code;
@@ -29,17 +29,16 @@ pub extern "C" fn tn_line_start(
     flags: &TerminalFlags,
     limit: u16,
 ) -> u32
-    ensures started { handle.old.held ≢ None → result ≡ code_number code.Started }
-    ensures codes { handle.old.held ≡ None → (result ≡ code_number code.Done)
-        ⊎ (result ≡ code_number (if is_limit limit then code.Memory else code.NoLimit)) }
-    ensures accepted { result ≡ code_number code.Done → is_limit limit ≡ true }
-    ensures line { result ≡ code_number code.Done → HoldsLine handle.new.held (λ line.
+    ensures started { handle.old.held ≢ None → result ≡ number code.Started }
+    ensures codes { handle.old.held ≡ None → (result ≡ number code.Done)
+        ⊎ (result ≡ number (if is_limit limit then code.Memory else code.NoLimit)) }
+    ensures accepted { result ≡ number code.Done → is_limit limit ≡ true }
+    ensures line { result ≡ number code.Done → HoldsLine handle.new.held (λ line.
         line.line ≡ empty_line limit) }
-    ensures settings { result ≡ code_number code.Done → HoldsLine handle.new.held (λ line.
+    ensures settings { result ≡ number code.Done → HoldsLine handle.new.held (λ line.
         line.settings ≡ record { flags = flags_given flags.now; chars = standard_characters }) }
-    ensures entry { result ≡ code_number code.Done → HoldsLine handle.new.held (λ line.
-        line.entry ≡ None) }
-    ensures err { result ≢ code_number code.Done → handle.new.held ≡ handle.old.held }
+    ensures entry { result ≡ number code.Done → HoldsLine handle.new.held (λ line. line.entry ≡ None) }
+    ensures err { result ≢ number code.Done → handle.new.held ≡ handle.old.held }
 {
     if handle.is_started(alloc) {
         return Code::Started.number();
@@ -57,30 +56,29 @@ pub extern "C" fn tn_line_start(
 #[unsafe(no_mangle)]
 pub extern "C" fn tn_line_key(alloc: Global, handle: &mut Handle, key: u8, effect: &mut u32) -> u32
     ensures refused { IfSome (line_absence handle.old.held) (λ code.
-        (result ≡ code_number code) × (handle.new.held ≡ handle.old.held)) }
+        (result ≡ number code) × (handle.new.held ≡ handle.old.held)) }
     ensures codes { OnLine handle.old.held handle.new.held (λ _ _.
-        (result ≡ code_number code.Done) ⊎ (result ≡ code_number code.Memory)) }
+        (result ≡ number code.Done) ⊎ (result ≡ number code.Memory)) }
     ensures advances { OnLine handle.old.held handle.new.held (λ before after.
-        let roles = roles_of before.settings (key ∷ []) in let done = effect_of before.line (role_of_key
-        before.settings key) in result ≡ code_number code.Done → Advances before.line roles
-        (effect_entries done) after.line) }
+        let roles = roles_of before.settings (key ∷ []) in
+        let done = effect_of before.line (role_of_key before.settings key) in
+        result ≡ number code.Done → Advances before.line roles (effect_entries done) after.line) }
     ensures line { OnLine handle.old.held handle.new.held (λ before after.
-        result ≡ code_number code.Done → after.line ≡ line_after before.line (role_of_key
-        before.settings key)) }
+        result ≡ number code.Done → after.line ≡ line_after before.line (role_of_key before.settings key)) }
     ensures effect { OnLine handle.old.held handle.new.held (λ before _.
-        result ≡ code_number code.Done → effect.new ≡ effect_number (effect_of before.line (role_of_key
-        before.settings key))) }
+        result ≡ number code.Done →
+        effect.new ≡ effect_number (effect_of before.line (role_of_key before.settings key))) }
     ensures entry { OnLine handle.old.held handle.new.held (λ before after.
-        result ≡ code_number code.Done → after.entry ≡ entry_given (effect_of before.line (role_of_key
-        before.settings key))) }
+        result ≡ number code.Done →
+        after.entry ≡ entry_given (effect_of before.line (role_of_key before.settings key))) }
     ensures settings { OnLine handle.old.held handle.new.held (λ before after.
         after.settings ≡ before.settings) }
     ensures only_a_text { OnLine handle.old.held handle.new.held (λ before _.
-        result ≡ code_number code.Memory → GivesText before.line (role_of_key before.settings key)) }
+        result ≡ number code.Memory → GivesText before.line (role_of_key before.settings key)) }
     ensures err { OnLine handle.old.held handle.new.held (λ before after.
-        result ≡ code_number code.Memory → after ≡ before) }
+        result ≡ number code.Memory → after ≡ before) }
     ensures err_effect { OnLine handle.old.held handle.new.held (λ _ _.
-        result ≡ code_number code.Memory → effect.new ≡ effect.old) }
+        result ≡ number code.Memory → effect.new ≡ effect.old) }
 {
     call_held!(handle, alloc, Line, line => line.key(key, effect))
 }
@@ -94,8 +92,8 @@ pub extern "C" fn tn_line_text(
     count: &mut usize,
 ) -> u32
     ensures refused { IfSome (line_absence handle.old.held) (λ code.
-        (result ≡ code_number code) × (handle.new.held ≡ handle.old.held)) }
-    ensures done { OnLine handle.old.held handle.new.held (λ _ _. result ≡ code_number code.Done) }
+        (result ≡ number code) × (handle.new.held ≡ handle.old.held)) }
+    ensures done { OnLine handle.old.held handle.new.held (λ _ _. result ≡ number code.Done) }
     ensures copies { OnLine handle.old.held handle.new.held (λ before _.
         Copies (text_of before.entry) buf.old buf.new count.new) }
     ensures same { handle.new.held ≡ handle.old.held }
@@ -112,8 +110,8 @@ pub extern "C" fn tn_line_half(
     count: &mut usize,
 ) -> u32
     ensures refused { IfSome (line_absence handle.old.held) (λ code.
-        (result ≡ code_number code) × (handle.new.held ≡ handle.old.held)) }
-    ensures done { OnLine handle.old.held handle.new.held (λ _ _. result ≡ code_number code.Done) }
+        (result ≡ number code) × (handle.new.held ≡ handle.old.held)) }
+    ensures done { OnLine handle.old.held handle.new.held (λ _ _. result ≡ number code.Done) }
     ensures copies { OnLine handle.old.held handle.new.held (λ before _.
         Copies before.line.held buf.old buf.new count.new) }
     ensures same { handle.new.held ≡ handle.old.held }

@@ -10,14 +10,19 @@
 //! It has no handle, and exports nothing: that is `tn_c`.
 #![tactic(auto)]
 
+pub use client::HeldClient;
 pub use codes::Code;
 pub use decoder::{HeldDecoder, ItemSeen};
 pub use flags::TerminalFlags;
 pub use line::HeldLine;
+pub use server::HeldServer;
 
 mod bytes;
+mod client;
 mod codes;
 mod decoder;
 mod entries;
 mod flags;
 mod line;
+mod readings;
+mod server;
