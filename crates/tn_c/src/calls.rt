@@ -1,0 +1,23 @@
+//! What each call does with its handle.
+
+/// Takes out what the handle holds, calls it where it is of this kind, and puts it back.
+macro_rules! call_held {
+    ($handle:ident, $alloc:ident, $kind:ident, $held:ident => $call:expr) => {{
+        let Some(mut boxed) = $handle.take($alloc) else {
+            return Code::NotStarted.number();
+        };
+        match &mut *boxed {
+            Held::$kind($held) => {
+                let code = $call;
+                $handle.put(boxed);
+                code.number()
+            },
+            _ => {
+                $handle.put(boxed);
+                Code::OtherKind.number()
+            },
+        }
+    }};
+}
+
+pub(crate) use call_held;

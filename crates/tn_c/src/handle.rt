@@ -1,0 +1,113 @@
+//! The handle that C has.
+
+ghost use Rattle.std.specs.Prelude.{◌≡◌, ◌≢◌, ◌↔◌, ◌⊎◌, true, Option, None, Some, MatchOption};
+ghost use Rattle.tn_c.specs.Owning.{handle_owns, held_coded};
+ghost use Rattle.tn_c.specs.declared.held.Held.{Held};
+ghost use Rattle.tn_c_parts.specs.declared.codes.Code.TheVariants.{Done, Memory};
+
+use crate::held::Held;
+use crate::parts::Parts;
+use std::alloc::Global;
+use std::marker::Model;
+use std::mem;
+use tn_c_parts::Code;
+
+/// One word that C has: null where nothing is held, and else the address of a box of what is held. In C it is
+/// `tn_handle`, which begins as `{0}`.
+///
+/// A handle is never dropped while it holds something: what is held is taken out of it as a box.
+#[repr(C)]
+#[derive(Drop)]
+pub struct Handle {
+    at: *mut (),
+    alloc: Global,
+    pub ghost held: { Option Held } by { held_coded },
+}
+
+impl Model for Handle {
+    ghost also_owns = { λ h. handle_owns h.alloc h.at h.held };
+}
+
+impl Handle {
+    pub(crate) fn empty(alloc: Global) -> Handle
+        ensures { result.held ≡ None }
+    {
+        Handle {
+            at: std::ptr::null_mut(),
+            alloc,
+        }
+    }
+
+    pub(crate) fn of_parts(parts: Parts<Held, Global>) -> Handle
+        ensures { result.held ≡ Some parts.value }
+    {
+        let Parts { ptr, alloc } = parts;
+        Handle {
+            at: ptr as *mut (),
+            alloc,
+        }
+    }
+
+    pub(crate) fn into_parts(self) -> Option<Parts<Held, Global>>
+        ensures { MatchOption result (self.held ≡ None) (λ parts. self.held ≡ Some parts.value) }
+    {
+        let Handle { at, alloc } = self;
+        if at.is_null() {
+            None
+        } else {
+            Some(Parts {
+                ptr: at as *mut Held,
+                alloc,
+            })
+        }
+    }
+
+    /// Takes out what is held, if anything.
+    pub(crate) fn take(&mut self, alloc: Global) -> Option<Box<Held>>
+        ensures value { MatchOption result (self.old.held ≡ None) (λ boxed. self.old.held ≡ Some boxed.value) }
+        ensures left { self.new.held ≡ None }
+    {
+        match mem::replace(self, Handle::empty(alloc)).into_parts() {
+            Some(parts) => Some(parts.into_box()),
+            None => None,
+        }
+    }
+
+    /// Puts a box in.
+    pub(crate) fn put(&mut self, boxed: Box<Held>)
+        requires { self.old.held ≡ None }
+        ensures { self.new.held ≡ Some boxed.value }
+    {
+        *self = Handle::of_parts(Parts::of(boxed));
+    }
+
+    /// Whether something is held.
+    pub(crate) fn is_started(&mut self, alloc: Global) -> bool
+        ensures value { (result ≡ true) ↔ (self.old.held ≢ None) }
+        ensures same { self.new.held ≡ self.old.held }
+    {
+        match self.take(alloc) {
+            Some(boxed) => {
+                self.put(boxed);
+                true
+            },
+            None => false,
+        }
+    }
+
+    /// Holds this from now on, in a box of its own.
+    pub(crate) fn hold(&mut self, alloc: Global, held: Held) -> Code
+        requires { self.old.held ≡ None }
+        ensures codes { (result ≡ Done) ⊎ (result ≡ Memory) }
+        ensures ok { result ≡ Done → self.new.held ≡ Some held }
+        ensures err { result ≡ Memory → self.new.held ≡ None }
+    {
+        match Box::new(alloc, held) {
+            Ok(boxed) => {
+                self.put(boxed);
+                Code::Done
+            },
+            Err(_) => Code::Memory,
+        }
+    }
+}

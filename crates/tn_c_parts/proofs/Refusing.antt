@@ -1,0 +1,34 @@
+-- A refusal has the code of its cause.
+use Rattle.std.proofs.Common.{◌≡◌, ℕ, Bool, true, false, Option, Some, None, List, sym, ap, ◌∙◌, if◌then◌else◌}
+use Rattle.std.specs.Prelude.{option_map}
+use Rattle.tn_codes.specs.declared.masks.Mask.{Mask}
+use Rattle.tn_discipline.specs.declared.characters.CharFault.{CharFault}
+use Rattle.tn_pty.specs.declared.pty.PtyFault.{PtyFault}
+use Rattle.tn_server.specs.Faults as server
+use Rattle.tn_server.specs.declared.faults.ServerFault.{ServerFault}
+use Rattle.tn_server.specs.declared.faults.ServerFault.TheVariants as fault
+use Rattle.tn_client.specs.Calls as client
+use Rattle.tn_client.specs.declared.faults.ClientFault.{ClientFault}
+use Rattle.tn_c_parts.specs.Faults.{server_code, server_refusal, client_code, client_refusal}
+
+pub server_told : (cause : Option ServerFault) (f g : ServerFault) → f ≡ g → server.IsFault cause f → server_code g ≡ server_refusal cause
+server_told None f g e h = ap server_code (sym e ∙ h)
+server_told (Some cause) f g e h = ap server_code (sym e ∙ h)
+
+pub client_told : (cause : Option ClientFault) (f g : ClientFault) → f ≡ g → client.IsFault cause f → client_code g ≡ client_refusal cause
+client_told None f g e h = ap client_code (sym e ∙ h)
+client_told (Some cause) f g e h = ap client_code (sym e ∙ h)
+
+-- no character is refused by the pair
+pub never_pty : (failed : Bool) (o : Option CharFault) (f : ServerFault) (p : PtyFault) → f ≡ fault.Pty p → server.IsFault (if failed then Some fault.Failed else option_map fault.Char o) f → ⊥
+never_pty true o f p e h = cc
+never_pty false None f p e h = cc
+never_pty false (Some g) f p e h = cc
+
+octets_mask : List ℕ → Mask
+octets_mask octets = record { 0 = octets }
+
+-- a mask is its octets
+pub same_mask : (m n : Mask) → m.0 ≡ n.0 → m ≡ n
+unfolding octets_mask
+same_mask m n e = ap octets_mask e

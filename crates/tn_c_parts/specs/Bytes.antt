@@ -1,0 +1,8 @@
+-- Bytes that are copied to a buffer.
+use Rattle.std.specs.Prelude.{◌≡◌, ℕ, List, length, min, take, drop}
+
+-- The first of these bytes, as many as fit, were copied to the front of a buffer.
+pub record Copies (bytes old new : List ℕ) (count : ℕ) : Type 0 where
+  pub fits : count ≡ min (length bytes) (length old)
+  pub front : take count new ≡ take count bytes
+  pub rest : drop count new ≡ drop count old

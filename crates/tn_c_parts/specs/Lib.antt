@@ -1,0 +1,9 @@
+pub mod Codes
+pub mod Faults
+pub mod Bytes
+pub mod Entries
+pub mod Items
+pub mod Terminals
+pub mod Readings
+pub mod Serving
+pub mod Calling

@@ -1,0 +1,39 @@
+-- The numbers of what an end tells of itself.
+use Rattle.std.specs.Prelude.{ℕ, Bool, true, false, Option, Some, None, nat_lt, if◌then◌else◌}
+use Rattle.tn_option.specs.declared.q_method.Side.{Side}
+use Rattle.tn_option.specs.declared.q_method.Side.TheVariants.{Us, Them}
+use Rattle.tn_option.specs.declared.q_method.QState.{QState}
+use Rattle.tn_option.specs.declared.q_method.QState.TheVariants as state
+use Rattle.tn_server.specs.declared.wishes.Editing.{Editing}
+use Rattle.tn_server.specs.declared.wishes.Editing.TheVariants.{Local, Remote}
+
+-- the side of an option that C gives: ours, or theirs
+abbrev pub side_given : Bool → Side
+side_given true = Us
+side_given false = Them
+
+-- where C wishes for lines to be edited: at the client, or at the server
+abbrev pub editing_given : Bool → Editing
+editing_given true = Local
+editing_given false = Remote
+
+-- no character: what no byte is
+abbrev pub no_char : ℕ
+no_char = 256
+
+-- a special character as C sees it
+abbrev pub char_number : Option ℕ → ℕ
+char_number None = no_char
+char_number (Some byte) = byte
+
+-- the special character that C gives: none by what is no byte
+abbrev pub char_given : ℕ → Option ℕ
+char_given value = if nat_lt value no_char then Some value else None
+
+abbrev pub state_number : QState → ℕ
+state_number state.No = 0
+state_number state.Yes = 1
+state_number state.WantNoEmpty = 2
+state_number state.WantNoOpposite = 3
+state_number state.WantYesEmpty = 4
+state_number state.WantYesOpposite = 5

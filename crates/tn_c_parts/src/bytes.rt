@@ -1,0 +1,23 @@
+//! Copies bytes to a caller's buffer.
+
+ghost use Rattle.std.specs.Prelude.{◌≡◌, length, drop};
+ghost use Rattle.tn_c_parts.specs.Bytes.{Copies};
+
+/// Copies the first bytes, as many as fit, and returns how many.
+pub(crate) fn copy_front(bytes: &[u8], buf: &mut [u8]) -> usize
+    ensures { Copies bytes.now buf.old buf.new result }
+{
+    let count = bytes.len().min(buf.len());
+    buf[..count].copy_from_slice(&bytes[..count]);
+    count
+}
+
+/// Moves the first bytes, as many as fit, and returns how many: the others stay.
+pub(crate) fn move_front(bytes: &mut Vec<u8>, buf: &mut [u8]) -> usize
+    ensures copies { Copies bytes.old.items buf.old buf.new result }
+    ensures stay { bytes.new.items ≡ drop result bytes.old.items }
+{
+    let count = copy_front(bytes.as_slice(), buf);
+    drop(bytes.drain(..count));
+    count
+}

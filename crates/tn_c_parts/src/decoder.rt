@@ -1,0 +1,138 @@
+//! A decoder, and the items that wait to be taken.
+
+ghost use Rattle.std.specs.Prelude.{◌≡◌, ◌↔◌, ◌⊎◌, ◌-◌, ℕ, None, [], ◌∷◌, reverse, vec_len, vec_capacity, MatchOption};
+ghost use Rattle.tn_nvt.specs.Feeding.{failed, LeadsTo, Feeds, StopsWithin, IsLetGo};
+ghost use Rattle.tn_c_parts.specs.Bytes.{Copies};
+ghost use Rattle.tn_c_parts.specs.Items.{item_seen, parameters_of};
+ghost use Rattle.tn_c_parts.specs.declared.codes.Code.TheVariants as code;
+
+use crate::bytes::copy_front;
+use crate::codes::Code;
+use std::alloc::Global;
+use std::marker::Model;
+use tn_nvt::{Decoder, Item, NvtFault};
+
+/// What C sees of an item: `tn_item`.
+#[repr(C)]
+#[derive(Clone, Copy, Debug, PartialEq, Eq)]
+pub struct ItemSeen {
+    /// 0 for none, 1 for a byte, 2 for a new line, 3 for a command, 4 for an option word, 5 for a
+    /// subnegotiation.
+    pub kind: u32,
+    /// The byte of data, of a command, or of the verb of an option word.
+    pub code: u8,
+    /// The option of an option word or of a subnegotiation.
+    pub option: u8,
+    /// How many parameters a subnegotiation has.
+    pub length: usize,
+}
+
+// What C sees of an item.
+fn seen(item: &Option<Item>) -> ItemSeen
+    ensures { result ≡ item_seen item.now }
+{
+    let (kind, code, option, length) = match item {
+        None => (0, 0, 0, 0),
+        Some(Item::Byte(byte)) => (1, *byte, 0, 0),
+        Some(Item::Newline) => (2, 0, 0, 0),
+        Some(Item::Cmd(command)) => (3, command.code(), 0, 0),
+        Some(Item::Neg(verb, option)) => (4, verb.code(), *option, 0),
+        Some(Item::Sub(option, params)) => (5, 0, *option, params.len()),
+    };
+    ItemSeen {
+        kind,
+        code,
+        option,
+        length,
+    }
+}
+
+// The parameters of an item that is a subnegotiation.
+fn parameters(item: &Option<Item>) -> &[u8]
+    ensures { result.now ≡ parameters_of item.now }
+{
+    match item {
+        Some(Item::Sub(_, params)) => params.as_slice(),
+        _ => &[],
+    }
+}
+
+/// A decoder, the items that wait to be taken, and the item that was taken last.
+#[derive(Drop)]
+pub struct HeldDecoder {
+    decoder: Decoder,
+    /// What waits; the item that came last stands first.
+    later_first: Vec<Item>,
+    item: Option<Item>,
+}
+
+impl Model for HeldDecoder {
+    ghost use Rattle.std.specs.Prelude.{reverse};
+    ghost use Rattle.tn_c_parts.specs.Items.{ReadStream};
+
+    ghost Value = { ReadStream };
+
+    ghost view = { λ held. record {
+      decoder = held.decoder;
+      waiting = reverse held.later_first.items;
+      item = held.item;
+    } };
+}
+
+impl HeldDecoder {
+    /// A decoder that has read nothing.
+    pub fn start(alloc: Global) -> HeldDecoder
+        ensures decoder { LeadsTo [] [] result.decoder }
+        ensures waiting { result.waiting ≡ [] }
+        ensures item { result.item ≡ None }
+    {
+        HeldDecoder {
+            decoder: Decoder::new(alloc),
+            later_first: Vec::new(alloc),
+            item: None,
+        }
+    }
+
+    /// Reads a piece, cut anywhere: the items that it completes wait behind those that wait already.
+    pub fn feed(&mut self, piece: &[u8]) -> Code
+        ensures codes { (result ≡ code.Done) ⊎ ((result ≡ code.Memory) ⊎ (result ≡ code.Failed)) }
+        ensures ok { result ≡ code.Done →
+            Feeds self.old.decoder piece.now self.old.waiting self.new.waiting self.new.decoder }
+        ensures memory { result ≡ code.Memory → (room : ℕ) ×
+            StopsWithin self.old.decoder piece.now self.old.waiting self.new.waiting room }
+        ensures memory_fails { result ≡ code.Memory → self.new.decoder ≡ failed }
+        ensures lets_go { IsLetGo self.old.decoder piece.now → result ≡ code.Done }
+        ensures failed { (result ≡ code.Failed) ↔ (self.old.decoder ≡ failed) }
+        ensures failed_stays { result ≡ code.Failed → self.new.decoder ≡ failed }
+        ensures failed_waiting { result ≡ code.Failed → self.new.waiting ≡ self.old.waiting }
+        ensures item { self.new.item ≡ self.old.item }
+    {
+        self.later_first.reverse();
+        let fed = self.decoder.feed(piece, &mut self.later_first);
+        self.later_first.reverse();
+        match fed {
+            Ok(()) => Code::Done,
+            Err(NvtFault::Failed) => Code::Failed,
+            Err(_) => Code::Memory,
+        }
+    }
+
+    /// Takes the first item that waits, if there is one.
+    pub fn take(&mut self, item: &mut ItemSeen)
+        ensures decoder { self.new.decoder ≡ self.old.decoder }
+        ensures item { MatchOption self.new.item (self.old.waiting ≡ [])
+            (λ first. self.old.waiting ≡ first ∷ self.new.waiting) }
+        ensures none { self.old.waiting ≡ [] → self.new.waiting ≡ [] }
+        ensures seen { item.new ≡ item_seen self.new.item }
+    {
+        self.item = self.later_first.pop();
+        *item = seen(&self.item);
+    }
+
+    /// Copies the first parameters of the item that was taken last, as many as fit, and says how many.
+    pub fn parameters(&self, buf: &mut [u8], count: &mut usize)
+        ensures { Copies (parameters_of self.now.item) buf.old buf.new count.new }
+    {
+        *count = copy_front(parameters(&self.item), buf);
+    }
+}

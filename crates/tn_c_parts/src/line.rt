@@ -1,0 +1,85 @@
+//! A line that is typed, and the entry that its last key gave.
+
+ghost use Rattle.std.specs.Prelude.{◌≡◌, ◌⊎◌, None, [], ◌∷◌, IfOk};
+ghost use Rattle.tn_discipline.specs.Advancing.{Advances};
+ghost use Rattle.tn_discipline.specs.Characters.{standard_characters};
+ghost use Rattle.tn_discipline.specs.HalfLine.{empty_line, line_after, effect_of, effect_entries, GivesText};
+ghost use Rattle.tn_discipline.specs.Keys.{role_of_key, roles_of};
+ghost use Rattle.tn_c_parts.specs.Bytes.{Copies};
+ghost use Rattle.tn_c_parts.specs.Entries.{effect_number, entry_given, text_of};
+ghost use Rattle.tn_c_parts.specs.declared.codes.Code.TheVariants as code;
+
+use crate::bytes::copy_front;
+use crate::codes::Code;
+use crate::entries::{effect_number, entry_given, text_of};
+use std::alloc::{AllocError, Global};
+use tn_discipline::{Chars, Entry, Flags, Limit, Line, Settings};
+
+/// A line that is typed under some settings, and the entry that its last key gave.
+#[derive(Drop)]
+pub struct HeldLine {
+    pub line: Line,
+    pub settings: Settings,
+    pub entry: Option<Entry>,
+}
+
+impl HeldLine {
+    /// An empty line under these flags and the standard special characters.
+    pub fn start(alloc: Global, flags: Flags, limit: Limit) -> Result<HeldLine, AllocError>
+        ensures line { IfOk result (λ held. held.line ≡ empty_line limit) }
+        ensures settings { IfOk result
+            (λ held. held.settings ≡ record { flags = flags; chars = standard_characters }) }
+        ensures entry { IfOk result (λ held. held.entry ≡ None) }
+    {
+        Ok(HeldLine {
+            line: Line::new(alloc, limit)?,
+            settings: Settings {
+                flags,
+                chars: Chars::standard(),
+            },
+            entry: None,
+        })
+    }
+
+    /// Types a key, and gives the number of what it did.
+    pub fn key(&mut self, key: u8, effect: &mut u32) -> Code
+        ensures codes { (result ≡ code.Done) ⊎ (result ≡ code.Memory) }
+        ensures advances { let roles = roles_of self.old.settings (key ∷ []) in
+            let done = effect_of self.old.line (role_of_key self.old.settings key) in
+            result ≡ code.Done → Advances self.old.line roles (effect_entries done) self.new.line }
+        ensures line { result ≡ code.Done →
+            self.new.line ≡ line_after self.old.line (role_of_key self.old.settings key) }
+        ensures effect { result ≡ code.Done →
+            effect.new ≡ effect_number (effect_of self.old.line (role_of_key self.old.settings key)) }
+        ensures entry { result ≡ code.Done →
+            self.new.entry ≡ entry_given (effect_of self.old.line (role_of_key self.old.settings key)) }
+        ensures settings { self.new.settings ≡ self.old.settings }
+        ensures only_a_text { result ≡ code.Memory →
+            GivesText self.old.line (role_of_key self.old.settings key) }
+        ensures err { result ≡ code.Memory → self.new ≡ self.old }
+        ensures err_effect { result ≡ code.Memory → effect.new ≡ effect.old }
+    {
+        match self.line.key(&self.settings, key) {
+            Ok(done) => {
+                *effect = effect_number(&done);
+                self.entry = entry_given(done);
+                Code::Done
+            },
+            Err(_) => Code::Memory,
+        }
+    }
+
+    /// Copies the first bytes of the text that the last key gave, as many as fit, and says how many.
+    pub fn text(&self, buf: &mut [u8], count: &mut usize)
+        ensures { Copies (text_of self.now.entry) buf.old buf.new count.new }
+    {
+        *count = copy_front(text_of(&self.entry), buf);
+    }
+
+    /// Copies the first bytes of the half line, as many as fit, and says how many.
+    pub fn half(&self, buf: &mut [u8], count: &mut usize)
+        ensures { Copies self.now.line.held buf.old buf.new count.new }
+    {
+        *count = copy_front(self.line.held(), buf);
+    }
+}

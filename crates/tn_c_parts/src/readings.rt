@@ -1,0 +1,62 @@
+//! The numbers of what an end tells of itself.
+
+ghost use Rattle.std.specs.Prelude.{◌≡◌};
+ghost use Rattle.tn_c_parts.specs.Readings.{char_number, char_given, editing_given, side_given, state_number};
+
+use tn_option::{QState, Side};
+use tn_server::Editing;
+
+/// What no byte is: no character.
+const NO_CHAR: u16 = 256;
+
+/// A special character as C sees it.
+pub(crate) fn char_number(value: Option<u8>) -> u16
+    ensures { result ≡ char_number value }
+{
+    match value {
+        None => NO_CHAR,
+        Some(byte) => u16::from(byte),
+    }
+}
+
+/// The special character that C gives: none by a number that no byte is.
+pub(crate) fn char_given(value: u16) -> Option<u8>
+    ensures { result ≡ char_given value }
+{
+    if value < NO_CHAR {
+        Some(value as u8)
+    } else {
+        None
+    }
+}
+
+pub(crate) fn state_number(state: QState) -> u32
+    ensures { result ≡ state_number state }
+{
+    match state {
+        QState::No => 0,
+        QState::Yes => 1,
+        QState::WantNoEmpty => 2,
+        QState::WantNoOpposite => 3,
+        QState::WantYesEmpty => 4,
+        QState::WantYesOpposite => 5,
+    }
+}
+
+/// The side of an option that C gives: ours, or theirs.
+pub(crate) fn side_given(ours: bool) -> Side
+    ensures { result ≡ side_given ours }
+{
+    if ours { Side::Us } else { Side::Them }
+}
+
+/// Where C wishes for lines to be edited: at the client, or at the server.
+pub(crate) fn editing_given(local: bool) -> Editing
+    ensures { result ≡ editing_given local }
+{
+    if local {
+        Editing::Local
+    } else {
+        Editing::Remote
+    }
+}
