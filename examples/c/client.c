@@ -1,0 +1,184 @@
+/* client HOST PORT: a Telnet client at a terminal, with LINEMODE. control-] ends it.
+ *
+ *   cc -Iinclude examples/c/client.c out/libtn.a -o client
+ *
+ * Where standard input is no terminal, its bytes are typed as they come, and its end is that of the session.
+ */
+#include "tn.h"
+
+#include <netdb.h>
+#include <poll.h>
+#include <signal.h>
+#include <stdio.h>
+#include <stdlib.h>
+#include <string.h>
+#include <sys/ioctl.h>
+#include <sys/socket.h>
+#include <termios.h>
+#include <unistd.h>
+
+#define LIMIT 255
+#define ESCAPE 29 /* control-] */
+
+static struct termios before;
+static volatile sig_atomic_t is_resized;
+
+static void on_resize(int signal)
+{
+    (void)signal;
+    is_resized = 1;
+}
+
+static void restore(void)
+{
+    tcsetattr(STDIN_FILENO, TCSADRAIN, &before);
+}
+
+/* Each key comes as it is typed: the end echoes and edits, and a control-C is a key. */
+static void set_raw(void)
+{
+    struct termios raw;
+    if (tcgetattr(STDIN_FILENO, &before))
+        return;
+    atexit(restore);
+    raw = before;
+    raw.c_iflag &= (tcflag_t) ~(ICRNL | INLCR | IGNCR | IXON | ISTRIP);
+    raw.c_lflag &= (tcflag_t) ~(ICANON | ECHO | ISIG | IEXTEN);
+    raw.c_oflag &= (tcflag_t)~OPOST;
+    raw.c_cc[VMIN] = 1;
+    raw.c_cc[VTIME] = 0;
+    tcsetattr(STDIN_FILENO, TCSADRAIN, &raw);
+}
+
+static void window(uint16_t *width, uint16_t *height)
+{
+    struct winsize size;
+    *width = *height = 0; /* not known */
+    if (!ioctl(STDIN_FILENO, TIOCGWINSZ, &size)) {
+        *width = size.ws_col;
+        *height = size.ws_row;
+    }
+}
+
+static int connect_to(const char *host, const char *port)
+{
+    struct addrinfo hints = { .ai_socktype = SOCK_STREAM }, *found, *at;
+    int fd = -1;
+    if (getaddrinfo(host, port, &hints, &found))
+        return -1;
+    for (at = found; at && fd < 0; at = at->ai_next) {
+        fd = socket(at->ai_family, at->ai_socktype, at->ai_protocol);
+        if (fd >= 0 && connect(fd, at->ai_addr, at->ai_addrlen)) {
+            close(fd);
+            fd = -1;
+        }
+    }
+    freeaddrinfo(found);
+    return fd;
+}
+
+static bool write_all(int fd, const uint8_t *bytes, size_t length)
+{
+    while (length > 0) {
+        ssize_t n = write(fd, bytes, length);
+        if (n <= 0)
+            return false;
+        bytes += n;
+        length -= (size_t)n;
+    }
+    return true;
+}
+
+/* Sends what waits, and shows what waits. */
+static bool hand_on(tn_handle *end, int fd)
+{
+    uint8_t buf[4096];
+    size_t count;
+    do {
+        count = 0;
+        if (tn_client_read(end, buf, sizeof buf, &count) != TN_OK || !write_all(fd, buf, count))
+            return false;
+    } while (count > 0);
+    do {
+        count = 0;
+        if (tn_client_screen(end, buf, sizeof buf, &count) != TN_OK || !write_all(STDOUT_FILENO, buf, count))
+            return false;
+    } while (count > 0);
+    return true;
+}
+
+/* False at the escape, and where a key was refused. */
+static bool type_keys(tn_handle *end, const uint8_t *keys, size_t length)
+{
+    for (size_t i = 0; i < length; i++)
+        if (keys[i] == ESCAPE || tn_client_key(end, keys[i]) != TN_OK)
+            return false;
+    return true;
+}
+
+static bool resize(tn_handle *end)
+{
+    uint16_t width, height;
+    is_resized = 0;
+    window(&width, &height);
+    return tn_client_resize(end, width, height) == TN_OK;
+}
+
+static void run(tn_handle *end, int fd)
+{
+    bool has_keys = true;
+    for (;;) {
+        uint8_t piece[4096];
+        ssize_t n;
+        struct pollfd polled[2] = { { .fd = fd, .events = POLLIN },
+                                    { .fd = has_keys ? STDIN_FILENO : -1, .events = POLLIN } };
+        if (is_resized && !resize(end))
+            return;
+        if (!hand_on(end, fd))
+            return;
+        if (poll(polled, 2, -1) < 0)
+            continue; /* a new size */
+        if (polled[0].revents) {
+            n = read(fd, piece, sizeof piece);
+            if (n <= 0)
+                return;
+            if (tn_client_feed(end, piece, (size_t)n) != TN_OK) {
+                hand_on(end, fd);
+                return;
+            }
+        }
+        if (polled[1].revents) {
+            n = read(STDIN_FILENO, piece, sizeof piece);
+            if (n > 0 && !type_keys(end, piece, (size_t)n))
+                return;
+            if (n <= 0)
+                has_keys = false; /* what the server says is still shown */
+        }
+    }
+}
+
+int main(int argc, char **argv)
+{
+    tn_handle end = TN_HANDLE;
+    struct sigaction resized;
+    uint16_t width, height;
+    int fd;
+    if (argc != 3 || (fd = connect_to(argv[1], argv[2])) < 0) {
+        fprintf(stderr, "client: no connection (client HOST PORT)\n");
+        return 1;
+    }
+    window(&width, &height);
+    if (tn_client_start(&end, width, height, LIMIT) != TN_OK) {
+        fprintf(stderr, "client: out of memory\n");
+        return 1;
+    }
+    memset(&resized, 0, sizeof resized);
+    resized.sa_handler = on_resize;
+    sigaction(SIGWINCH, &resized, NULL);
+    signal(SIGPIPE, SIG_IGN);
+    set_raw();
+    run(&end, fd);
+    tn_end(&end);
+    close(fd);
+    return 0;
+}

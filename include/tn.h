@@ -1,0 +1,285 @@
+/* tn.h: Telnet with LINEMODE (RFC 854, 855, 857, 858, 1073, 1143, 1184) for C99 and C++.
+ *
+ * A tn_handle holds nothing, or one of four: a line (keys to entries), a decoder (a stream to items), a server end
+ * or a client end. No call opens a socket, reads a file, starts a thread or waits: bytes go in, bytes come out.
+ *
+ * What the caller keeps to:
+ *   - A handle begins as TN_HANDLE. It may be moved, never copied: of two copies only one is used, ever.
+ *     Nothing but these calls reads or writes what is in it. tn_end gives its memory back, and it may be started anew.
+ *   - One call at a time uses a handle, on the thread that started it. Different handles know nothing of one another.
+ *   - No pointer is null, even for no bytes. Each leads to so many initialized objects of its type, and no two
+ *     pointers of one call lead to the same memory. None is kept: what it leads to is the caller's after the call.
+ *   - Memory comes from malloc and realloc and goes back by free.
+ *
+ * Each call but tn_end answers a code. Where it is not TN_OK, nothing that a pointer leads to was written, and the
+ * handle holds what it held, except after tn_server_feed and tn_client_feed: there see what is said.
+ *   TN_NOT_STARTED  the handle holds nothing     TN_OTHER_KIND  it holds another of the four
+ * are answered by each call of a kind and are not said again below.
+ */
+#ifndef TN_H
+#define TN_H
+
+#include <stdbool.h>
+#include <stddef.h>
+#include <stdint.h>
+
+#ifdef __cplusplus
+extern "C" {
+#endif
+
+#define TN_VERSION "1.0.0"
+#define TN_VERSION_MAJOR 1
+#define TN_VERSION_MINOR 0
+#define TN_VERSION_PATCH 0
+
+typedef struct tn_handle {
+    void *tn_private;
+} tn_handle;
+
+#define TN_HANDLE { 0 }
+
+/* What a call answers. */
+typedef uint32_t tn_code;
+enum {
+    TN_OK = 0,
+    TN_MEMORY = 1,        /* an allocation was refused */
+    TN_FAILED = 2,        /* a feed was refused before: the end or the decoder reads no more */
+    TN_NOT_STARTED = 3,   /* the handle holds nothing */
+    TN_STARTED = 4,       /* the handle holds something already */
+    TN_OTHER_KIND = 5,    /* the handle holds something of another kind */
+    TN_NO_LIMIT = 6,      /* a line's limit is 255 to 4,095 bytes */
+    TN_TOO_FAR_AHEAD = 7, /* a key would make an entry while 1,024 wait */
+    TN_CLOSED = 8,        /* the terminal is closed to input */
+    TN_NO_FUNCTION = 9,   /* RFC 1184 has no function of this number */
+    TN_NOT_SETTABLE = 10, /* the function has no special character */
+    TN_RESERVED = 11,     /* 10, 13 and 255 are never special characters */
+    TN_TAKEN = 12,        /* another function has this character */
+    TN_NOT_ON = 13,       /* LINEMODE is not on */
+    TN_TOO_LONG = 14      /* a forward mask has at most 32 octets */
+};
+
+/* What a read of a terminal gives, and what a key does. */
+enum {
+    TN_NONE = 0,
+    TN_TEXT = 1, /* a line with its closing byte, or without one where EOF ended it */
+    TN_EOF = 2,  /* EOF where nothing was typed */
+    TN_INT = 3,
+    TN_QUIT = 4,
+    TN_TSTP = 5,
+    TN_KEPT = 6,         /* the byte joined the half line */
+    TN_ERASED = 7,       /* the last byte was erased */
+    TN_ERASED_AHEAD = 8, /* one that was handed on before: never of tn_line_key */
+    TN_KILLED = 9,       /* the half line was erased */
+    TN_DROPPED = 10      /* the line is full */
+};
+
+/* A terminal's flags, under their names in POSIX.1-2017, XBD 11.2. */
+typedef struct tn_flags {
+    bool icrnl, inlcr, igncr, isig, echo, echoe, echok, echonl, tostop, opost, onlcr;
+} tn_flags;
+
+#define TN_STANDARD_FLAGS { true, false, false, true, true, true, true, false, false, true, true }
+
+/* The functions of RFC 1184 that have a special character, and what they begin with. */
+enum {
+    TN_CHAR_INTR = 3,   /* 3, control-C */
+    TN_CHAR_QUIT = 7,   /* 28 */
+    TN_CHAR_EOF = 8,    /* 4, control-D */
+    TN_CHAR_SUSP = 9,   /* 26, control-Z */
+    TN_CHAR_ERASE = 10, /* 127 */
+    TN_CHAR_KILL = 11,  /* 21, control-U */
+    TN_CHAR_EOL = 17,   /* none */
+    TN_CHAR_EOL2 = 18   /* none */
+};
+
+/* A special character is 0 to 254; TN_NO_CHAR, and each greater number that is given, is none. */
+#define TN_NO_CHAR 256
+
+/* The bits of a mode (RFC 1184, section 2.2). */
+#define TN_MODE_EDIT 1
+#define TN_MODE_TRAPSIG 2
+
+/* Where one side of an option stands (RFC 1143, section 7). */
+enum {
+    TN_OPTION_NO = 0,
+    TN_OPTION_YES = 1,
+    TN_OPTION_WANT_NO = 2,
+    TN_OPTION_WANT_NO_THEN_YES = 3,
+    TN_OPTION_WANT_YES = 4,
+    TN_OPTION_WANT_YES_THEN_NO = 5
+};
+
+/* Gives up what the handle holds, if anything, and all of its memory; the handle holds nothing then. */
+void tn_end(tn_handle *handle);
+
+/* ---- A line: keys to entries (POSIX.1-2017, XBD 11.1) ---- */
+
+/* An empty line of at most limit bytes with its closing one, and the characters of TN_CHAR_... above.
+ * TN_STARTED, TN_NO_LIMIT, TN_MEMORY: the handle is as it was. */
+tn_code tn_line_start(tn_handle *handle, const tn_flags *flags, uint16_t limit);
+
+/* Types a key; *effect is TN_NONE to TN_DROPPED. TN_MEMORY: nothing was typed (only a key that gives a text). */
+tn_code tn_line_key(tn_handle *handle, uint8_t key, uint32_t *effect);
+
+/* Copies the first bytes of the text that the last key gave, as many as fit; *count is how many. */
+tn_code tn_line_text(tn_handle *handle, uint8_t *buf, size_t size, size_t *count);
+
+/* The same of the half line. */
+tn_code tn_line_half(tn_handle *handle, uint8_t *buf, size_t size, size_t *count);
+
+/* ---- A decoder: a stream to items (RFC 854, 855) ---- */
+
+typedef struct tn_item {
+    uint32_t kind;  /* TN_NO_ITEM .. TN_SUBNEGOTIATION */
+    uint8_t code;   /* of TN_BYTE, TN_COMMAND (236 to 249) and TN_WORD (251 WILL to 254 DONT) */
+    uint8_t option; /* of TN_WORD and TN_SUBNEGOTIATION */
+    size_t length;  /* of TN_SUBNEGOTIATION: how many parameters, at most 512 */
+} tn_item;
+
+enum {
+    TN_NO_ITEM = 0,
+    TN_BYTE = 1,
+    TN_NEWLINE = 2, /* CR LF */
+    TN_COMMAND = 3,
+    TN_WORD = 4,
+    TN_SUBNEGOTIATION = 5
+};
+
+/* A decoder that has read nothing. TN_STARTED, TN_MEMORY. */
+tn_code tn_decoder_start(tn_handle *handle);
+
+/* Reads a piece, cut anywhere; the items that it completes wait to be taken. TN_MEMORY: those before the refusal
+ * wait, and the decoder has failed. TN_FAILED: it had failed before. */
+tn_code tn_decoder_feed(tn_handle *handle, const uint8_t *bytes, size_t length);
+
+/* Takes the first item that waits; TN_NO_ITEM where none does. */
+tn_code tn_decoder_take(tn_handle *handle, tn_item *item);
+
+/* Copies the first parameters of the item that was taken last, as many as fit; *count is how many. */
+tn_code tn_decoder_parameters(tn_handle *handle, uint8_t *buf, size_t size, size_t *count);
+
+/* ---- A server end, with the terminal behind it ---- */
+
+/* An end over a terminal with these flags, whose lines have at most limit bytes; the opening words wait to be read.
+ * Its special characters are those above: tn_server_set_char changes them, also before anything came.
+ * TN_STARTED, TN_NO_LIMIT, TN_MEMORY. */
+tn_code tn_server_start(tn_handle *handle, const tn_flags *flags, uint16_t limit);
+
+/* Takes a piece of what comes from the client, cut anywhere; the replies wait to be read. TN_FAILED: it had failed
+ * before, and all is as it was. TN_MEMORY, TN_TOO_FAR_AHEAD, TN_CLOSED: what came before the refusal was done, its
+ * replies wait, and the end has failed: read what waits, and close the connection. */
+tn_code tn_server_feed(tn_handle *handle, const uint8_t *bytes, size_t length);
+
+/* How many bytes wait to be sent. */
+tn_code tn_server_pending(tn_handle *handle, size_t *count);
+
+/* Moves the first bytes that wait to be sent to buf, as many as fit; *count is how many. */
+tn_code tn_server_read(tn_handle *handle, uint8_t *buf, size_t size, size_t *count);
+
+/* Takes the first entry; *kind is TN_NONE to TN_TSTP. Where none waits a GA may be due to be sent (RFC 858):
+ * TN_MEMORY is answered for it alone. */
+tn_code tn_server_take(tn_handle *handle, uint32_t *kind);
+
+/* Copies the first bytes of the text that was taken last, as many as fit; *count is how many. */
+tn_code tn_server_text(tn_handle *handle, uint8_t *buf, size_t size, size_t *count);
+
+/* Writes output to the terminal's screen, which has room for 4,096 symbols; *count says how many bytes found room. */
+tn_code tn_server_write(tn_handle *handle, const uint8_t *bytes, size_t length, size_t *count);
+
+/* Spells the first symbols of the screen, at most max, to be sent; *count is how many symbols. Echo comes by this
+ * too, so pull after each feed. TN_MEMORY. */
+tn_code tn_server_pull(tn_handle *handle, size_t max, size_t *count);
+
+/* Wishes for lines that are edited at the client (RFC 1184), or here; *sent says whether a MODE waits to be sent
+ * for it. TN_FAILED, TN_MEMORY. */
+tn_code tn_server_wish(tn_handle *handle, bool local, bool *sent);
+
+/* Changes a special character; a client with LINEMODE is told. TN_NO_FUNCTION, TN_FAILED, TN_NOT_SETTABLE,
+ * TN_RESERVED, TN_TAKEN, TN_MEMORY. */
+tn_code tn_server_set_char(tn_handle *handle, uint8_t function, uint16_t value);
+
+/* Sets or clears ECHO, as for a password; the client is told. TN_FAILED, TN_MEMORY. */
+tn_code tn_server_set_echo(tn_handle *handle, bool on);
+
+/* Asks for what is held at each character of the mask (RFC 1184, section 2.3), of which octets that are left out
+ * are zero. TN_TOO_LONG, TN_FAILED, TN_NOT_ON, TN_MEMORY. */
+tn_code tn_server_set_mask(tn_handle *handle, const uint8_t *octets, size_t length);
+
+/* Asks for none of that any more. TN_FAILED, TN_NOT_ON, TN_MEMORY. */
+tn_code tn_server_clear_mask(tn_handle *handle);
+
+/* The kind of an entry that waits, by its place from 0 on; TN_NONE behind the last. */
+tn_code tn_server_waiting(tn_handle *handle, size_t index, uint32_t *kind);
+
+/* The first signal among the entries that wait, or TN_NONE. */
+tn_code tn_server_signal_waiting(tn_handle *handle, uint32_t *kind);
+
+/* The window's size in characters; 0 is unspecified (RFC 1073). */
+tn_code tn_server_size(tn_handle *handle, uint16_t *width, uint16_t *height);
+
+/* The mode that the client acknowledged last, and the one that it was asked for. */
+tn_code tn_server_mode(tn_handle *handle, uint8_t *mode);
+tn_code tn_server_asked(tn_handle *handle, uint8_t *mode);
+
+/* Copies the first bytes of the half line, as many as fit; *count is how many. */
+tn_code tn_server_half(tn_handle *handle, uint8_t *buf, size_t size, size_t *count);
+
+/* A special character, or TN_NO_CHAR. TN_NO_FUNCTION. */
+tn_code tn_server_char(tn_handle *handle, uint8_t function, uint16_t *value);
+
+/* Where an option stands, at our side or at theirs. */
+tn_code tn_server_option(tn_handle *handle, bool ours, uint8_t option, uint32_t *state);
+
+/* Whether a feed was refused. */
+tn_code tn_server_failed(tn_handle *handle, bool *failed);
+
+/* ---- A client end, which edits lines where its server asks for that ---- */
+
+/* An end whose window has this size in characters, 0 where a side is not known, and whose lines have at most limit
+ * bytes. Nothing waits: the server speaks first. TN_STARTED, TN_NO_LIMIT, TN_MEMORY. */
+tn_code tn_client_start(tn_handle *handle, uint16_t width, uint16_t height, uint16_t limit);
+
+/* Types a key: what it sends waits to be read, and its echo to be shown. TN_FAILED, TN_MEMORY: nothing was typed. */
+tn_code tn_client_key(tn_handle *handle, uint8_t key);
+
+/* Takes bytes that came from the server, cut anywhere: answers wait to be read, text to be shown. TN_FAILED: it had
+ * failed before, and all is as it was. TN_MEMORY: what came before the refusal was done, and the end has failed. */
+tn_code tn_client_feed(tn_handle *handle, const uint8_t *bytes, size_t length);
+
+/* How many bytes wait to be sent, and moves the first of them to buf, as many as fit. */
+tn_code tn_client_pending(tn_handle *handle, size_t *count);
+tn_code tn_client_read(tn_handle *handle, uint8_t *buf, size_t size, size_t *count);
+
+/* How many bytes wait to be shown, and moves the first of them to buf, as many as fit. */
+tn_code tn_client_shown(tn_handle *handle, size_t *count);
+tn_code tn_client_screen(tn_handle *handle, uint8_t *buf, size_t size, size_t *count);
+
+/* Takes a new size of the window; the server is told where NAWS is on and it changed. TN_FAILED, TN_MEMORY. */
+tn_code tn_client_resize(tn_handle *handle, uint16_t width, uint16_t height);
+
+/* Proposes a special character to the server; nothing changes until it agrees. TN_NO_FUNCTION, TN_FAILED, TN_NOT_ON,
+ * TN_NOT_SETTABLE, TN_RESERVED, TN_TAKEN, TN_MEMORY. */
+tn_code tn_client_propose(tn_handle *handle, uint8_t function, uint16_t value);
+
+/* The mode in force. */
+tn_code tn_client_mode(tn_handle *handle, uint8_t *mode);
+
+/* Copies the first bytes of the half line that are held here; *count is how many. */
+tn_code tn_client_half(tn_handle *handle, uint8_t *buf, size_t size, size_t *count);
+
+/* How many bytes of the half line were sent before those. */
+tn_code tn_client_ahead(tn_handle *handle, uint16_t *count);
+
+/* How long a half line is that the server edits, with its ISIG set and with it clear. */
+tn_code tn_client_counts(tn_handle *handle, uint16_t *trapped, uint16_t *plain);
+
+/* As of a server. */
+tn_code tn_client_char(tn_handle *handle, uint8_t function, uint16_t *value);
+tn_code tn_client_option(tn_handle *handle, bool ours, uint8_t option, uint32_t *state);
+tn_code tn_client_failed(tn_handle *handle, bool *failed);
+
+#ifdef __cplusplus
+}
+#endif
+
+#endif

@@ -1,0 +1,373 @@
+/* Trials of tn.h, for tools/check-c. Each allocation goes through here, so that one can be refused and all are counted.
+ *
+ *   trials worked     openings, answers and entries that were worked out by hand, and wrong uses of a handle
+ *   trials refused    the same session again and again, with each allocation refused in turn
+ *   trials server SEED, trials parts SEED      read a client's stream, and print its entries as `tn replay` does: by a
+ *                     server end, and by a decoder with a line; it is cut in pieces as SEED has it
+ */
+#include "tn.h"
+
+#include <stdio.h>
+#include <stdlib.h>
+#include <string.h>
+
+#define SURE(fact) \
+    do { \
+        if (!(fact)) { \
+            fprintf(stderr, "trials: line %d: %s\n", __LINE__, #fact); \
+            exit(3); \
+        } \
+    } while (0)
+
+void *__real_malloc(size_t size);
+void *__real_realloc(void *old, size_t size);
+void __real_free(void *old);
+
+static long live, calls, refused_call;
+
+static bool is_refused(void)
+{
+    return ++calls == refused_call;
+}
+
+void *__wrap_malloc(size_t size)
+{
+    void *made = is_refused() ? NULL : __real_malloc(size);
+    live += made != NULL;
+    return made;
+}
+
+void *__wrap_realloc(void *old, size_t size)
+{
+    void *made = is_refused() ? NULL : __real_realloc(old, size);
+    live += made != NULL && old == NULL;
+    return made;
+}
+
+void __wrap_free(void *old)
+{
+    live -= old != NULL;
+    __real_free(old);
+}
+
+static const tn_flags standard = TN_STANDARD_FLAGS;
+static uint8_t buf[70000];
+
+/* What waits to be sent is exactly this. */
+static void says(tn_handle *server, const char *bytes, size_t length)
+{
+    size_t count = 0, wanted = 0;
+    SURE(tn_server_pending(server, &wanted) == TN_OK && wanted == length);
+    SURE(tn_server_read(server, buf, sizeof buf, &count) == TN_OK && count == length);
+    SURE(memcmp(buf, bytes, length) == 0);
+}
+
+#define SAYS(server, text) says(server, text, sizeof text - 1)
+#define FEED(server, text) SURE(tn_server_feed(server, (const uint8_t *)text, sizeof text - 1) == TN_OK)
+
+/* What a client has to send and to show is exactly this. */
+static void client_says(tn_handle *client, const char *sent, size_t sent_length, const char *shown)
+{
+    size_t count = 0;
+    SURE(tn_client_pending(client, &count) == TN_OK && count == sent_length);
+    SURE(tn_client_read(client, buf, sizeof buf, &count) == TN_OK && count == sent_length);
+    SURE(memcmp(buf, sent, sent_length) == 0);
+    SURE(tn_client_shown(client, &count) == TN_OK && count == strlen(shown));
+    SURE(tn_client_screen(client, buf, sizeof buf, &count) == TN_OK && memcmp(buf, shown, count) == 0);
+}
+
+#define CLIENT_SAYS(client, sent, shown) client_says(client, sent, sizeof sent - 1, shown)
+
+static void worked_line(void)
+{
+    tn_handle line = TN_HANDLE;
+    uint32_t effect = 77;
+    size_t count = 77;
+    SURE(tn_line_key(&line, 'a', &effect) == TN_NOT_STARTED && effect == 77);
+    SURE(tn_line_start(&line, &standard, 254) == TN_NO_LIMIT && line.tn_private == NULL);
+    SURE(tn_line_start(&line, &standard, 4096) == TN_NO_LIMIT);
+    SURE(tn_line_start(&line, &standard, 255) == TN_OK);
+    SURE(tn_line_start(&line, &standard, 255) == TN_STARTED);
+    for (const char *key = "lss"; *key; key++)
+        SURE(tn_line_key(&line, (uint8_t)*key, &effect) == TN_OK && effect == TN_KEPT);
+    SURE(tn_line_key(&line, 127, &effect) == TN_OK && effect == TN_ERASED);
+    SURE(tn_line_half(&line, buf, 1, &count) == TN_OK && count == 1 && buf[0] == 'l');
+    SURE(tn_line_half(&line, buf, sizeof buf, &count) == TN_OK && count == 2);
+    SURE(tn_line_key(&line, 3, &effect) == TN_OK && effect == TN_INT);
+    SURE(tn_line_key(&line, 13, &effect) == TN_OK && effect == TN_TEXT);
+    SURE(tn_line_text(&line, buf, sizeof buf, &count) == TN_OK && count == 3 && memcmp(buf, "ls\n", 3) == 0);
+    SURE(tn_line_key(&line, 4, &effect) == TN_OK && effect == TN_EOF);
+    SURE(tn_line_text(&line, buf, sizeof buf, &count) == TN_OK && count == 0);
+    SURE(tn_line_key(&line, 21, &effect) == TN_OK && effect == TN_KILLED);
+    SURE(tn_line_key(&line, 127, &effect) == TN_OK && effect == TN_NONE);
+    for (int i = 0; i < 254; i++)
+        SURE(tn_line_key(&line, 'x', &effect) == TN_OK && effect == TN_KEPT);
+    SURE(tn_line_key(&line, 'x', &effect) == TN_OK && effect == TN_DROPPED);
+    tn_end(&line);
+    SURE(line.tn_private == NULL && tn_line_half(&line, buf, 1, &count) == TN_NOT_STARTED && count == 0);
+    tn_end(&line);
+}
+
+static void worked_decoder(void)
+{
+    static const uint8_t stream[] = "a\r\n\xff\xfb\x22\xff\xf4\xff\xfa\x1f\0\x50\xff\xff\x18\xff\xf0\r";
+    static const tn_item wanted[] = { { TN_BYTE, 'a', 0, 0 },    { TN_NEWLINE, 0, 0, 0 },
+                                      { TN_WORD, 251, 34, 0 },   { TN_COMMAND, 244, 0, 0 },
+                                      { TN_SUBNEGOTIATION, 0, 31, 4 }, { TN_NO_ITEM, 0, 0, 0 } };
+    tn_handle decoder = TN_HANDLE;
+    tn_item item = { 77, 77, 77, 77 };
+    size_t count = 0;
+    SURE(tn_decoder_take(&decoder, &item) == TN_NOT_STARTED && item.kind == 77);
+    SURE(tn_decoder_start(&decoder) == TN_OK && tn_decoder_start(&decoder) == TN_STARTED);
+    for (size_t i = 0; i + 1 < sizeof stream; i++)
+        SURE(tn_decoder_feed(&decoder, stream + i, 1) == TN_OK);
+    for (size_t i = 0; i < sizeof wanted / sizeof *wanted; i++) {
+        SURE(tn_decoder_take(&decoder, &item) == TN_OK && item.kind == wanted[i].kind && item.code == wanted[i].code);
+        SURE(item.option == wanted[i].option && item.length == wanted[i].length);
+        SURE(tn_decoder_parameters(&decoder, buf, 3, &count) == TN_OK && count == (item.length < 3 ? item.length : 3));
+        if (item.length > 0)
+            SURE(memcmp(buf, "\0\x50\xff", 3) == 0);
+    }
+    SURE(tn_line_text(&decoder, buf, sizeof buf, &count) == TN_OTHER_KIND);
+    SURE(tn_server_pending(&decoder, &count) == TN_OTHER_KIND && tn_client_key(&decoder, 'a') == TN_OTHER_KIND);
+    tn_end(&decoder);
+}
+
+static void worked_server(void)
+{
+    tn_handle server = TN_HANDLE;
+    uint32_t kind = 77, state = 77;
+    uint16_t width = 0, height = 0, value = 0;
+    uint8_t mode = 77;
+    size_t count = 77;
+    bool sent = false, failed = true;
+    SURE(tn_server_feed(&server, buf, 0) == TN_NOT_STARTED && tn_server_take(&server, &kind) == TN_NOT_STARTED);
+    SURE(tn_server_start(&server, &standard, 255) == TN_OK);
+    SAYS(&server, "\xff\xfd\x22\xff\xfd\x1f\xff\xfb\x03\xff\xfd\x03\xff\xfb\x01");
+    FEED(&server, "\xff\xfd\x01\xff\xfd\x03"); /* DO ECHO, DO SUPPRESS-GO-AHEAD */
+    FEED(&server, "lss\x7f -l\r");
+    SURE(tn_server_take(&server, &kind) == TN_OK && kind == TN_NONE);
+    FEED(&server, "\0");
+    SURE(tn_server_waiting(&server, 0, &kind) == TN_OK && kind == TN_TEXT);
+    SURE(tn_server_waiting(&server, 1, &kind) == TN_OK && kind == TN_NONE);
+    SURE(tn_server_take(&server, &kind) == TN_OK && kind == TN_TEXT);
+    SURE(tn_server_text(&server, buf, sizeof buf, &count) == TN_OK && count == 6 && memcmp(buf, "ls -l\n", 6) == 0);
+    SURE(tn_server_write(&server, (const uint8_t *)"a\n", 2, &count) == TN_OK && count == 2);
+    SURE(tn_server_pull(&server, 4096, &count) == TN_OK && count == 12);
+    SAYS(&server, "lss\b \b -l\r\na\r\n");
+    FEED(&server, "\xff\xfb\x22"); /* WILL LINEMODE: the table, and MODE 0 is in force */
+    SURE(tn_server_pending(&server, &count) == TN_OK && count > 0);
+    SURE(tn_server_read(&server, buf, 5, &count) == TN_OK && count == 5 && memcmp(buf, "\xff\xfa\x22\x03", 4) == 0);
+    SURE(tn_server_read(&server, buf, sizeof buf, &count) == TN_OK);
+    SURE(tn_server_wish(&server, true, &sent) == TN_OK && sent);
+    SAYS(&server, "\xff\xfa\x22\x01\x03\xff\xf0\xff\xfc\x01"); /* MODE EDIT TRAPSIG, and the client echoes: WONT ECHO */
+    SURE(tn_server_wish(&server, true, &sent) == TN_OK && !sent);
+    SURE(tn_server_asked(&server, &mode) == TN_OK && mode == (TN_MODE_EDIT | TN_MODE_TRAPSIG));
+    SURE(tn_server_mode(&server, &mode) == TN_OK && mode == 0);
+    FEED(&server, "\xff\xfa\x22\x01\x07\xff\xf0"); /* the client acknowledges it */
+    SURE(tn_server_mode(&server, &mode) == TN_OK && mode == (TN_MODE_EDIT | TN_MODE_TRAPSIG));
+    FEED(&server, "\xff\xfb\x1f\xff\xfa\x1f\0\x50\0\x18\xff\xf0");
+    SURE(tn_server_size(&server, &width, &height) == TN_OK && width == 80 && height == 24);
+    SURE(tn_server_option(&server, false, 34, &state) == TN_OK && state == TN_OPTION_YES);
+    SURE(tn_server_option(&server, true, 3, &state) == TN_OK && state == TN_OPTION_YES);
+    SURE(tn_server_option(&server, true, 1, &state) == TN_OK && state == TN_OPTION_WANT_NO);
+    SURE(tn_server_set_char(&server, 0, 5) == TN_NO_FUNCTION && tn_server_set_char(&server, 1, 5) == TN_NOT_SETTABLE);
+    SURE(tn_server_set_char(&server, TN_CHAR_INTR, 10) == TN_RESERVED);
+    SURE(tn_server_set_char(&server, TN_CHAR_INTR, 4) == TN_TAKEN);
+    SURE(tn_server_set_char(&server, TN_CHAR_INTR, 5) == TN_OK);
+    SURE(tn_server_char(&server, TN_CHAR_INTR, &value) == TN_OK && value == 5);
+    SURE(tn_server_set_char(&server, TN_CHAR_INTR, TN_NO_CHAR) == TN_OK);
+    SURE(tn_server_char(&server, TN_CHAR_INTR, &value) == TN_OK && value == TN_NO_CHAR);
+    SURE(tn_server_set_mask(&server, buf, 33) == TN_TOO_LONG);
+    memset(buf, 0, 32);
+    SURE(tn_server_set_mask(&server, buf, 32) == TN_OK && tn_server_clear_mask(&server) == TN_OK);
+    SURE(tn_server_set_echo(&server, false) == TN_OK);
+    FEED(&server, "a\xff\xed"); /* SUSP is a signal, and flushes nothing that C sees */
+    SURE(tn_server_signal_waiting(&server, &kind) == TN_OK && kind == TN_TSTP);
+    SURE(tn_server_half(&server, buf, sizeof buf, &count) == TN_OK);
+    SURE(tn_server_failed(&server, &failed) == TN_OK && !failed);
+    tn_end(&server);
+}
+
+static void worked_client(void)
+{
+    tn_handle client = TN_HANDLE;
+    uint8_t mode = 77;
+    uint16_t ahead = 77, trapped = 77, plain = 77;
+    size_t count = 77;
+    bool failed = true;
+    SURE(tn_client_start(&client, 80, 24, 255) == TN_OK);
+    CLIENT_SAYS(&client, "", "");
+    SURE(tn_client_propose(&client, TN_CHAR_INTR, 5) == TN_NOT_ON);
+    SURE(tn_client_key(&client, 'a') == TN_OK);
+    CLIENT_SAYS(&client, "a", "a");
+    SURE(tn_client_counts(&client, &trapped, &plain) == TN_OK && trapped == 1 && plain == 1);
+    SURE(tn_client_feed(&client, (const uint8_t *)"\xff\xfd\x1f" "hi\r\n", 7) == TN_OK);
+    CLIENT_SAYS(&client, "\xff\xfb\x1f\xff\xfa\x1f\0\x50\0\x18\xff\xf0", "hi\r\n");
+    SURE(tn_client_resize(&client, 100, 24) == TN_OK);
+    CLIENT_SAYS(&client, "\xff\xfa\x1f\0\x64\0\x18\xff\xf0", "");
+    SURE(tn_client_mode(&client, &mode) == TN_OK && mode == 0);
+    SURE(tn_client_half(&client, buf, sizeof buf, &count) == TN_OK && count == 0);
+    SURE(tn_client_ahead(&client, &ahead) == TN_OK && ahead == 0);
+    SURE(tn_client_failed(&client, &failed) == TN_OK && !failed);
+    SURE(tn_server_failed(&client, &failed) == TN_OTHER_KIND);
+    tn_end(&client);
+}
+
+/* Both ends joined, and a line that is edited at the client; each code is TN_OK, or of a refusal of memory. */
+static bool may(tn_code code)
+{
+    SURE(code == TN_OK || code == TN_MEMORY || code == TN_FAILED || code == TN_NOT_STARTED || code == TN_NOT_ON);
+    return code == TN_OK;
+}
+
+static void deliver(tn_handle *server, tn_handle *client)
+{
+    for (int round = 0; round < 4; round++) {
+        size_t count = 0;
+        may(tn_server_pull(server, 4096, &count));
+        count = 0;
+        if (may(tn_server_read(server, buf, sizeof buf, &count)))
+            may(tn_client_feed(client, buf, count));
+        count = 0;
+        if (may(tn_client_read(client, buf, sizeof buf, &count)))
+            may(tn_server_feed(server, buf, count));
+    }
+}
+
+static void session(void)
+{
+    tn_handle server = TN_HANDLE, client = TN_HANDLE, line = TN_HANDLE, decoder = TN_HANDLE;
+    uint32_t kind = 0;
+    size_t count = 0;
+    bool sent = false;
+    tn_item item;
+    may(tn_server_start(&server, &standard, 255));
+    may(tn_client_start(&client, 80, 24, 255));
+    deliver(&server, &client);
+    may(tn_server_wish(&server, true, &sent));
+    deliver(&server, &client);
+    may(tn_client_resize(&client, 90, 30));
+    may(tn_client_propose(&client, TN_CHAR_KILL, 24));
+    may(tn_server_set_char(&server, TN_CHAR_EOL, 7));
+    may(tn_server_set_mask(&server, (const uint8_t *)"\0\0", 2));
+    for (const char *key = "echo one\x7f" "e\r\x1cnothing\x18two\x07\x04"; *key; key++)
+        may(tn_client_key(&client, (uint8_t)*key));
+    deliver(&server, &client);
+    for (int i = 0; i < 5; i++) {
+        may(tn_server_take(&server, &kind));
+        may(tn_server_write(&server, (const uint8_t *)"done\n", 5, &count));
+    }
+    may(tn_server_set_echo(&server, false));
+    may(tn_server_wish(&server, false, &sent));
+    deliver(&server, &client);
+    may(tn_client_screen(&client, buf, sizeof buf, &count));
+    may(tn_line_start(&line, &standard, 255));
+    for (const char *key = "abc\r\x04" "d\x04"; *key; key++)
+        may(tn_line_key(&line, (uint8_t)*key, &kind));
+    may(tn_decoder_start(&decoder));
+    may(tn_decoder_feed(&decoder, (const uint8_t *)"ab\r\n\xff\xfa\x18\x01xyz\xff\xf0" "c", 14));
+    do {
+        item.kind = TN_NO_ITEM;
+        may(tn_decoder_take(&decoder, &item));
+    } while (item.kind != TN_NO_ITEM);
+    tn_end(&server);
+    tn_end(&client);
+    tn_end(&line);
+    tn_end(&decoder);
+}
+
+static void refuse_each(void)
+{
+    do {
+        refused_call++;
+        calls = 0;
+        session();
+        SURE(live == 0);
+    } while (calls >= refused_call);
+    printf("%ld allocations, each refused once\n", refused_call - 1);
+}
+
+static void print_entry(uint32_t kind, const uint8_t *text, size_t length)
+{
+    static const char *names[] = { "", "text ", "eof", "signal int", "signal quit", "signal tstp" };
+    printf("%s", names[kind]);
+    for (size_t i = 0; kind == TN_TEXT && i < length; i++)
+        printf("%02x", text[i]);
+    printf("\n");
+}
+
+static uint8_t stream[1 << 20];
+
+static void by_server(size_t length)
+{
+    tn_handle server = TN_HANDLE;
+    uint32_t kind = TN_NONE;
+    size_t at = 0, count = 0;
+    SURE(tn_server_start(&server, &standard, 255) == TN_OK);
+    while (at < length) {
+        size_t piece = (size_t)(rand() % 300);
+        piece = piece < length - at ? piece : length - at;
+        SURE(tn_server_feed(&server, stream + at, piece) == TN_OK);
+        at += piece;
+        for (;;) {
+            SURE(tn_server_take(&server, &kind) == TN_OK);
+            if (kind == TN_NONE)
+                break;
+            SURE(tn_server_text(&server, buf, sizeof buf, &count) == TN_OK);
+            print_entry(kind, buf, count);
+        }
+        SURE(tn_server_pull(&server, 4096, &count) == TN_OK);
+        SURE(tn_server_read(&server, buf, sizeof buf, &count) == TN_OK);
+    }
+    tn_end(&server);
+}
+
+static void by_parts(size_t length)
+{
+    tn_handle decoder = TN_HANDLE, line = TN_HANDLE;
+    uint32_t effect = TN_NONE;
+    size_t at = 0, count = 0;
+    tn_item item = { 0, 0, 0, 0 };
+    SURE(tn_decoder_start(&decoder) == TN_OK && tn_line_start(&line, &standard, 255) == TN_OK);
+    while (at < length) {
+        size_t piece = (size_t)(rand() % 300);
+        piece = piece < length - at ? piece : length - at;
+        SURE(tn_decoder_feed(&decoder, stream + at, piece) == TN_OK);
+        at += piece;
+        do {
+            SURE(tn_decoder_take(&decoder, &item) == TN_OK);
+            if (item.kind != TN_BYTE && item.kind != TN_NEWLINE)
+                continue;
+            SURE(tn_line_key(&line, item.kind == TN_BYTE ? item.code : '\n', &effect) == TN_OK);
+            SURE(tn_line_text(&line, buf, sizeof buf, &count) == TN_OK);
+            if (effect >= TN_TEXT && effect <= TN_TSTP)
+                print_entry(effect, buf, count);
+        } while (item.kind != TN_NO_ITEM);
+    }
+    tn_end(&decoder);
+    tn_end(&line);
+}
+
+int main(int argc, char **argv)
+{
+    const char *word = argc > 1 ? argv[1] : "";
+    if (argc > 2)
+        srand((unsigned)atoi(argv[2]));
+    if (strcmp(word, "worked") == 0) {
+        worked_line();
+        worked_decoder();
+        worked_server();
+        worked_client();
+    } else if (strcmp(word, "refused") == 0) {
+        refuse_each();
+    } else if (strcmp(word, "server") == 0) {
+        by_server(fread(stream, 1, sizeof stream, stdin));
+    } else if (strcmp(word, "parts") == 0) {
+        by_parts(fread(stream, 1, sizeof stream, stdin));
+    } else {
+        return 2;
+    }
+    SURE(live == 0);
+    return 0;
+}
