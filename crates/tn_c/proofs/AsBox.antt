@@ -1,4 +1,4 @@
--- The parts of a box of the inner state, and a handle that has one, own what the box owns.
+-- A box of what is held, an unboxed one, and a handle that holds it own the same.
 use mir.Syntax.{impl, tnil, dnil}
 use mathlib.Core.Path.{refl}
 use mathlib.Core.List.{List, []}
@@ -13,14 +13,14 @@ use Rattle.std.specs.contracts.impls.GlobalAllocator.TheImpl.{ghosts, dict}
 use Rattle.std.proofs.alloc.Global.TheLaws as heap
 use Rattle.tn_c.specs.contracts.held.Held as State
 use Rattle.tn_c.proofs.held.Held.TheLaws as inner
-use Rattle.tn_c.specs.contracts.parts.Parts as Parts
+use Rattle.tn_c.specs.contracts.unboxed.Unboxed as Unboxed
 use Rattle.tn_c.specs.contracts.handle.Handle as Handle
 
 abbrev pub E : Bx
 E = record { row = State.the_row; laws = inner.the_row_laws; al = record { row = Heap.the_row; laws = heap.the_row_laws; g = ghosts; d = dict; drops = impl [] tnil dnil } }
 
-abbrev pub FromParts : Slot 0
-FromParts = plain (λ _. Parts.the_row State.the_row Heap.the_row ghosts)
+abbrev pub FromUnboxed : Slot 0
+FromUnboxed = plain (λ _. Unboxed.the_row State.the_row Heap.the_row ghosts)
 
 abbrev pub FromHeap : Slot 0
 FromHeap = plain (λ _. Heap.the_row)

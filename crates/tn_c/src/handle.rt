@@ -6,7 +6,7 @@ ghost use Rattle.tn_c.specs.declared.held.Held.{Held};
 ghost use Rattle.tn_c_parts.specs.declared.codes.Code.TheVariants.{Done, Memory};
 
 use crate::held::Held;
-use crate::parts::Parts;
+use crate::unboxed::Unboxed;
 use std::alloc::Global;
 use std::marker::Model;
 use std::mem;
@@ -38,25 +38,25 @@ impl Handle {
         }
     }
 
-    pub(crate) fn of_parts(parts: Parts<Held, Global>) -> Handle
-        ensures { result.held ≡ Some parts.value }
+    pub(crate) fn of_unboxed(unboxed: Unboxed<Held, Global>) -> Handle
+        ensures { result.held ≡ Some unboxed.value }
     {
-        let Parts { ptr, alloc } = parts;
+        let Unboxed { at, alloc } = unboxed;
         Handle {
-            at: ptr as *mut (),
+            at: at as *mut (),
             alloc,
         }
     }
 
-    pub(crate) fn into_parts(self) -> Option<Parts<Held, Global>>
-        ensures { MatchOption result (self.held ≡ None) (λ parts. self.held ≡ Some parts.value) }
+    pub(crate) fn into_unboxed(self) -> Option<Unboxed<Held, Global>>
+        ensures { MatchOption result (self.held ≡ None) (λ unboxed. self.held ≡ Some unboxed.value) }
     {
         let Handle { at, alloc } = self;
         if at.is_null() {
             None
         } else {
-            Some(Parts {
-                ptr: at as *mut Held,
+            Some(Unboxed {
+                at: at as *mut Held,
                 alloc,
             })
         }
@@ -67,8 +67,8 @@ impl Handle {
         ensures value { MatchOption result (self.old.held ≡ None) (λ boxed. self.old.held ≡ Some boxed.value) }
         ensures left { self.new.held ≡ None }
     {
-        match mem::replace(self, Handle::empty(alloc)).into_parts() {
-            Some(parts) => Some(parts.into_box()),
+        match mem::replace(self, Handle::empty(alloc)).into_unboxed() {
+            Some(unboxed) => Some(unboxed.into_box()),
             None => None,
         }
     }
@@ -78,7 +78,7 @@ impl Handle {
         requires { self.old.held ≡ None }
         ensures { self.new.held ≡ Some boxed.value }
     {
-        *self = Handle::of_parts(Parts::of(boxed));
+        *self = Handle::of_unboxed(Unboxed::of_box(boxed));
     }
 
     /// Whether something is held.

@@ -22,8 +22,8 @@ mod decoder;
 mod handle;
 mod held;
 mod line;
-mod parts;
 mod server;
+mod unboxed;
 
 /// Gives up what the handle holds, if it holds something, and all of its memory.
 #[unsafe(no_mangle)]

@@ -1,4 +1,4 @@
--- `into_parts` tests the pointer: null is what an empty handle has, and else two fields move, and what they own goes with them.
+-- `into_unboxed` tests the pointer: null is what an empty handle has, and else two fields move, and what they own goes with them.
 use mathlib.Core.Path.{refl, sym, ap, ◌∙◌, subst}
 use mathlib.Core.List.{List, [], ◌∷◌, ◌++◌}
 use seplogic.Ra.Ura.{Ura}
@@ -40,19 +40,19 @@ use Rattle.std.proofs.BoxSteps.Form.{D, B, P, τ, owning, word, box_typed}
 use Rattle.std.proofs.BoxSteps.Steps.{box_out, box_in}
 use Rattle.tn_c.specs.contracts.held.Held as State
 use Rattle.tn_c.specs.contracts.handle.Handle as Handle
-use Rattle.tn_c.specs.contracts.parts.Parts as Parts
+use Rattle.tn_c.specs.contracts.unboxed.Unboxed as Unboxed
 use Rattle.std.specs.contracts.impls.GlobalAllocator.TheImpl.{ghosts}
 use Rattle.tn_c.proofs.AsBox.{E, FromHandle as From, opt_cases}
-use Rattle.tn_c.specs.contracts.handle.Handle.into_parts as F
-use Rattle.tn_c.specs.contracts.handle.Handle.into_parts.Key.{name as #self}
-use Rattle.tn_c.proofs.handle.Handle.into_parts.Statement as stated
-use Rattle.tn_c.proofs.handle.Handle.into_parts.Code as code
+use Rattle.tn_c.specs.contracts.handle.Handle.into_unboxed as F
+use Rattle.tn_c.specs.contracts.handle.Handle.into_unboxed.Key.{name as #self}
+use Rattle.tn_c.proofs.handle.Handle.into_unboxed.Statement as stated
+use Rattle.tn_c.proofs.handle.Handle.into_unboxed.Code as code
 
 abbrev stayed : Stays (F.ended).signature.params (F.ended).kept
 stayed = (stay_dropped From yes, tt)
 
 abbrev Row : RattleType
-Row = Parts.the_row State.the_row Heap.the_row ghosts
+Row = Unboxed.the_row State.the_row Heap.the_row ghosts
 
 module _ {M : Type 1} {𝓤 : Ura M} (𝓛 : Logic 𝓤) (at_mem : Memory → SProp 𝓤) (run : Routine → Fun 𝓤) (𝓣 : Tables 𝓤 𝓛.H) where
   open 𝓛 use {H}
@@ -84,7 +84,7 @@ module _ {M : Type 1} {𝓤 : Ura M} (𝓛 : Logic 𝓤) (at_mem : Memory → SP
       nothing ! $ nothing ! $ fjoin ! $ join ! $ nothing ! $ join ! $ done !) (λ wrong. absurd wrong))))))))))
       (λ x is. rewrite ! 0 Held is refl $
       let v : D E = record { ptr = h.at; alloc = h.alloc; value = x } in
-      let made : Row.Denot = record { ptr = v.ptr; alloc = v.alloc; value = x } in
+      let made : Row.Denot = record { at = v.ptr; alloc = v.alloc; value = x } in
       use1 𝓛 (‵ ((B E).own_val v vs)) (id⊢ 𝓤 _) $
       box_out E ! v vs (λ b o hv e ws fa. move ! (1 ∷ []) $
       let Token = token E.al v.alloc (bare (τ E)) (block_ptr b o) in
@@ -106,9 +106,9 @@ module _ {M : Type 1} {𝓤 : Ura M} (𝓛 : Logic 𝓤) (at_mem : Memory → SP
       suffices ! _ (ends_at 𝓛 F.ended stayed (F.clauses 𝓛 at_mem run) z out (Some made) (tt, tt) (tt, tt)) $ says ! is $
       nothing ! $ nothing ! $ fjoin ! $ join ! $ nothing ! $ join ! $ done !)))))))
 
-pub into_parts_spec : {M : Type 1} → stated.statement M
+pub into_unboxed_spec : {M : Type 1} → stated.statement M
 unfolding tables_of
-into_parts_spec 𝓤 𝓛 𝓜 𝓡 wired =
+into_unboxed_spec 𝓤 𝓛 𝓜 𝓡 wired =
     let 𝓣 : Tables 𝓤 𝓛.H = tables_of 𝓤 𝓛.H 𝓜 (tables 𝓤 𝓛.H 𝓜 𝓡 𝓡.env) in
     entered 𝓤 𝓛.H (triple_of 𝓛 F.signature (F.spec 𝓛 𝓜.mem 𝓡.returns)) 𝓣.C 𝓣.Λ #self code.function (code.unfolded 𝓤 𝓛.H 𝓜 𝓡 wired)
     (walk_Meets 𝓛 F.ended stayed (Goes-dropped 𝓛 0 From yes (λ κs x f. refl), tt) (F.clauses 𝓛 𝓜.mem 𝓡.returns) (WpFn 𝓤 𝓛.H 𝓣.C 𝓣.Λ code.function) (WpFn-mono 𝓤 𝓛.H 𝓛.laws 𝓣 code.function)
