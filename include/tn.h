@@ -12,7 +12,7 @@
  *   - Memory comes from malloc and realloc and goes back by free.
  *
  * Each call but tn_end answers a code. Where it is not TN_OK, nothing that a pointer leads to was written, and the
- * handle holds what it held, except after tn_server_feed and tn_client_feed: there see what is said.
+ * handle holds what it held, except after the three calls of _feed: there see what is said.
  *   TN_NOT_STARTED  the handle holds nothing     TN_OTHER_KIND  it holds another of the four
  * are answered by each call of a kind and are not said again below.
  */

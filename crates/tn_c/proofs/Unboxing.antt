@@ -1,12 +1,7 @@
 -- What a box is made of owns what the box owned: both are one machine value, an address beside a handle of the allocator.
 use Prim.Native.Nat.{ℕ}
-use mathlib.Core.List.{List, [], ◌∷◌}
-use seplogic.Ra.Ura.{Ura}
+use mathlib.Core.List.{[], ◌∷◌}
 use mir.Syntax.{Args, Dict, a_type, dcons, dnil}
-use mir.Val.{Val}
-use base.Fml.{ftrue, flft}
-use types.Kit.{Item, ‵, ◌⊛◌}
-use base.Fml.{Lft, Share}
 use denote.RattleType.{RattleType}
 use denote.Param.{bounded}
 use denote.RawPtr.{block_ptr}

@@ -1,5 +1,5 @@
--- What a handle holds, what a call does to it where that is of the call's kind, and why the call is refused where
--- it is not.
+-- What a handle holds, what a call does to it where that is of the call's kind, and why the call is refused
+-- where it is not.
 use Rattle.std.specs.Prelude.{Option, Some, None}
 use Rattle.tn_c.specs.declared.held.Held.{Held}
 use Rattle.tn_c.specs.declared.held.Held.TheVariants as held

@@ -64,7 +64,8 @@ impl Handle {
 
     /// Takes out what is held, if anything.
     pub(crate) fn take(&mut self, alloc: Global) -> Option<Box<Held>>
-        ensures value { MatchOption result (self.old.held ≡ None) (λ boxed. self.old.held ≡ Some boxed.value) }
+        ensures value { MatchOption result (self.old.held ≡ None)
+            (λ boxed. self.old.held ≡ Some boxed.value) }
         ensures left { self.new.held ≡ None }
     {
         match mem::replace(self, Handle::empty(alloc)).into_unboxed() {
