@@ -55,8 +55,7 @@ impl Model for Lines {
 
     ghost Value = { Printing };
 
-    ghost view = { λ lines.
-        record { prefix = lines.prefix; text = lines.text.items; held = lines.held.items } };
+    ghost view = { λ lines. record { prefix = lines.prefix; text = lines.text.items; held = lines.held.items } };
 
     ghost invariant = { λ lines. length lines.held.items < 64 };
 }
@@ -227,8 +226,7 @@ fn append_item(
 ) -> Result<(), AllocError>
     requires { length held.now < 64 }
     ensures ok { OnOk result (text.new.items ≡ text.old.items
-        ++ (decoded (prefix_text prefix) (map Byte held.now)
-        ++ whole_line (prefix_text prefix) (item_text item.now))) }
+        ++ (decoded (prefix_text prefix) (map Byte held.now) ++ whole_line (prefix_text prefix) (item_text item.now))) }
     ensures err { OnErr result (text.new.items ≡ text.old.items) }
 {
     line.clear();
