@@ -14,7 +14,7 @@ use Rattle.tn_client_core.specs.Refusing.{RefusesAtKey, RefusesAtItem, RefusesAt
 use Rattle.tn_client_core.specs.Run.{Run, Reads, types}
 use Rattle.tn_client_core.specs.declared.machine.Core.{Core}
 use Rattle.tn_client_core.specs.declared.messages.Origin.{Origin}
-use Rattle.tn_streams.specs.declared.lib.WindowSize.{WindowSize}
+use Rattle.tn_streams.specs.declared.window.WindowSize.{WindowSize}
 use Rattle.tn_client_core.specs.declared.messages.Origin.TheVariants.{Keys, Net}
 use Rattle.tn_nvt.specs.Feeding.{DecoderState}
 use Rattle.tn_nvt.specs.Feeding as nvt

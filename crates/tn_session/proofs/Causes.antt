@@ -9,7 +9,7 @@ use Rattle.tn_session.specs.declared.mail.Sender.{Sender}
 use Rattle.tn_term.specs.Marks.{no_write_failed, no_writes_failed}
 use Rattle.tn_term.specs.declared.messages.Mark.{Mark}
 use Rattle.tn_term.specs.declared.messages.Mark.TheVariants as mark
-use Rattle.tn_streams.specs.declared.lib.WindowSize.{WindowSize}
+use Rattle.tn_streams.specs.declared.window.WindowSize.{WindowSize}
 use Rattle.tn_messages.specs.declared.messages.Message.{Message}
 use Rattle.tn_messages.specs.declared.messages.Message.TheVariants.{Piece, ReadFailed, Left, Resized}
 

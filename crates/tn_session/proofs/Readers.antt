@@ -15,7 +15,7 @@ use Rattle.tn_session.specs.declared.mail.Sender.{Sender}
 use Rattle.tn_messages.specs.declared.messages.Message.{Message}
 use Rattle.tn_messages.specs.declared.messages.Message.TheVariants.{Piece, Left, Resized}
 use Rattle.tn_streams.specs.Sizes.{TellsSize, TellsSizes}
-use Rattle.tn_streams.specs.declared.lib.WindowSize.{WindowSize}
+use Rattle.tn_streams.specs.declared.window.WindowSize.{WindowSize}
 
 -- what one call of `say` tells
 abbrev pub Says : Sender → Message → View → View → Type 0

@@ -10,7 +10,7 @@ use Rattle.tn_streams.specs.Foretelling.{Failures}
 use Rattle.tn_streams.specs.Known.{KnownReader}
 use Rattle.tn_streams.specs.Sizes.{TellsSize, TellsSizes}
 use Rattle.tn_session.specs.declared.mail.Mail.{Mail}
-use Rattle.tn_streams.specs.declared.lib.WindowSize.{WindowSize}
+use Rattle.tn_streams.specs.declared.window.WindowSize.{WindowSize}
 use Rattle.tn_messages.specs.declared.messages.Message.{Message}
 use Rattle.tn_messages.specs.declared.messages.Message.TheVariants.{Left, Resized}
 

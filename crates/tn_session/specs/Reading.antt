@@ -6,7 +6,7 @@ use Rattle.tn_session.specs.declared.net.Got.{Got}
 use Rattle.tn_session.specs.declared.net.Got.TheVariants.{Bytes, Again, Last}
 use Rattle.tn_messages.specs.declared.messages.Message.{Message}
 use Rattle.tn_messages.specs.declared.messages.Message.TheVariants.{Piece, HangUp, ReadFailed, Refused, Resized}
-use Rattle.tn_streams.specs.declared.lib.WindowSize.{WindowSize}
+use Rattle.tn_streams.specs.declared.window.WindowSize.{WindowSize}
 
 -- how the reading ended; after a hang-up nothing is left
 abbrev pub IsEnding : Message → Option (List ℕ) → Type 0

@@ -1,6 +1,6 @@
 -- What a reader tells of the sizes of the window in which its bytes are typed.
 use Rattle.std.specs.Prelude.{◌≡◌, Option, Some, None, List, ◌∷◌, ◌++◌}
-use Rattle.tn_streams.specs.declared.lib.WindowSize.{WindowSize}
+use Rattle.tn_streams.specs.declared.window.WindowSize.{WindowSize}
 
 -- the next size was told, or none; where the sizes are not known, they stay so
 abbrev pub TellsSize : Option (List WindowSize) → Option WindowSize → Option (List WindowSize) → Type 0

@@ -23,20 +23,15 @@ ghost use Rattle.std.specs.Io.{ReadsAtMost, WritesAtMost};
 ghost use Rattle.std.specs.Io.KnownBytes.{ReadConsumes, WriteAppends, Keeps};
 ghost use Rattle.tn_streams.specs.Foretelling.{Failures, ForetellsCall};
 ghost use Rattle.tn_streams.specs.Sizes.{TellsSize};
-ghost use Rattle.tn_streams.specs.declared.lib.WindowSize.{WindowSize as WindowSizeT};
+ghost use Rattle.tn_streams.specs.declared.window.WindowSize.{WindowSize as WindowSizeT};
 ghost use Rattle.tn_streams.specs.Telling.{Calls, TellsCall, CountsRead, CountsWrite};
 
 use std::io::{Error, ErrorKind, Read, Result, Write};
 pub use tally::Tally;
+pub use window::WindowSize;
 
 mod tally;
-
-/// The size of a window in characters; 0 leaves a side open (RFC 1073).
-#[derive(Clone, Copy, Debug, PartialEq, Eq)]
-pub struct WindowSize {
-    pub width: u16,
-    pub height: u16,
-}
+mod window;
 
 /// A reader that may tell how many of its calls failed, and foretell how many will: one that is given away
 /// can't be asked afterwards. Where its bytes are typed in a window, it tells the window's size too.

@@ -12,7 +12,7 @@ use Rattle.tn_messages.specs.declared.messages.Message.{Message}
 use Rattle.tn_messages.specs.declared.messages.Message.TheVariants.{Piece, HangUp, ReadFailed, Take, Said, Refused, Left, Resized}
 use Rattle.tn_messages.specs.declared.faults.Ended.TheVariants.{Fault}
 use Rattle.tn_messages.specs.declared.faults.SessionFault.TheVariants as fault
-use Rattle.tn_streams.specs.declared.lib.WindowSize.{WindowSize}
+use Rattle.tn_streams.specs.declared.window.WindowSize.{WindowSize}
 use Rattle.tn_term.specs.declared.messages.Put.{Put}
 use Rattle.tn_term.specs.declared.messages.Put.TheVariants.{Nothing}
 use Rattle.tn_term.specs.declared.progress.Progress.{Progress}
