@@ -17,8 +17,8 @@ pub record Printing : Type 0 where
   pub text : List ℕ
   pub held : List ℕ
 
--- What was held before these items and the items are whole lines, which the text has gained, and then the data that
--- are held now, which do not fill a line.
+-- What was held before these items and the items are whole lines, which the text has gained, and then the
+-- data that are held now, which do not fill a line.
 pub record Takes (old : Printing) (items : List Item) (new : Printing) : Type 0 where
   pub prefix : new.prefix ≡ old.prefix
   pub front : List Item

@@ -55,7 +55,8 @@ impl Model for Lines {
 
     ghost Value = { Printing };
 
-    ghost view = { λ lines. record { prefix = lines.prefix; text = lines.text.items; held = lines.held.items } };
+    ghost view = { λ lines.
+        record { prefix = lines.prefix; text = lines.text.items; held = lines.held.items } };
 
     ghost invariant = { λ lines. length lines.held.items < 64 };
 }
@@ -226,7 +227,8 @@ fn append_item(
 ) -> Result<(), AllocError>
     requires { length held.now < 64 }
     ensures ok { OnOk result (text.new.items ≡ text.old.items
-        ++ (decoded (prefix_text prefix) (map Byte held.now) ++ whole_line (prefix_text prefix) (item_text item.now))) }
+        ++ (decoded (prefix_text prefix) (map Byte held.now)
+        ++ whole_line (prefix_text prefix) (item_text item.now))) }
     ensures err { OnErr result (text.new.items ≡ text.old.items) }
 {
     line.clear();

@@ -71,7 +71,7 @@ impl ServerTable {
     /// answers, and so never for none; after a refusal nothing has changed. A function beyond the
     /// eighteen of RFC 1184 is answered as unsupported, but at the level NOSUPPORT, which asks for
     /// no answer.
-    #[tactic(auto, unfolding(crate::specs::Exchange::server_is_asked, crate::specs::Exchange::server_after, crate::specs::Exchange::server_answers))]
+    #[tactic(auto, unfolding(crate::specs::Exchange::server_after, crate::specs::Exchange::server_answers))]
     pub fn got(&mut self, triples: &[Triple], answers: &mut Vec<Triple>) -> Result<bool, AllocError>
         ensures table { OnOk result (self.new ≡ server_after self.old triples.now) }
         ensures answers { OnOk result
@@ -83,7 +83,7 @@ impl ServerTable {
             OnErr result (vec_capacity answers.old < vec_len answers.old + length replies) }
     {
         react_whole(self, triples, answers)?;
-        Ok(triples.iter().any(|triple| asks_for_table(*triple)))
+        Ok(is_asked(triples))
     }
 
     // Takes a character where it may have it.
@@ -125,6 +125,13 @@ impl Reacts for ServerTable {
             Saying::Table | Saying::Nothing => None,
         }
     }
+}
+
+#[tactic(auto, unfolding(crate::specs::Exchange::server_is_asked))]
+fn is_asked(triples: &[Triple]) -> bool
+    ensures { result ≡ server_is_asked triples.now }
+{
+    triples.iter().any(|triple| asks_for_table(*triple))
 }
 
 fn asks_for_table(triple: Triple) -> bool

@@ -16,8 +16,8 @@ use Rattle.tn_streams.specs.Prefixes.{IsPrefixOf}
 abbrev pub handler : List Mail → View
 handler h = record { handled = Some h; net = None; desk = None; back = None; keys = Some [] }
 
--- nothing was sent, handled, put or taken; the mailbox holds 64 messages, and the channel of entries two; each
--- pass has its seat
+-- nothing was sent, handled, put or taken; the mailbox holds 64 messages, and the channel of entries two;
+-- each pass has its seat
 pub record IsReady (c : Channels) : Type 0 where
   pub one_mailbox : receives_on c.ends.from ≡ sends_on c.ends.to
   pub mails : ruled_capacity (sends_on c.ends.to) ≡ 64

@@ -102,8 +102,8 @@ pub(crate) struct Watch<G> {
     pub(crate) stop: Arc<AtomicBool, Global>,
 }
 
-/// Starts a thread that reads, for this part, and with the seat where it takes credits if it needs any. `None`
-/// where it can't be started.
+/// Starts a thread that reads, for this part, and with the seat where it takes credits if it needs any.
+/// `None` where it can't be started.
 pub(crate) fn start_reader<
     R: Threads + Wait + Copy + Send + 'static,
     Rd: Source + Drop + Send + 'static,

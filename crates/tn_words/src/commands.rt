@@ -178,10 +178,11 @@ fn serve_command<'a>(alloc: Global) -> Result<Command<'a>, AllocError>
         alloc,
         SERVE,
         "Serves Telnet with LINEMODE to this machine, and writes each line back",
-        "Listens on a port of 127.0.0.1, or of the address of `--host`, and gives each connection a terminal with standard settings. \
-         Its job writes each line back; the line `exit` and the end of file (^D on an empty line) end \
-         the session with `bye`, an interrupt (^C) writes `int`, a quit (^\\) `quit`, and a stop (^Z) \
-         `tstp`. One connection more than the limit is told `full` and closed.\n\n\
+        "Listens on a port of 127.0.0.1, or of the address of `--host`, and gives each connection a \
+         terminal with standard settings. Its job writes each line back; the line `exit` and the end of \
+         file (^D on an empty line) end the session with `bye`, an interrupt (^C) writes `int`, a quit \
+         (^\\) `quit`, and a stop (^Z) `tstp`. One connection more than the limit is told `full` and \
+         closed.\n\n\
          It ends by itself, with status 0, once it has taken as many connections as were asked for and \
          each of their sessions has ended.",
         "Example:\n  tn serve --port 2323 --count 2\n\nAnd in another terminal, one after the other:\n  \
