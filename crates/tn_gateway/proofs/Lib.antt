@@ -1,0 +1,5 @@
+pub mod Written
+pub mod Ends
+pub mod Talks
+pub mod Shown
+pub mod Steps
