@@ -127,6 +127,15 @@ tn_code tn_line_text(tn_handle *handle, uint8_t *buf, size_t size, size_t *count
 /* The same of the half line. */
 tn_code tn_line_half(tn_handle *handle, uint8_t *buf, size_t size, size_t *count);
 
+/* Goes on under these flags; the half line stays. */
+tn_code tn_line_set_flags(tn_handle *handle, const tn_flags *flags);
+
+/* Changes a special character; the half line stays. TN_NO_FUNCTION, TN_NOT_SETTABLE, TN_RESERVED, TN_TAKEN. */
+tn_code tn_line_set_char(tn_handle *handle, uint8_t function, uint16_t value);
+
+/* A special character, or TN_NO_CHAR. TN_NO_FUNCTION. */
+tn_code tn_line_char(tn_handle *handle, uint8_t function, uint16_t *value);
+
 /* ---- A decoder: a stream to items (RFC 854, 855) ---- */
 
 typedef struct tn_item {
@@ -210,6 +219,9 @@ tn_code tn_server_clear_mask(tn_handle *handle);
 
 /* The kind of an entry that waits, by its place from 0 on; TN_NONE behind the last. */
 tn_code tn_server_waiting(tn_handle *handle, size_t index, uint32_t *kind);
+
+/* Copies the first bytes of the text of an entry that waits, as many as fit; *count is how many. The entry stays. */
+tn_code tn_server_waiting_text(tn_handle *handle, size_t index, uint8_t *buf, size_t size, size_t *count);
 
 /* The first signal among the entries that wait, or TN_NONE. */
 tn_code tn_server_signal_waiting(tn_handle *handle, uint32_t *kind);

@@ -78,6 +78,28 @@ static void client_says(tn_handle *client, const char *sent, size_t sent_length,
 
 #define CLIENT_SAYS(client, sent, shown) client_says(client, sent, sizeof sent - 1, shown)
 
+/* A line's flags and special characters are changed with a half line of 254 bytes that stays. */
+static void worked_settings(tn_handle *line)
+{
+    tn_flags flags = standard;
+    uint32_t effect = 77;
+    uint16_t value = 77;
+    size_t count = 77;
+    SURE(tn_line_char(line, TN_CHAR_INTR, &value) == TN_OK && value == 3);
+    value = 77;
+    SURE(tn_line_char(line, 0, &value) == TN_NO_FUNCTION && value == 77);
+    SURE(tn_line_char(line, TN_CHAR_EOL, &value) == TN_OK && value == TN_NO_CHAR);
+    SURE(tn_line_set_char(line, 0, 5) == TN_NO_FUNCTION && tn_line_set_char(line, 1, 5) == TN_NOT_SETTABLE);
+    SURE(tn_line_set_char(line, TN_CHAR_INTR, 13) == TN_RESERVED && tn_line_set_char(line, TN_CHAR_INTR, 4) == TN_TAKEN);
+    SURE(tn_line_set_char(line, TN_CHAR_ERASE, 'x') == TN_OK);
+    SURE(tn_line_key(line, 'x', &effect) == TN_OK && effect == TN_ERASED);
+    SURE(tn_line_set_char(line, TN_CHAR_ERASE, TN_NO_CHAR) == TN_OK);
+    SURE(tn_line_half(line, buf, sizeof buf, &count) == TN_OK && count == 253);
+    flags.isig = false;
+    SURE(tn_line_set_flags(line, &flags) == TN_OK);
+    SURE(tn_line_key(line, 3, &effect) == TN_OK && effect == TN_KEPT);
+}
+
 static void worked_line(void)
 {
     tn_handle line = TN_HANDLE;
@@ -103,6 +125,7 @@ static void worked_line(void)
     for (int i = 0; i < 254; i++)
         SURE(tn_line_key(&line, 'x', &effect) == TN_OK && effect == TN_KEPT);
     SURE(tn_line_key(&line, 'x', &effect) == TN_OK && effect == TN_DROPPED);
+    worked_settings(&line);
     tn_end(&line);
     SURE(line.tn_private == NULL && tn_line_half(&line, buf, 1, &count) == TN_NOT_STARTED && count == 0);
     tn_end(&line);
@@ -150,6 +173,8 @@ static void worked_server(void)
     FEED(&server, "\0");
     SURE(tn_server_waiting(&server, 0, &kind) == TN_OK && kind == TN_TEXT);
     SURE(tn_server_waiting(&server, 1, &kind) == TN_OK && kind == TN_NONE);
+    SURE(tn_server_waiting_text(&server, 0, buf, 4, &count) == TN_OK && count == 4 && memcmp(buf, "ls -", 4) == 0);
+    SURE(tn_server_waiting_text(&server, 1, buf, sizeof buf, &count) == TN_OK && count == 0);
     SURE(tn_server_take(&server, &kind) == TN_OK && kind == TN_TEXT);
     SURE(tn_server_text(&server, buf, sizeof buf, &count) == TN_OK && count == 6 && memcmp(buf, "ls -l\n", 6) == 0);
     SURE(tn_server_write(&server, (const uint8_t *)"a\n", 2, &count) == TN_OK && count == 2);

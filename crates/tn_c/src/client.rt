@@ -194,6 +194,7 @@ pub extern "C" fn tn_client_propose(
 pub extern "C" fn tn_client_pending(alloc: Global, handle: &mut Handle, count: &mut usize) -> u32
     ensures refused { IfSome (client_absence handle.old.held) (λ code.
         (result ≡ number code) × (handle.new.held ≡ handle.old.held)) }
+    ensures unwritten { IfSome (client_absence handle.old.held) (λ _. count.new ≡ count.old) }
     ensures done { OnClient handle.old.held handle.new.held (λ _ _. result ≡ number code.Done) }
     ensures count { OnClient handle.old.held handle.new.held (λ before _.
         count.new ≡ length before.pending.items) }
@@ -212,6 +213,8 @@ pub extern "C" fn tn_client_read(
 ) -> u32
     ensures refused { IfSome (client_absence handle.old.held) (λ code.
         (result ≡ number code) × (handle.new.held ≡ handle.old.held)) }
+    ensures unwritten { IfSome (client_absence handle.old.held) (λ _.
+        (buf.new ≡ buf.old) × (count.new ≡ count.old)) }
     ensures done { OnClient handle.old.held handle.new.held (λ _ _. result ≡ number code.Done) }
     ensures copies { OnClient handle.old.held handle.new.held (λ before _.
         Copies before.pending.items buf.old buf.new count.new) }
@@ -229,6 +232,7 @@ pub extern "C" fn tn_client_read(
 pub extern "C" fn tn_client_shown(alloc: Global, handle: &mut Handle, count: &mut usize) -> u32
     ensures refused { IfSome (client_absence handle.old.held) (λ code.
         (result ≡ number code) × (handle.new.held ≡ handle.old.held)) }
+    ensures unwritten { IfSome (client_absence handle.old.held) (λ _. count.new ≡ count.old) }
     ensures done { OnClient handle.old.held handle.new.held (λ _ _. result ≡ number code.Done) }
     ensures count { OnClient handle.old.held handle.new.held (λ before _.
         count.new ≡ length before.shown.items) }
@@ -247,6 +251,8 @@ pub extern "C" fn tn_client_screen(
 ) -> u32
     ensures refused { IfSome (client_absence handle.old.held) (λ code.
         (result ≡ number code) × (handle.new.held ≡ handle.old.held)) }
+    ensures unwritten { IfSome (client_absence handle.old.held) (λ _.
+        (buf.new ≡ buf.old) × (count.new ≡ count.old)) }
     ensures done { OnClient handle.old.held handle.new.held (λ _ _. result ≡ number code.Done) }
     ensures copies { OnClient handle.old.held handle.new.held (λ before _.
         Copies before.shown.items buf.old buf.new count.new) }
@@ -264,6 +270,7 @@ pub extern "C" fn tn_client_screen(
 pub extern "C" fn tn_client_mode(alloc: Global, handle: &mut Handle, mask: &mut u8) -> u32
     ensures refused { IfSome (client_absence handle.old.held) (λ code.
         (result ≡ number code) × (handle.new.held ≡ handle.old.held)) }
+    ensures unwritten { IfSome (client_absence handle.old.held) (λ _. mask.new ≡ mask.old) }
     ensures done { OnClient handle.old.held handle.new.held (λ _ _. result ≡ number code.Done) }
     ensures value { OnClient handle.old.held handle.new.held (λ before _.
         (h : History) → LeadsTo h before.end → mask.new ≡ mode h) }
@@ -282,6 +289,8 @@ pub extern "C" fn tn_client_half(
 ) -> u32
     ensures refused { IfSome (client_absence handle.old.held) (λ code.
         (result ≡ number code) × (handle.new.held ≡ handle.old.held)) }
+    ensures unwritten { IfSome (client_absence handle.old.held) (λ _.
+        (buf.new ≡ buf.old) × (count.new ≡ count.old)) }
     ensures done { OnClient handle.old.held handle.new.held (λ _ _. result ≡ number code.Done) }
     ensures copies { OnClient handle.old.held handle.new.held (λ before _.
         (h : History) → LeadsTo h before.end → Copies (held_bytes h) buf.old buf.new count.new) }
@@ -295,6 +304,7 @@ pub extern "C" fn tn_client_half(
 pub extern "C" fn tn_client_ahead(alloc: Global, handle: &mut Handle, count: &mut u16) -> u32
     ensures refused { IfSome (client_absence handle.old.held) (λ code.
         (result ≡ number code) × (handle.new.held ≡ handle.old.held)) }
+    ensures unwritten { IfSome (client_absence handle.old.held) (λ _. count.new ≡ count.old) }
     ensures done { OnClient handle.old.held handle.new.held (λ _ _. result ≡ number code.Done) }
     ensures value { OnClient handle.old.held handle.new.held (λ before _.
         (h : History) → LeadsTo h before.end → count.new ≡ ahead h) }
@@ -313,6 +323,8 @@ pub extern "C" fn tn_client_counts(
 ) -> u32
     ensures refused { IfSome (client_absence handle.old.held) (λ code.
         (result ≡ number code) × (handle.new.held ≡ handle.old.held)) }
+    ensures unwritten { IfSome (client_absence handle.old.held) (λ _.
+        (trapped.new ≡ trapped.old) × (plain.new ≡ plain.old)) }
     ensures done { OnClient handle.old.held handle.new.held (λ _ _. result ≡ number code.Done) }
     ensures trapped { OnClient handle.old.held handle.new.held (λ before _.
         (h : History) → LeadsTo h before.end → trapped.new ≡ count_under true h) }
@@ -333,6 +345,7 @@ pub extern "C" fn tn_client_char(
 ) -> u32
     ensures refused { IfSome (client_absence handle.old.held) (λ code.
         (result ≡ number code) × (handle.new.held ≡ handle.old.held)) }
+    ensures unwritten { IfSome (client_absence handle.old.held) (λ _. value.new ≡ value.old) }
     ensures codes { OnClient handle.old.held handle.new.held (λ _ _.
         (result ≡ number code.Done) ⊎ (result ≡ number code.NoFunction)) }
     ensures value { OnClient handle.old.held handle.new.held (λ before _.
@@ -358,6 +371,7 @@ pub extern "C" fn tn_client_option(
 ) -> u32
     ensures refused { IfSome (client_absence handle.old.held) (λ code.
         (result ≡ number code) × (handle.new.held ≡ handle.old.held)) }
+    ensures unwritten { IfSome (client_absence handle.old.held) (λ _. state.new ≡ state.old) }
     ensures done { OnClient handle.old.held handle.new.held (λ _ _. result ≡ number code.Done) }
     ensures value { OnClient handle.old.held handle.new.held (λ before _.
         (h : History) → LeadsTo h before.end →
@@ -375,6 +389,7 @@ pub extern "C" fn tn_client_option(
 pub extern "C" fn tn_client_failed(alloc: Global, handle: &mut Handle, failed: &mut bool) -> u32
     ensures refused { IfSome (client_absence handle.old.held) (λ code.
         (result ≡ number code) × (handle.new.held ≡ handle.old.held)) }
+    ensures unwritten { IfSome (client_absence handle.old.held) (λ _. failed.new ≡ failed.old) }
     ensures done { OnClient handle.old.held handle.new.held (λ _ _. result ≡ number code.Done) }
     ensures value { OnClient handle.old.held handle.new.held (λ before _. failed.new ≡ before.end.failed) }
     ensures same { handle.new.held ≡ handle.old.held }

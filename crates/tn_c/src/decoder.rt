@@ -68,6 +68,7 @@ pub extern "C" fn tn_decoder_feed(alloc: Global, handle: &mut Handle, bytes: &[u
 pub extern "C" fn tn_decoder_take(alloc: Global, handle: &mut Handle, item: &mut ItemSeen) -> u32
     ensures refused { IfSome (decoder_absence handle.old.held) (λ code.
         (result ≡ number code) × (handle.new.held ≡ handle.old.held)) }
+    ensures unwritten { IfSome (decoder_absence handle.old.held) (λ _. item.new ≡ item.old) }
     ensures done { OnDecoder handle.old.held handle.new.held (λ _ _. result ≡ number code.Done) }
     ensures decoder { OnDecoder handle.old.held handle.new.held (λ before after.
         after.decoder ≡ before.decoder) }
@@ -90,6 +91,8 @@ pub extern "C" fn tn_decoder_parameters(
 ) -> u32
     ensures refused { IfSome (decoder_absence handle.old.held) (λ code.
         (result ≡ number code) × (handle.new.held ≡ handle.old.held)) }
+    ensures unwritten { IfSome (decoder_absence handle.old.held) (λ _.
+        (buf.new ≡ buf.old) × (count.new ≡ count.old)) }
     ensures done { OnDecoder handle.old.held handle.new.held (λ _ _. result ≡ number code.Done) }
     ensures copies { OnDecoder handle.old.held handle.new.held (λ before _.
         Copies (parameters_of before.item) buf.old buf.new count.new) }

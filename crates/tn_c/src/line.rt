@@ -1,14 +1,18 @@
 //! The calls of a line: keys to entries.
 
-ghost use Rattle.std.specs.Prelude.{◌≡◌, ◌≢◌, ◌⊎◌, true, None, [], ◌∷◌, IfSome, if◌then◌else◌};
+ghost use Rattle.std.specs.Prelude.{◌≡◌, ◌≢◌, ◌↔◌, ◌⊎◌, true, None, [], ◌∷◌, IfSome, if◌then◌else◌};
+ghost use Rattle.tn_codes.specs.Codes.{func_code};
+ghost use Rattle.tn_codes.specs.declared.codes.Func.{Func};
 ghost use Rattle.tn_discipline.specs.Advancing.{Advances};
-ghost use Rattle.tn_discipline.specs.Characters.{standard_characters};
+ghost use Rattle.tn_discipline.specs.Characters.{standard_characters, slot, with_slot, char_fault};
 ghost use Rattle.tn_discipline.specs.HalfLine.{empty_line, line_after, effect_of, effect_entries, GivesText};
 ghost use Rattle.tn_discipline.specs.Keys.{role_of_key, roles_of};
 ghost use Rattle.tn_discipline.specs.Limits.{is_limit};
 ghost use Rattle.tn_c_parts.specs.Bytes.{Copies};
 ghost use Rattle.tn_c_parts.specs.Codes.{code_number as number};
 ghost use Rattle.tn_c_parts.specs.Entries.{effect_number, entry_given, text_of};
+ghost use Rattle.tn_c_parts.specs.Faults.{char_answer};
+ghost use Rattle.tn_c_parts.specs.Readings.{char_given, char_number};
 ghost use Rattle.tn_c_parts.specs.Terminals.{flags_given};
 ghost use Rattle.tn_c_parts.specs.declared.codes.Code.TheVariants as code;
 ghost use Rattle.tn_c.specs.Holding.{HoldsLine, OnLine, line_absence};
@@ -57,6 +61,7 @@ pub extern "C" fn tn_line_start(
 pub extern "C" fn tn_line_key(alloc: Global, handle: &mut Handle, key: u8, effect: &mut u32) -> u32
     ensures refused { IfSome (line_absence handle.old.held) (λ code.
         (result ≡ number code) × (handle.new.held ≡ handle.old.held)) }
+    ensures unwritten { IfSome (line_absence handle.old.held) (λ _. effect.new ≡ effect.old) }
     ensures codes { OnLine handle.old.held handle.new.held (λ _ _.
         (result ≡ number code.Done) ⊎ (result ≡ number code.Memory)) }
     ensures advances { OnLine handle.old.held handle.new.held (λ before after.
@@ -93,6 +98,8 @@ pub extern "C" fn tn_line_text(
 ) -> u32
     ensures refused { IfSome (line_absence handle.old.held) (λ code.
         (result ≡ number code) × (handle.new.held ≡ handle.old.held)) }
+    ensures unwritten { IfSome (line_absence handle.old.held) (λ _.
+        (buf.new ≡ buf.old) × (count.new ≡ count.old)) }
     ensures done { OnLine handle.old.held handle.new.held (λ _ _. result ≡ number code.Done) }
     ensures copies { OnLine handle.old.held handle.new.held (λ before _.
         Copies (text_of before.entry) buf.old buf.new count.new) }
@@ -111,10 +118,83 @@ pub extern "C" fn tn_line_half(
 ) -> u32
     ensures refused { IfSome (line_absence handle.old.held) (λ code.
         (result ≡ number code) × (handle.new.held ≡ handle.old.held)) }
+    ensures unwritten { IfSome (line_absence handle.old.held) (λ _.
+        (buf.new ≡ buf.old) × (count.new ≡ count.old)) }
     ensures done { OnLine handle.old.held handle.new.held (λ _ _. result ≡ number code.Done) }
     ensures copies { OnLine handle.old.held handle.new.held (λ before _.
         Copies before.line.held buf.old buf.new count.new) }
     ensures same { handle.new.held ≡ handle.old.held }
 {
     call_held!(handle, alloc, Line, line => { line.half(buf, count); Code::Done })
+}
+
+/// Goes on under these flags; the half line stays.
+#[unsafe(no_mangle)]
+pub extern "C" fn tn_line_set_flags(
+    alloc: Global,
+    handle: &mut Handle,
+    flags: &TerminalFlags,
+) -> u32
+    ensures refused { IfSome (line_absence handle.old.held) (λ code.
+        (result ≡ number code) × (handle.new.held ≡ handle.old.held)) }
+    ensures done { OnLine handle.old.held handle.new.held (λ _ _. result ≡ number code.Done) }
+    ensures settings { OnLine handle.old.held handle.new.held (λ before after.
+        after.settings ≡ record { flags = flags_given flags.now; chars = before.settings.chars }) }
+    ensures line { OnLine handle.old.held handle.new.held (λ before after. after.line ≡ before.line) }
+    ensures entry { OnLine handle.old.held handle.new.held (λ before after. after.entry ≡ before.entry) }
+{
+    call_held!(handle, alloc, Line, line => { line.set_flags(flags.flags()); Code::Done })
+}
+
+/// Changes the special character of the function with this number, or disables it; the half line stays.
+#[unsafe(no_mangle)]
+pub extern "C" fn tn_line_set_char(
+    alloc: Global,
+    handle: &mut Handle,
+    function: u8,
+    value: u16,
+) -> u32
+    ensures refused { IfSome (line_absence handle.old.held) (λ code.
+        (result ≡ number code) × (handle.new.held ≡ handle.old.held)) }
+    ensures ok { OnLine handle.old.held handle.new.held (λ before after.
+        result ≡ number code.Done → (func : Func) → func_code func ≡ function →
+        after.settings.chars ≡ with_slot before.settings.chars func (char_given value)) }
+    ensures answer { OnLine handle.old.held handle.new.held (λ before _.
+        (func : Func) → func_code func ≡ function →
+        result ≡ number (char_answer (char_fault before.settings.chars func (char_given value)))) }
+    ensures no_function { OnLine handle.old.held handle.new.held (λ _ _.
+        (result ≡ number code.NoFunction) ↔ ((func : Func) → func_code func ≢ function)) }
+    ensures err { OnLine handle.old.held handle.new.held (λ before after.
+        result ≢ number code.Done → after.settings ≡ before.settings) }
+    ensures flags { OnLine handle.old.held handle.new.held (λ before after.
+        after.settings.flags ≡ before.settings.flags) }
+    ensures line { OnLine handle.old.held handle.new.held (λ before after. after.line ≡ before.line) }
+    ensures entry { OnLine handle.old.held handle.new.held (λ before after. after.entry ≡ before.entry) }
+{
+    call_held!(handle, alloc, Line, line => line.set_function(function, value))
+}
+
+/// Gives the special character of the function with this number.
+#[unsafe(no_mangle)]
+pub extern "C" fn tn_line_char(
+    alloc: Global,
+    handle: &mut Handle,
+    function: u8,
+    value: &mut u16,
+) -> u32
+    ensures refused { IfSome (line_absence handle.old.held) (λ code.
+        (result ≡ number code) × (handle.new.held ≡ handle.old.held)) }
+    ensures unwritten { IfSome (line_absence handle.old.held) (λ _. value.new ≡ value.old) }
+    ensures codes { OnLine handle.old.held handle.new.held (λ _ _.
+        (result ≡ number code.Done) ⊎ (result ≡ number code.NoFunction)) }
+    ensures value { OnLine handle.old.held handle.new.held (λ before _.
+        (func : Func) → func_code func ≡ function →
+        value.new ≡ char_number (slot before.settings.chars func)) }
+    ensures no_function { OnLine handle.old.held handle.new.held (λ _ _.
+        (result ≡ number code.NoFunction) ↔ ((func : Func) → func_code func ≢ function)) }
+    ensures err { OnLine handle.old.held handle.new.held (λ _ _.
+        result ≡ number code.NoFunction → value.new ≡ value.old) }
+    ensures same { handle.new.held ≡ handle.old.held }
+{
+    call_held!(handle, alloc, Line, line => line.function_char(function, value))
 }

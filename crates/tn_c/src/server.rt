@@ -120,6 +120,7 @@ pub extern "C" fn tn_server_feed(alloc: Global, handle: &mut Handle, bytes: &[u8
 pub extern "C" fn tn_server_take(alloc: Global, handle: &mut Handle, kind: &mut u32) -> u32
     ensures refused { IfSome (server_absence handle.old.held) (λ code.
         (result ≡ number code) × (handle.new.held ≡ handle.old.held)) }
+    ensures unwritten { IfSome (server_absence handle.old.held) (λ _. kind.new ≡ kind.old) }
     ensures codes { OnServer handle.old.held handle.new.held (λ _ _.
         (result ≡ number code.Done) ⊎ (result ≡ number code.Memory)) }
     ensures ok { OnServer handle.old.held handle.new.held (λ before after.
@@ -154,6 +155,8 @@ pub extern "C" fn tn_server_text(
 ) -> u32
     ensures refused { IfSome (server_absence handle.old.held) (λ code.
         (result ≡ number code) × (handle.new.held ≡ handle.old.held)) }
+    ensures unwritten { IfSome (server_absence handle.old.held) (λ _.
+        (buf.new ≡ buf.old) × (count.new ≡ count.old)) }
     ensures done { OnServer handle.old.held handle.new.held (λ _ _. result ≡ number code.Done) }
     ensures copies { OnServer handle.old.held handle.new.held (λ before _.
         Copies (text_of before.entry) buf.old buf.new count.new) }
@@ -172,6 +175,7 @@ pub extern "C" fn tn_server_write(
 ) -> u32
     ensures refused { IfSome (server_absence handle.old.held) (λ code.
         (result ≡ number code) × (handle.new.held ≡ handle.old.held)) }
+    ensures unwritten { IfSome (server_absence handle.old.held) (λ _. count.new ≡ count.old) }
     ensures done { OnServer handle.old.held handle.new.held (λ _ _. result ≡ number code.Done) }
     ensures goes { OnServer handle.old.held handle.new.held (λ before after.
         (so_far : List ℕ) → Advances before.end (wrote bytes.now) so_far so_far after.end) }
@@ -196,6 +200,7 @@ pub extern "C" fn tn_server_pull(
 ) -> u32
     ensures refused { IfSome (server_absence handle.old.held) (λ code.
         (result ≡ number code) × (handle.new.held ≡ handle.old.held)) }
+    ensures unwritten { IfSome (server_absence handle.old.held) (λ _. count.new ≡ count.old) }
     ensures codes { OnServer handle.old.held handle.new.held (λ _ _.
         (result ≡ number code.Done) ⊎ (result ≡ number code.Memory)) }
     ensures ok { OnServer handle.old.held handle.new.held (λ before after.
@@ -230,6 +235,7 @@ pub extern "C" fn tn_server_wish(
 ) -> u32
     ensures refused { IfSome (server_absence handle.old.held) (λ code.
         (result ≡ number code) × (handle.new.held ≡ handle.old.held)) }
+    ensures unwritten { IfSome (server_absence handle.old.held) (λ _. sent.new ≡ sent.old) }
     ensures ok { OnServer handle.old.held handle.new.held (λ before after.
         result ≡ number code.Done → Advances before.end (wished (editing_given local))
         before.pending.items after.pending.items after.end) }
@@ -382,6 +388,7 @@ pub extern "C" fn tn_server_clear_mask(alloc: Global, handle: &mut Handle) -> u3
 pub extern "C" fn tn_server_pending(alloc: Global, handle: &mut Handle, count: &mut usize) -> u32
     ensures refused { IfSome (server_absence handle.old.held) (λ code.
         (result ≡ number code) × (handle.new.held ≡ handle.old.held)) }
+    ensures unwritten { IfSome (server_absence handle.old.held) (λ _. count.new ≡ count.old) }
     ensures done { OnServer handle.old.held handle.new.held (λ _ _. result ≡ number code.Done) }
     ensures count { OnServer handle.old.held handle.new.held (λ before _.
         count.new ≡ length before.pending.items) }
@@ -400,6 +407,8 @@ pub extern "C" fn tn_server_read(
 ) -> u32
     ensures refused { IfSome (server_absence handle.old.held) (λ code.
         (result ≡ number code) × (handle.new.held ≡ handle.old.held)) }
+    ensures unwritten { IfSome (server_absence handle.old.held) (λ _.
+        (buf.new ≡ buf.old) × (count.new ≡ count.old)) }
     ensures done { OnServer handle.old.held handle.new.held (λ _ _. result ≡ number code.Done) }
     ensures copies { OnServer handle.old.held handle.new.held (λ before _.
         Copies before.pending.items buf.old buf.new count.new) }
@@ -421,12 +430,38 @@ pub extern "C" fn tn_server_waiting(
 ) -> u32
     ensures refused { IfSome (server_absence handle.old.held) (λ code.
         (result ≡ number code) × (handle.new.held ≡ handle.old.held)) }
+    ensures unwritten { IfSome (server_absence handle.old.held) (λ _. kind.new ≡ kind.old) }
     ensures done { OnServer handle.old.held handle.new.held (λ _ _. result ≡ number code.Done) }
     ensures value { OnServer handle.old.held handle.new.held (λ before _.
         (h : History) → LeadsTo h before.end → kind.new ≡ kind_number (slice_get (waiting h) index)) }
     ensures same { handle.new.held ≡ handle.old.held }
 {
     call_held!(handle, alloc, Server, server => { *kind = server.waiting_kind(index); Code::Done })
+}
+
+/// Copies the first bytes of the text of an entry that waits, as many as fit, and says how many.
+#[unsafe(no_mangle)]
+pub extern "C" fn tn_server_waiting_text(
+    alloc: Global,
+    handle: &mut Handle,
+    index: usize,
+    buf: &mut [u8],
+    count: &mut usize,
+) -> u32
+    ensures refused { IfSome (server_absence handle.old.held) (λ code.
+        (result ≡ number code) × (handle.new.held ≡ handle.old.held)) }
+    ensures unwritten { IfSome (server_absence handle.old.held) (λ _.
+        (buf.new ≡ buf.old) × (count.new ≡ count.old)) }
+    ensures done { OnServer handle.old.held handle.new.held (λ _ _. result ≡ number code.Done) }
+    ensures copies { OnServer handle.old.held handle.new.held (λ before _.
+        (h : History) → LeadsTo h before.end →
+        Copies (text_of (slice_get (waiting h) index)) buf.old buf.new count.new) }
+    ensures same { handle.new.held ≡ handle.old.held }
+{
+    call_held!(
+        handle, alloc, Server,
+        server => { server.waiting_text(index, buf, count); Code::Done }
+    )
 }
 
 /// Gives the number of the first signal among the entries that wait.
@@ -438,6 +473,7 @@ pub extern "C" fn tn_server_signal_waiting(
 ) -> u32
     ensures refused { IfSome (server_absence handle.old.held) (λ code.
         (result ≡ number code) × (handle.new.held ≡ handle.old.held)) }
+    ensures unwritten { IfSome (server_absence handle.old.held) (λ _. kind.new ≡ kind.old) }
     ensures done { OnServer handle.old.held handle.new.held (λ _ _. result ≡ number code.Done) }
     ensures value { OnServer handle.old.held handle.new.held (λ before _.
         (h : History) → LeadsTo h before.end → kind.new ≡ signal_number (first_signal (waiting h))) }
@@ -456,6 +492,8 @@ pub extern "C" fn tn_server_size(
 ) -> u32
     ensures refused { IfSome (server_absence handle.old.held) (λ code.
         (result ≡ number code) × (handle.new.held ≡ handle.old.held)) }
+    ensures unwritten { IfSome (server_absence handle.old.held) (λ _.
+        (width.new ≡ width.old) × (height.new ≡ height.old)) }
     ensures done { OnServer handle.old.held handle.new.held (λ _ _. result ≡ number code.Done) }
     ensures value { OnServer handle.old.held handle.new.held (λ before _.
         (h : History) → LeadsTo h before.end → (width.new, height.new) ≡ size h) }
@@ -469,6 +507,7 @@ pub extern "C" fn tn_server_size(
 pub extern "C" fn tn_server_mode(alloc: Global, handle: &mut Handle, mask: &mut u8) -> u32
     ensures refused { IfSome (server_absence handle.old.held) (λ code.
         (result ≡ number code) × (handle.new.held ≡ handle.old.held)) }
+    ensures unwritten { IfSome (server_absence handle.old.held) (λ _. mask.new ≡ mask.old) }
     ensures done { OnServer handle.old.held handle.new.held (λ _ _. result ≡ number code.Done) }
     ensures value { OnServer handle.old.held handle.new.held (λ before _.
         (h : History) → LeadsTo h before.end → mask.new ≡ mode h) }
@@ -482,6 +521,7 @@ pub extern "C" fn tn_server_mode(alloc: Global, handle: &mut Handle, mask: &mut 
 pub extern "C" fn tn_server_asked(alloc: Global, handle: &mut Handle, mask: &mut u8) -> u32
     ensures refused { IfSome (server_absence handle.old.held) (λ code.
         (result ≡ number code) × (handle.new.held ≡ handle.old.held)) }
+    ensures unwritten { IfSome (server_absence handle.old.held) (λ _. mask.new ≡ mask.old) }
     ensures done { OnServer handle.old.held handle.new.held (λ _ _. result ≡ number code.Done) }
     ensures value { OnServer handle.old.held handle.new.held (λ before _.
         (h : History) → LeadsTo h before.end → mask.new ≡ asked_mask h) }
@@ -500,6 +540,8 @@ pub extern "C" fn tn_server_half(
 ) -> u32
     ensures refused { IfSome (server_absence handle.old.held) (λ code.
         (result ≡ number code) × (handle.new.held ≡ handle.old.held)) }
+    ensures unwritten { IfSome (server_absence handle.old.held) (λ _.
+        (buf.new ≡ buf.old) × (count.new ≡ count.old)) }
     ensures done { OnServer handle.old.held handle.new.held (λ _ _. result ≡ number code.Done) }
     ensures copies { OnServer handle.old.held handle.new.held (λ before _.
         (h : History) → LeadsTo h before.end → Copies (half h) buf.old buf.new count.new) }
@@ -518,6 +560,7 @@ pub extern "C" fn tn_server_char(
 ) -> u32
     ensures refused { IfSome (server_absence handle.old.held) (λ code.
         (result ≡ number code) × (handle.new.held ≡ handle.old.held)) }
+    ensures unwritten { IfSome (server_absence handle.old.held) (λ _. value.new ≡ value.old) }
     ensures codes { OnServer handle.old.held handle.new.held (λ _ _.
         (result ≡ number code.Done) ⊎ (result ≡ number code.NoFunction)) }
     ensures value { OnServer handle.old.held handle.new.held (λ before _.
@@ -543,6 +586,7 @@ pub extern "C" fn tn_server_option(
 ) -> u32
     ensures refused { IfSome (server_absence handle.old.held) (λ code.
         (result ≡ number code) × (handle.new.held ≡ handle.old.held)) }
+    ensures unwritten { IfSome (server_absence handle.old.held) (λ _. state.new ≡ state.old) }
     ensures done { OnServer handle.old.held handle.new.held (λ _ _. result ≡ number code.Done) }
     ensures value { OnServer handle.old.held handle.new.held (λ before _.
         (h : History) → LeadsTo h before.end →
@@ -560,6 +604,7 @@ pub extern "C" fn tn_server_option(
 pub extern "C" fn tn_server_failed(alloc: Global, handle: &mut Handle, failed: &mut bool) -> u32
     ensures refused { IfSome (server_absence handle.old.held) (λ code.
         (result ≡ number code) × (handle.new.held ≡ handle.old.held)) }
+    ensures unwritten { IfSome (server_absence handle.old.held) (λ _. failed.new ≡ failed.old) }
     ensures done { OnServer handle.old.held handle.new.held (λ _ _. result ≡ number code.Done) }
     ensures value { OnServer handle.old.held handle.new.held (λ before _. failed.new ≡ before.end.failed) }
     ensures same { handle.new.held ≡ handle.old.held }

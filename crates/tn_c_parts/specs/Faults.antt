@@ -16,6 +16,11 @@ char_code char.NotSettable = code.NotSettable
 char_code char.Reserved = code.Reserved
 char_code char.Taken = code.Taken
 
+-- what the change of a character answers
+abbrev pub char_answer : Option CharFault → Code
+char_answer None = code.Done
+char_answer (Some fault) = char_code fault
+
 abbrev pub pty_code : PtyFault → Code
 pty_code pty.TooFarAhead = code.TooFarAhead
 pty_code pty.Memory = code.Memory

@@ -20,7 +20,7 @@ ghost use Rattle.tn_c_parts.specs.declared.codes.Code.TheVariants as code;
 
 use crate::bytes::{copy_front, move_front};
 use crate::codes::Code;
-use crate::readings::{char_given, char_number, side_given, state_number};
+use crate::readings::{char_given, give_char, side_given, state_number};
 use std::alloc::Global;
 use tn_client::{ClientEnd, ClientFault};
 use tn_codes::Func;
@@ -211,13 +211,7 @@ impl HeldClient {
         ensures no_function { (result ≡ code.NoFunction) ↔ ((func : Func) → func_code func ≢ function) }
         ensures err { result ≡ code.NoFunction → value.new ≡ value.old }
     {
-        match Func::from_code(function) {
-            Some(func) => {
-                *value = char_number(self.end.chars().get(func));
-                Code::Done
-            },
-            None => Code::NoFunction,
-        }
+        give_char(&self.end.chars(), function, value)
     }
 
     /// The number of where an option stands, at our side or at theirs.

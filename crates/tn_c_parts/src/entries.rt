@@ -1,6 +1,6 @@
 //! The numbers of entries, and of what keys do.
 
-ghost use Rattle.std.specs.Prelude.{◌≡◌};
+ghost use Rattle.std.specs.Prelude.{◌≡◌, Some};
 ghost use Rattle.tn_c_parts.specs.Entries.{sig_number, entry_number, kind_number, effect_number, entry_given, text_of};
 
 use tn_discipline::{Effect, Entry, Sig};
@@ -56,6 +56,16 @@ pub(crate) fn entry_given(effect: Effect) -> Option<Entry>
     match effect {
         Effect::Gives(entry) => Some(entry),
         _ => None,
+    }
+}
+
+/// The bytes of an entry where it is a text.
+pub(crate) fn entry_text(entry: &Entry) -> &[u8]
+    ensures { result.now ≡ text_of (Some entry.now) }
+{
+    match entry {
+        Entry::Text(text) => text.as_slice(),
+        _ => &[],
     }
 }
 

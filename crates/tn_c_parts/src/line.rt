@@ -1,19 +1,25 @@
 //! A line that is typed, and the entry that its last key gave.
 
-ghost use Rattle.std.specs.Prelude.{◌≡◌, ◌⊎◌, None, [], ◌∷◌, IfOk};
+ghost use Rattle.std.specs.Prelude.{◌≡◌, ◌≢◌, ◌↔◌, ◌⊎◌, None, [], ◌∷◌, IfOk};
+ghost use Rattle.tn_codes.specs.Codes.{func_code};
+ghost use Rattle.tn_codes.specs.declared.codes.Func.{Func};
 ghost use Rattle.tn_discipline.specs.Advancing.{Advances};
-ghost use Rattle.tn_discipline.specs.Characters.{standard_characters};
+ghost use Rattle.tn_discipline.specs.Characters.{standard_characters, slot, with_slot, char_fault};
 ghost use Rattle.tn_discipline.specs.HalfLine.{empty_line, line_after, effect_of, effect_entries, GivesText};
 ghost use Rattle.tn_discipline.specs.Keys.{role_of_key, roles_of};
 ghost use Rattle.tn_c_parts.specs.Bytes.{Copies};
 ghost use Rattle.tn_c_parts.specs.Entries.{effect_number, entry_given, text_of};
+ghost use Rattle.tn_c_parts.specs.Faults.{char_answer};
+ghost use Rattle.tn_c_parts.specs.Readings.{char_given, char_number};
 ghost use Rattle.tn_c_parts.specs.declared.codes.Code.TheVariants as code;
 
 use crate::bytes::copy_front;
 use crate::codes::Code;
 use crate::entries::{effect_number, entry_given, text_of};
+use crate::readings::{char_given, give_char};
 use std::alloc::{AllocError, Global};
-use tn_discipline::{Chars, Entry, Flags, Limit, Line, Settings};
+use tn_codes::Func;
+use tn_discipline::{CharFault, Chars, Entry, Flags, Limit, Line, Settings};
 
 /// A line that is typed under some settings, and the entry that its last key gave.
 #[derive(Drop)]
@@ -81,5 +87,62 @@ impl HeldLine {
         ensures { Copies self.now.line.held buf.old buf.new count.new }
     {
         *count = copy_front(self.line.held(), buf);
+    }
+
+    /// Goes on under these flags; the half line stays.
+    pub fn set_flags(&mut self, flags: Flags)
+        ensures settings { self.new.settings ≡ record { flags = flags; chars = self.old.settings.chars } }
+        ensures line { self.new.line ≡ self.old.line }
+        ensures entry { self.new.entry ≡ self.old.entry }
+    {
+        self.settings.flags = flags;
+    }
+
+    /// Changes the special character of a function, or disables it; the half line stays.
+    pub fn set_char(&mut self, func: Func, value: Option<u8>) -> Code
+        ensures ok { result ≡ code.Done →
+            self.new.settings.chars ≡ with_slot self.old.settings.chars func value }
+        ensures answer { result ≡ char_answer (char_fault self.old.settings.chars func value) }
+        ensures known { result ≢ code.NoFunction }
+        ensures err { result ≢ code.Done → self.new.settings ≡ self.old.settings }
+        ensures flags { self.new.settings.flags ≡ self.old.settings.flags }
+        ensures line { self.new.line ≡ self.old.line }
+        ensures entry { self.new.entry ≡ self.old.entry }
+    {
+        match self.settings.chars.set(func, value) {
+            Ok(()) => Code::Done,
+            Err(CharFault::NotSettable) => Code::NotSettable,
+            Err(CharFault::Reserved) => Code::Reserved,
+            Err(CharFault::Taken) => Code::Taken,
+        }
+    }
+
+    /// Changes the special character of the function with this number, as C gives both.
+    pub fn set_function(&mut self, function: u8, value: u16) -> Code
+        ensures ok { result ≡ code.Done → (func : Func) → func_code func ≡ function →
+            self.new.settings.chars ≡ with_slot self.old.settings.chars func (char_given value) }
+        ensures answer { (func : Func) → func_code func ≡ function →
+            result ≡ char_answer (char_fault self.old.settings.chars func (char_given value)) }
+        ensures no_function { (result ≡ code.NoFunction) ↔ ((func : Func) → func_code func ≢ function) }
+        ensures err { result ≢ code.Done → self.new.settings ≡ self.old.settings }
+        ensures flags { self.new.settings.flags ≡ self.old.settings.flags }
+        ensures line { self.new.line ≡ self.old.line }
+        ensures entry { self.new.entry ≡ self.old.entry }
+    {
+        match Func::from_code(function) {
+            Some(func) => self.set_char(func, char_given(value)),
+            None => Code::NoFunction,
+        }
+    }
+
+    /// Gives the number of the special character of the function with this number; 256 where it is disabled.
+    pub fn function_char(&self, function: u8, value: &mut u16) -> Code
+        ensures codes { (result ≡ code.Done) ⊎ (result ≡ code.NoFunction) }
+        ensures value { (func : Func) → func_code func ≡ function →
+            value.new ≡ char_number (slot self.now.settings.chars func) }
+        ensures no_function { (result ≡ code.NoFunction) ↔ ((func : Func) → func_code func ≢ function) }
+        ensures err { result ≡ code.NoFunction → value.new ≡ value.old }
+    {
+        give_char(&self.settings.chars, function, value)
     }
 }

@@ -1,8 +1,15 @@
 //! The numbers of what an end tells of itself.
 
-ghost use Rattle.std.specs.Prelude.{◌≡◌};
+ghost use Rattle.std.specs.Prelude.{◌≡◌, ◌≢◌, ◌↔◌, ◌⊎◌};
+ghost use Rattle.tn_codes.specs.Codes.{func_code};
+ghost use Rattle.tn_codes.specs.declared.codes.Func.{Func};
+ghost use Rattle.tn_discipline.specs.Characters.{slot};
 ghost use Rattle.tn_c_parts.specs.Readings.{char_number, char_given, editing_given, side_given, state_number};
+ghost use Rattle.tn_c_parts.specs.declared.codes.Code.TheVariants as code;
 
+use crate::codes::Code;
+use tn_codes::Func;
+use tn_discipline::Chars;
 use tn_option::{QState, Side};
 use tn_server::Editing;
 
@@ -27,6 +34,23 @@ pub(crate) fn char_given(value: u16) -> Option<u8>
         Some(value as u8)
     } else {
         None
+    }
+}
+
+/// Gives the number of the special character of the function with this number; 256 where it is disabled.
+pub(crate) fn give_char(chars: &Chars, function: u8, value: &mut u16) -> Code
+    ensures codes { (result ≡ code.Done) ⊎ (result ≡ code.NoFunction) }
+    ensures value { (func : Func) → func_code func ≡ function →
+        value.new ≡ char_number (slot chars.now func) }
+    ensures no_function { (result ≡ code.NoFunction) ↔ ((func : Func) → func_code func ≢ function) }
+    ensures err { result ≡ code.NoFunction → value.new ≡ value.old }
+{
+    match Func::from_code(function) {
+        Some(func) => {
+            *value = char_number(chars.get(func));
+            Code::Done
+        },
+        None => Code::NoFunction,
     }
 }
 

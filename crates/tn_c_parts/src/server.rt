@@ -29,8 +29,8 @@ ghost use Rattle.tn_c_parts.specs.declared.codes.Code.TheVariants as code;
 
 use crate::bytes::{copy_front, move_front};
 use crate::codes::Code;
-use crate::entries::{entry_number, kind_number, sig_number, text_of};
-use crate::readings::{char_given, char_number, editing_given, side_given, state_number};
+use crate::entries::{entry_number, entry_text, kind_number, sig_number, text_of};
+use crate::readings::{char_given, editing_given, give_char, side_given, state_number};
 use std::alloc::Global;
 use tn_codes::{Func, Mask};
 use tn_discipline::{CharFault, Entry, Limit, Settings};
@@ -345,6 +345,19 @@ impl HeldServer {
         }
     }
 
+    /// Copies the first bytes of the text of an entry that waits, by its place from the first on, as many as
+    /// fit, and says how many; the entry stays.
+    pub fn waiting_text(&self, index: usize, buf: &mut [u8], count: &mut usize)
+        ensures { (h : History) → LeadsTo h self.now.end →
+            Copies (text_of (slice_get (waiting h) index)) buf.old buf.new count.new }
+    {
+        let waiting = self.end.waiting(index);
+        match waiting {
+            Some(entry) => *count = copy_front(entry_text(entry), buf),
+            None => *count = copy_front(&[], buf),
+        }
+    }
+
     /// The number of the first signal among the entries that wait; 0 where there is none.
     pub fn signal_waiting(&self) -> u32
         ensures { (h : History) → LeadsTo h self.now.end → result ≡ signal_number (first_signal (waiting h)) }
@@ -372,13 +385,7 @@ impl HeldServer {
         ensures no_function { (result ≡ code.NoFunction) ↔ ((func : Func) → func_code func ≢ function) }
         ensures err { result ≡ code.NoFunction → value.new ≡ value.old }
     {
-        match Func::from_code(function) {
-            Some(func) => {
-                *value = char_number(self.end.chars().get(func));
-                Code::Done
-            },
-            None => Code::NoFunction,
-        }
+        give_char(&self.end.chars(), function, value)
     }
 
     /// The number of where an option stands, at our side or at theirs.

@@ -1,5 +1,5 @@
 use Rattle.std.proofs.Common.{refl}
-use Rattle.tn_c_parts.proofs.client.HeldClient.function_char.Goals as goal
+use Rattle.tn_c_parts.proofs.readings.give_char.Goals as goal
 
 pub returns-in-Some-clause-no_function : goal.returns-in-Some-clause-no_function
 returns-in-Some-clause-no_function c =
