@@ -21,9 +21,11 @@ status_after_sessions (Err fault) = status_of_connection fault
 abbrev pub status_of : Outcome → ℕ
 status_of (outcome.Local ended) = status_after ended
 status_of (outcome.Replay ended) = status_after ended
+status_of (outcome.Decode ended) = status_after ended
 status_of (outcome.World ended) = status_after ended
 status_of (outcome.Served ended) = status_after_sessions ended
 status_of (outcome.Connected ended) = status_after_sessions ended
 status_of (outcome.Help ended) = status_after ended
-status_of outcome.Usage = 2
+status_of (outcome.Version ended) = status_after ended
+status_of (outcome.Usage detail) = 2
 status_of outcome.Memory = 1

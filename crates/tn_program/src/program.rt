@@ -1,8 +1,8 @@
 //! The program: words and streams in, a status out.
 
-ghost use Rattle.std.specs.Prelude.{◌≡◌, ◌≢◌, ◌⊎◌, IfErr, IfOk, IsOk, OnErr, map, string_bytes};
+ghost use Rattle.std.specs.Prelude.{◌≡◌, ◌≢◌, ◌⊎◌, None, IfErr, IfOk, IsOk, OnErr, map, string_bytes};
 ghost use Rattle.std.specs.IoError.{error_kind};
-ghost use Rattle.tn_program.specs.Outcomes.{ComesOf, ComesOfRun, EndsWith, AskForNothing};
+ghost use Rattle.tn_program.specs.Outcomes.{ComesOf, ComesOfRun, EndsVersion, EndsWith, AskForNothing};
 ghost use Rattle.tn_program.specs.Runs.{DoesAsAsked};
 
 use crate::outcome::Outcome;
@@ -13,11 +13,12 @@ use std::io::{ErrorKind, Read, Write};
 use std::net::{Net, TcpListener, TcpStream};
 use tn_cli::{CliFault, run_local, run_replay, run_world};
 use tn_loopback::{Host, Serving, connect, serve};
-use tn_words::{Asked, WordsFault, read_words};
+use tn_words::{Asked, VERSION_LINE, WordsFault, read_words};
 
 /// Runs what the words of the command line ask for, where they could be read. The program's name is the
 /// first of them. Returns the status to end with: 0 where that was done, and else the status of its fault
-/// (`EndsWith`). A fault is reported in one line on `errors`; a line that cannot be written is dropped.
+/// (`EndsWith`). A fault is reported in one line on `errors`, and behind it what is wrong with words; a line
+/// that cannot be written is dropped.
 pub fn run_words<
     H: Host + Net<Listener = TcpListener, Stream = TcpStream>,
     R: Read + Drop + Send + 'static,
@@ -65,7 +66,7 @@ pub fn outcome_of_words<
     ensures memory { IfErr words (λ error. error_kind error ≡ ErrorKind.OutOfMemory →
         result ≡ Outcome.Memory) }
     ensures usage { IfErr words (λ error. error_kind error ≢ ErrorKind.OutOfMemory →
-        result ≡ Outcome.Usage) }
+        result ≡ Outcome.Usage None) }
     ensures unwritten { OnErr words (W.contents writer.new ≡ W.contents writer.old) }
     ensures comes { IfOk words (λ words. ComesOf (map string_bytes words.items) (R.remaining reader)
         (W.contents writer.old) (W.contents writer.new) result) }
@@ -80,12 +81,12 @@ pub fn outcome_of_words<
 // accepted.
 fn refusal(kind: ErrorKind) -> Outcome
     ensures memory { kind ≡ ErrorKind.OutOfMemory → result ≡ Outcome.Memory }
-    ensures usage { kind ≢ ErrorKind.OutOfMemory → result ≡ Outcome.Usage }
+    ensures usage { kind ≢ ErrorKind.OutOfMemory → result ≡ Outcome.Usage None }
 {
     if kind == ErrorKind::OutOfMemory {
         return Outcome::Memory;
     }
-    Outcome::Usage
+    Outcome::Usage(None)
 }
 
 fn run_strings<
@@ -128,8 +129,18 @@ fn run_texts<
             let written = writer.write_all(text.as_bytes());
             return Outcome::Help(written.map_err(|_| CliFault::Write));
         },
+        Err(WordsFault::Version) => return Outcome::Version(write_version(writer)),
         Err(WordsFault::Memory) => return Outcome::Memory,
-        Err(WordsFault::Usage) => return Outcome::Usage,
+        Err(WordsFault::Usage(detail)) => return Outcome::Usage(Some(detail)),
+    }
+}
+
+fn write_version<W: Write>(writer: &mut W) -> Result<(), CliFault>
+    ensures { EndsVersion result (W.contents writer.old) (W.contents writer.new) }
+{
+    match writer.write_all(VERSION_LINE.as_bytes()) {
+        Ok(()) => Ok(()),
+        Err(_) => Err(CliFault::Write),
     }
 }
 
@@ -144,6 +155,7 @@ fn run_asked<
     match asked {
         Asked::Local => Outcome::Local(run_local(alloc, &mut reader, writer)),
         Asked::Replay => Outcome::Replay(run_replay(alloc, &mut reader, writer)),
+        Asked::Decode => Outcome::Decode(Err(CliFault::Read)),
         Asked::World => Outcome::World(run_world(alloc, &mut reader, writer)),
         Asked::Serve(asked) => {
             let (host, service) = (asked.host.as_str(), Answering { ticks: asked.ticks });
@@ -156,7 +168,7 @@ fn run_asked<
             Outcome::Served(serve(rt, alloc, host, asked.port, serving, service, errors))
         },
         Asked::Connect(asked) => {
-            Outcome::Connected(connect(rt, alloc, connecting_of(asked), reader, writer))
+            Outcome::Connected(connect(rt, alloc, connecting_of(&asked), reader, writer))
         },
     }
 }

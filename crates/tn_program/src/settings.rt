@@ -43,13 +43,18 @@ pub(crate) fn options_of(asked: &tn_words::Serving) -> SessionOptions
     }
 }
 
-pub(crate) fn connecting_of(asked: tn_words::Connecting) -> Connecting
-    ensures { result ≡ connecting_as asked }
+/// The width and the height of a window of which no size is known.
+const WIDTH: u16 = 80;
+
+const HEIGHT: u16 = 24;
+
+pub(crate) fn connecting_of(asked: &tn_words::Connecting) -> Connecting
+    ensures { result ≡ connecting_as asked.now }
 {
     Connecting {
         port: asked.port,
-        width: asked.width,
-        height: asked.height,
+        width: asked.width.unwrap_or(WIDTH),
+        height: asked.height.unwrap_or(HEIGHT),
         line_limit: asked.line_limit,
     }
 }

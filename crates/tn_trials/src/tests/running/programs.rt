@@ -1,4 +1,4 @@
-//! The program as a whole: the line that tells a fault, and the status.
+//! The program as a whole: what tells a fault, and the status.
 
 use std::alloc::{AllocError, Global};
 use std::io::{self, Cursor, ErrorKind, Write};
@@ -31,24 +31,30 @@ fn words_of(alloc: Global, word: &str) -> Result<Vec<String>, AllocError> {
     Ok(words)
 }
 
-// Whether a run ended with this status and told this, or nothing, or else that there was no memory.
+// Whether a run ended with this status and told this, as far as there was memory, or else that there was none.
 fn is_told(ended: u8, errors: &[u8], status: u8, told: &[u8]) -> bool {
     if errors == b"tn: memory\n".as_slice() {
         return ended == 1;
     }
-    ended == status && (errors.is_empty() || errors == told)
+    ended == status && told.starts_with(errors)
 }
+
+/// What is told of a word that is no subcommand.
+const UNKNOWN: &[u8] = b"tn: usage\nerror: unrecognized subcommand 'frobnicate'\n\n\
+    Usage: tn <COMMAND>\n\nFor more information, try '--help'.\n";
 
 /// A word, whether its output can be written, what is told, and the status.
 const WORDS: &[(&str, bool, &[u8], u8)] = &[
-    ("frobnicate", true, b"tn: usage\n", 2),
+    ("frobnicate", true, UNKNOWN, 2),
     ("local", true, b"", 0),
     ("local", false, b"tn: write\n", 1),
     ("--help", false, b"tn: write\n", 1),
+    ("--version", false, b"tn: write\n", 1),
+    ("--version", true, b"", 0),
 ];
 
 #[test]
-fn faults_are_told_in_a_line(rt: HostRuntime) {
+fn faults_are_told(rt: HostRuntime) {
     let alloc = rt.alloc();
     for (word, open, told, status) in WORDS {
         let Ok(words) = words_of(alloc, word) else {
