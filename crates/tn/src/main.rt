@@ -9,13 +9,24 @@
 //! words are read by `tn_words`, and what they ask for is done by `tn_program`: here the handle of the
 //! runtime, the words and the streams are handed on, and the status comes back.
 //!
-//! It sets no terminal to raw mode, which the launcher `./tn` does for `connect`. It listens on and
-//! connects to this machine alone, asks for no password, encrypts nothing, and reads no urgent data.
+//! It sets no terminal to raw mode, which the launcher `./tn` does for `connect`. It asks for no password, encrypts nothing, and reads no urgent data.
 #![tactic(auto)]
 
+use std::env::{Env, FillError};
 use std::process::ExitCode;
 use std::{env, io};
-use tn_program::run_words;
+use tn_program::{Origin, run_words_from};
+
+/// The environment variable by which the launcher says that standard input is a terminal in raw mode.
+const TERMINAL: &str = "TN_TERMINAL";
+
+fn origin_of<R: Env>(rt: &R) -> Origin {
+    let mut value = [0; 1];
+    match rt.var(TERMINAL, &mut value) {
+        Err(FillError::NotPresent) => Origin::Input,
+        _ => Origin::Terminal,
+    }
+}
 
 fn main(rt: HostRuntime) -> ExitCode {
     let alloc = rt.alloc();
@@ -23,10 +34,11 @@ fn main(rt: HostRuntime) -> ExitCode {
         Ok(words) => words.collect(alloc).map_err(io::Error::from),
         Err(error) => Err(error),
     };
-    let status = run_words(
+    let status = run_words_from(
         rt,
         alloc,
         words,
+        origin_of(&rt),
         rt.stdin(),
         &mut rt.stdout(),
         &mut rt.stderr(),

@@ -32,6 +32,7 @@ disconnected connection.Network zero = omega (arith, zero)
 disconnected connection.Session zero = omega (arith, zero)
 disconnected connection.Limit zero = omega (arith, zero)
 disconnected connection.Memory zero = omega (arith, zero)
+disconnected connection.Trace zero = omega (arith, zero)
 
 -- the run that was asked for
 
@@ -41,7 +42,7 @@ ran a input old new (outcome.Local (Ok done)) (e, ends) zero = subst (λ a. Runs
 ran a input old new (outcome.Local (Err f)) h zero = absurd (faulted f zero)
 ran a input old new (outcome.Replay (Ok done)) (e, ends) zero = subst (λ a. RunsAsked a input old new) (sym e) ends.run.ok
 ran a input old new (outcome.Replay (Err f)) h zero = absurd (faulted f zero)
-ran a input old new (outcome.Decode (Ok done)) (e, ends) zero = let bad = ends.fault in absurd (cc)
+ran a input old new (outcome.Decode (Ok done)) (e, ends) zero = subst (λ a. RunsAsked a input old new) (sym e) ends.run.ok
 ran a input old new (outcome.Decode (Err f)) h zero = absurd (faulted f zero)
 ran a input old new (outcome.World (Ok done)) (e, ends) zero = subst (λ a. RunsAsked a input old new) (sym e) ends.run.ok
 ran a input old new (outcome.World (Err f)) h zero = absurd (faulted f zero)

@@ -1,7 +1,7 @@
 -- What comes of the words of a command line.
 use Rattle.std.specs.Prelude.{◌≡◌, ◌≢◌, ◌⊎◌, ⊤, ℕ, Option, Some, None, Result, Err, OnOk, OnErr, IfOk, IfErr, IsErrOf, List}
 use Rattle.std.specs.Io.KnownBytes.{Appends}
-use Rattle.tn_cli.specs.Ends.{EndsLocal, EndsReplay, EndsWorld}
+use Rattle.tn_cli.specs.Ends.{EndsDecode, EndsLocal, EndsReplay, EndsWorld}
 use Rattle.tn_cli.specs.declared.fault.CliFault.{CliFault}
 use Rattle.tn_cli.specs.declared.fault.CliFault.TheVariants as fault
 use Rattle.tn_loopback.specs.Ends.{EndsWhole, RunsClient, ServesAll}
@@ -11,7 +11,7 @@ use Rattle.tn_loopback.specs.declared.served.Served.{Served}
 use Rattle.tn_program.specs.Statuses.{status_of}
 use Rattle.tn_program.specs.declared.outcome.Outcome.{Outcome}
 use Rattle.tn_program.specs.declared.outcome.Outcome.TheVariants as outcome
-use Rattle.tn_program.specs.Settings.{connecting_as}
+use Rattle.tn_program.specs.Settings.{window_as}
 use Rattle.tn_roster.specs.Held.{IsLimit}
 use Rattle.tn_session.specs.declared.parties.ClientPorts.{ClientPorts}
 use Rattle.tn_session.specs.declared.parties.Report.{Report}
@@ -33,7 +33,7 @@ pub record EndsServing (serving : Serving) (ended : Result Served LoopbackFault)
 -- What came of connecting.
 pub record EndsConnecting (connecting : Connecting) (ended : Result (Report × ClientPorts) LoopbackFault)
     (input old new : Option (List ℕ)) : Type 0 where
-  pub ran : IfOk ended (λ r. RunsClient (connecting_as connecting) input old new r.0 r.1)
+  pub ran : IfOk ended (λ r. RunsClient (window_as connecting) input old new r.0 r.1)
   pub whole : IfOk ended (λ r. EndsWhole r.0)
   pub unwritten : OnErr ended (ended ≢ Err connection.Session → new ≡ old)
   pub no_limit : ended ≢ Err connection.Limit
@@ -48,16 +48,11 @@ pub record EndsVersion (ended : Result ⊤ CliFault) (old new : Option (List ℕ
   pub ok : OnOk ended (Appends old new version_line)
   pub fault : IfErr ended (λ f. f ≡ fault.Write)
 
--- Nothing is decoded yet.
-pub record EndsDecode (ended : Result ⊤ CliFault) (old new : Option (List ℕ)) : Type 0 where
-  pub fault : ended ≡ Err fault.Read
-  pub unwritten : new ≡ old
-
 -- what was asked for was run, and this came of it
 abbrev pub ComesOfRun : Asked → Option (List ℕ) → Option (List ℕ) → Option (List ℕ) → Outcome → Type 0
 ComesOfRun a input old new (outcome.Local ended) = (a ≡ asked.Local) × EndsLocal ended input old new
 ComesOfRun a input old new (outcome.Replay ended) = (a ≡ asked.Replay) × EndsReplay ended input old new
-ComesOfRun a input old new (outcome.Decode ended) = (a ≡ asked.Decode) × EndsDecode ended old new
+ComesOfRun a input old new (outcome.Decode ended) = (a ≡ asked.Decode) × EndsDecode ended input old new
 ComesOfRun a input old new (outcome.World ended) = (a ≡ asked.World) × EndsWorld ended input old new
 ComesOfRun a input old new (outcome.Served ended) =
     (serving : Serving) × (a ≡ asked.Serve serving) × EndsServing serving ended old new

@@ -8,9 +8,12 @@
 #![tactic(auto)]
 
 pub use outcome::Outcome;
-pub use program::{outcome_of_words, run_words};
+pub use program::{outcome_of_words, run_words, run_words_from};
+pub use seat::Seat;
 pub use settings::Answering;
+pub use tn_loopback::Origin;
 
 mod outcome;
 mod program;
+mod seat;
 mod settings;

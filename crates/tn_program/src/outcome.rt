@@ -91,6 +91,7 @@ fn after_sessions<T>(ended: &Result<T, LoopbackFault>) -> u8
         Ok(_) => 0,
         Err(LoopbackFault::Network) => 1,
         Err(LoopbackFault::Memory) => 1,
+        Err(LoopbackFault::Trace) => 1,
         Err(LoopbackFault::Limit) => 2,
         Err(LoopbackFault::Session) => 3,
     }
