@@ -12,6 +12,7 @@ use std::io;
 use std::io::{ErrorKind, Print, Read};
 use std::sync::Arc;
 use tn_escape::{Command, Escaping, Typed};
+use tn_streams::Source;
 
 /// The descriptor of standard input (POSIX, `STDIN_FILENO`).
 const STANDARD_INPUT: i32 = 0;
@@ -130,8 +131,8 @@ fn place_of(is_here: bool) -> &'static str {
     if is_here { "here" } else { "at the other end" }
 }
 
-impl<H: Host, K: Read> Read for Console<H, K> {
-    fn read(&mut self, buf: &mut [u8]) -> io::Result<usize> {
+impl<H: Host, K: Read> Source for Console<H, K> {
+    fn read_some(&mut self, buf: &mut [u8]) -> io::Result<usize> {
         self.throttle.wait();
         if !self.is_ready() {
             return Ok(0);
