@@ -9,13 +9,14 @@
 //! words are read by `tn_words`, and what they ask for is done by `tn_program`: here the handle of the
 //! runtime, the words and the streams are handed on, and the status comes back.
 //!
-//! It sets no terminal to raw mode, which the launcher `./tn` does for `connect`. It asks for no password, encrypts nothing, and reads no urgent data.
+//! It sets no terminal to raw mode, which the launcher `./tn` does for `connect`. It asks for no password,
+//! encrypts nothing, and reads no urgent data.
 #![tactic(auto)]
 
 use std::env::{Env, FillError};
 use std::process::ExitCode;
 use std::{env, io};
-use tn_program::{Origin, run_words_from};
+use tn_program::{Origin, Seat, run_words};
 
 /// The environment variable by which the launcher says that standard input is a terminal in raw mode.
 const TERMINAL: &str = "TN_TERMINAL";
@@ -34,14 +35,10 @@ fn main(rt: HostRuntime) -> ExitCode {
         Ok(words) => words.collect(alloc).map_err(io::Error::from),
         Err(error) => Err(error),
     };
-    let status = run_words_from(
-        rt,
-        alloc,
-        words,
-        origin_of(&rt),
-        rt.stdin(),
-        &mut rt.stdout(),
-        &mut rt.stderr(),
-    );
+    let seat = Seat {
+        origin: origin_of(&rt),
+        reader: rt.stdin(),
+    };
+    let status = run_words(rt, alloc, words, seat, &mut rt.stdout(), &mut rt.stderr());
     ExitCode::from(status)
 }

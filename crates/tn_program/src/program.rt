@@ -15,13 +15,13 @@ use std::io;
 use std::io::{ErrorKind, Read, Write};
 use std::net::{Net, TcpListener, TcpStream};
 use tn_cli::{CliFault, run_decode, run_local, run_replay, run_world};
-use tn_loopback::{Host, LoopbackFault, Notes, Origin, Serving, connect, serve};
+use tn_loopback::{Host, LoopbackFault, Notes, Serving, connect, serve};
 use tn_words::{Asked, Connecting, VERSION_LINE, WordsFault, read_words};
 
-/// Runs what the words of the command line ask for, where they could be read, with a reader of which nothing
-/// else is known. The program's name is the first of them. Returns the status to end with: 0 where that was
-/// done, and else the status of its fault (`EndsWith`). A fault is reported in one line on `errors`, and
-/// behind it what is wrong with words, or why; a line that cannot be written is dropped.
+/// Runs what the words of the command line ask for, where they could be read. The program's name is the
+/// first of them. Returns the status to end with: 0 where that was done, and else the status of its fault
+/// (`EndsWith`). A fault is reported in one line on `errors`, and behind it what is wrong with words, or why;
+/// a line that cannot be written is dropped. Of a seat at standard input nothing is known beforehand.
 pub fn run_words<
     H: Host + Files<File = File> + Net<Listener = TcpListener, Stream = TcpStream>,
     R: Read + Drop + Send + 'static,
@@ -31,7 +31,7 @@ pub fn run_words<
     rt: H,
     alloc: Global,
     words: io::Result<Vec<String>>,
-    reader: R,
+    seat: Seat<R>,
     writer: &mut W,
     errors: &mut E,
 ) -> u8
@@ -40,45 +40,15 @@ pub fn run_words<
     ensures usage { IfErr words (λ error. error_kind error ≢ ErrorKind.OutOfMemory → result ≡ 2) }
     ensures unwritten { OnErr words (W.contents writer.new ≡ W.contents writer.old) }
     ensures done { result ≡ 0 → IfOk words (λ words. DoesAsAsked (map string_bytes words.items)
-        (R.remaining reader) (W.contents writer.old) (W.contents writer.new)) }
+        (foreseen seat.origin (R.remaining seat.reader))
+        (W.contents writer.old) (W.contents writer.new)) }
     ensures ended { IfOk words (λ words. EndsWith (map string_bytes words.items)
-        (R.remaining reader) (W.contents writer.old) (W.contents writer.new) result) }
+        (foreseen seat.origin (R.remaining seat.reader))
+        (W.contents writer.old) (W.contents writer.new) result) }
     // 1 when out of memory
     ensures refused { IfOk words (λ words. AskForNothing (map string_bytes words.items) →
         ((result ≡ 2) ⊎ (result ≡ 1)) × (W.contents writer.new ≡ W.contents writer.old)) }
 {
-    run_words_from(rt, alloc, words, Origin::Reader, reader, writer, errors)
-}
-
-/// The same, where the reader is known to be standard input, or a terminal: of a connection's keys nothing
-/// is known beforehand then.
-pub fn run_words_from<
-    H: Host + Files<File = File> + Net<Listener = TcpListener, Stream = TcpStream>,
-    R: Read + Drop + Send + 'static,
-    W: Write,
-    E: Write,
->(
-    rt: H,
-    alloc: Global,
-    words: io::Result<Vec<String>>,
-    origin: Origin,
-    reader: R,
-    writer: &mut W,
-    errors: &mut E,
-) -> u8
-    ensures had { result ≡ 0 → IsOk words }
-    ensures memory { IfErr words (λ error. error_kind error ≡ ErrorKind.OutOfMemory → result ≡ 1) }
-    ensures usage { IfErr words (λ error. error_kind error ≢ ErrorKind.OutOfMemory → result ≡ 2) }
-    ensures unwritten { OnErr words (W.contents writer.new ≡ W.contents writer.old) }
-    ensures done { result ≡ 0 → IfOk words (λ words. DoesAsAsked (map string_bytes words.items)
-        (foreseen origin (R.remaining reader)) (W.contents writer.old) (W.contents writer.new)) }
-    ensures ended { IfOk words (λ words. EndsWith (map string_bytes words.items)
-        (foreseen origin (R.remaining reader)) (W.contents writer.old) (W.contents writer.new) result) }
-    // 1 when out of memory
-    ensures refused { IfOk words (λ words. AskForNothing (map string_bytes words.items) →
-        ((result ≡ 2) ⊎ (result ≡ 1)) × (W.contents writer.new ≡ W.contents writer.old)) }
-{
-    let seat = Seat { origin, reader };
     let mut causes = Vec::new(alloc);
     let outcome = outcome_of_words(rt, alloc, words, seat, writer, errors, &mut causes);
     outcome.tell(errors);

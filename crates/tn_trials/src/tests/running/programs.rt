@@ -2,7 +2,7 @@
 
 use std::alloc::{AllocError, Global};
 use std::io::{self, Cursor, ErrorKind, Write};
-use tn_program::run_words;
+use tn_program::{Origin, Seat, run_words};
 
 /// Takes all that is written, or fails.
 #[derive(Drop)]
@@ -31,7 +31,8 @@ fn words_of(alloc: Global, word: &str) -> Result<Vec<String>, AllocError> {
     Ok(words)
 }
 
-// Whether a run ended with this status and told this, as far as there was memory, or else that there was none.
+// Whether a run ended with this status and told this, as far as there was memory, or else that there was
+// none.
 fn is_told(ended: u8, errors: &[u8], status: u8, told: &[u8]) -> bool {
     if errors == b"tn: memory\n".as_slice() {
         return ended == 1;
@@ -62,8 +63,11 @@ fn faults_are_told(rt: HostRuntime) {
         };
         let mut errors = Vec::new(alloc);
         let mut writer = Paper { open: *open };
-        let keys = Cursor::new(*b"a\n");
-        let ended = run_words(rt, alloc, Ok(words), keys, &mut writer, &mut errors);
+        let seat = Seat {
+            origin: Origin::Reader,
+            reader: Cursor::new(*b"a\n"),
+        };
+        let ended = run_words(rt, alloc, Ok(words), seat, &mut writer, &mut errors);
         assert!(rt; is_told(ended, &errors, *status, told));
     }
 }
@@ -84,7 +88,11 @@ fn the_line_of_a_fault_is_told(rt: HostRuntime) {
         };
         let mut output = Vec::new(alloc);
         let mut errors = Vec::new(alloc);
-        let ended = run_words(rt, alloc, Ok(words), *script, &mut output, &mut errors);
+        let seat = Seat {
+            origin: Origin::Reader,
+            reader: *script,
+        };
+        let ended = run_words(rt, alloc, Ok(words), seat, &mut output, &mut errors);
         assert!(rt; is_told(ended, &errors, *status, told));
     }
 }
