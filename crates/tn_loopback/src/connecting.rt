@@ -190,7 +190,10 @@ pub fn connect<
         link,
         trace,
     } = talked?;
-    note_causes(causes, &ended, &sent, outgoing.waiting());
+    if let Some(fault) = fault_of(&ended) {
+        note_fault(causes, fault, &link);
+    }
+    note_unsent(causes, &sent, outgoing.waiting());
     if !trace.end() {
         let _ = writeln!(causes, "tn: the trace is not whole");
     }
@@ -201,23 +204,31 @@ pub fn connect<
     Ok(ended)
 }
 
-// Notes why a session ended in a fault, and what was not sent.
-fn note_causes<P: Drop>(
-    causes: &mut Vec<u8>,
-    ended: &Result<(Report, P), SessionFault>,
-    sent: &io::Result<()>,
-    waiting: usize,
-) {
+// The fault that a session ended in, if it did.
+fn fault_of<P: Drop>(ended: &Result<(Report, P), SessionFault>) -> Option<SessionFault> {
     match ended {
-        Ok((report, _)) => {
-            if let Ended::Fault(fault) = report.ended {
-                note_fault(causes, fault);
-            }
+        Ok((report, _)) => match report.ended {
+            Ended::Fault(fault) => Some(fault),
+            Ended::HangUp | Ended::Done => None,
         },
-        Err(fault) => note_fault(causes, *fault),
+        Err(fault) => Some(*fault),
     }
+}
+
+fn note_fault(causes: &mut Vec<u8>, fault: SessionFault, link: &Link) {
+    let _ = match fault {
+        SessionFault::Read if link.is_broken() => writeln!(causes, "tn: the connection broke"),
+        SessionFault::Read => writeln!(causes, "tn: the keys could not be read"),
+        SessionFault::Write if link.is_dark() => writeln!(causes, "tn: the screen takes no more"),
+        SessionFault::Write => writeln!(causes, "tn: the connection takes no more"),
+        fault => writeln!(causes, "tn: {}", fault),
+    };
+}
+
+// Notes what was not sent, and why.
+fn note_unsent(causes: &mut Vec<u8>, sent: &io::Result<()>, waiting: usize) {
     if let Err(error) = sent {
-        let _ = writeln!(causes, "tn: the connection takes no more: {}", error);
+        let _ = writeln!(causes, "tn: sending failed: {}", error);
     }
     if waiting > 0 {
         let _ = writeln!(
@@ -226,14 +237,6 @@ fn note_causes<P: Drop>(
             waiting
         );
     }
-}
-
-fn note_fault(causes: &mut Vec<u8>, fault: SessionFault) {
-    let _ = match fault {
-        SessionFault::Read => writeln!(causes, "tn: the keys or the connection could not be read"),
-        SessionFault::Write => writeln!(causes, "tn: the screen or the connection takes no more"),
-        fault => writeln!(causes, "tn: {}", fault),
-    };
 }
 
 // The result of a session that ended without a fault.

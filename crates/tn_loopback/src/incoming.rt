@@ -104,7 +104,7 @@ impl<H: Copy + Wait, N: Read> Read for Incoming<H, N> {
             Ok(count) => self.take(&buf[..*count]),
             Err(error) if error.kind() == ErrorKind::Interrupted => {},
             Err(_) => {
-                self.link.close();
+                self.link.break_off();
                 // A user who leaves has broken the connection.
                 if self.link.is_left() {
                     return Ok(0);

@@ -9,6 +9,10 @@ pub(crate) struct Link {
     stream: TcpStream,
     /// Nothing more comes.
     closed: AtomicBool,
+    /// Reading from it failed.
+    broken: AtomicBool,
+    /// The screen takes no more.
+    dark: AtomicBool,
     /// The user has left.
     left: AtomicBool,
     edits_here: AtomicBool,
@@ -22,6 +26,8 @@ impl Link {
         Link {
             stream,
             closed: AtomicBool::new(false),
+            broken: AtomicBool::new(false),
+            dark: AtomicBool::new(false),
             left: AtomicBool::new(false),
             edits_here: AtomicBool::new(false),
             echoes_there: AtomicBool::new(false),
@@ -35,6 +41,16 @@ impl Link {
         let _ = self.stream.shutdown(Shutdown::Both);
     }
 
+    /// The same, since the screen takes no more.
+    pub(crate) fn darken(&self) {
+        self.dark.store(true, Ordering::SeqCst);
+        self.hang_up();
+    }
+
+    pub(crate) fn is_dark(&self) -> bool {
+        self.dark.load(Ordering::SeqCst)
+    }
+
     /// The same, as the user wants it: what still fails then is no fault.
     pub(crate) fn leave(&self) {
         self.left.store(true, Ordering::SeqCst);
@@ -43,6 +59,16 @@ impl Link {
 
     pub(crate) fn is_left(&self) -> bool {
         self.left.load(Ordering::SeqCst)
+    }
+
+    /// Reading failed: nothing more comes.
+    pub(crate) fn break_off(&self) {
+        self.broken.store(true, Ordering::SeqCst);
+        self.close();
+    }
+
+    pub(crate) fn is_broken(&self) -> bool {
+        self.broken.load(Ordering::SeqCst)
     }
 
     pub(crate) fn close(&self) {

@@ -26,7 +26,7 @@ impl<'a, S: Write> Write for Screen<'a, S> {
             Err(error) => error.kind() != ErrorKind::Interrupted,
         };
         if fails {
-            self.link.hang_up();
+            self.link.darken();
         }
         wrote
     }
