@@ -12,7 +12,7 @@ is_escape (Some character) byte = nat_eq byte character
 
 -- the keys among what is typed: all but an escape character and the byte behind it, and of two escape characters
 -- one; where the flag is set, an escape character came before
-pub keys : Option ℕ → Bool → List ℕ → List ℕ
+abbrev pub keys : Option ℕ → Bool → List ℕ → List ℕ
 keys character waits [] = []
 keys character false (byte ∷ bytes) =
     if is_escape character byte then keys character true bytes else byte ∷ keys character false bytes
@@ -31,8 +31,8 @@ typed_after character false byte = if is_escape character byte then typed.Nothin
 typed_after character true byte =
     if is_escape character byte then typed.Key byte else typed.Command (command byte)
 
-abbrev pub typed : Escaping → ℕ → Typed
-typed escaping byte = typed_after escaping.character escaping.waits byte
+abbrev pub reading : Escaping → ℕ → Typed
+reading escaping byte = typed_after escaping.character escaping.waits byte
 
 -- whether the byte behind this one is the one that an escape character waits for
 abbrev pub waits_after : Option ℕ → Bool → ℕ → Bool
@@ -48,7 +48,7 @@ AreTaken old [] [] new = new ≡ old
 AreTaken old [] (t ∷ taken) new = ⊥
 AreTaken old (byte ∷ bytes) [] new = ⊥
 AreTaken old (byte ∷ bytes) (t ∷ taken) new =
-    (between : Escaping) × (t ≡ typed old byte) × (between.character ≡ old.character)
+    (between : Escaping) × (t ≡ reading old byte) × (between.character ≡ old.character)
     × (between.waits ≡ waits old byte) × AreTaken between bytes taken new
 
 -- the keys among what was made of bytes

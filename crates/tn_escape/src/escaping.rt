@@ -1,7 +1,7 @@
 //! One typed byte after another.
 
 ghost use Rattle.std.specs.Prelude.{◌≡◌, false};
-ghost use Rattle.tn_escape.specs.Typing.{command, is_escape, typed, waits};
+ghost use Rattle.tn_escape.specs.Typing.{command, is_escape, reading, waits};
 
 /// What the user asks the client itself for.
 #[derive(Clone, Copy, Debug, PartialEq, Eq)]
@@ -49,7 +49,7 @@ impl Escaping {
 
     /// What this byte is, after those before it. The escape character typed twice is a key.
     pub fn take(&mut self, byte: u8) -> Typed
-        ensures typed { result ≡ typed self.old byte }
+        ensures typed { result ≡ reading self.old byte }
         ensures character { self.new.character ≡ self.old.character }
         ensures waits { self.new.waits ≡ waits self.old byte }
     {

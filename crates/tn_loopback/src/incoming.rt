@@ -41,7 +41,7 @@ fn see_item(item: &Item, link: &Link) {
     match item {
         Item::Neg(Verb::Will, ECHO) => link.note_echo(true),
         Item::Neg(Verb::Wont, ECHO) => link.note_echo(false),
-        Item::Neg(Verb::Dont, LINEMODE) => link.note_editing(false),
+        Item::Neg(Verb::DontIt, LINEMODE) => link.note_editing(false),
         Item::Sub(LINEMODE, params) => {
             if let [MODE, mask] = params.as_slice() {
                 link.note_editing(mask & EDIT != 0);
