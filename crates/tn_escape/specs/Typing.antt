@@ -10,8 +10,8 @@ abbrev pub is_escape : Option ℕ → ℕ → Bool
 is_escape None byte = false
 is_escape (Some character) byte = nat_eq byte character
 
--- the keys among what is typed: all but an escape character and the byte behind it, and of two escape characters
--- one; where the flag is set, an escape character came before
+-- the keys among what is typed: all but an escape character and the byte behind it, and of two escape
+-- characters one; where the flag is set, an escape character came before
 abbrev pub keys : Option ℕ → Bool → List ℕ → List ℕ
 keys character waits [] = []
 keys character false (byte ∷ bytes) =

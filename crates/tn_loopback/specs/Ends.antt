@@ -14,7 +14,8 @@ abbrev pub window_of : Connecting → Window
 window_of connecting =
     record { width = connecting.width; height = connecting.height; limit = connecting.line_limit }
 
--- What is known beforehand of the keys: all that is known of the reader, or nothing where they are waited for.
+-- What is known beforehand of the keys: all that is known of the reader, or nothing where they are waited
+-- for.
 abbrev pub foreseen : Origin → Option (List ℕ) → Option (List ℕ)
 foreseen Reader bytes = bytes
 foreseen Input bytes = None

@@ -19,11 +19,10 @@ use crate::settings::{Connecting, Notes, Origin};
 use crate::trace::Trace;
 use std::alloc::{AllocError, Global};
 use std::fs::File;
-use std::io;
 use std::io::{Read, Write};
 use std::net::{Net, TcpListener, TcpStream};
 use std::sync::Arc;
-use std::thread;
+use std::{io, thread};
 use tn_session::{ClientPorts, Ended, Finish, Report, SessionFault, Unwatched, client_session};
 use tn_streams::Source;
 
@@ -49,8 +48,13 @@ fn wire<H: Host>(
     let (reader, writer) = Connection::split(stream)?;
     let link = Arc::new(alloc, Link::new(reader.try_clone()?))?;
     let trace = Trace::new(rt, alloc, trace)?;
-    let (outgoing, sending, throttle) =
-        queue_for(rt, alloc, writer, Arc::try_clone(&link)?, trace.try_clone()?)?;
+    let (outgoing, sending, throttle) = queue_for(
+        rt,
+        alloc,
+        writer,
+        Arc::try_clone(&link)?,
+        trace.try_clone()?,
+    )?;
     let is_watched = origin == Origin::Terminal;
     let watched = Arc::try_clone(&link)?;
     let incoming = Incoming::new(alloc, reader, watched, trace.try_clone()?, is_watched);
@@ -81,8 +85,9 @@ fn talk<H: Host, K: Source + Drop + Send + 'static, S: Write>(
     screen: &mut S,
     connecting: Connecting,
 ) -> Result<Talked<H>, AllocError>
-    ensures ran { IfOk result (λ talked. IfOk talked.ended (λ r. RunsClient (window_of connecting) (K.remaining keys)
-        (S.contents screen.old) (S.contents screen.new) r.0 r.1)) }
+    ensures ran { IfOk result (λ talked. IfOk talked.ended (λ r.
+        RunsClient (window_of connecting) (K.remaining keys) (S.contents screen.old)
+        (S.contents screen.new) r.0 r.1)) }
     ensures unshown { OnErr result (S.contents screen.new ≡ S.contents screen.old) }
 {
     let gate = Arc::new(alloc, Unwatched)?;
@@ -135,13 +140,21 @@ fn talk_from<H: Host, K: Read + Drop + Send + 'static, S: Write>(
     host: &str,
     connecting: Connecting,
 ) -> Result<Talked<H>, AllocError>
-    ensures ran { IfOk result (λ talked. IfOk talked.ended (λ r. RunsClient (window_of connecting)
-        (foreseen connecting.origin (K.remaining keys)) (S.contents screen.old) (S.contents screen.new) r.0 r.1)) }
+    ensures ran { IfOk result (λ talked. IfOk talked.ended (λ r.
+        RunsClient (window_of connecting) (foreseen connecting.origin (K.remaining keys))
+        (S.contents screen.old) (S.contents screen.new) r.0 r.1)) }
     ensures unshown { OnErr result (S.contents screen.new ≡ S.contents screen.old) }
 {
     match connecting.origin {
         Origin::Reader => {
-            talk(rt, alloc, wires, Keys::new(keys, throttle), screen, connecting)
+            talk(
+                rt,
+                alloc,
+                wires,
+                Keys::new(keys, throttle),
+                screen,
+                connecting,
+            )
         },
         Origin::Input | Origin::Terminal => {
             let link = Arc::try_clone(&wires.link)?;

@@ -111,19 +111,34 @@ impl<H: Host, K: Read + Drop> Console<H, K> {
             },
             Command::Status => self.show_status(),
             Command::Unknown(_) => {
-                let _ = print!(self.rt; "\r\nunknown; the escape character and ? show the keys\r\n");
+                let _ = print!(self.rt;
+                    "\r\nunknown; the escape character and ? show the keys\r\n"
+                );
             },
         }
     }
 
     fn show_status(&self) {
-        let Connecting { port, width, height, .. } = self.connecting;
+        let Connecting {
+            port,
+            width,
+            height,
+            ..
+        } = self.connecting;
         let editing = place_of(self.link.edits_here());
         let echo = place_of(!self.link.echoes_there());
         let _ = print!(self.rt;
             "\r\nconnected to {} port {}\r\nlines are edited {}, echo is made {}\r\nwindow {} by {}\r\n\
             {} bytes came, {} went\r\n",
-            self.host, port, editing, echo, width, height, self.link.came(), self.link.went());
+            self.host,
+            port,
+            editing,
+            echo,
+            width,
+            height,
+            self.link.came(),
+            self.link.went()
+        );
     }
 }
 

@@ -42,8 +42,7 @@ impl Waiting {
     }
 
     fn is_little(&self) -> bool {
-        self.writes.load(Ordering::SeqCst) <= WRITES_MARK
-            && self.bytes() <= BYTES_MARK
+        self.writes.load(Ordering::SeqCst) <= WRITES_MARK && self.bytes() <= BYTES_MARK
     }
 }
 

@@ -12,7 +12,8 @@ use std::{io, thread};
 use tn_answerer::Answerers;
 use tn_discipline::Limit;
 use tn_loopback::{
-    Connecting, Host, LoopbackFault, Notes, Origin, Serving, SessionOptions, connect, serve_connection, serve_on,
+    Connecting, Host, LoopbackFault, Notes, Origin, Serving, SessionOptions, connect,
+    serve_connection, serve_on,
 };
 use tn_program::Answering;
 use tn_roster::{Roster, RosterFault, note};
@@ -102,7 +103,15 @@ where
         trace: None,
         causes: &mut causes,
     };
-    connect(rt, alloc, "127.0.0.1", connecting(port), keys, screen, notes)?;
+    connect(
+        rt,
+        alloc,
+        "127.0.0.1",
+        connecting(port),
+        keys,
+        screen,
+        notes,
+    )?;
     Ok(())
 }
 

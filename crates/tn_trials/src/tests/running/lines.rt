@@ -233,7 +233,15 @@ where
         trace: None,
         causes: &mut causes,
     };
-    let connected = connect(rt, alloc, "127.0.0.1", connecting, typist, &mut screen, notes);
+    let connected = connect(
+        rt,
+        alloc,
+        "127.0.0.1",
+        connecting,
+        typist,
+        &mut screen,
+        notes,
+    );
     let taken = server.join(&rt);
     connected?;
     Ok(taken)
