@@ -13,13 +13,18 @@
 //! encrypts nothing, and reads no urgent data.
 #![tactic(auto)]
 
+use std::alloc::{AllocError, Global};
 use std::env::{Env, FillError};
 use std::process::ExitCode;
+use std::sync::Arc;
 use std::{env, io};
-use tn_program::{Origin, Seat, run_words};
+use tn_program::{Link, Origin, Screen, Seat, run_words};
 
 /// The environment variable by which the launcher says that standard input is a terminal in raw mode.
 const TERMINAL: &str = "TN_TERMINAL";
+
+/// The status when out of memory before anything is run.
+const NO_MEMORY: u8 = 1;
 
 fn origin_of<R: Env>(rt: &R) -> Origin {
     let mut value = [0; 1];
@@ -29,16 +34,32 @@ fn origin_of<R: Env>(rt: &R) -> Origin {
     }
 }
 
+// A connection that is to be, for the keys and for the screen.
+fn links(alloc: Global) -> Result<(Arc<Link, Global>, Arc<Link, Global>), AllocError> {
+    let link = Arc::new(alloc, Link::new())?;
+    let linked = Arc::try_clone(&link)?;
+    Ok((link, linked))
+}
+
 fn main(rt: HostRuntime) -> ExitCode {
     let alloc = rt.alloc();
     let words = match env::args(&rt) {
         Ok(words) => words.collect(alloc).map_err(io::Error::from),
         Err(error) => Err(error),
     };
+    let Ok((link, linked)) = links(alloc) else {
+        let _ = eprintln!(rt; "tn: memory");
+        return ExitCode::from(NO_MEMORY);
+    };
     let seat = Seat {
         origin: origin_of(&rt),
         reader: rt.stdin(),
+        link,
     };
-    let status = run_words(rt, alloc, words, seat, &mut rt.stdout(), &mut rt.stderr());
+    let mut screen = Screen {
+        writer: rt.stdout(),
+        link: linked,
+    };
+    let status = run_words(rt, alloc, words, seat, &mut screen, &mut rt.stderr());
     ExitCode::from(status)
 }

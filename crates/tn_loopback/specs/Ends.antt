@@ -4,6 +4,7 @@ use Rattle.tn_loopback.specs.declared.served.Served.{Served}
 use Rattle.tn_session.specs.Client.{RunningClient}
 use Rattle.tn_session.specs.Facts.{Window, client_result}
 use Rattle.tn_session.specs.declared.parties.ClientPorts.{ClientPorts}
+use Rattle.tn_streams.specs.Known.{KnownReader}
 use Rattle.tn_session.specs.declared.parties.Report.{Report}
 use Rattle.tn_messages.specs.declared.faults.Ended.TheVariants.{HangUp, Done}
 use Rattle.tn_loopback.specs.declared.settings.Connecting.{Connecting}
@@ -27,13 +28,19 @@ EndsWhole report = (report.ended ≡ HangUp) ⊎ (report.ended ≡ Done)
 
 -- a client's session ran with these keys and this screen, before and after it; nothing is known of what the
 -- connection carried
-abbrev pub RunsClient : Window → Option (List ℕ) → Option (List ℕ) → Option (List ℕ)
+abbrev pub RunsWith : Window → KnownReader → Option (List ℕ) → Option (List ℕ)
     → Report → ClientPorts → Type 0
-RunsClient window keys seen now report ports =
-    RunningClient window (record { bytes = keys; failures = None }) (record { bytes = None; failures = None })
+RunsWith window keys seen now report ports =
+    RunningClient window keys (record { bytes = None; failures = None })
     (record { before = record { bytes = None; calls = None }; after = record { bytes = None; calls = None } })
     (record { before = record { bytes = seen; calls = None }; after = record { bytes = now; calls = None } })
     (client_result report ports)
+
+-- the same with these keys, of which no failure is foretold
+abbrev pub RunsClient : Window → Option (List ℕ) → Option (List ℕ) → Option (List ℕ)
+    → Report → ClientPorts → Type 0
+RunsClient window keys seen now report ports =
+    RunsWith window (record { bytes = keys; failures = None }) seen now report ports
 
 -- as many connections were accepted as were asked for
 abbrev pub ServesAll : ℕ → Served → Type 0

@@ -1,8 +1,9 @@
 //! `tn connect`: a client's session over a connection.
 
 ghost use Rattle.std.specs.Prelude.{◌≡◌, ◌≢◌, Ok, Err, IfOk, IfErr, OnErr};
-ghost use Rattle.tn_loopback.specs.Ends.{EndsWhole, RunsClient, foreseen, window_of};
+ghost use Rattle.tn_loopback.specs.Ends.{EndsWhole, RunsClient, RunsWith, foreseen, window_of};
 ghost use Rattle.tn_loopback.specs.Faults.{IsOfNetwork};
+ghost use Rattle.tn_streams.specs.Known.{known_reader};
 
 use crate::connection::Connection;
 use crate::console::Console;
@@ -14,10 +15,9 @@ use crate::keys::Keys;
 use crate::link::Link;
 use crate::outgoing::{Outgoing, Sending, Throttle, queue_for};
 use crate::reaching::reach;
-use crate::screen::Screen;
 use crate::settings::{Connecting, Notes, Origin};
 use crate::trace::Trace;
-use std::alloc::{AllocError, Global};
+use std::alloc::Global;
 use std::fs::File;
 use std::io::{Read, Write};
 use std::net::{Net, TcpListener, TcpStream};
@@ -26,140 +26,104 @@ use std::{io, thread};
 use tn_session::{ClientPorts, Ended, Finish, Report, SessionFault, Unwatched, client_session};
 use tn_streams::Source;
 
-// What a client's session reads from and writes to, besides its keys and its screen.
+// A connection's two directions, of which the second is sent by a thread of its own.
 #[derive(Drop)]
 struct Wires<H> {
     incoming: Incoming<H, TcpStream>,
     outgoing: Outgoing<H>,
-    link: Arc<Link, Global>,
-    trace: Trace<H>,
+    sending: Sending<H, Connection>,
+    throttle: Throttle<H>,
 }
 
-// Lays out a connection's two directions, of which the second is sent by a thread of its own.
+// Lays out a connection's two directions.
 fn wire<H: Host>(
     rt: H,
     alloc: Global,
     stream: TcpStream,
-    trace: Option<File>,
+    link: &Arc<Link, Global>,
+    trace: &Trace<H>,
     origin: Origin,
-) -> Result<(Wires<H>, Sending<H, Connection>, Throttle<H>), LoopbackFault>
+) -> Result<Wires<H>, LoopbackFault>
     ensures { IfErr result IsOfNetwork }
 {
     let (reader, writer) = Connection::split(stream)?;
-    let link = Arc::new(alloc, Link::new(reader.try_clone()?))?;
-    let trace = Trace::new(rt, alloc, trace)?;
-    let (outgoing, sending, throttle) = queue_for(
-        rt,
-        alloc,
-        writer,
-        Arc::try_clone(&link)?,
-        trace.try_clone()?,
-    )?;
+    link.attach(&rt, reader.try_clone()?);
+    let sent = Arc::try_clone(link)?;
+    let (outgoing, sending, throttle) = queue_for(rt, alloc, writer, sent, trace.try_clone()?)?;
     let is_watched = origin == Origin::Terminal;
-    let watched = Arc::try_clone(&link)?;
-    let incoming = Incoming::new(alloc, reader, watched, trace.try_clone()?, is_watched);
-    let wires = Wires {
+    let read = Arc::try_clone(link)?;
+    let incoming = Incoming::new(alloc, reader, read, trace.try_clone()?, is_watched);
+    Ok(Wires {
         incoming,
         outgoing,
-        link,
-        trace,
-    };
-    Ok((wires, sending, throttle))
-}
-
-// How a client's session ended, and what is left of its wires.
-#[derive(Drop)]
-struct Talked<H> {
-    ended: Result<(Report, ClientPorts), SessionFault>,
-    outgoing: Outgoing<H>,
-    link: Arc<Link, Global>,
-    trace: Trace<H>,
-}
-
-// Runs a session over these wires, with these keys and this screen.
-fn talk<H: Host, K: Source + Drop + Send + 'static, S: Write>(
-    rt: H,
-    alloc: Global,
-    wires: Wires<H>,
-    keys: K,
-    screen: &mut S,
-    connecting: Connecting,
-) -> Result<Talked<H>, AllocError>
-    ensures ran { IfOk result (λ talked. IfOk talked.ended (λ r.
-        RunsClient (window_of connecting) (K.remaining keys) (S.contents screen.old)
-        (S.contents screen.new) r.0 r.1)) }
-    ensures unshown { OnErr result (S.contents screen.new ≡ S.contents screen.old) }
-{
-    let gate = Arc::new(alloc, Unwatched)?;
-    let Wires {
-        incoming,
-        mut outgoing,
-        link,
-        trace,
-    } = wires;
-    let mut shown = Screen {
-        screen,
-        link: Arc::try_clone(&link)?,
-    };
-    let Connecting {
-        width,
-        height,
-        line_limit,
-        ..
-    } = connecting;
-    let ended = client_session(
-        rt,
-        alloc,
-        incoming,
-        keys,
-        &mut outgoing,
-        &mut shown,
-        width,
-        height,
-        line_limit,
-        gate,
-    );
-    outgoing.finish();
-    Ok(Talked {
-        ended,
-        outgoing,
-        link,
-        trace,
+        sending,
+        throttle,
     })
 }
 
-// The same, with the keys of this reader. It takes eight, since what a session runs on and what it is told of
-// the host go together nowhere else.
+// Runs a session over a connection's two directions, with these keys and this screen.
+fn talk<H: Host, K: Source + Drop + Send + 'static, S: Write>(
+    rt: H,
+    alloc: Global,
+    incoming: Incoming<H, TcpStream>,
+    outgoing: &mut Outgoing<H>,
+    keys: K,
+    screen: &mut S,
+    connecting: Connecting,
+) -> Result<(Report, ClientPorts), SessionFault>
+    ensures { IfOk result (λ r.
+        RunsWith (window_of connecting) (known_reader K.remaining K.foretold keys)
+        (S.contents screen.old) (S.contents screen.new) r.0 r.1) }
+{
+    let Ok(gate) = Arc::new(alloc, Unwatched) else {
+        return Err(SessionFault::Memory);
+    };
+    let (width, height) = (connecting.width, connecting.height);
+    let limit = connecting.line_limit;
+    client_session(
+        rt, alloc, incoming, keys, outgoing, screen, width, height, limit, gate,
+    )
+}
+
+// Where the keys come from: their reader, what holds them back, and the connection that they are for.
+#[derive(Drop)]
+struct Typing<'a, H, K> {
+    keys: K,
+    throttle: Throttle<H>,
+    link: Arc<Link, Global>,
+    host: &'a str,
+}
+
+// The same, with the keys of a reader.
 fn talk_from<H: Host, K: Read + Drop + Send + 'static, S: Write>(
     rt: H,
     alloc: Global,
-    wires: Wires<H>,
-    throttle: Throttle<H>,
-    keys: K,
+    incoming: Incoming<H, TcpStream>,
+    outgoing: &mut Outgoing<H>,
+    typing: Typing<'_, H, K>,
     screen: &mut S,
-    host: &str,
     connecting: Connecting,
-) -> Result<Talked<H>, AllocError>
-    ensures ran { IfOk result (λ talked. IfOk talked.ended (λ r.
-        RunsClient (window_of connecting) (foreseen connecting.origin (K.remaining keys))
-        (S.contents screen.old) (S.contents screen.new) r.0 r.1)) }
-    ensures unshown { OnErr result (S.contents screen.new ≡ S.contents screen.old) }
+) -> Result<(Report, ClientPorts), SessionFault>
+    ensures { IfOk result (λ r.
+        RunsClient (window_of connecting) (foreseen connecting.origin (K.remaining typing.keys))
+        (S.contents screen.old) (S.contents screen.new) r.0 r.1) }
 {
+    let Typing {
+        keys,
+        throttle,
+        link,
+        host,
+    } = typing;
     match connecting.origin {
         Origin::Reader => {
-            talk(
-                rt,
-                alloc,
-                wires,
-                Keys::new(keys, throttle),
-                screen,
-                connecting,
-            )
+            let keys = Keys::new(keys, throttle);
+            talk(rt, alloc, incoming, outgoing, keys, screen, connecting)
         },
         Origin::Input | Origin::Terminal => {
-            let link = Arc::try_clone(&wires.link)?;
-            let keys = Console::new(rt, alloc, keys, throttle, link, host, connecting)?;
-            talk(rt, alloc, wires, keys, screen, connecting)
+            let Ok(keys) = Console::new(rt, alloc, keys, throttle, link, host, connecting) else {
+                return Err(SessionFault::Memory);
+            };
+            talk(rt, alloc, incoming, outgoing, keys, screen, connecting)
         },
     }
 }
@@ -189,20 +153,40 @@ pub fn connect<
         S.contents screen.new ≡ S.contents screen.old) }
     ensures no_limit { result ≢ Err LoopbackFault.Limit }
 {
-    let Notes { trace, causes } = notes;
+    let Notes {
+        trace,
+        causes,
+        link,
+    } = notes;
     let stream = reach(&rt, host, connecting.port, causes)?;
-    let (wires, sending, throttle) = wire(rt, alloc, stream, trace, connecting.origin)?;
+    let trace = Trace::new(rt, alloc, trace)?;
+    let wires = wire(rt, alloc, stream, &link, &trace, connecting.origin)?;
+    let Wires {
+        incoming,
+        mut outgoing,
+        sending,
+        throttle,
+    } = wires;
+    let typing = Typing {
+        keys,
+        throttle,
+        link: Arc::try_clone(&link)?,
+        host,
+    };
     let Ok(sending) = thread::spawn(&rt, move || -> io::Result<()> { sending.run() }) else {
         return Err(LoopbackFault::Memory);
     };
-    let talked = talk_from(rt, alloc, wires, throttle, keys, screen, host, connecting);
+    let ended = talk_from(
+        rt,
+        alloc,
+        incoming,
+        &mut outgoing,
+        typing,
+        screen,
+        connecting,
+    );
+    outgoing.finish();
     let sent = sending.join(&rt);
-    let Talked {
-        ended,
-        outgoing,
-        link,
-        trace,
-    } = talked?;
     if let Some(fault) = fault_of(&ended) {
         note_fault(causes, fault, &link);
     }

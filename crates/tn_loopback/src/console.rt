@@ -1,7 +1,6 @@
 //! Standard input as keys: it is waited for, so that a session ends though nobody types, and at a terminal
 //! the user speaks to the client itself behind an escape character.
 
-use crate::host::Host;
 use crate::link::Link;
 use crate::outgoing::Throttle;
 use crate::settings::{Connecting, Origin};
@@ -10,7 +9,7 @@ use libc::types::pollfd;
 use std::alloc::{AllocError, Global};
 use std::io;
 use std::io::{ErrorKind, Print, Read};
-use std::sync::Arc;
+use std::sync::{Arc, Wait};
 use tn_escape::{Command, Escaping, Typed};
 use tn_streams::Source;
 
@@ -37,7 +36,7 @@ pub(crate) struct Console<H, K> {
     connecting: Connecting,
 }
 
-impl<H: Host, K: Read + Drop> Console<H, K> {
+impl<H: Print + Wait, K: Read + Drop> Console<H, K> {
     pub(crate) fn new(
         rt: H,
         alloc: Global,
@@ -146,7 +145,7 @@ fn place_of(is_here: bool) -> &'static str {
     if is_here { "here" } else { "at the other end" }
 }
 
-impl<H: Host, K: Read + Drop> Source for Console<H, K> {
+impl<H: Print + Wait, K: Read + Drop> Source for Console<H, K> {
     fn read_some(&mut self, buf: &mut [u8]) -> io::Result<usize> {
         self.throttle.wait();
         if !self.is_ready() {

@@ -12,6 +12,8 @@
 pub use connecting::connect;
 pub use fault::LoopbackFault;
 pub use host::Host;
+pub use link::Link;
+pub use screen::Screen;
 pub use served::Served;
 pub use service::Service;
 pub use serving::{serve, serve_on};

@@ -2,11 +2,13 @@
 
 use std::net::{Shutdown, TcpStream};
 use std::sync::atomic::{AtomicBool, AtomicUsize, Ordering};
+use std::sync::{OnceLock, Wait};
 
-/// A client's connection, as its parts share it.
+/// A client's connection, as its parts share it. It is made before there is a connection, so that the screen
+/// has it.
 #[derive(Drop)]
-pub(crate) struct Link {
-    stream: TcpStream,
+pub struct Link {
+    stream: OnceLock<TcpStream>,
     /// Nothing more comes.
     closed: AtomicBool,
     /// Reading from it failed.
@@ -22,9 +24,10 @@ pub(crate) struct Link {
 }
 
 impl Link {
-    pub(crate) fn new(stream: TcpStream) -> Link {
+    /// Nothing is connected yet.
+    pub fn new() -> Link {
         Link {
-            stream,
+            stream: OnceLock::new(),
             closed: AtomicBool::new(false),
             broken: AtomicBool::new(false),
             dark: AtomicBool::new(false),
@@ -36,9 +39,16 @@ impl Link {
         }
     }
 
+    /// Connects it. One that was connected before stays as it is.
+    pub(crate) fn attach<R: Wait>(&self, rt: &R, stream: TcpStream) {
+        let _ = self.stream.set(rt, stream);
+    }
+
     /// Ends both directions. A read that waits for the other end returns.
     pub(crate) fn hang_up(&self) {
-        let _ = self.stream.shutdown(Shutdown::Both);
+        if let Some(stream) = self.stream.get() {
+            let _ = stream.shutdown(Shutdown::Both);
+        }
     }
 
     /// The same, since the screen takes no more.

@@ -24,7 +24,7 @@ pub(crate) fn reach<H: Net<Listener = TcpListener, Stream = TcpStream>>(
             return Err(LoopbackFault::from(error));
         },
     };
-    let mut fault = LoopbackFault::Network;
+    let mut last = None;
     for address in addresses {
         match TcpStream::connect(rt, address) {
             Ok(stream) => {
@@ -33,9 +33,12 @@ pub(crate) fn reach<H: Net<Listener = TcpListener, Stream = TcpStream>>(
             },
             Err(error) => {
                 let _ = writeln!(causes, "tn: {}: {}", address, error);
-                fault = LoopbackFault::from(error);
+                last = Some(error);
             },
         }
     }
-    Err(fault)
+    match last {
+        Some(error) => Err(LoopbackFault::from(error)),
+        None => Err(LoopbackFault::Network),
+    }
 }

@@ -1,7 +1,5 @@
 //! A screen whose failure ends the connection.
 
-ghost use Rattle.std.specs.Prelude.{◌≡◌};
-
 use crate::link::Link;
 use std::alloc::Global;
 use std::io;
@@ -11,16 +9,18 @@ use std::sync::Arc;
 /// A screen. Once it takes no more, the connection is of no use, and is ended: else the session would wait
 /// for the other end to close.
 #[derive(Drop)]
-pub(crate) struct Screen<'a, S> {
-    pub(crate) screen: &'a mut S,
-    pub(crate) link: Arc<Link, Global>,
+pub struct Screen<S> {
+    /// What is written to.
+    pub writer: S,
+    /// The connection.
+    pub link: Arc<Link, Global>,
 }
 
-impl<'a, S: Write> Write for Screen<'a, S> {
-    ghost contents = { λ s. S.Write.contents s.screen.now };
+impl<S: Write> Write for Screen<S> {
+    ghost contents = { λ screen. S.Write.contents screen.writer };
 
     fn write(&mut self, buf: &[u8]) -> io::Result<usize> {
-        let wrote = self.screen.write(buf);
+        let wrote = self.writer.write(buf);
         let fails = match &wrote {
             Ok(count) => *count == 0 && !buf.is_empty(),
             Err(error) => error.kind() != ErrorKind::Interrupted,
@@ -32,6 +32,6 @@ impl<'a, S: Write> Write for Screen<'a, S> {
     }
 
     fn flush(&mut self) -> io::Result<()> {
-        self.screen.flush()
+        self.writer.flush()
     }
 }

@@ -1,6 +1,9 @@
 //! How to serve and how to connect.
 
+use crate::link::Link;
+use std::alloc::Global;
 use std::fs::File;
+use std::sync::Arc;
 use tn_discipline::Limit;
 use tn_server::Editing;
 
@@ -63,4 +66,6 @@ pub struct Notes<'a> {
     pub trace: Option<File>,
     /// Gets the causes of a fault, a line each.
     pub causes: &'a mut Vec<u8>,
+    /// The connection, as the screen has it.
+    pub link: Arc<Link, Global>,
 }

@@ -1,7 +1,8 @@
 //! The program `tn`: takes its words and its streams, does what they ask for, and gives a status.
 //!
 //! ```
-//! let seat = Seat { origin: Origin::Input, reader: rt.stdin() };
+//! let link = Arc::new(alloc, Link::new())?;
+//! let seat = Seat { origin: Origin::Input, reader: rt.stdin(), link };
 //! let status = run_words(rt, alloc, Ok(words), seat, &mut rt.stdout(), &mut rt.stderr());
 //! ```
 //!
@@ -12,7 +13,7 @@ pub use outcome::Outcome;
 pub use program::{outcome_of_words, run_words};
 pub use seat::Seat;
 pub use settings::Answering;
-pub use tn_loopback::Origin;
+pub use tn_loopback::{Link, Origin, Screen};
 
 mod outcome;
 mod program;

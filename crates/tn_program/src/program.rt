@@ -224,8 +224,16 @@ fn run_connect<
     let Ok(trace) = open_trace(&rt, &asked, causes) else {
         return Outcome::Connected(Err(LoopbackFault::Trace));
     };
-    let notes = Notes { trace, causes };
-    let Seat { origin, reader } = seat;
+    let Seat {
+        origin,
+        reader,
+        link,
+    } = seat;
+    let notes = Notes {
+        trace,
+        causes,
+        link,
+    };
     let connecting = connecting_of(&asked, origin);
     let host = asked.host.as_str();
     Outcome::Connected(connect(rt, alloc, host, connecting, reader, writer, notes))

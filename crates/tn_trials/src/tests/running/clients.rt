@@ -1,13 +1,14 @@
 //! What a client is told of a connection that is not made, and of one that is of no use any more.
 
-use std::alloc::Global;
+use std::alloc::{AllocError, Global};
 use std::io::{self, Cursor, ErrorKind, Read, Write};
 use std::net::{Ipv4Addr, Net, TcpListener, TcpStream};
+use std::sync::Arc;
 use std::test::Fail;
 use std::thread;
 use std::thread::JoinHandle;
 use tn_discipline::Limit;
-use tn_loopback::{Connecting, Host, LoopbackFault, Notes, Origin, connect};
+use tn_loopback::{Connecting, Host, Link, LoopbackFault, Notes, Origin, Screen, connect};
 
 /// A screen that takes nothing.
 #[derive(Drop)]
@@ -24,7 +25,11 @@ impl Write for Dead {
 }
 
 // The fault of a client without keys, or `None`, and what it is told of the causes.
-fn fault_of<H>(rt: H, alloc: Global, port: u16) -> (Option<LoopbackFault>, Vec<u8>)
+fn fault_of<H>(
+    rt: H,
+    alloc: Global,
+    port: u16,
+) -> Result<(Option<LoopbackFault>, Vec<u8>), AllocError>
 where
     H: Host + Net<Listener = TcpListener, Stream = TcpStream>,
 {
@@ -36,14 +41,20 @@ where
         origin: Origin::Reader,
         escape: None,
     };
+    let link = Arc::new(alloc, Link::new())?;
+    let mut screen = Screen {
+        writer: Dead,
+        link: Arc::try_clone(&link)?,
+    };
     let mut causes = Vec::new(alloc);
     let notes = Notes {
         trace: None,
         causes: &mut causes,
+        link,
     };
     let keys = Cursor::new(*b"");
-    let ended = connect(rt, alloc, "127.0.0.1", connecting, keys, &mut Dead, notes);
-    (ended.err(), causes)
+    let ended = connect(rt, alloc, "127.0.0.1", connecting, keys, &mut screen, notes);
+    Ok((ended.err(), causes))
 }
 
 #[test]
@@ -51,7 +62,7 @@ fn a_port_where_nobody_listens_is_told(rt: HostRuntime) -> Result<(), Fail> {
     let listener = TcpListener::bind(&rt, (Ipv4Addr::LOCALHOST, 0))?;
     let port = listener.local_addr()?.port();
     drop(listener);
-    let (fault, causes) = fault_of(rt, rt.alloc(), port);
+    let (fault, causes) = fault_of(rt, rt.alloc(), port)?;
     assert!(rt; fault == Some(LoopbackFault::Network));
     assert!(rt; causes.as_slice().starts_with(b"tn: 127.0.0.1:"));
     Ok(())
@@ -86,7 +97,7 @@ fn a_dead_screen_ends_a_session(rt: HostRuntime) -> Result<(), Fail> {
     let listener = TcpListener::bind(&rt, (Ipv4Addr::LOCALHOST, 0))?;
     let port = listener.local_addr()?.port();
     let server = send_text(&rt, listener)?;
-    let (fault, causes) = fault_of(rt, rt.alloc(), port);
+    let (fault, causes) = fault_of(rt, rt.alloc(), port)?;
     assert!(rt; fault == Some(LoopbackFault::Session));
     assert!(rt; causes.as_slice().starts_with(b"tn: the screen"));
     assert!(rt; server.join(&rt));

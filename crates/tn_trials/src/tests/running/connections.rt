@@ -6,13 +6,14 @@ use std::alloc::Global;
 use std::io::{Read, Write};
 use std::net::{Ipv4Addr, Net, TcpListener, TcpStream};
 use std::process::Abort;
+use std::sync::Arc;
 use std::test::Fail;
 use std::thread::JoinHandle;
 use std::{io, thread};
 use tn_answerer::Answerers;
 use tn_discipline::Limit;
 use tn_loopback::{
-    Connecting, Host, LoopbackFault, Notes, Origin, Serving, SessionOptions, connect,
+    Connecting, Host, Link, LoopbackFault, Notes, Origin, Serving, SessionOptions, connect,
     serve_connection, serve_on,
 };
 use tn_program::Answering;
@@ -102,6 +103,7 @@ where
     let notes = Notes {
         trace: None,
         causes: &mut causes,
+        link: Arc::new(alloc, Link::new())?,
     };
     connect(
         rt,

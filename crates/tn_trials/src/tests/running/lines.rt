@@ -14,7 +14,7 @@ use std::{mem, thread};
 use tn_cli::run_local;
 use tn_discipline::{Entry, Limit, Settings, Sig};
 use tn_jobs::{After, Job, Reaction};
-use tn_loopback::{Connecting, Host, Notes, Origin, connect};
+use tn_loopback::{Connecting, Host, Link, Notes, Origin, connect};
 use tn_plain::chance::Dice;
 use tn_server::Editing;
 use tn_session::{Ended, Finish, Maker, Unwatched, serve_session};
@@ -232,6 +232,7 @@ where
     let notes = Notes {
         trace: None,
         causes: &mut causes,
+        link: Arc::new(alloc, Link::new())?,
     };
     let connected = connect(
         rt,

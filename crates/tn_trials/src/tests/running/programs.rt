@@ -2,7 +2,8 @@
 
 use std::alloc::{AllocError, Global};
 use std::io::{self, Cursor, ErrorKind, Write};
-use tn_program::{Origin, Seat, run_words};
+use std::sync::Arc;
+use tn_program::{Link, Origin, Seat, run_words};
 
 /// Takes all that is written, or fails.
 #[derive(Drop)]
@@ -61,11 +62,15 @@ fn faults_are_told(rt: HostRuntime) {
         let Ok(words) = words_of(alloc, word) else {
             return;
         };
+        let Ok(link) = Arc::new(alloc, Link::new()) else {
+            return;
+        };
         let mut errors = Vec::new(alloc);
         let mut writer = Paper { open: *open };
         let seat = Seat {
             origin: Origin::Reader,
             reader: Cursor::new(*b"a\n"),
+            link,
         };
         let ended = run_words(rt, alloc, Ok(words), seat, &mut writer, &mut errors);
         assert!(rt; is_told(ended, &errors, *status, told));
@@ -86,11 +91,15 @@ fn the_line_of_a_fault_is_told(rt: HostRuntime) {
         let Ok(words) = words_of(alloc, "world") else {
             return;
         };
+        let Ok(link) = Arc::new(alloc, Link::new()) else {
+            return;
+        };
         let mut output = Vec::new(alloc);
         let mut errors = Vec::new(alloc);
         let seat = Seat {
             origin: Origin::Reader,
             reader: *script,
+            link,
         };
         let ended = run_words(rt, alloc, Ok(words), seat, &mut output, &mut errors);
         assert!(rt; is_told(ended, &errors, *status, told));
