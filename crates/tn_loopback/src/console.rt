@@ -36,7 +36,7 @@ pub(crate) struct Console<H, K> {
     connecting: Connecting,
 }
 
-impl<H: Print + Wait, K: Read + Drop> Console<H, K> {
+impl<H: Copy + Print + Wait, K: Read + Drop> Console<H, K> {
     pub(crate) fn new(
         rt: H,
         alloc: Global,
@@ -145,7 +145,7 @@ fn place_of(is_here: bool) -> &'static str {
     if is_here { "here" } else { "at the other end" }
 }
 
-impl<H: Print + Wait, K: Read + Drop> Source for Console<H, K> {
+impl<H: Copy + Print + Wait, K: Read + Drop> Source for Console<H, K> {
     fn read_some(&mut self, buf: &mut [u8]) -> io::Result<usize> {
         self.throttle.wait();
         if !self.is_ready() {
