@@ -6,7 +6,7 @@ ghost use Rattle.tn_loopback.specs.Faults.{IsOfNetwork};
 ghost use Rattle.tn_streams.specs.Known.{known_reader};
 
 use crate::connection::Connection;
-use crate::console::Console;
+use crate::console::{Console, Typing};
 use crate::fault::LoopbackFault;
 use crate::finished::ends_whole;
 use crate::host::Host;
@@ -85,22 +85,13 @@ fn talk<H: Host, K: Source + Drop + Send + 'static, S: Write>(
     )
 }
 
-// Where the keys come from: their reader, what holds them back, and the connection that they are for.
-#[derive(Drop)]
-struct Typing<'a, H, K> {
-    keys: K,
-    throttle: Throttle<H>,
-    link: Arc<Link, Global>,
-    host: &'a str,
-}
-
 // The same, with the keys of a reader.
 fn talk_from<H: Host, K: Read + Drop + Send + 'static, S: Write>(
     rt: H,
     alloc: Global,
     incoming: Incoming<H, TcpStream>,
     outgoing: &mut Outgoing<H>,
-    typing: Typing<'_, H, K>,
+    typing: Typing<H, K>,
     screen: &mut S,
     connecting: Connecting,
 ) -> Result<(Report, ClientPorts), SessionFault>
@@ -108,21 +99,13 @@ fn talk_from<H: Host, K: Read + Drop + Send + 'static, S: Write>(
         RunsClient (window_of connecting) (foreseen connecting.origin (K.remaining typing.keys))
         (S.contents screen.old) (S.contents screen.new) r.0 r.1) }
 {
-    let Typing {
-        keys,
-        throttle,
-        link,
-        host,
-    } = typing;
     match connecting.origin {
         Origin::Reader => {
-            let keys = Keys::new(keys, throttle);
+            let keys = Keys::new(typing.keys, typing.throttle);
             talk(rt, alloc, incoming, outgoing, keys, screen, connecting)
         },
         Origin::Input | Origin::Terminal => {
-            let Ok(keys) = Console::new(rt, alloc, keys, throttle, link, host, connecting) else {
-                return Err(SessionFault::Memory);
-            };
+            let keys = Console::new(rt, typing, connecting);
             talk(rt, alloc, incoming, outgoing, keys, screen, connecting)
         },
     }
@@ -171,7 +154,7 @@ pub fn connect<
         keys,
         throttle,
         link: Arc::try_clone(&link)?,
-        host,
+        host: String::from_str(alloc, host)?,
     };
     let Ok(sending) = thread::spawn(&rt, move || -> io::Result<()> { sending.run() }) else {
         return Err(LoopbackFault::Memory);

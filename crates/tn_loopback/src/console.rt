@@ -6,7 +6,7 @@ use crate::outgoing::Throttle;
 use crate::settings::{Connecting, Origin};
 use libc::net::{POLLIN, poll};
 use libc::types::pollfd;
-use std::alloc::{AllocError, Global};
+use std::alloc::Global;
 use std::io;
 use std::io::{ErrorKind, Print, Read};
 use std::sync::{Arc, Wait};
@@ -23,48 +23,43 @@ const LOOK: i32 = 200;
 const HELP: &str = "q  closes the connection and leaves\r\n?  shows these keys\r\n\
     s  shows the state of the session\r\nand the escape character again sends itself\r\n";
 
+/// Where keys come from: their reader, what holds them back, and the connection that they are for.
+#[derive(Drop)]
+pub(crate) struct Typing<H, K> {
+    pub(crate) keys: K,
+    pub(crate) throttle: Throttle<H>,
+    pub(crate) link: Arc<Link, Global>,
+    pub(crate) host: String,
+}
+
 /// Keys from standard input, and what its user asks the client itself for. Of what is typed nothing is known
 /// beforehand.
 #[derive(Drop)]
 pub(crate) struct Console<H, K> {
     rt: H,
-    keys: K,
-    throttle: Throttle<H>,
-    link: Arc<Link, Global>,
+    typing: Typing<H, K>,
     escaping: Escaping,
-    host: String,
     connecting: Connecting,
 }
 
 impl<H: Copy + Print + Wait, K: Read + Drop> Console<H, K> {
-    pub(crate) fn new(
-        rt: H,
-        alloc: Global,
-        keys: K,
-        throttle: Throttle<H>,
-        link: Arc<Link, Global>,
-        host: &str,
-        connecting: Connecting,
-    ) -> Result<Console<H, K>, AllocError> {
+    pub(crate) fn new(rt: H, typing: Typing<H, K>, connecting: Connecting) -> Console<H, K> {
         let character = match connecting.origin {
             Origin::Terminal => connecting.escape,
             Origin::Input | Origin::Reader => None,
         };
-        Ok(Console {
+        Console {
             rt,
-            keys,
-            throttle,
-            link,
+            typing,
             escaping: Escaping::new(character),
-            host: String::from_str(alloc, host)?,
             connecting,
-        })
+        }
     }
 
     // Waits until a key can be read. False where the session is over first.
     fn is_ready(&self) -> bool {
         for _ in self.rt.forever() {
-            if self.link.is_closed() {
+            if self.typing.link.is_closed() {
                 return false;
             }
             let mut waited = [pollfd {
@@ -104,7 +99,7 @@ impl<H: Copy + Print + Wait, K: Read + Drop> Console<H, K> {
     // What is shown begins on a line of its own. A line that can't be written is dropped.
     fn obey(&self, command: Command) {
         match command {
-            Command::Close => self.link.leave(),
+            Command::Close => self.typing.link.leave(),
             Command::Help => {
                 let _ = print!(self.rt; "\r\n{}", HELP);
             },
@@ -124,19 +119,19 @@ impl<H: Copy + Print + Wait, K: Read + Drop> Console<H, K> {
             height,
             ..
         } = self.connecting;
-        let editing = place_of(self.link.edits_here());
-        let echo = place_of(!self.link.echoes_there());
+        let editing = place_of(self.typing.link.edits_here());
+        let echo = place_of(!self.typing.link.echoes_there());
         let _ = print!(self.rt;
             "\r\nconnected to {} port {}\r\nlines are edited {}, echo is made {}\r\nwindow {} by {}\r\n\
             {} bytes came, {} went\r\n",
-            self.host,
+            self.typing.host,
             port,
             editing,
             echo,
             width,
             height,
-            self.link.came(),
-            self.link.went()
+            self.typing.link.came(),
+            self.typing.link.went()
         );
     }
 }
@@ -147,16 +142,16 @@ fn place_of(is_here: bool) -> &'static str {
 
 impl<H: Copy + Print + Wait, K: Read + Drop> Source for Console<H, K> {
     fn read_some(&mut self, buf: &mut [u8]) -> io::Result<usize> {
-        self.throttle.wait();
+        self.typing.throttle.wait();
         if !self.is_ready() {
             return Ok(0);
         }
-        let count = self.keys.read(buf)?;
+        let count = self.typing.keys.read(buf)?;
         if count == 0 {
             return Ok(0);
         }
         let keys = self.split(buf, count).min(count);
-        if self.link.is_left() {
+        if self.typing.link.is_left() {
             return Ok(0);
         }
         if keys == 0 {
