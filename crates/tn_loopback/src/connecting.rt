@@ -6,12 +6,12 @@ ghost use Rattle.tn_loopback.specs.Faults.{IsOfNetwork};
 ghost use Rattle.tn_streams.specs.Known.{known_reader};
 
 use crate::connection::Connection;
-use crate::console::{Console, Typing};
+use crate::console::Console;
 use crate::fault::LoopbackFault;
 use crate::finished::ends_whole;
 use crate::host::Host;
 use crate::incoming::Incoming;
-use crate::keys::Keys;
+use crate::keys::{Keys, Typing};
 use crate::link::Link;
 use crate::outgoing::{Outgoing, Sending, Throttle, queue_for};
 use crate::reaching::reach;
@@ -99,13 +99,18 @@ fn talk_from<H: Host, K: Read + Drop + Send + 'static, S: Write>(
         RunsClient (window_of connecting) (foreseen connecting.origin (K.remaining typing.keys))
         (S.contents screen.old) (S.contents screen.new) r.0 r.1) }
 {
-    match connecting.origin {
+    let origin = connecting.origin;
+    match origin {
         Origin::Reader => {
-            let keys = Keys::new(typing.keys, typing.throttle);
+            let keys = Keys::new(typing);
             talk(rt, alloc, incoming, outgoing, keys, screen, connecting)
         },
-        Origin::Input | Origin::Terminal => {
-            let keys = Console::new(rt, typing, connecting);
+        Origin::Input => {
+            let keys = Console::new(rt, typing, connecting, None);
+            talk(rt, alloc, incoming, outgoing, keys, screen, connecting)
+        },
+        Origin::Terminal => {
+            let keys = Console::new(rt, typing, connecting, connecting.escape);
             talk(rt, alloc, incoming, outgoing, keys, screen, connecting)
         },
     }

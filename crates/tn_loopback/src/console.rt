@@ -1,15 +1,13 @@
 //! Standard input as keys: it is waited for, so that a session ends though nobody types, and at a terminal
 //! the user speaks to the client itself behind an escape character.
 
-use crate::link::Link;
-use crate::outgoing::Throttle;
-use crate::settings::{Connecting, Origin};
+use crate::keys::Typing;
+use crate::settings::Connecting;
 use libc::net::{POLLIN, poll};
 use libc::types::pollfd;
-use std::alloc::Global;
 use std::io;
 use std::io::{ErrorKind, Print, Read};
-use std::sync::{Arc, Wait};
+use std::sync::Wait;
 use tn_escape::{Command, Escaping, Typed};
 use tn_streams::Source;
 
@@ -23,15 +21,6 @@ const LOOK: i32 = 200;
 const HELP: &str = "q  closes the connection and leaves\r\n?  shows these keys\r\n\
     s  shows the state of the session\r\nand the escape character again sends itself\r\n";
 
-/// Where keys come from: their reader, what holds them back, and the connection that they are for.
-#[derive(Drop)]
-pub(crate) struct Typing<H, K> {
-    pub(crate) keys: K,
-    pub(crate) throttle: Throttle<H>,
-    pub(crate) link: Arc<Link, Global>,
-    pub(crate) host: String,
-}
-
 /// Keys from standard input, and what its user asks the client itself for. Of what is typed nothing is known
 /// beforehand.
 #[derive(Drop)]
@@ -43,15 +32,16 @@ pub(crate) struct Console<H, K> {
 }
 
 impl<H: Copy + Print + Wait, K: Read + Drop> Console<H, K> {
-    pub(crate) fn new(rt: H, typing: Typing<H, K>, connecting: Connecting) -> Console<H, K> {
-        let character = match connecting.origin {
-            Origin::Terminal => connecting.escape,
-            Origin::Input | Origin::Reader => None,
-        };
+    pub(crate) fn new(
+        rt: H,
+        typing: Typing<H, K>,
+        connecting: Connecting,
+        escape: Option<u8>,
+    ) -> Console<H, K> {
         Console {
             rt,
             typing,
-            escaping: Escaping::new(character),
+            escaping: Escaping::new(escape),
             connecting,
         }
     }

@@ -2,31 +2,41 @@
 
 ghost use Rattle.std.specs.Prelude.{◌≡◌};
 
+use crate::link::Link;
 use crate::outgoing::Throttle;
+use std::alloc::Global;
 use std::io;
 use std::io::Read;
-use std::sync::Wait;
+use std::sync::{Arc, Wait};
+
+/// Where keys come from: their reader, what holds them back, and the connection that they are for.
+#[derive(Drop)]
+pub(crate) struct Typing<H, K> {
+    pub(crate) keys: K,
+    pub(crate) throttle: Throttle<H>,
+    pub(crate) link: Arc<Link, Global>,
+    pub(crate) host: String,
+}
 
 /// The bytes of a reader as keys, which are read only while few of those before them wait to be sent.
 #[derive(Drop)]
 pub(crate) struct Keys<H, K> {
-    keys: K,
-    throttle: Throttle<H>,
+    typing: Typing<H, K>,
 }
 
 impl<H, K> Keys<H, K> {
-    pub(crate) fn new(keys: K, throttle: Throttle<H>) -> Keys<H, K>
-        ensures { result.keys ≡ keys }
+    pub(crate) fn new(typing: Typing<H, K>) -> Keys<H, K>
+        ensures { result.typing ≡ typing }
     {
-        Keys { keys, throttle }
+        Keys { typing }
     }
 }
 
 impl<H: Wait, K: Read> Read for Keys<H, K> {
-    ghost remaining = { λ k. K.remaining k.keys };
+    ghost remaining = { λ k. K.remaining k.typing.keys };
 
     fn read(&mut self, buf: &mut [u8]) -> io::Result<usize> {
-        self.throttle.wait();
-        self.keys.read(buf)
+        self.typing.throttle.wait();
+        self.typing.keys.read(buf)
     }
 }
