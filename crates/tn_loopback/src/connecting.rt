@@ -106,11 +106,11 @@ fn talk_from<H: Host, K: Read + Drop + Send + 'static, S: Write>(
             talk(rt, alloc, incoming, outgoing, keys, screen, connecting)
         },
         Origin::Input => {
-            let keys = Console::new(rt, typing, connecting, None);
+            let keys = Console::new(rt, typing, None);
             talk(rt, alloc, incoming, outgoing, keys, screen, connecting)
         },
         Origin::Terminal => {
-            let keys = Console::new(rt, typing, connecting, connecting.escape);
+            let keys = Console::new(rt, typing, connecting.escape);
             talk(rt, alloc, incoming, outgoing, keys, screen, connecting)
         },
     }
@@ -160,6 +160,9 @@ pub fn connect<
         throttle,
         link: Arc::try_clone(&link)?,
         host: String::from_str(alloc, host)?,
+        port: connecting.port,
+        width: connecting.width,
+        height: connecting.height,
     };
     let Ok(sending) = thread::spawn(&rt, move || -> io::Result<()> { sending.run() }) else {
         return Err(LoopbackFault::Memory);

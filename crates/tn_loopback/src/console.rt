@@ -2,7 +2,6 @@
 //! the user speaks to the client itself behind an escape character.
 
 use crate::keys::Typing;
-use crate::settings::Connecting;
 use libc::net::{POLLIN, poll};
 use libc::types::pollfd;
 use std::io;
@@ -28,21 +27,14 @@ pub(crate) struct Console<H, K> {
     rt: H,
     typing: Typing<H, K>,
     escaping: Escaping,
-    connecting: Connecting,
 }
 
 impl<H: Copy + Print + Wait, K: Read + Drop> Console<H, K> {
-    pub(crate) fn new(
-        rt: H,
-        typing: Typing<H, K>,
-        connecting: Connecting,
-        escape: Option<u8>,
-    ) -> Console<H, K> {
+    pub(crate) fn new(rt: H, typing: Typing<H, K>, escape: Option<u8>) -> Console<H, K> {
         Console {
             rt,
             typing,
             escaping: Escaping::new(escape),
-            connecting,
         }
     }
 
@@ -103,25 +95,27 @@ impl<H: Copy + Print + Wait, K: Read + Drop> Console<H, K> {
     }
 
     fn show_status(&self) {
-        let Connecting {
+        let Typing {
+            link,
+            host,
             port,
             width,
             height,
             ..
-        } = self.connecting;
-        let editing = place_of(self.typing.link.edits_here());
-        let echo = place_of(!self.typing.link.echoes_there());
+        } = &self.typing;
+        let editing = place_of(link.edits_here());
+        let echo = place_of(!link.echoes_there());
         let _ = print!(self.rt;
             "\r\nconnected to {} port {}\r\nlines are edited {}, echo is made {}\r\nwindow {} by {}\r\n\
             {} bytes came, {} went\r\n",
-            self.typing.host,
+            host,
             port,
             editing,
             echo,
             width,
             height,
-            self.typing.link.came(),
-            self.typing.link.went()
+            link.came(),
+            link.went()
         );
     }
 }

@@ -16,6 +16,9 @@ pub(crate) struct Typing<H, K> {
     pub(crate) throttle: Throttle<H>,
     pub(crate) link: Arc<Link, Global>,
     pub(crate) host: String,
+    pub(crate) port: u16,
+    pub(crate) width: u16,
+    pub(crate) height: u16,
 }
 
 /// The bytes of a reader as keys, which are read only while few of those before them wait to be sent.
