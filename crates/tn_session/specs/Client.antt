@@ -112,7 +112,7 @@ pub record RunningClient (window : Window) (keys net : KnownReader) (writer scre
       → IsEndedAt (start window.width window.height window.limit) marked (Fault f)
   -- that reading failed, only where a read fails, or after as many as are made
   pub read_failed : result.report.ended ≡ Fault fault.Read
-      → WillFail max_reads (length typed.0) keys.failures ⊎ WillFail max_reads (length read.0) net.failures
+      → WillFail max_reads (length (pieces_in typed.0)) keys.failures ⊎ WillFail max_reads (length (pieces_in read.0)) net.failures
   -- and that a write failed, only where one did, to the network or to the screen
   pub write_failed : result.report.ended ≡ Fault fault.Write
       → SomeFailed max_writes writer.before.calls writer.after.calls
