@@ -95,15 +95,9 @@ fn is_stopped<G: Gate>(part: &ReaderPart<G>) -> bool
     }
 }
 
-<<<<<<< ours
-/// Sends the pieces that the reader gives, each for a credit where these are needed, and then how it
-/// ended: after 4,294,967,295 reads as if one had failed. Where there is a flag and it is set after a
-/// piece, it leaves. `None` where the other end is gone.
-=======
-/// Sends the pieces that the reader gives, each for a credit where these are needed, with the sizes that it tells
-/// between them, and then how it ended: after 4,294,967,295 reads as if one had failed. Where there is a flag and it is set after a piece, it leaves.
-/// `None` where the other end is gone.
->>>>>>> theirs
+/// Sends the pieces that the reader gives, each for a credit where these are needed, with the sizes that it
+/// tells between them, and then how it ended: after 4,294,967,295 reads as if one had failed. Where there is
+/// a flag and it is set after a piece, it leaves. `None` where the other end is gone.
 pub(crate) fn run_reader<R: Wait, Rd: Source + Drop, G: Gate>(
     rt: &R,
     alloc: Global,
