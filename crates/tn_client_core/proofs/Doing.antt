@@ -1,5 +1,5 @@
 -- What one message does.
-use Rattle.std.proofs.Common.{◌≡◌, ◌<◌, All, ℕ, Bool, true, false, if◌then◌else◌, Some, None, List, [], ◌∷◌, ◌++◌, refl, sym, ap, ◌∙◌, subst, append-nil, append_assoc}
+use Rattle.std.proofs.Common.{◌≡◌, ◌<◌, All, ℕ, Bool, true, false, if◌then◌else◌, Some, None, Result, Ok, Err, OnOk, OnErr, List, [], ◌∷◌, ◌++◌, refl, sym, ap, ◌∙◌, subst, append-nil, append_assoc}
 use Rattle.std.proofs.lemmas.List.Elements.{All-append, All-nil}
 use Rattle.tn_client.proofs.lemmas.Histories.{items-gets, gets-append, sent-gets, shown-gets}
 use Rattle.tn_client.specs.Calls.{End, IsStopCause, IsFault, call_fault}
@@ -256,8 +256,17 @@ stops_resize from size old new x y u on is same = record {
       );
 }
 
+-- where it shows nothing, whatever was shown before
+pub shows_ok : {T E : Type 0} (r : Result T E) (P : List ℕ → Type 0) (seen : List ℕ) → OnOk r ((u : List ℕ) → P u) → OnOk r (P seen)
+shows_ok (Ok x) P seen h = h seen
+shows_ok (Err e) P seen h = tt
+
+pub shows_err : {T E : Type 0} (r : Result T E) (P : List ℕ → Type 0) (seen : List ℕ) → OnErr r ((u : List ℕ) → P u) → OnErr r (P seen)
+shows_err (Ok x) P seen h = tt
+shows_err (Err e) P seen h = h seen
+
 -- OTHER MESSAGES
--- a message that brings no bytes
+-- a message that brings no bytes, and no size
 abbrev pub IsPlain : Message → Type 0
 IsPlain (Piece piece) = ⊥
 IsPlain (Resized size) = ⊥

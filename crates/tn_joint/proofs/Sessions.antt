@@ -21,7 +21,7 @@ use Rattle.tn_server.specs.Lines.{entries}
 use Rattle.tn_session.specs.CoreTurns.{all_told}
 use Rattle.tn_session.specs.Facts.{JobFacts}
 use Rattle.tn_session.specs.Mailbox.{sender, mail}
-use Rattle.tn_session.specs.Reading.{pieces_of}
+use Rattle.tn_session.specs.Reading.{told_messages}
 use Rattle.tn_session.specs.declared.channels.View.{View}
 use Rattle.tn_session.specs.declared.mail.Mail.{Mail}
 use Rattle.tn_session.specs.declared.mail.Sender.TheVariants as who

@@ -8,7 +8,7 @@ use Rattle.tn_session.proofs.Mailbox.{sender_share}
 use Rattle.tn_session.specs.CoreTurns.{all_told}
 use Rattle.tn_session.specs.Mailbox.{same, from, mail, sender}
 use Rattle.tn_session.specs.Reader.{ReaderSends, Closes}
-use Rattle.tn_session.specs.Reading.{IsEnding, Telling, piece, size, told_messages, pieces_in}
+use Rattle.tn_session.specs.Reading.{IsEnding, Telling, piece_told, size_told, told_messages, pieces_in}
 use Rattle.tn_session.specs.declared.channels.View.{View}
 use Rattle.tn_session.specs.declared.mail.Mail.{Mail}
 use Rattle.tn_session.specs.declared.mail.Sender.{Sender}
@@ -85,8 +85,8 @@ net_all (x ∷ xs) desk back = net_more x.from x.message xs desk back (net_all x
 -- a reader's thread sends its pieces, and nothing else that brings bytes
 told_bytes : (s : Sender) (told : List Telling) (close : List Message) → bytes_of (map (mail s) (told_messages told ++ close)) ≡ concat (pieces_in told) ++ bytes_of (map (mail s) close)
 told_bytes s [] close = refl
-told_bytes s (piece p ∷ told) close = ap (λ (bs : List ℕ). p ++ bs) (told_bytes s told close) ∙ sym (append_assoc p (concat (pieces_in told)) (bytes_of (map (mail s) close)))
-told_bytes s (size z ∷ told) close = told_bytes s told close
+told_bytes s (piece_told p ∷ told) close = ap (λ (bs : List ℕ). p ++ bs) (told_bytes s told close) ∙ sym (append_assoc p (concat (pieces_in told)) (bytes_of (map (mail s) close)))
+told_bytes s (size_told z ∷ told) close = told_bytes s told close
 
 ending_bytes : (m : Message) (left : Option (List ℕ)) → IsEnding m left → piece_bytes m ≡ []
 ending_bytes (Piece piece) left e = absurd e

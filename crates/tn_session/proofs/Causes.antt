@@ -2,7 +2,7 @@
 use Rattle.std.proofs.Common.{◌≡◌, ℕ, Bool, true, false, ◌&&◌, ◌⊎◌, inl, inr, ⊎_elim, List, [], ◌∷◌, ◌++◌, refl, sym, ap, ◌∙◌, subst, map}
 use Rattle.tn_session.proofs.Lefts.{same_self}
 use Rattle.tn_session.specs.Mailbox.{same, from}
-use Rattle.tn_session.specs.Reading.{Telling, piece, size, told_messages, pieces_in}
+use Rattle.tn_session.specs.Reading.{Telling, piece_told, size_told, told_messages, pieces_in}
 use Rattle.tn_session.specs.Turns.{messages_of}
 use Rattle.tn_session.specs.declared.mail.Mail.{Mail}
 use Rattle.tn_session.specs.declared.mail.Sender.{Sender}
@@ -54,13 +54,13 @@ no_left e = cc
 -- of a thread that reads, after its pieces
 pub failure_last : (told : List Telling) (last : Message) → HasFailure (told_messages told ++ last ∷ Left ∷ []) → last ≡ ReadFailed
 failure_last [] last h = ⊎_elim (λ e. e) (λ f. ⊎_elim (λ e. absurd (no_left e)) (λ none. absurd none) f) h
-failure_last (piece p ∷ told) last h = ⊎_elim (λ e. absurd (no_piece p e)) (λ f. failure_last told last f) h
-failure_last (size s ∷ told) last h = ⊎_elim (λ e. absurd (no_size s e)) (λ f. failure_last told last f) h
+failure_last (piece_told p ∷ told) last h = ⊎_elim (λ e. absurd (no_piece p e)) (λ f. failure_last told last f) h
+failure_last (size_told s ∷ told) last h = ⊎_elim (λ e. absurd (no_size s e)) (λ f. failure_last told last f) h
 
 pub failure_never : (told : List Telling) → HasFailure (told_messages told ++ Left ∷ []) → ⊥
 failure_never [] h = ⊎_elim (λ e. no_left e) (λ none. none) h
-failure_never (piece p ∷ told) h = ⊎_elim (λ e. no_piece p e) (λ f. failure_never told f) h
-failure_never (size s ∷ told) h = ⊎_elim (λ e. no_size s e) (λ f. failure_never told f) h
+failure_never (piece_told p ∷ told) h = ⊎_elim (λ e. no_piece p e) (λ f. failure_never told f) h
+failure_never (size_told s ∷ told) h = ⊎_elim (λ e. no_size s e) (λ f. failure_never told f) h
 
 pub never_and : (a b : Bool) → b ≡ false → (a && b) ≡ false
 never_and true b e = e

@@ -7,7 +7,7 @@ use Rattle.tn_messages.specs.declared.messages.Message.TheVariants.{Piece, HangU
 use Rattle.tn_session.specs.Credits.{AnyTally, none_taken, one_taken, HaveTaken, piece_one, pieces_among}
 use Rattle.tn_session.specs.Mailbox.{mail, sender}
 use Rattle.tn_session.specs.Reader.{sends}
-use Rattle.tn_session.specs.Reading.{IsEnding, Telling, piece, size, told_messages, pieces_in}
+use Rattle.tn_session.specs.Reading.{IsEnding, Telling, piece_told, size_told, told_messages, pieces_in}
 use Rattle.tn_session.specs.declared.channels.View.{View}
 use Rattle.tn_session.specs.declared.credit.Credit.{Credit}
 use Rattle.tn_session.specs.declared.credit.CreditSeat.{CreditSeat}
@@ -57,8 +57,8 @@ pieces-append (x ∷ xs) ys = omega (arith, pieces-append xs ys)
 
 count_told : (who : Sender) (told : List Telling) → pieces_among (map (mail who) (told_messages told)) ≡ length (pieces_in told)
 count_told who [] = refl
-count_told who (piece p ∷ told) = omega (arith, count_told who told)
-count_told who (size s ∷ told) = omega (arith, count_told who told)
+count_told who (piece_told p ∷ told) = omega (arith, count_told who told)
+count_told who (size_told s ∷ told) = omega (arith, count_told who told)
 
 sender_is : (who : Sender) (a b : List Mail) → sender who a ≡ sender who b → a ≡ b
 sender_is Net a b e = let same : Some a ≡ Some b = ap (λ (v : View). v.net) e in cc
@@ -94,7 +94,7 @@ paid_ends who told last left v w u a b ending taken old one two mails e =
 -- it was stopped after a piece
 pub paid_stops : (who : Sender) (told : List Telling) (p : List ℕ) (v w u : View) (a b d : Option CreditSeat) → HaveTaken (length (pieces_in told)) a b → HaveTaken 1 b d → v ≡ sends who (told_messages told) → Says who (Piece p) v w → Says who Left w u → (mails : List Mail) → u ≡ sender who mails → HaveTaken (pieces_among mails) a d
 paid_stops who told p v w u a b d taken one_more old one two mails e =
-    let all = told ++ piece p ∷ [] in
+    let all = told ++ piece_told p ∷ [] in
     let whole = said who (told_messages all) Left w u (said_piece who told p v w old one) two in
     let count : pieces_among mails ≡ length (pieces_in told) + 1 = counted who all (Left ∷ []) u mails whole refl e ∙ ap length (pieces-push told p) ∙ length-append (pieces_in told) (p ∷ []) in
     as_many (pieces_among mails) (length (pieces_in told) + 1) a d count (taken_more (length (pieces_in told)) a b d taken one_more)

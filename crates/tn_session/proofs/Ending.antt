@@ -16,7 +16,7 @@ use Rattle.tn_session.proofs.Readers.{closes_ending}
 use Rattle.tn_session.specs.Facts.{JobFacts, SessionJobs, SessionResult, TermSettings}
 use Rattle.tn_session.specs.Mailbox.{same, from, sender, mail}
 use Rattle.tn_session.specs.EntryChannel.{taker}
-use Rattle.tn_session.specs.Reading.{IsEnding, IsReadCause, max_reads, Telling, piece, size, told_messages, pieces_in}
+use Rattle.tn_session.specs.Reading.{IsEnding, IsReadCause, max_reads, Telling, piece_told, size_told, told_messages, pieces_in}
 use Rattle.tn_session.specs.Session.{Schedule, HearsReader, TakesEntries}
 use Rattle.tn_session.specs.Stepping.{IsClose, step_said}
 use Rattle.tn_session.specs.Talk.{Closes, turns_said, entries_of, ends_done}
@@ -121,8 +121,8 @@ of_net at_end (x ∷ xs) others may = of_net_next at_end x xs others (λ b m. of
 
 -- its list
 net_may : (told : List Telling) (last : Message) (left : Option (List ℕ)) → IsEnding last left → MayAllCome false (told_messages told ++ last ∷ Left ∷ [])
-net_may (piece p ∷ told) last left e = (refl, net_may told last left e)
-net_may (size s ∷ told) last left e = (tt, net_may told last left e)
+net_may (piece_told p ∷ told) last left e = (refl, net_may told last left e)
+net_may (size_told s ∷ told) last left e = (tt, net_may told last left e)
 net_may [] HangUp left e = (tt, (tt, tt))
 net_may [] ReadFailed left e = (tt, (tt, tt))
 net_may [] Refused left e = (tt, (tt, tt))
@@ -133,8 +133,8 @@ net_may [] Left left e = absurd e
 net_may [] (Resized s) left e = absurd e
 
 net_bytes : (told : List Telling) (last : Message) (left : Option (List ℕ)) → IsEnding last left → heard (told_messages told ++ last ∷ Left ∷ []) ≡ concat (pieces_in told)
-net_bytes (piece p ∷ told) last left e = ap (λ (bs : List ℕ). p ++ bs) (net_bytes told last left e)
-net_bytes (size s ∷ told) last left e = net_bytes told last left e
+net_bytes (piece_told p ∷ told) last left e = ap (λ (bs : List ℕ). p ++ bs) (net_bytes told last left e)
+net_bytes (size_told s ∷ told) last left e = net_bytes told last left e
 net_bytes [] HangUp left e = refl
 net_bytes [] ReadFailed left e = refl
 net_bytes [] Refused left e = refl

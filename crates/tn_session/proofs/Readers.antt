@@ -6,7 +6,7 @@ use Rattle.std.specs.Io.KnownBytes.{Consumes}
 use Rattle.std.specs.List.{concat}
 use Rattle.tn_session.specs.Mailbox.{mail, sender}
 use Rattle.tn_session.specs.Reader.{Closes, ReaderSends, TellsFirst, sends}
-use Rattle.tn_session.specs.Reading.{IsEnding, IsPiece, IsReadCause, Telling, piece, size, message_of, told_messages, pieces_in, sizes_in}
+use Rattle.tn_session.specs.Reading.{IsEnding, IsPiece, IsReadCause, Telling, piece_told, size_told, message_of, told_messages, pieces_in, sizes_in}
 use Rattle.tn_streams.specs.Foretelling.{Failures}
 use Rattle.tn_streams.specs.Known.{KnownReader}
 use Rattle.tn_session.specs.declared.channels.View.{View}
@@ -33,62 +33,51 @@ said_three who ms m n o v w u t old one two three = said who (ms ++ m ∷ n ∷ 
 said_told : (who : Sender) (told : List Telling) (t : Telling) (v w : View) → v ≡ sends who (told_messages told) → Says who (message_of t) v w → w ≡ sends who (told_messages (told ++ t ∷ []))
 said_told who told t v w old says = said who (told_messages told) (message_of t) v w old says ∙ ap (sends who) (sym (map-append message_of told (t ∷ [])))
 
-pub said_piece : (who : Sender) (told : List Telling) (p : List ℕ) (v w : View) → v ≡ sends who (told_messages told) → Says who (Piece p) v w → w ≡ sends who (told_messages (told ++ piece p ∷ []))
-said_piece who told p v w old says = said_told who told (piece p) v w old says
+pub said_piece : (who : Sender) (told : List Telling) (p : List ℕ) (v w : View) → v ≡ sends who (told_messages told) → Says who (Piece p) v w → w ≡ sends who (told_messages (told ++ piece_told p ∷ []))
+said_piece who told p v w old says = said_told who told (piece_told p) v w old says
 
 -- what is told with a size, where there is one
 abbrev pub with_size : List Telling → Option WindowSize → List Telling
 with_size told None = told
-with_size told (Some s) = told ++ size s ∷ []
+with_size told (Some s) = told ++ size_told s ∷ []
 
 pub said_size : (who : Sender) (told : List Telling) (s : Option WindowSize) (v w : View) → v ≡ sends who (told_messages told) → ((l : List Mail) → v ≡ sender who l → w ≡ sender who (l ++ map (λ x. mail who (Resized x)) (option_to_list s))) → w ≡ sends who (told_messages (with_size told s))
 said_size who told None v w old says = says (map (mail who) (told_messages told)) old ∙ ap (sender who) (append-nil (map (mail who) (told_messages told)))
-said_size who told (Some s) v w old says = said_told who told (size s) v w old (λ l e. says l e)
+said_size who told (Some s) v w old says = said_told who told (size_told s) v w old (λ l e. says l e)
 
 pub pieces-with_size : (told : List Telling) (s : Option WindowSize) → pieces_in (with_size told s) ≡ pieces_in told
 pieces-with_size told None = refl
 pieces-with_size [] (Some s) = refl
-pieces-with_size (piece p ∷ told) (Some s) = ap (λ (ps : List (List ℕ)). p ∷ ps) (pieces-with_size told (Some s))
-pieces-with_size (size z ∷ told) (Some s) = pieces-with_size told (Some s)
+pieces-with_size (piece_told p ∷ told) (Some s) = ap (λ (ps : List (List ℕ)). p ∷ ps) (pieces-with_size told (Some s))
+pieces-with_size (size_told z ∷ told) (Some s) = pieces-with_size told (Some s)
 
-pub pieces-push : (told : List Telling) (p : List ℕ) → pieces_in (told ++ piece p ∷ []) ≡ pieces_in told ++ p ∷ []
+pub pieces-push : (told : List Telling) (p : List ℕ) → pieces_in (told ++ piece_told p ∷ []) ≡ pieces_in told ++ p ∷ []
 pieces-push [] p = refl
-pieces-push (piece q ∷ told) p = ap (λ (ps : List (List ℕ)). q ∷ ps) (pieces-push told p)
-pieces-push (size s ∷ told) p = pieces-push told p
+pieces-push (piece_told q ∷ told) p = ap (λ (ps : List (List ℕ)). q ∷ ps) (pieces-push told p)
+pieces-push (size_told s ∷ told) p = pieces-push told p
 
-pub sizes-push : (told : List Telling) (p : List ℕ) → sizes_in (told ++ piece p ∷ []) ≡ sizes_in told
+pub sizes-push : (told : List Telling) (p : List ℕ) → sizes_in (told ++ piece_told p ∷ []) ≡ sizes_in told
 sizes-push [] p = refl
-sizes-push (piece q ∷ told) p = sizes-push told p
-sizes-push (size s ∷ told) p = ap (λ (ss : List WindowSize). s ∷ ss) (sizes-push told p)
+sizes-push (piece_told q ∷ told) p = sizes-push told p
+sizes-push (size_told s ∷ told) p = ap (λ (ss : List WindowSize). s ∷ ss) (sizes-push told p)
 
-sizes-push_size : (told : List Telling) (z : WindowSize) → sizes_in (told ++ size z ∷ []) ≡ sizes_in told ++ z ∷ []
+sizes-push_size : (told : List Telling) (z : WindowSize) → sizes_in (told ++ size_told z ∷ []) ≡ sizes_in told ++ z ∷ []
 sizes-push_size [] z = refl
-sizes-push_size (piece q ∷ told) z = sizes-push_size told z
-sizes-push_size (size s ∷ told) z = ap (λ (ss : List WindowSize). s ∷ ss) (sizes-push_size told z)
+sizes-push_size (piece_told q ∷ told) z = sizes-push_size told z
+sizes-push_size (size_told s ∷ told) z = ap (λ (ss : List WindowSize). s ∷ ss) (sizes-push_size told z)
 
 pub tells_none : (o : Option (List WindowSize)) → TellsSizes o [] o
 tells_none None = refl
 tells_none (Some l) = (l, refl, refl)
 
 pub tells_next : (a b d : Option (List WindowSize)) (told : List Telling) (s : Option WindowSize) → TellsSizes a (sizes_in told) b → TellsSize b s d → TellsSizes a (sizes_in (with_size told s)) d
-tells_next None b d told s one two = by b one two
-  where
-    by : (b : Option (List WindowSize)) → b ≡ None → TellsSize b s d → d ≡ None
-    by None e t = t
-    by (Some l) e t = cc
-tells_next (Some a) b d told None (later, whole, is) two = (later, whole, none_told b d later is two)
-  where
-    none_told : (b d : Option (List WindowSize)) (later : List WindowSize) → b ≡ Some later → TellsSize b None d → d ≡ Some later
-    none_told None d later e t = cc
-    none_told (Some l) d later e t = t ∙ e
-tells_next (Some a) b d told (Some z) (later, whole, is) two = by b later whole is two
-  where
-    by : (b : Option (List WindowSize)) (later : List WindowSize) → a ≡ sizes_in told ++ later → b ≡ Some later → TellsSize b (Some z) d → TellsSizes (Some a) (sizes_in (told ++ size z ∷ [])) d
-    by None later w e t = cc
-    by (Some l) later w e (rest, starts, new) =
-        let same : l ≡ later = cc in
-        let at : later ≡ z ∷ rest = sym same ∙ starts in
-        (rest, w ∙ ap (λ (x : List WindowSize). sizes_in told ++ x) at ∙ sym (append_assoc (sizes_in told) (z ∷ []) rest) ∙ ap (λ (x : List WindowSize). x ++ rest) (sym (sizes-push_size told z)), new)
+tells_next None b d told s one two = subst (λ (o : Option (List WindowSize)). TellsSize o s d) one two
+tells_next (Some a) b d told None one two = (one.0, one.1, subst (λ (o : Option (List WindowSize)). TellsSize o None d) one.2 two)
+tells_next (Some a) b d told (Some z) one two =
+    let next : TellsSize (Some one.0) (Some z) d = subst (λ (o : Option (List WindowSize)). TellsSize o (Some z) d) one.2 two in
+    let sizes : List WindowSize = sizes_in told in
+    let whole : a ≡ (sizes ++ z ∷ []) ++ next.0 = one.1 ∙ ap (λ (l : List WindowSize). sizes ++ l) next.1 ∙ sym (append_assoc sizes (z ∷ []) next.0) in
+    (next.0, whole ∙ ap (λ (l : List WindowSize). l ++ next.0) (sym (sizes-push_size told z)), next.2)
 
 pub role : (who : Sender) (ms : List Message) (v : View) → v ≡ sends who ms → (l : List Mail) × (v ≡ sender who l)
 role who ms v e = (map (mail who) ms, e)
@@ -105,7 +94,7 @@ reader_ends who may_stop reader left told last v w u consumed ending cause old s
 -- it was stopped after a piece
 pub reader_stops : (who : Sender) (may_stop : Bool) (reader : KnownReader) (left : Option (List ℕ)) (told : List Telling) (p : List ℕ) (v w u : View) → Consumes reader.bytes left (concat (pieces_in told ++ p ∷ [])) → may_stop ≡ true → v ≡ sends who (told_messages told) → All IsPiece (pieces_in told) → IsPiece p → TellsFirst reader.sizes (sizes_in told) → Says who (Piece p) v w → Says who Left w u → ReaderSends who may_stop reader u
 reader_stops who may_stop reader left told p v w u consumed may old small fits sizes one two =
-    let all = told ++ piece p ∷ [] in
+    let all = told ++ piece_told p ∷ [] in
     let is : pieces_in all ≡ pieces_in told ++ p ∷ [] = pieces-push told p in
     let Bytes : List (List ℕ) → Type 0 = λ ps. Consumes reader.bytes left (concat ps) in
     (

@@ -4,7 +4,7 @@ use Rattle.std.proofs.lemmas.List.{map-append}
 use Rattle.tn_session.proofs.Lefts.{EndsLeft, lefts-append}
 use Rattle.tn_session.specs.Mailbox.{sender, mail}
 use Rattle.tn_session.specs.Reader.{ReaderSends}
-use Rattle.tn_session.specs.Reading.{IsEnding, Telling, piece, size, told_messages, pieces_in}
+use Rattle.tn_session.specs.Reading.{IsEnding, Telling, piece_told, size_told, told_messages, pieces_in}
 use Rattle.tn_session.specs.Turns.{left_one, lefts_of}
 use Rattle.tn_session.specs.declared.channels.View.{View}
 use Rattle.tn_session.specs.declared.mail.Mail.{Mail}
@@ -44,8 +44,8 @@ one_left s ms all mails n e is =
 
 told_stay : (told : List Telling) → NoLeft (told_messages told)
 told_stay [] = tt
-told_stay (piece p ∷ told) = (refl, told_stay told)
-told_stay (size s ∷ told) = (refl, told_stay told)
+told_stay (piece_told p ∷ told) = (refl, told_stay told)
+told_stay (size_told s ∷ told) = (refl, told_stay told)
 
 ending_stays : (m : Message) (left : Option (List ℕ)) → IsEnding m left → left_one m ≡ 0
 ending_stays HangUp left e = refl

@@ -27,25 +27,25 @@ Gives old new (Last last) = Consumes old new [] × IsEnding last new
 
 -- what a thread that reads tells before the end: a piece, or a size of the window
 pub data Telling : Type 0 where
-  piece : List ℕ → Telling
-  size : WindowSize → Telling
+  piece_told : List ℕ → Telling
+  size_told : WindowSize → Telling
 
 abbrev pub message_of : Telling → Message
-message_of (piece p) = Piece p
-message_of (size s) = Resized s
+message_of (piece_told p) = Piece p
+message_of (size_told s) = Resized s
 
 abbrev pub told_messages : List Telling → List Message
 told_messages told = map message_of told
 
 abbrev pub pieces_in : List Telling → List (List ℕ)
 pieces_in [] = []
-pieces_in (piece p ∷ told) = p ∷ pieces_in told
-pieces_in (size s ∷ told) = pieces_in told
+pieces_in (piece_told p ∷ told) = p ∷ pieces_in told
+pieces_in (size_told s ∷ told) = pieces_in told
 
 abbrev pub sizes_in : List Telling → List WindowSize
 sizes_in [] = []
-sizes_in (piece p ∷ told) = sizes_in told
-sizes_in (size s ∷ told) = s ∷ sizes_in told
+sizes_in (piece_told p ∷ told) = sizes_in told
+sizes_in (size_told s ∷ told) = s ∷ sizes_in told
 
 -- how many reads a thread makes at most
 abbrev pub max_reads : ℕ

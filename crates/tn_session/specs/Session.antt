@@ -16,7 +16,7 @@ use Rattle.tn_session.specs.Mailbox.{Interleaves, four, sender}
 use Rattle.tn_session.specs.EntryChannel.{putter, taker}
 use Rattle.tn_session.specs.Makers.{AreAll}
 use Rattle.tn_session.specs.Reader.{ReaderSends}
-use Rattle.tn_session.specs.Reading.{max_reads}
+use Rattle.tn_session.specs.Reading.{max_reads, pieces_in}
 use Rattle.tn_session.specs.Stepping.{AreSteps}
 use Rattle.tn_session.specs.Talk.{IsTalk}
 use Rattle.tn_session.specs.Turning.{IsQueue, ids_of}

@@ -285,7 +285,8 @@ where
     ensures fault { IfErr result IsRefusal }
     ensures ran { IfOk result (λ r.
         RunningClient (record { width = width; height = height; limit = limit })
-        (known_reader K.remaining K.foretold K.sizes keys_reader) (known_reader N.remaining N.foretold N.sizes net_reader)
+        (known_reader K.remaining K.foretold K.sizes keys_reader)
+        (known_reader N.remaining N.foretold N.sizes net_reader)
         (known_writing W.contents W.told net_writer.old net_writer.new)
         (known_writing S.contents S.told screen.old screen.new) (client_result r.0 r.1)) }
 {

@@ -102,7 +102,7 @@ pub(crate) fn run_reader<R: Wait, Rd: Source + Drop, G: Gate>(
     rt: &R,
     alloc: Global,
     seat: MailSeat,
-    reader: &mut Rd,
+    mut reader: Rd,
     part: &ReaderPart<G>,
     credits: &mut Option<CreditSeat>,
 ) -> Option<MailPass>
@@ -110,14 +110,14 @@ pub(crate) fn run_reader<R: Wait, Rd: Source + Drop, G: Gate>(
     requires credits { IsSeated credits.old }
     ensures seat { IfSome result (λ p. IsSeatAt (sends_on seat.to) p) }
     ensures sent { IfSome result (λ p. ReaderSends part.now.who (is_some part.now.stop)
-        (known_reader Rd.remaining Rd.foretold Rd.sizes reader.old) (view p)) }
+        (known_reader Rd.remaining Rd.foretold Rd.sizes reader) (view p)) }
     ensures credited { IfSome result (λ p. (mails : List MailT) → view p ≡ sender part.now.who mails →
         HaveTaken (pieces_among mails) credits.old credits.new) }
 {
     let MailSeat { to, mut pass } = seat;
     for _read in 0..u32::MAX {
-        pass = tell_size(rt, &to, pass, part.who, reader)?;
-        match read_piece(reader, alloc) {
+        pass = tell_size(rt, &to, pass, part.who, &mut reader)?;
+        match read_piece(&mut reader, alloc) {
             Got::Bytes(text) => {
                 take_credit(rt, credits)?;
                 pass = say(rt, &to, pass, part.who, Message::Piece(text))?;

@@ -50,8 +50,8 @@ impl<Rd: Source> Promise<Option<MailPass>> for ReaderSays<Rd> {
 
     ghost kept_by = { λ p r.
         IfSome r (λ pass. IsSeatAt (sends_on p.to.value) pass ×
-        ReaderSends p.who (is_some p.stop.value) (known_reader Rd.remaining Rd.foretold Rd.sizes p.reader.value)
-        (view pass)) };
+        ReaderSends p.who (is_some p.stop.value)
+        (known_reader Rd.remaining Rd.foretold Rd.sizes p.reader.value) (view pass)) };
 }
 
 /// What the thread of the foreground job promises.
@@ -136,8 +136,7 @@ pub(crate) fn start_reader<
             (view p)) }
     {
         let mut credits = credits;
-        let mut reader = reader;
-        run_reader(&rt, alloc, seat, &mut reader, &part, &mut credits)
+        run_reader(&rt, alloc, seat, reader, &part, &mut credits)
     };
     match thread::spawn_with(&rt, promise, work) {
         Ok(handle) => Some(handle),
