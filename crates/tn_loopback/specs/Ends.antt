@@ -1,5 +1,5 @@
 -- How sessions over connections ended.
-use Rattle.std.specs.Prelude.{◌≡◌, ◌⊎◌, ℕ, Option, None, List}
+use Rattle.std.specs.Prelude.{◌≡◌, ◌⊎◌, ℕ, Option, Some, None, List, []}
 use Rattle.tn_loopback.specs.declared.served.Served.{Served}
 use Rattle.tn_session.specs.Client.{RunningClient}
 use Rattle.tn_session.specs.Facts.{client_result}
@@ -12,14 +12,15 @@ use Rattle.tn_loopback.specs.declared.settings.Connecting.{Connecting}
 abbrev pub EndsWhole : Report → Type 0
 EndsWhole report = (report.ended ≡ HangUp) ⊎ (report.ended ≡ Done)
 
--- a client's session ran with these keys and this screen, before and after it; nothing is known of what the
--- connection carried
+-- a client's session ran with these keys and this screen, before and after it; no size was told, and nothing is
+-- known of what the connection carried
 abbrev pub RunsClient : Connecting → Option (List ℕ) → Option (List ℕ) → Option (List ℕ)
     → Report → ClientPorts → Type 0
 RunsClient connecting keys seen now report ports =
     RunningClient
     (record { width = connecting.width; height = connecting.height; limit = connecting.line_limit })
-    (record { bytes = keys; failures = None }) (record { bytes = None; failures = None })
+    (record { bytes = keys; failures = None; sizes = Some [] })
+    (record { bytes = None; failures = None; sizes = Some [] })
     (record { before = record { bytes = None; calls = None }; after = record { bytes = None; calls = None } })
     (record { before = record { bytes = seen; calls = None }; after = record { bytes = now; calls = None } })
     (client_result report ports)

@@ -34,6 +34,7 @@ keys_bytes Take = refl
 keys_bytes (Said job text after) = refl
 keys_bytes Refused = refl
 keys_bytes Left = refl
+keys_bytes (Resized size) = refl
 
 net_bytes : (m : Message) → brought_from origin.Net origin.Net m ≡ piece_bytes m
 net_bytes (Piece piece) = refl
@@ -43,6 +44,7 @@ net_bytes Take = refl
 net_bytes (Said job text after) = refl
 net_bytes Refused = refl
 net_bytes Left = refl
+net_bytes (Resized size) = refl
 
 -- the keys are what Keys sent
 keys_more : (s : Sender) (m : Message) (xs : List Mail) → brought origin.Keys (all_told xs) ≡ bytes_of (from Keys xs) → brought origin.Keys (all_told (mail s m ∷ xs)) ≡ bytes_of (from Keys (mail s m ∷ xs))

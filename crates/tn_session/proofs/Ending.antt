@@ -56,6 +56,7 @@ is_of_net Take = false
 is_of_net (Said id text after) = false
 is_of_net Refused = false
 is_of_net Left = false
+is_of_net (Resized size) = false
 
 abbrev NoneOfNet : List Message → Type 0
 NoneOfNet [] = Unit {0}
@@ -79,6 +80,7 @@ brings_nothing at_end Take e = record { may = tt; after = refl; bytes = refl }
 brings_nothing at_end (Said id text after) e = record { may = tt; after = refl; bytes = refl }
 brings_nothing at_end Refused e = record { may = tt; after = refl; bytes = refl }
 brings_nothing at_end Left e = record { may = tt; after = refl; bytes = refl }
+brings_nothing at_end (Resized size) e = record { may = tt; after = refl; bytes = refl }
 
 -- what holds of the mails of all others
 abbrev Others : List Mail → Type 0
@@ -231,6 +233,7 @@ net_at_end id (Piece p) left e k = absurd e
 net_at_end id Take left e k = absurd e
 net_at_end id (Said job t a) left e k = absurd e
 net_at_end id Left left e k = absurd e
+net_at_end id (Resized s) left e k = absurd e
 
 -- what the left bytes leave of the known ones
 known_left : (bytes stream : List ℕ) (left : Option (List ℕ)) → Consumes (Some bytes) left stream → (rest : List ℕ) × (bytes ≡ stream ++ rest) × (IsAtEnd left → rest ≡ [])
