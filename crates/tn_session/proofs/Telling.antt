@@ -3,19 +3,20 @@ use Rattle.std.proofs.Common.{◌≡◌, ◌≢◌, ℕ, ◌+◌, Bool, true, Al
 use Rattle.std.proofs.lemmas.List.Elements.{All-nil, All-push}
 use Rattle.std.specs.Io.KnownBytes.{Consumes}
 use Rattle.std.specs.List.{concat}
-use Rattle.tn_session.proofs.Credits.{taken_none, taken_piece}
+use Rattle.tn_session.proofs.Credits.{taken_none, taken_piece, paid_ends, paid_stops}
 use Rattle.tn_session.proofs.Reading.{consumes_piece, consumes_end, come_piece, come_interrupted, cause_on}
 use Rattle.tn_session.proofs.Readers.{Says, said_piece, said_size, with_size, pieces-with_size, pieces-push, sizes-push, tells_none, tells_next, reader_ends, reader_stops}
-use Rattle.tn_session.specs.Credits.{HaveTaken}
+use Rattle.tn_session.specs.Credits.{HaveTaken, pieces_among}
 use Rattle.tn_session.specs.Mailbox.{sender}
 use Rattle.tn_session.specs.Reader.{ReaderSends, SaysSize, sends}
-use Rattle.tn_session.specs.Reading.{IsEnding, IsPiece, IsReadCause, Telling, piece_told, told_messages, pieces_in, sizes_in}
+use Rattle.tn_session.specs.Reading.{IsEnding, IsPiece, IsReadCause, max_reads, Telling, piece_told, told_messages, pieces_in, sizes_in}
 use Rattle.tn_session.specs.declared.channels.View.{View}
 use Rattle.tn_session.specs.declared.credit.CreditSeat.{CreditSeat}
+use Rattle.tn_session.specs.declared.mail.Mail.{Mail}
 use Rattle.tn_session.specs.declared.mail.Sender.{Sender}
 use Rattle.tn_messages.specs.declared.messages.Message.{Message}
-use Rattle.tn_messages.specs.declared.messages.Message.TheVariants.{Piece, Left}
-use Rattle.tn_streams.proofs.lemmas.Foretelling.{come_none}
+use Rattle.tn_messages.specs.declared.messages.Message.TheVariants.{Piece, ReadFailed, Left}
+use Rattle.tn_streams.proofs.lemmas.Foretelling.{come_none, come_passed}
 use Rattle.tn_streams.specs.Foretelling.{Failures, HasCome}
 use Rattle.tn_streams.specs.Known.{KnownReader}
 use Rattle.tn_streams.specs.Sizes.{TellsSizes}
@@ -84,6 +85,14 @@ told_end who may_stop old now new calls a b last v w u h gives ending cause one 
     (cause_on calls (pieces_in h.told) last old.failures now.failures h.come cause)
     h.sent h.small (now.sizes, h.sizes) one two
 
+-- it was given up after as many reads as are made
+pub told_all : (who : Sender) (may_stop : Bool) (old now : KnownReader) (calls : ℕ) (a b : Option CreditSeat) (v w u : View) → calls ≡ max_reads → HasTold who old now calls a b v → Says who ReadFailed v w → Says who Left w u → ReaderSends who may_stop old u
+told_all who may_stop old now calls a b v w u is h one two =
+    let come : HasCome max_reads (length (pieces_in h.told)) old.failures now.failures = subst (λ (n : ℕ). HasCome n (length (pieces_in h.told)) old.failures now.failures) is h.come in
+    reader_ends who may_stop old now.bytes h.told ReadFailed v w u h.consumed tt
+    (come_passed max_reads (length (pieces_in h.told)) old.failures now.failures come)
+    h.sent h.small (now.sizes, h.sizes) one two
+
 -- it was stopped after a piece
 pub told_stop : (who : Sender) (may_stop : Bool) (old now new : KnownReader) (calls : ℕ) (p : List ℕ) (a b : Option CreditSeat) (v w u : View) → HasTold who old now calls a b v → may_stop ≡ true → Consumes now.bytes new.bytes p → IsPiece p → Says who (Piece p) v w → Says who Left w u → ReaderSends who may_stop old u
 told_stop who may_stop old now new calls p a b v w u h may gives fits one two =
@@ -91,6 +100,17 @@ told_stop who may_stop old now new calls p a b v w u h may gives fits one two =
     (consumes_piece old.bytes now.bytes new.bytes (pieces_in h.told) p h.consumed gives) may
     h.sent h.small fits (now.sizes, h.sizes) one two
 
+-- WHAT WAS PAID
+
+-- as many credits as pieces, where the reading ended
+pub paid_end : (who : Sender) (old now : KnownReader) (calls : ℕ) (a b : Option CreditSeat) (last : Message) (left : Option (List ℕ)) (v w u : View) → HasTold who old now calls a b v → IsEnding last left → Says who last v w → Says who Left w u → (mails : List Mail) → u ≡ sender who mails → HaveTaken (pieces_among mails) a b
+paid_end who old now calls a b last left v w u h ending one two = paid_ends who h.told last left v w u a b ending h.taken h.sent one two
+
+-- and where it was stopped
+pub paid_stop : (who : Sender) (old now : KnownReader) (calls : ℕ) (p : List ℕ) (a b d : Option CreditSeat) (v w u : View) → HasTold who old now calls a b v → HaveTaken 1 b d → Says who (Piece p) v w → Says who Left w u → (mails : List Mail) → u ≡ sender who mails → HaveTaken (pieces_among mails) a d
+paid_stop who old now calls p a b d v w u h paid one two = paid_stops who h.told p v w u a b d h.taken paid h.sent one two
+
+-- AT FIRST
 consumes_nothing : (o : Option (List ℕ)) → Consumes o o []
 consumes_nothing None = tt
 consumes_nothing (Some bytes) = refl
