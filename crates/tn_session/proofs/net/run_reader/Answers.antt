@@ -6,14 +6,14 @@ use Rattle.tn_session.proofs.Telling.{HasTold, told_nothing, told_size, told_one
 use Rattle.tn_streams.specs.Known.{known_reader}
 use Rattle.tn_session.proofs.net.run_reader.Goals as goal
 
-pub loop-read-entry : goal.loop-read-entry
-loop-read-entry g c = (c.requires.mailbox.0, told_nothing c.args.part.now.who _ _ _ c.requires.mailbox.1, c.requires.credits)
+pub loop-read-init : goal.loop-read-init
+loop-read-init g c = (c.requires.mailbox.0, told_nothing c.args.part.now.who _ _ _ c.requires.mailbox.1, c.requires.credits)
 
 pub tell_size-requires-clause-role : goal.tell_size-requires-clause-role
 tell_size-requires-clause-role g c = role c.args.part.now.who _ _ c.loop-read.invariant.1.sent
 
-pub say-requires-in-Bytes-clause-role : goal.say-requires-in-Bytes-clause-role
-say-requires-in-Bytes-clause-role g c =
+pub say-requires-clause-role : goal.say-requires-clause-role
+say-requires-clause-role g c =
     let known = known_reader g.Rd.Source.remaining g.Rd.Source.foretold g.Rd.Source.sizes in
     let h = told_size c.args.part.now.who _ _ (known c.tell_size.new.reader) _ _ _ _ _ c.loop-read.invariant.1 c.in_ok-pass.ensures.told c.tell_size.ensures.bytes c.tell_size.ensures.foretold in
     role c.args.part.now.who _ _ h.sent
@@ -60,8 +60,8 @@ returns-in-Last-clause-sent g c =
     let h = told_size c.args.part.now.who _ _ (known c.tell_size.new.reader) _ _ _ _ _ c.loop-read.invariant.1 c.in_ok-pass.ensures.told c.tell_size.ensures.bytes c.tell_size.ensures.foretold in
     IfSome_then c.say-in-Last-2.result c.say-in-Last-2.ensures.said (λ v f. told_end c.args.part.now.who _ _ _ (known c.read_piece.new.reader) _ _ _ c.in-Last.last _ _ _ h c.in-Last.ensures.gives.0 c.in-Last.ensures.gives.1 c.in-Last.ensures.foretold c.in_ok-pass-in-Last.ensures.said f)
 
-pub say-requires-clause-role : goal.say-requires-clause-role
-say-requires-clause-role g c = role c.args.part.now.who _ _ c.loop-read.invariant.1.sent
+pub say-requires-2-clause-role : goal.say-requires-2-clause-role
+say-requires-2-clause-role g c = role c.args.part.now.who _ _ c.loop-read.invariant.1.sent
 
 pub say-requires-3-clause-role : goal.say-requires-3-clause-role
 say-requires-3-clause-role g c = role c.args.part.now.who _ _ (said c.args.part.now.who _ _ _ _ c.loop-read.invariant.1.sent c.in_ok-pass-2.ensures.said)
