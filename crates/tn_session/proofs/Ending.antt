@@ -281,7 +281,7 @@ module _ {J : Type 0} {facts : JobFacts J} {jobs : SessionJobs} {settings : Term
 
   -- how the reading ended: nothing stops the thread that reads from the network
   net_end : (last : Message) × (IsEnding last s.read.1 × IsReadCause reader.failures (length (pieces_in s.read.0)) last) × (s.read.2 ≡ last ∷ Left ∷ [])
-  net_end = closes_ending s.read.0 s.read.1 reader.failures s.read.2 s.read.4
+  net_end = closes_ending (pieces_in s.read.0) s.read.1 reader.failures s.read.2 s.read.4
 
   net_said : messages_of (from Net s.handled) ≡ told_messages s.read.0 ++ net_end.0 ∷ Left ∷ []
   net_said =
