@@ -2,7 +2,7 @@
 use Rattle.std.proofs.Common.{◌≡◌, ℕ, Bool, true, false, ◌&&◌, ◌⊎◌, inl, inr, ⊎_elim, List, [], ◌∷◌, ◌++◌, refl, sym, ap, ◌∙◌, subst, map}
 use Rattle.tn_session.proofs.Lefts.{same_self}
 use Rattle.tn_session.specs.Mailbox.{same, from}
-use Rattle.tn_session.specs.Reading.{Telling, piece_told, size_told, told_messages, pieces_in}
+use Rattle.tn_session.specs.Reading.{Telling, piece_told, size_told, told_messages}
 use Rattle.tn_session.specs.Turns.{messages_of}
 use Rattle.tn_session.specs.declared.mail.Mail.{Mail}
 use Rattle.tn_session.specs.declared.mail.Sender.{Sender}

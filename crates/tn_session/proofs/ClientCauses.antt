@@ -10,7 +10,7 @@ use Rattle.tn_session.proofs.Ending.{messages_from}
 use Rattle.tn_session.specs.CoreTurns.{all_told}
 use Rattle.tn_session.specs.Mailbox.{Interleaves, from, four, sender}
 use Rattle.tn_session.specs.Reader.{ReaderSends, Closes}
-use Rattle.tn_session.specs.Reading.{IsReadCause, max_reads, Telling, piece_told, size_told, told_messages, pieces_in}
+use Rattle.tn_session.specs.Reading.{IsReadCause, max_reads, Telling, told_messages, pieces_in}
 use Rattle.tn_session.specs.Turns.{Tells, max_writes, messages_of}
 use Rattle.tn_session.specs.declared.channels.View.{View}
 use Rattle.tn_session.specs.declared.mail.Mail.{Mail}

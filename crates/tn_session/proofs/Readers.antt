@@ -96,8 +96,7 @@ pub reader_stops : (who : Sender) (may_stop : Bool) (reader : KnownReader) (left
 reader_stops who may_stop reader left told p v w u consumed may old small fits sizes one two =
     let all = told ++ piece_told p ∷ [] in
     let is : pieces_in all ≡ pieces_in told ++ p ∷ [] = pieces-push told p in
-    let Bytes : List (List ℕ) → Type 0 = λ ps. Consumes reader.bytes left (concat ps) in
-    (
+    let Bytes : List (List ℕ) → Type 0 = λ ps. Consumes reader.bytes left (concat ps) in (
       all,
       left,
       Left ∷ [],

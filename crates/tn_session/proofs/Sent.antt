@@ -4,7 +4,7 @@ use Rattle.std.proofs.lemmas.List.{map-append}
 use Rattle.tn_session.proofs.Lefts.{EndsLeft, lefts-append}
 use Rattle.tn_session.specs.Mailbox.{sender, mail}
 use Rattle.tn_session.specs.Reader.{ReaderSends}
-use Rattle.tn_session.specs.Reading.{IsEnding, Telling, piece_told, size_told, told_messages, pieces_in}
+use Rattle.tn_session.specs.Reading.{IsEnding, Telling, piece_told, size_told, told_messages}
 use Rattle.tn_session.specs.Turns.{left_one, lefts_of}
 use Rattle.tn_session.specs.declared.channels.View.{View}
 use Rattle.tn_session.specs.declared.mail.Mail.{Mail}

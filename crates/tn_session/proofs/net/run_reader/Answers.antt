@@ -1,8 +1,8 @@
-use Rattle.std.proofs.Common.{◌≡◌, [], arith, None}
+use Rattle.std.proofs.Common.{◌≡◌, arith, None}
 use Rattle.std.proofs.lemmas.Option.{IfSome_then}
 use Rattle.tn_messages.specs.declared.messages.Message.TheVariants.{ReadFailed}
 use Rattle.tn_session.proofs.Readers.{said, role}
-use Rattle.tn_session.proofs.Telling.{HasTold, told_nothing, told_size, told_one, told_none, told_end, told_all, told_stop, paid_end, paid_stop}
+use Rattle.tn_session.proofs.Telling.{told_nothing, told_size, told_one, told_none, told_end, told_all, told_stop, paid_end, paid_stop}
 use Rattle.tn_streams.specs.Known.{known_reader}
 use Rattle.tn_session.proofs.net.run_reader.Goals as goal
 
