@@ -1,0 +1,4 @@
+pub mod Writing
+pub mod Ends
+pub mod Talks
+pub mod Shown

@@ -1,0 +1,82 @@
+-- What was written, and what of it a writer tells.
+use Rattle.std.proofs.Common.{◌≡◌, ℕ, ◌≤◌, nat_le, Bool, true, false, ◌&&◌, List, [], ◌∷◌, ◌++◌, Option, Some, None, Result, Ok, zero, suc, refl, sym, ap, ◌∙◌, subst, append_assoc, append-nil, take-append-drop, arith, length, take, drop}
+use Rattle.std.specs.Io.KnownBytes.{Appends, Keeps, WriteAppends}
+use Rattle.tn_session.specs.Turns.{Writes, Tells, max_writes}
+use Rattle.tn_streams.proofs.lemmas.Telling.{accounts_both}
+use Rattle.tn_streams.specs.Telling.{Calls}
+
+pub appends_more : (a b c : Option (List ℕ)) (xs ys : List ℕ) → Appends a b xs → Appends b c ys → Appends a c (xs ++ ys)
+appends_more None b c xs ys one two = tt
+appends_more (Some x) None c xs ys one two = absurd one
+appends_more (Some x) (Some y) None xs ys one two = absurd two
+appends_more (Some x) (Some y) (Some z) xs ys one two = two ∙ ap (λ (l : List ℕ). l ++ ys) one ∙ append_assoc x xs ys
+
+pub appends_kept : (a b c : Option (List ℕ)) (xs : List ℕ) → Appends a b xs → Keeps b c → Appends a c xs
+appends_kept None b c xs one two = tt
+appends_kept (Some x) None c xs one two = absurd one
+appends_kept (Some x) (Some y) None xs one two = absurd two
+appends_kept (Some x) (Some y) (Some z) xs one two = two ∙ one
+
+pub keeps_on : (a b c : Option (List ℕ)) → Keeps a b → Keeps b c → Keeps a c
+keeps_on None b c one two = tt
+keeps_on (Some x) None c one two = absurd one
+keeps_on (Some x) (Some y) None one two = absurd two
+keeps_on (Some x) (Some y) (Some z) one two = two ∙ one
+
+pub keeps_same : (a : Option (List ℕ)) → Keeps a a
+keeps_same None = tt
+keeps_same (Some x) = refl
+
+pub kept_appends : (a b : Option (List ℕ)) → Keeps a b → Appends a b []
+kept_appends None b kept = tt
+kept_appends (Some x) None kept = absurd kept
+kept_appends (Some x) (Some y) kept = kept ∙ sym (append-nil x)
+
+pub take_all : (n : ℕ) (l : List ℕ) → length l ≤ n → take n l ≡ l
+take_all zero [] h = refl
+take_all (suc n) [] h = refl
+take_all zero (x ∷ xs) h = absurd (omega arith)
+take_all (suc n) (x ∷ xs) h = ap (λ (k : List ℕ). x ∷ k) (take_all n xs (omega arith))
+
+-- ONE CALL AFTER ANOTHER
+
+pub stops_at : (a b : Option (List ℕ)) (n : ℕ) (bytes : List ℕ) → Appends a b (take n bytes) → Writes false a b bytes
+stops_at a b n bytes h = (take n bytes, drop n bytes, sym (take-append-drop n bytes), h)
+
+pub writes_all : (a b : Option (List ℕ)) (n : ℕ) (bytes : List ℕ) → length bytes ≤ n → Appends a b (take n bytes) → Writes true a b bytes
+writes_all a b n bytes all h = rw (take_all n bytes all) at h
+
+pub stops_now : (a b c : Option (List ℕ)) (n k : ℕ) (bytes rest : List ℕ) → k ≡ 0 → Appends a b (take n bytes) → Appends b c (take k rest) → Writes false a c bytes
+stops_now a b c n k bytes rest e one two =
+    let P : ℕ → Type 0 = λ m. Appends b c (take m rest) in
+    let Q : List ℕ → Type 0 = λ zs. Appends a c zs in
+    stops_at a c n bytes (subst Q (append-nil (take n bytes)) (appends_more a b c (take n bytes) [] one (subst P e two)))
+
+pub writes_so_many : (b : Bool) (x y : Option (List ℕ)) (n : ℕ) (bytes : List ℕ) → nat_le (length bytes) n ≡ b → Appends x y (take n bytes) → Writes b x y bytes
+writes_so_many true x y n bytes e h = let all : length bytes ≤ n = grind arith in writes_all x y n bytes all h
+writes_so_many false x y n bytes e h = stops_at x y n bytes h
+
+pub ok_writes : {E : Type 0} (old new : Option (List ℕ)) (r : Result ℕ E) (n : ℕ) (buf : List ℕ) → r ≡ Ok n → WriteAppends old new r buf → Appends old new (take n buf)
+ok_writes {E} old new r n buf e h = let P : Result ℕ E → Type 0 = λ u. WriteAppends old new u buf in subst P e h
+
+-- ONE LINE AFTER ANOTHER
+
+pub writes_more : (well : Bool) (a b c : Option (List ℕ)) (xs ys : List ℕ) → Appends a b xs → Writes well b c ys → Writes well a c (xs ++ ys)
+writes_more true a b c xs ys one two = appends_more a b c xs ys one two
+writes_more false a b c xs ys one (front, rest, is, two) = (
+  xs ++ front,
+  rest,
+  ap (λ (l : List ℕ). xs ++ l) is ∙ sym (append_assoc xs front rest),
+  appends_more a b c xs front one two,
+)
+
+pub stops_more : (a b c : Option (List ℕ)) (xs ys : List ℕ) → Writes false a b xs → Keeps b c → Writes false a c (xs ++ ys)
+stops_more a b c xs ys (front, rest, is, one) kept = (
+  front,
+  rest ++ ys,
+  ap (λ (l : List ℕ). l ++ ys) is ∙ append_assoc front rest ys,
+  appends_kept a b c front one kept,
+)
+
+pub tells_more : (well : Bool) (a b c : Option Calls) → Tells true a b → Tells well b c → Tells well a c
+tells_more well a b c one two = accounts_both max_writes true well a b c one two

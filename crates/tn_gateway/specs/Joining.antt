@@ -1,0 +1,41 @@
+-- The jobs of a session that is joined to a service.
+use Rattle.std.specs.Prelude.{◌≡◌, ℕ, Option, Some, None, List}
+use Rattle.tn_discipline.specs.declared.reads.Entry.{Entry}
+use Rattle.tn_gateway.specs.Sending.{SendsEntry, silent}
+use Rattle.tn_gateway.specs.Showing.{Shows}
+use Rattle.tn_gateway.specs.declared.joining.Gateway.{Gateway}
+use Rattle.tn_gateway.specs.declared.joining.Gateway.TheVariants as side
+use Rattle.tn_gateway.specs.declared.sending.Way.TheVariants.{Open}
+use Rattle.tn_jobs.specs.declared.reactions.Reaction.{Reaction}
+use Rattle.tn_jobs.specs.declared.verdicts.After.TheVariants.{Stay, Done}
+use Rattle.tn_streams.specs.Foretelling.{Failures}
+use Rattle.tn_streams.specs.Known.{known_reader}
+use Rattle.tn_streams.specs.Telling.{Calls}
+
+-- how many jobs are to come of something that is there, or not
+abbrev pub count : {A : Type 0} → Option A → ℕ
+count None = 0
+count (Some x) = 1
+
+abbrev pub IsFresh : {R W : Type 0} → Gateway R W → Type 0
+IsFresh (side.Sends sending) = sending.way ≡ Open
+IsFresh (side.Shows showing) = Unit {0}
+
+-- an entry goes to the job in the foreground; the other one is never asked
+abbrev pub Reacts : {R W : Type 0} → (W → Option (List ℕ)) → (W → Option Calls)
+    → Gateway R W → Entry → Reaction → Gateway R W → Type 0
+Reacts contents told (side.Sends old) entry reaction (side.Sends new) =
+    SendsEntry contents told old entry reaction new
+Reacts contents told (side.Sends old) entry reaction (side.Shows new) = ⊥
+Reacts contents told (side.Shows old) entry reaction new =
+    (reaction ≡ silent Stay) × (new ≡ side.Shows old)
+
+-- a step is one of the job in the background; the other one makes none
+abbrev pub Steps : {R W : Type 0} → (R → Option (List ℕ)) → (R → Option Failures)
+    → Gateway R W → Reaction → Gateway R W → Type 0
+Steps remaining foretold (side.Shows old) reaction (side.Shows new) =
+    Shows reaction.text reaction.after
+    (known_reader remaining foretold old.reader) (known_reader remaining foretold new.reader)
+Steps remaining foretold (side.Shows old) reaction (side.Sends new) = ⊥
+Steps remaining foretold (side.Sends old) reaction new =
+    (reaction ≡ silent Done) × (new ≡ side.Sends old)

@@ -1,0 +1,5 @@
+pub mod Joining
+pub mod Lines
+pub mod Sending
+pub mod Showing
+pub mod Talks

@@ -1,0 +1,72 @@
+-- What went to the service in a whole talk, and what of its words was shown.
+use Rattle.std.specs.Prelude.{◌≡◌, ◌⊎◌, ⊤, ℕ, Bool, true, false, Option, List, [], ◌∷◌, ◌++◌, map}
+use Rattle.std.specs.List.{concat}
+use Rattle.std.specs.Io.KnownBytes.{Consumes, IsAtEnd}
+use Rattle.tn_discipline.specs.declared.reads.Entry.{Entry}
+use Rattle.tn_discipline.specs.declared.reads.Entry.TheVariants.{Text, Eof, Signal}
+use Rattle.tn_discipline.specs.declared.reads.Sig.TheVariants.{Int, Quit, Tstp}
+use Rattle.tn_gateway.specs.Lines.{line_sent}
+use Rattle.tn_gateway.specs.Showing.{IsToFail}
+use Rattle.tn_gateway.specs.declared.joining.Gateway.{Gateway}
+use Rattle.tn_gateway.specs.declared.joining.Gateway.TheVariants as side
+use Rattle.tn_gateway.specs.declared.line_ends.LineEnd.{LineEnd}
+use Rattle.tn_gateway.specs.declared.sending.Sending.{Sending}
+use Rattle.tn_gateway.specs.declared.sending.Way.{Way}
+use Rattle.tn_gateway.specs.declared.sending.Way.TheVariants.{Open, Ended, Broken}
+use Rattle.tn_gateway.specs.declared.showing.Showing.{Showing}
+use Rattle.tn_jobs.specs.declared.reactions.Reaction.{Reaction}
+use Rattle.tn_jobs.specs.declared.verdicts.After.TheVariants.{Stay, Done}
+use Rattle.tn_session.specs.Turns.{Writes, Tells}
+use Rattle.tn_streams.specs.Foretelling.{Failures}
+use Rattle.tn_streams.specs.Known.{KnownReader, KnownWriting, known_reader, known_writing}
+use Rattle.tn_streams.specs.Telling.{Calls}
+
+-- what is due to the service: each line once, in order, up to the end of file, an interrupt or a quit
+abbrev pub due : LineEnd → List Entry → List ℕ
+due line_end [] = []
+due line_end (Text line ∷ entries) = line_sent line_end line ++ due line_end entries
+due line_end (Signal Tstp ∷ entries) = due line_end entries
+due line_end (Signal Int ∷ entries) = []
+due line_end (Signal Quit ∷ entries) = []
+due line_end (Eof ∷ entries) = []
+
+-- no write has failed
+abbrev pub goes_well : Way → Bool
+goes_well Open = true
+goes_well Ended = true
+goes_well Broken = false
+
+-- All that was due was written and nothing else; or a write failed, and the first of it was.
+pub record SendsAll (bytes : List ℕ) (writer : KnownWriting) (way : Way) : Type 0 where
+  pub wrote : Writes (goes_well way) writer.before.bytes writer.after.bytes bytes
+  pub tells : Tells (goes_well way) writer.before.calls writer.after.calls
+
+-- these entries with their answers led the job in the foreground here
+abbrev pub SendsTalk : {R W : Type 0} → (W → Option (List ℕ)) → (W → Option Calls)
+    → Sending W → List Entry → Gateway R W → Type 0
+SendsTalk contents told first entries (side.Sends last) =
+    SendsAll (due first.line_end entries) (known_writing contents told first.writer last.writer) last.way
+SendsTalk contents told first entries (side.Shows last) = ⊥
+
+abbrev pub texts_of : List Reaction → List ℕ
+texts_of reactions = concat (map (λ r. r.text) reactions)
+
+-- the last of them ended the job, and none before it
+abbrev pub EndsAtLast : List Reaction → Type 0
+EndsAtLast [] = ⊥
+EndsAtLast (r ∷ []) = r.after ≡ Done
+EndsAtLast (r ∷ next ∷ reactions) = (r.after ≡ Stay) × EndsAtLast (next ∷ reactions)
+
+-- What was shown is what the reader gave, in order; and all of it once the job has ended, unless a read is to
+-- fail.
+pub record ShowsAll (reactions : List Reaction) (first last : KnownReader) : Type 0 where
+  pub shown : Consumes first.bytes last.bytes (texts_of reactions)
+  pub all : EndsAtLast reactions → IsAtEnd last.bytes ⊎ IsToFail first.failures
+
+-- these steps led the job in the background here
+abbrev pub ShowsTalk : {R W : Type 0} → (R → Option (List ℕ)) → (R → Option Failures)
+    → Showing R → List Reaction → Gateway R W → Type 0
+ShowsTalk remaining foretold first reactions (side.Shows last) =
+    ShowsAll reactions
+    (known_reader remaining foretold first.reader) (known_reader remaining foretold last.reader)
+ShowsTalk remaining foretold first reactions (side.Sends last) = ⊥

@@ -1,0 +1,33 @@
+//! Laws of whole talks, over the definitions alone.
+
+ghost use Rattle.std.specs.Prelude.{◌≡◌, List, map};
+ghost use Rattle.std.specs.List.{FoldsTo};
+ghost use Rattle.tn_discipline.specs.declared.reads.Entry.{Entry};
+ghost use Rattle.tn_gateway.specs.Joining.{Reacts, Steps};
+ghost use Rattle.tn_gateway.specs.Talks.{SendsTalk, ShowsTalk};
+ghost use Rattle.tn_gateway.specs.declared.joining.Gateway.{Gateway};
+ghost use Rattle.tn_gateway.specs.declared.joining.Gateway.TheVariants as side;
+ghost use Rattle.tn_gateway.specs.declared.sending.Sending.{Sending};
+ghost use Rattle.tn_gateway.specs.declared.sending.Way.TheVariants.{Open};
+ghost use Rattle.tn_gateway.specs.declared.showing.Showing.{Showing};
+ghost use Rattle.tn_jobs.specs.declared.reactions.Reaction.{Reaction};
+ghost use Rattle.tn_session.specs.Talk.{Answers};
+
+use tn_session::Finish;
+use tn_streams::Source;
+
+/// The service gets each line of the entries that were answered, once and in order, with the line end that was
+/// chosen, and nothing else; where a write failed, the first bytes of that.
+pub fn lines_go_in_order<R: Source, W: Finish>()
+    ensures { (first : Sending W) (turns : List (Entry × Reaction)) (last : Gateway R W) → first.way ≡ Open
+        → Answers (Reacts W.contents W.told) (side.Sends first) turns last
+        → SendsTalk W.contents W.told first (map (λ turn. turn.0) turns) last }
+{}
+
+/// The user is shown what the reader gives, in order, and nothing else; all of it once the job has ended by
+/// the reader's end.
+pub fn all_is_shown<R: Source, W: Finish>()
+    ensures { (first : Showing R) (reactions : List Reaction) (last : Gateway R W)
+        → FoldsTo (Steps R.remaining R.foretold) (side.Shows first) reactions last
+        → ShowsTalk R.remaining R.foretold first reactions last }
+{}

@@ -1,0 +1,24 @@
+//! The jobs that join a session to a line service: the one in the foreground sends the service each line that
+//! the user enters, and the one in the background shows the user what the service says.
+//!
+//! ```
+//! let jobs = Gateways::new(reader, writer, LineEnd::Lf); // both halves of a connection, or any others
+//! ```
+//!
+//! It opens no connection and waits for nobody but its reader and its writer. A session ends its jobs; the end
+//! of the service ends the job in the background alone, so that whoever owns the session's connection hangs up.
+#![tactic(auto)]
+
+pub use joining::Gateway;
+pub use line_ends::LineEnd;
+pub use makers::Gateways;
+pub use sending::{Sending, Way};
+pub use showing::Showing;
+
+mod joining;
+pub mod laws;
+mod line_ends;
+mod makers;
+mod sending;
+mod showing;
+mod writing;

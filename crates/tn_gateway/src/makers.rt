@@ -1,0 +1,58 @@
+//! The jobs of one session that is joined to a service.
+
+ghost use Rattle.std.specs.Prelude.{◌≡◌, Some};
+
+use crate::joining::Gateway;
+use crate::line_ends::LineEnd;
+use crate::sending::{Sending, Way};
+use crate::showing::Showing;
+use std::alloc::{AllocError, Global};
+use tn_session::{Finish, Maker};
+use tn_streams::Source;
+
+/// Makes the jobs of one session that is joined to a service by a reader and a writer: the one that sends, and
+/// then the one that shows.
+#[derive(Drop)]
+pub struct Gateways<R, W> {
+    reader: Option<R>,
+    writer: Option<W>,
+    line_end: LineEnd,
+}
+
+impl<R, W> Gateways<R, W> {
+    /// Jobs that read what the service says by the reader, and write lines to it by the writer.
+    pub fn new(reader: R, writer: W, line_end: LineEnd) -> Gateways<R, W>
+        ensures reader { result.reader ≡ Some reader }
+        ensures writer { result.writer ≡ Some writer }
+        ensures line_end { result.line_end ≡ line_end }
+    {
+        Gateways {
+            reader: Some(reader),
+            writer: Some(writer),
+            line_end,
+        }
+    }
+}
+
+impl<R: Source + Drop, W: Finish + Drop> Maker for Gateways<R, W> {
+    ghost use Rattle.std.specs.Prelude.{Some, ◌+◌};
+    ghost use Rattle.tn_gateway.specs.Joining.{count};
+
+    type Job = Gateway<R, W>;
+
+    ghost left = { λ maker. Some (count maker.writer + count maker.reader) };
+
+    fn next(&mut self, _alloc: Global) -> Result<Option<Gateway<R, W>>, AllocError> {
+        if let Some(writer) = self.writer.take() {
+            return Ok(Some(Gateway::Sends(Sending {
+                writer,
+                line_end: self.line_end,
+                way: Way::Open,
+            })));
+        }
+        match self.reader.take() {
+            Some(reader) => Ok(Some(Gateway::Shows(Showing { reader }))),
+            None => Ok(None),
+        }
+    }
+}

@@ -1,0 +1,113 @@
+//! The job in the foreground: each line that the user enters goes to the service.
+
+ghost use Rattle.std.specs.Prelude.{◌≡◌, IfOk, true, false, codes};
+ghost use Rattle.std.specs.Io.KnownBytes.{Keeps};
+ghost use Rattle.tn_gateway.specs.Lines.{line_sent};
+ghost use Rattle.tn_gateway.specs.Sending.{SendsEntry, WritesBytes, WritesNothing, ended, answer, say, silent, way_after};
+ghost use Rattle.tn_streams.specs.Known.{known_writing};
+
+use crate::line_ends::{LineEnd, line_sent};
+use crate::writing::write_whole;
+use std::alloc::{AllocError, Global};
+use tn_discipline::{Entry, Sig, Text};
+use tn_jobs::{After, Reaction};
+use tn_session::Finish;
+
+/// Whether lines still go to the service.
+#[derive(Clone, Copy, Debug, PartialEq, Eq)]
+pub enum Way {
+    Open,
+    /// The user ended it.
+    Ended,
+    /// A write failed: the service takes no more, and what it says ends too.
+    Broken,
+}
+
+/// Sends each line to the service.
+#[derive(Drop)]
+pub struct Sending<W> {
+    pub(crate) writer: W,
+    pub(crate) line_end: LineEnd,
+    pub(crate) way: Way,
+}
+
+impl<W: Finish> Sending<W> {
+    /// Answers an entry: a line goes to the service, the end of file ends what goes there, an interrupt and a
+    /// quit end the session too, and a stop does nothing. Out of memory nothing is sent.
+    pub(crate) fn answer(&mut self, alloc: Global, entry: Entry) -> Result<Reaction, AllocError>
+        ensures { IfOk result (λ reaction. SendsEntry W.contents W.told self.old entry reaction self.new) }
+    {
+        match entry {
+            Entry::Text(line) => self.answer_line(alloc, line),
+            Entry::Eof => {
+                self.end();
+                Ok(silent(alloc, After::Stay))
+            },
+            Entry::Signal(Sig::Int | Sig::Quit) => {
+                self.end();
+                Ok(silent(alloc, After::Done))
+            },
+            Entry::Signal(Sig::Tstp) => Ok(silent(alloc, After::Stay)),
+        }
+    }
+
+    fn answer_line(&mut self, alloc: Global, line: Text) -> Result<Reaction, AllocError>
+        ensures { IfOk result (λ reaction.
+            SendsEntry W.contents W.told self.old (Entry.Text line) reaction self.new) }
+    {
+        match self.way {
+            Way::Open => {
+                self.send(line)?;
+                Ok(silent(alloc, After::Stay))
+            },
+            Way::Ended => say(alloc, "closed\n", After::Stay),
+            Way::Broken => Ok(silent(alloc, After::Stay)),
+        }
+    }
+
+    fn send(&mut self, line: Text) -> Result<(), AllocError>
+        requires { self.old.way ≡ Way.Open }
+        ensures sent { OnOk result (WritesBytes (line_sent self.old.line_end line)
+            (known_writing W.contents W.told self.old.writer self.new.writer) self.new.way) }
+        ensures line_end { self.new.line_end ≡ self.old.line_end }
+    {
+        let bytes = line_sent(line, self.line_end)?;
+        if !write_whole(&mut self.writer, &bytes) {
+            self.way = Way::Broken;
+        }
+        Ok(())
+    }
+
+    // No more goes to the service.
+    fn end(&mut self)
+        ensures nothing { WritesNothing (known_writing W.contents W.told self.old.writer self.new.writer) }
+        ensures way { self.new.way ≡ ended self.old.way }
+        ensures line_end { self.new.line_end ≡ self.old.line_end }
+    {
+        self.writer.finish();
+        if self.way == Way::Open {
+            self.way = Way::Ended;
+        }
+    }
+}
+
+/// A reaction without a text.
+pub(crate) fn silent(alloc: Global, after: After) -> Reaction
+    ensures { result ≡ silent after }
+{
+    Reaction {
+        text: Text::from(Vec::new(alloc)),
+        after,
+    }
+}
+
+fn say(alloc: Global, words: &str, after: After) -> Result<Reaction, AllocError>
+    ensures { IfOk result (λ reaction. reaction ≡ say words.now after) }
+{
+    let mut text = Vec::new(alloc);
+    text.extend_from_slice(words.as_bytes())?;
+    Ok(Reaction {
+        text: Text::from(text),
+        after,
+    })
+}
