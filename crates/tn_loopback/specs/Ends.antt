@@ -1,5 +1,6 @@
 -- How sessions over connections ended.
-use Rattle.std.specs.Prelude.{◌≡◌, ◌⊎◌, ℕ, Option, None, List}
+use Rattle.std.specs.Prelude.{◌≡◌, ◌⊎◌, ℕ, Option, None, IfOk, IsOk, List}
+use Rattle.tn_loopback.specs.declared.finished.Finished.{Finished}
 use Rattle.tn_loopback.specs.declared.served.Served.{Served}
 use Rattle.tn_session.specs.Client.{RunningClient}
 use Rattle.tn_session.specs.Facts.{client_result}
@@ -11,6 +12,10 @@ use Rattle.tn_loopback.specs.declared.settings.Connecting.{Connecting}
 -- the session ended in no fault
 abbrev pub EndsWhole : Report → Type 0
 EndsWhole report = (report.ended ≡ HangUp) ⊎ (report.ended ≡ Done)
+
+-- and so did this one, which came to its report
+abbrev pub IsWhole : Finished → Type 0
+IsWhole finished = IsOk finished.report × IfOk finished.report EndsWhole
 
 -- a client's session ran with these keys and this screen, before and after it; nothing is known of what the
 -- connection carried

@@ -45,6 +45,10 @@ impl Connection {
         let standing = Some(standing);
         Connection { standing, ..self }
     }
+
+    pub(crate) fn into_stream(self) -> TcpStream {
+        self.stream
+    }
 }
 
 // Where the system refuses one of these, the connection goes on without it.

@@ -5,7 +5,7 @@ ghost use Rattle.tn_program.specs.Settings.{connecting_as, editing_as};
 
 use std::alloc::{AllocError, Global};
 use tn_answerer::{Answerer, Answerers};
-use tn_loopback::{Connecting, Service, SessionOptions};
+use tn_loopback::{Call, Connecting, Service, SessionOptions};
 use tn_server::Editing;
 
 /// Gives each session the jobs of `tn serve`.
@@ -20,7 +20,7 @@ impl Service for Answering {
 
     type Jobs = Answerers;
 
-    fn session(&mut self, _alloc: Global, _number: usize) -> Result<Answerers, AllocError> {
+    fn session(&mut self, _alloc: Global, _call: Call) -> Result<Answerers, AllocError> {
         Ok(Answerers::new(self.ticks))
     }
 }

@@ -14,7 +14,10 @@ returns-clause-shape c =
     let a7 = with_one_more c.in_ok-arg-6.field-0 c.in_ok-arg-7.field-0 c.whole_option-4.result _ _ c.in_ok-arg-7.ensures c.whole_option-4.ensures.local c.whole_option-4.ensures.rule a6 in
     let a8 = with_one_more c.in_ok-arg-7.field-0 c.in_ok-arg-8.field-0 c.flag_option.result _ _ c.in_ok-arg-8.ensures c.flag_option.ensures.local c.flag_option.ensures.rule a7 in
     let a9 = with_one_more c.in_ok-arg-8.field-0 c.in_ok-command.command c.flag_option-2.result _ _ c.in_ok-command.ensures c.flag_option-2.ensures.local c.flag_option-2.ensures.rule a8 in
-    ap (λ (a : App). a.top) a9
+    ap (λ (a : App). a.top) (c.in_ok-command-2.ensures.app ∙ ap (λ (a : App). with_rule (with_rule a (text_rule (codes "to"))) (flag_rule (codes "crlf"))) a9)
+
+pub with_gateway_options-requires : goal.with_gateway_options-requires
+with_gateway_options-requires c = ?
 
 pub returns-clause-local : goal.returns-clause-local
 returns-clause-local c =
