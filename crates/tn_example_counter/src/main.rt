@@ -11,10 +11,9 @@ use std::io::{Read, Write};
 use std::net::{Ipv4Addr, SocketAddr, TcpListener, TcpStream};
 use std::sync::{Arc, Mutex, Wait};
 use std::{io, thread};
-use tn_discipline::{Entry, Limit, Text};
+use tn_discipline::{Entry, Text};
 use tn_jobs::{After, Job, Reaction};
 use tn_loopback::{Call, Host, Service, Serving, SessionOptions, serve_on};
-use tn_server::Editing;
 use tn_session::Maker;
 
 fn main(rt: HostRuntime) -> io::Result<()> {
@@ -24,11 +23,7 @@ fn main(rt: HostRuntime) -> io::Result<()> {
     let serving = Serving {
         sessions: 8,
         count: 2,
-        options: SessionOptions {
-            line_limit: Limit::standard(),
-            editing: Editing::Remote,
-            idle: 0,
-        },
+        options: SessionOptions::standard(),
         verbose: false,
     };
     let poll = Arc::new(alloc, Mutex::new(Poll::new()))?;

@@ -1,5 +1,7 @@
 //! How to serve and how to connect.
 
+ghost use Rattle.std.specs.Prelude.{◌≡◌};
+
 use tn_discipline::Limit;
 use tn_server::Editing;
 
@@ -13,6 +15,19 @@ pub struct SessionOptions {
     /// After how many seconds in which the client sends nothing a session ends as by a hang-up, or 0 for
     /// never.
     pub idle: u32,
+}
+
+impl SessionOptions {
+    /// Lines of the standard limit, which the server edits, from clients that may be silent for ever.
+    pub fn standard() -> SessionOptions
+        ensures { result ≡ record { line_limit = 255; editing = Editing.Remote; idle = 0 } }
+    {
+        SessionOptions {
+            line_limit: Limit::standard(),
+            editing: Editing::Remote,
+            idle: 0,
+        }
+    }
 }
 
 /// How to serve.
