@@ -31,7 +31,10 @@ impl<R: Source + Drop, W: Finish + Drop> Job for Gateway<R, W> {
     // The job in the background is asked for none.
     fn entry(&mut self, alloc: Global, entry: Entry) -> Result<Reaction, AllocError> {
         match self {
-            Gateway::Sends(sending) => sending.answer(alloc, entry),
+            Gateway::Sends(sending) => {
+                let reaction = sending.answer(alloc, entry)?;
+                Ok(reaction)
+            },
             Gateway::Shows(_) => Ok(silent(alloc, After::Stay)),
         }
     }
@@ -40,7 +43,10 @@ impl<R: Source + Drop, W: Finish + Drop> Job for Gateway<R, W> {
     fn step(&mut self, alloc: Global) -> Result<Reaction, AllocError> {
         match self {
             Gateway::Sends(_) => Ok(silent(alloc, After::Done)),
-            Gateway::Shows(showing) => showing.step(alloc),
+            Gateway::Shows(showing) => {
+                let reaction = showing.step(alloc)?;
+                Ok(reaction)
+            },
         }
     }
 }

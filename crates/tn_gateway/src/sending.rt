@@ -1,9 +1,8 @@
 //! The job in the foreground: each line that the user enters goes to the service.
 
-ghost use Rattle.std.specs.Prelude.{◌≡◌, IfOk, true, false, codes};
-ghost use Rattle.std.specs.Io.KnownBytes.{Keeps};
+ghost use Rattle.std.specs.Prelude.{◌≡◌, IfOk, OnOk};
 ghost use Rattle.tn_gateway.specs.Lines.{line_sent};
-ghost use Rattle.tn_gateway.specs.Sending.{SendsEntry, WritesBytes, WritesNothing, ended, answer, say, silent, way_after};
+ghost use Rattle.tn_gateway.specs.Sending.{SendsEntry, WritesBytes, WritesNothing, ended, say, silent, way_after};
 ghost use Rattle.tn_streams.specs.Known.{known_writing};
 
 use crate::line_ends::{LineEnd, line_sent};
@@ -72,9 +71,8 @@ impl<W: Finish> Sending<W> {
         ensures line_end { self.new.line_end ≡ self.old.line_end }
     {
         let bytes = line_sent(line, self.line_end)?;
-        if !write_whole(&mut self.writer, &bytes) {
-            self.way = Way::Broken;
-        }
+        let whole = write_whole(&mut self.writer, &bytes);
+        self.way = way_after(whole);
         Ok(())
     }
 
@@ -85,10 +83,28 @@ impl<W: Finish> Sending<W> {
         ensures line_end { self.new.line_end ≡ self.old.line_end }
     {
         self.writer.finish();
-        if self.way == Way::Open {
-            self.way = Way::Ended;
-        }
+        self.way = ended(self.way);
     }
+}
+
+// The way once it is ended.
+fn ended(way: Way) -> Way
+    ensures { result ≡ ended way }
+{
+    match way {
+        Way::Open | Way::Ended => Way::Ended,
+        Way::Broken => Way::Broken,
+    }
+}
+
+// The way after a write of which all went well, or not.
+fn way_after(whole: bool) -> Way
+    ensures { result ≡ way_after whole }
+{
+    if whole {
+        return Way::Open;
+    }
+    Way::Broken
 }
 
 /// A reaction without a text.

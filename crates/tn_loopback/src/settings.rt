@@ -1,6 +1,7 @@
 //! How to serve and how to connect.
 
 ghost use Rattle.std.specs.Prelude.{◌≡◌};
+ghost use Rattle.tn_discipline.specs.Limits.{standard_limit};
 
 use tn_discipline::Limit;
 use tn_server::Editing;
@@ -20,7 +21,9 @@ pub struct SessionOptions {
 impl SessionOptions {
     /// Lines of the standard limit, which the server edits, from clients that may be silent for ever.
     pub fn standard() -> SessionOptions
-        ensures { result ≡ record { line_limit = 255; editing = Editing.Remote; idle = 0 } }
+        ensures line_limit { result.line_limit ≡ standard_limit }
+        ensures editing { result.editing ≡ Editing.Remote }
+        ensures idle { result.idle ≡ 0 }
     {
         SessionOptions {
             line_limit: Limit::standard(),
