@@ -144,6 +144,9 @@ impl<H: Clock + Copy + Wait> Attended<H> {
             let read = self.stream.read(buf);
             if !is_timeout(&read) {
                 self.heard = Instant::now(&self.rt).ok();
+                if matches!(read, Ok(0)) {
+                    self.hold();
+                }
                 // A session that is over discards what still comes.
                 if !self.standing.is_finished() || !matches!(read, Ok(1..)) {
                     return read;
@@ -162,7 +165,6 @@ impl<H: Clock + Copy + Wait> Read for Attended<H> {
     fn read(&mut self, buf: &mut [u8]) -> io::Result<usize> {
         let read = self.read_on(buf);
         if is_last(&read) {
-            self.hold();
             self.standing.gone.store(true, Ordering::SeqCst);
         }
         read

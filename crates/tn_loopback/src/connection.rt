@@ -47,7 +47,8 @@ impl Connection {
     }
 
     pub(crate) fn into_stream(self) -> TcpStream {
-        self.stream
+        let Connection { stream, .. } = self;
+        stream
     }
 }
 

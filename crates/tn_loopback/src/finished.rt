@@ -6,7 +6,7 @@ ghost use Rattle.tn_loopback.specs.Ends.{EndsWhole, IsWhole};
 use tn_session::{Ended, Report, SessionFault};
 
 /// How a session over a connection ended.
-#[derive(Debug, Drop)]
+#[derive(Clone, Copy, Debug, PartialEq, Eq)]
 pub struct Finished {
     /// What the session tells, or why it did not run to its report.
     pub report: Result<Report, SessionFault>,

@@ -121,7 +121,8 @@ where
 // A connection that is closed here before that could lose what was sent last.
 fn linger<H: Host>(rt: H, stream: TcpStream, standing: Arc<Standing, Global>) {
     if let Ok(mut rest) = Attended::new(rt, stream, standing, 0) {
-        let _ = rest.read(&mut [0; 512]);
+        let mut unread = [0; 512];
+        let _ = rest.read(&mut unread);
     }
 }
 

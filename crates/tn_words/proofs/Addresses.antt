@@ -1,10 +1,11 @@
 -- A text is split at its last colon.
-use Rattle.std.proofs.Common.{◌≡◌, ◌≢◌, ℕ, zero, suc, ◌<◌, ◌==◌, Bool, true, false, Option, Some, None, List, [], ◌∷◌, ◌++◌, length, get_or, drop, slice_index, cond, refl, sym, ap, ◌∙◌, subst, arith, option_map}
+use Rattle.std.proofs.Common.{◌≡◌, ◌≢◌, ℕ, zero, suc, ◌<◌, ◌≤◌, ◌==◌, Bool, true, false, Option, Some, None, List, [], ◌∷◌, ◌++◌, length, get_or, drop, slice_index, cond, refl, sym, ap, ◌∙◌, subst, arith, option_map, MatchOption, codes}
 use Rattle.std.specs.Borrow.{Bor}
 use Rattle.std.specs.Path.{rsplit_once}
 use Rattle.std.specs.Str.Parse.{AllDigits, digits_value, without_leading_plus}
 use Rattle.core.specs.Char.{digit_value}
-use Rattle.std.proofs.Paths.Parts.{Lacks, rsplit_once_parts}
+use Rattle.core.specs.Str.Pattern.{RFindsChar, SplitsAroundMatch}
+use Rattle.std.proofs.Paths.Parts.{Lacks, rsplit_once_char, rsplit_once_parts}
 use Rattle.tn_words.specs.Addresses.{WritesAddress}
 use Rattle.tn_words.specs.Numbers.{Writes}
 
@@ -66,6 +67,35 @@ pub one_port : (text h g : List ℕ) (p q : ℕ) → WritesAddress text h p → 
 one_port text h g p q one two =
     let same = (writes_so text h one.number g q one.text_is (number_lacks one.number p one.writes) two).1 in
     sym one.writes.value ∙ ap (λ (n : List ℕ). digits_value 10 (without_leading_plus n)) same ∙ two.writes.value
+
+-- WHAT `rsplit_once` AND `parse` SAY
+
+abbrev pub Splits : List ℕ → Option (Bor (List ℕ) × Bor (List ℕ)) → Type 0
+Splits text r = MatchOption r (RFindsChar 58 text None) (λ x. SplitsAroundMatch (RFindsChar 58) text x.0.now x.1.now)
+
+abbrev Parts : List ℕ → Option (List ℕ × List ℕ) → Type 0
+Parts text o = MatchOption {T = List ℕ × List ℕ} o (Lacks 58 text) (λ split. (text ≡ split.0 ++ 58 ∷ split.1) × Lacks 58 split.1)
+
+parts : (text : List ℕ) (r : Option (Bor (List ℕ) × Bor (List ℕ))) → Splits text r → Parts text (option_map (λ x. (x.0.now, x.1.now)) r)
+parts text r splits =
+    subst (λ o. Parts text o) (sym (rsplit_once_char 58 text r splits (omega arith))) (rsplit_once_parts 58 text)
+
+pub parts_some : (text : List ℕ) (r : Option (Bor (List ℕ) × Bor (List ℕ))) (x : Bor (List ℕ) × Bor (List ℕ)) → Splits text r → r ≡ Some x → (text ≡ x.0.now ++ 58 ∷ x.1.now) × Lacks 58 x.1.now
+parts_some text r x splits is = parts text (Some x) (subst (λ o. Splits text o) is splits)
+
+pub parts_none : (text : List ℕ) (r : Option (Bor (List ℕ) × Bor (List ℕ))) → Splits text r → r ≡ None → Lacks 58 text
+parts_none text r splits is = parts text None (subst (λ o. Splits text o) is splits)
+
+-- the host may not be empty
+pub named_none : (text host number : List ℕ) → text ≡ host ++ 58 ∷ number → Lacks 58 number → host ≡ [] → (h : List ℕ) (port : ℕ) → WritesAddress text h port → ⊥
+named_none text host number is lacks empty h port w =
+    w.named (sym (writes_so text host number h port is lacks w).0 ∙ empty)
+
+-- the number that stands there is the port's
+pub numbered : (text host number : List ℕ) → text ≡ host ++ 58 ∷ number → Lacks 58 number → (h : List ℕ) (port : ℕ) → WritesAddress text h port → Writes number port × (1 ≤ port) × (port ≤ 65535)
+numbered text host number is lacks h port w =
+    let same = (writes_so text host number h port is lacks w).1 in
+    (subst (λ n. Writes n port) (sym same) w.writes, w.at_least, w.at_most)
 
 -- ADDRESSES THAT ARE WRITTEN OUT
 

@@ -42,10 +42,13 @@ fn host_and_port(text: &str) -> Option<(&str, u16)>
     if host.is_empty() {
         return None;
     }
-    match number.parse::<u16>() {
-        Ok(port) if port > 0 => Some((host, port)),
-        _ => None,
+    let Ok(port) = number.parse::<u16>() else {
+        return None;
+    };
+    if port == 0 {
+        return None;
     }
+    Some((host, port))
 }
 
 /// How to serve.

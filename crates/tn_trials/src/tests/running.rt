@@ -3,6 +3,7 @@
 mod connections;
 mod cores;
 mod gates;
+mod gateways;
 mod lines;
 mod programs;
 mod refusals;
