@@ -111,22 +111,21 @@ goes_on line more before writer after new wrote tells rest = record {
   tells = tells_more (goes_well new) before.calls writer.calls after.calls tells rest.tells;
 }
 
-pub all_due : (line_end : LineEnd) (before : KnownWriter) (entries : List Entry) (new : Way) (after : KnownWriter) → GoThrough line_end Open before entries new after → Sent (due line_end entries) before after new
-
-line_due : (line_end : LineEnd) (line : List ℕ) (before writer : KnownWriter) (entries : List Entry) (way new : Way) (after : KnownWriter) (whole : Bool) → Writes whole before.bytes writer.bytes (line_sent line_end line) → Tells whole before.calls writer.calls → way ≡ way_after whole → GoThrough line_end way writer entries new after → Sent (line_sent line_end line ++ due line_end entries) before after new
-line_due line_end line before writer entries way new after true wrote tells is rest =
+-- a line, and then what is due of the other entries
+line_due : (line_end : LineEnd) (line more : List ℕ) (before writer : KnownWriter) (entries : List Entry) (way new : Way) (after : KnownWriter) (whole : Bool) → Writes whole before.bytes writer.bytes line → Tells whole before.calls writer.calls → way ≡ way_after whole → GoThrough line_end way writer entries new after → (GoThrough line_end Open writer entries new after → Sent more writer after new) → Sent (line ++ more) before after new
+line_due line_end line more before writer entries way new after true wrote tells is rest others =
     let Q : Way → Type 0 = λ w. GoThrough line_end w writer entries new after in
-    goes_on (line_sent line_end line) (due line_end entries) before writer after new wrote tells
-        (all_due line_end writer entries new after (subst Q is rest))
-line_due line_end line before writer entries way new after false wrote tells is rest =
-    breaks line_end (line_sent line_end line) (due line_end entries) before writer entries way new after wrote tells is rest
+    goes_on line more before writer after new wrote tells (others (subst Q is rest))
+line_due line_end line more before writer entries way new after false wrote tells is rest others =
+    breaks line_end line more before writer entries way new after wrote tells is rest
 
+pub all_due : (line_end : LineEnd) (before : KnownWriter) (entries : List Entry) (new : Way) (after : KnownWriter) → GoThrough line_end Open before entries new after → Sent (due line_end entries) before after new
 all_due line_end before [] new after (way_is, writer_is) =
     let P : KnownWriter → Type 0 = λ w. WritesNothing (between before w) in
     let both = kept before after (subst P (sym writer_is) (record { bytes = keeps_same before.bytes; calls = refl })) in
     sent_as [] before after Open new way_is both.0 both.1
 all_due line_end before (Text line ∷ entries) new after (way, writer, goes, rest) =
-    line_due line_end line before writer entries way new after goes.whole goes.wrote goes.tells goes.leaves rest
+    line_due line_end (line_sent line_end line) (due line_end entries) before writer entries way new after goes.whole goes.wrote goes.tells goes.leaves rest (all_due line_end writer entries new after)
 all_due line_end before (Eof ∷ entries) new after (way, writer, goes, rest) =
     ends line_end before writer entries way new after goes.0 goes.1 rest
 all_due line_end before (Signal Int ∷ entries) new after (way, writer, goes, rest) =

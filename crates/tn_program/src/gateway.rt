@@ -141,7 +141,10 @@ where
             self.jobs = Some(self.join(hook)?);
         }
         match &mut self.jobs {
-            Some(jobs) => jobs.next(alloc),
+            Some(jobs) => {
+                let next = jobs.next(alloc)?;
+                Ok(next)
+            },
             None => Ok(None),
         }
     }
