@@ -1,4 +1,4 @@
-pub mod Writing
+pub mod Written
 pub mod Ends
 pub mod Talks
 pub mod Shown

@@ -4,7 +4,7 @@ use Rattle.std.specs.Io.KnownBytes.{Appends, Keeps}
 use Rattle.tn_discipline.specs.declared.reads.Entry.{Entry}
 use Rattle.tn_discipline.specs.declared.reads.Entry.TheVariants.{Text, Eof, Signal}
 use Rattle.tn_discipline.specs.declared.reads.Sig.TheVariants.{Int, Quit, Tstp}
-use Rattle.tn_gateway.proofs.Writing.{kept_appends, keeps_on, keeps_same, writes_more, stops_more, tells_more}
+use Rattle.tn_gateway.proofs.Written.{kept_appends, keeps_on, keeps_same, writes_more, stops_more, tells_more}
 use Rattle.tn_gateway.specs.Joining.{Reacts}
 use Rattle.tn_gateway.specs.Lines.{line_sent}
 use Rattle.tn_gateway.specs.Sending.{Goes, WritesNothing, ended, way_after}

@@ -1,6 +1,6 @@
 use Rattle.std.proofs.Common.{◌≡◌, Ok, Err, refl, arith, take, drop, length, ◌-◌, length-drop}
 use Rattle.std.proofs.Math.Seq.{take-add}
-use Rattle.tn_gateway.proofs.Writing.{appends_more, appends_kept, take_all, stops_at, stops_now, writes_all, writes_so_many, ok_writes}
+use Rattle.tn_gateway.proofs.Written.{appends_more, appends_kept, take_all, stops_at, stops_now, writes_all, writes_so_many, ok_writes}
 use Rattle.tn_session.specs.Turns.{max_writes}
 use Rattle.tn_streams.proofs.lemmas.Telling.{made_more, accounts_made, accounts_failed, accounts_passed, write_stays, write_fails}
 use Rattle.tn_streams.specs.Telling.{CountsWrite}
