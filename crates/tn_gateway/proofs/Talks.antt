@@ -101,8 +101,8 @@ breaks line_end line more before writer entries way new after wrote tells is res
     let later = stays_shut line_end Broken writer entries new after broken_shut (subst Q is rest) in
     let P : Option Calls → Type 0 = λ c. Tells false before.calls c in
     sent_as (line ++ more) before after Broken new later.1
-        (stops_more before.bytes writer.bytes after.bytes line more wrote later.0.bytes)
-        (subst P (sym later.0.calls) tells)
+    (stops_more before.bytes writer.bytes after.bytes line more wrote later.0.bytes)
+    (subst P (sym later.0.calls) tells)
 
 -- a line that went, and then the rest
 goes_on : (line more : List ℕ) (before writer after : KnownWriter) (new : Way) → Appends before.bytes writer.bytes line → Tells true before.calls writer.calls → Sent more writer after new → Sent (line ++ more) before after new
@@ -136,7 +136,7 @@ all_due line_end before (Signal Tstp ∷ entries) new after (way, writer, goes, 
     let Q : Way → Type 0 = λ w. GoThrough line_end w writer entries new after in
     let both = kept before writer goes.0 in
     goes_on [] (due line_end entries) before writer after new both.0 both.1
-        (all_due line_end writer entries new after (subst Q goes.1 rest))
+    (all_due line_end writer entries new after (subst Q goes.1 rest))
 
 -- THE TALK OF THE JOB
 
@@ -163,11 +163,11 @@ module _ {R W : Type 0} (contents : W → Option (List ℕ)) (told : W → Optio
   through first (turn ∷ turns) last (side.Shows mid, one, rest) = absurd one
 
   talk : (first : Sending W) (entries : List Entry) (last : Gateway R W) → first.way ≡ Open → Through first entries last → SendsTalk {R = R} contents told first entries last
-  talk first entries (side.Sends last) open all =
+  talk first entries (side.Sends last) way_is all =
       let P : Way → Type 0 = λ w. GoThrough first.line_end w (known first.writer) entries last.way (known last.writer) in
-      all_due first.line_end (known first.writer) entries last.way (known last.writer) (subst P open all)
-  talk first entries (side.Shows last) open all = absurd all
+      all_due first.line_end (known first.writer) entries last.way (known last.writer) (subst P way_is all)
+  talk first entries (side.Shows last) way_is all = absurd all
 
   pub in_order : (first : Sending W) (turns : List (Entry × Reaction)) (last : Gateway R W) → first.way ≡ Open → Answers (Reacts {R = R} contents told) (side.Sends first) turns last → SendsTalk {R = R} contents told first (map (λ turn. turn.0) turns) last
-  in_order first turns last open answers =
-      talk first (map (λ turn. turn.0) turns) last open (through first turns last answers)
+  in_order first turns last way_is answers =
+      talk first (map (λ turn. turn.0) turns) last way_is (through first turns last answers)
