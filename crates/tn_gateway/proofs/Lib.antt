@@ -2,3 +2,4 @@ pub mod Written
 pub mod Ends
 pub mod Talks
 pub mod Shown
+pub mod Steps

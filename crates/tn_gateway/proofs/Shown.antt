@@ -80,15 +80,12 @@ all_shown old (r ∷ next ∷ reactions) new (between, one, rest) (goes_on, ends
 -- THE STEPS OF THE JOB
 
 module _ {R W : Type 0} (remaining : R → Option (List ℕ)) (foretold : R → Option Failures) where
-  abbrev pub known : R → KnownReader
-  known reader = known_reader remaining foretold reader
-
   abbrev pub Through : Showing R → List Reaction → Gateway R W → Type 0
-  Through first reactions (side.Shows last) = ShowOn (known first.reader) reactions (known last.reader)
+  Through first reactions (side.Shows last) = ShowOn (known_reader remaining foretold first.reader) reactions (known_reader remaining foretold last.reader)
   Through first reactions (side.Sends last) = ⊥
 
-  one_more : (first mid : Showing R) (r : Reaction) (reactions : List Reaction) (last : Gateway R W) → Shows r.text r.after (known first.reader) (known mid.reader) → Through mid reactions last → Through first (r ∷ reactions) last
-  one_more first mid r reactions (side.Shows last) one rest = (known mid.reader, one, rest)
+  one_more : (first mid : Showing R) (r : Reaction) (reactions : List Reaction) (last : Gateway R W) → Shows r.text r.after (known_reader remaining foretold first.reader) (known_reader remaining foretold mid.reader) → Through mid reactions last → Through first (r ∷ reactions) last
+  one_more first mid r reactions (side.Shows last) one rest = (known_reader remaining foretold mid.reader, one, rest)
   one_more first mid r reactions (side.Sends last) one rest = absurd rest
 
   through : (first : Showing R) (reactions : List Reaction) (last : Gateway R W) → FoldsTo (Steps {W = W} remaining foretold) (side.Shows first) reactions last → Through first reactions last
@@ -99,8 +96,8 @@ module _ {R W : Type 0} (remaining : R → Option (List ℕ)) (foretold : R → 
 
   talk : (first : Showing R) (reactions : List Reaction) (last : Gateway R W) → Through first reactions last → ShowsTalk {W = W} remaining foretold first reactions last
   talk first reactions (side.Shows last) all = record {
-    shown = shown (known first.reader) reactions (known last.reader) all;
-    all = all_shown (known first.reader) reactions (known last.reader) all;
+    shown = shown (known_reader remaining foretold first.reader) reactions (known_reader remaining foretold last.reader) all;
+    all = all_shown (known_reader remaining foretold first.reader) reactions (known_reader remaining foretold last.reader) all;
   }
   talk first reactions (side.Sends last) all = absurd all
 

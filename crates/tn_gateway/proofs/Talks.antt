@@ -141,18 +141,15 @@ all_due line_end before (Signal Tstp ∷ entries) new after (way, writer, goes, 
 -- THE TALK OF THE JOB
 
 module _ {R W : Type 0} (contents : W → Option (List ℕ)) (told : W → Option Calls) where
-  abbrev pub known : W → KnownWriter
-  known writer = known_writer contents told writer
-
   abbrev pub Through : Sending W → List Entry → Gateway R W → Type 0
   Through first entries (side.Sends last) =
-      GoThrough first.line_end first.way (known first.writer) entries last.way (known last.writer)
+      GoThrough first.line_end first.way (known_writer contents told first.writer) entries last.way (known_writer contents told last.writer)
   Through first entries (side.Shows last) = ⊥
 
   one_more : (first mid : Sending W) (entry : Entry) (entries : List Entry) (last : Gateway R W) → Goes first.line_end first.way entry (known_writing contents told first.writer mid.writer) mid.way → mid.line_end ≡ first.line_end → Through mid entries last → Through first (entry ∷ entries) last
   one_more first mid entry entries (side.Sends last) goes same rest =
-      let P : LineEnd → Type 0 = λ e. GoThrough e mid.way (known mid.writer) entries last.way (known last.writer) in
-      (mid.way, known mid.writer, goes, subst P same rest)
+      let P : LineEnd → Type 0 = λ e. GoThrough e mid.way (known_writer contents told mid.writer) entries last.way (known_writer contents told last.writer) in
+      (mid.way, known_writer contents told mid.writer, goes, subst P same rest)
   one_more first mid entry entries (side.Shows last) goes same rest = absurd rest
 
   through : (first : Sending W) (turns : List (Entry × Reaction)) (last : Gateway R W) → Answers (Reacts {R = R} contents told) (side.Sends first) turns last → Through first (map (λ turn. turn.0) turns) last
@@ -164,8 +161,8 @@ module _ {R W : Type 0} (contents : W → Option (List ℕ)) (told : W → Optio
 
   talk : (first : Sending W) (entries : List Entry) (last : Gateway R W) → first.way ≡ Open → Through first entries last → SendsTalk {R = R} contents told first entries last
   talk first entries (side.Sends last) way_is all =
-      let P : Way → Type 0 = λ w. GoThrough first.line_end w (known first.writer) entries last.way (known last.writer) in
-      all_due first.line_end (known first.writer) entries last.way (known last.writer) (subst P way_is all)
+      let P : Way → Type 0 = λ w. GoThrough first.line_end w (known_writer contents told first.writer) entries last.way (known_writer contents told last.writer) in
+      all_due first.line_end (known_writer contents told first.writer) entries last.way (known_writer contents told last.writer) (subst P way_is all)
   talk first entries (side.Shows last) way_is all = absurd all
 
   pub in_order : (first : Sending W) (turns : List (Entry × Reaction)) (last : Gateway R W) → first.way ≡ Open → Answers (Reacts {R = R} contents told) (side.Sends first) turns last → SendsTalk {R = R} contents told first (map (λ turn. turn.0) turns) last
