@@ -29,7 +29,15 @@ fn main(rt: HostRuntime) -> io::Result<()> {
     let poll = Arc::new(alloc, Mutex::new(Poll::new()))?;
     let server = thread::spawn(&rt, move || -> bool {
         let mut errors = Vec::new(alloc);
-        serve_on(rt, alloc, &listener, serving, Polling { rt, poll }, &mut errors).is_ok()
+        serve_on(
+            rt,
+            alloc,
+            &listener,
+            serving,
+            Polling { rt, poll },
+            &mut errors,
+        )
+        .is_ok()
     })?;
     let mut first = call(&rt, address)?;
     let mut second = call(&rt, address)?;

@@ -3,13 +3,12 @@
 ghost use Rattle.std.specs.Io.{ReadsAtMost};
 
 use std::alloc::{AllocError, Global};
-use std::io;
 use std::io::{ErrorKind, Read};
 use std::net::{Shutdown, TcpStream};
 use std::sync::atomic::{AtomicBool, Ordering};
 use std::sync::{Arc, Wait};
-use std::thread;
 use std::time::{Clock, Duration, Instant};
+use std::{io, thread};
 
 /// How many milliseconds a read waits before it looks whether its session is over.
 const LOOK: u64 = 500;
