@@ -3,8 +3,8 @@ use Rattle.std.proofs.Common.{◌≡◌, ◌≢◌, ℕ, zero, suc, ◌<◌, ◌
 use Rattle.std.specs.Borrow.{Bor}
 use Rattle.std.specs.Path.{rsplit_once}
 use Rattle.std.specs.Str.Parse.{AllDigits, digits_value, without_leading_plus}
-use Rattle.core.specs.Char.{digit_value}
-use Rattle.core.specs.Str.Pattern.{RFindsChar, SplitsAroundMatch}
+use Rattle.std.specs.Char.{digit_value}
+use Rattle.std.specs.Str.Pattern.{RFindsChar, SplitsAroundMatch}
 use Rattle.std.proofs.Paths.Parts.{Lacks, rsplit_once_char, rsplit_once_parts}
 use Rattle.tn_words.specs.Addresses.{WritesAddress}
 use Rattle.tn_words.specs.Numbers.{Writes}

@@ -267,7 +267,7 @@ fn serve_command<'a>(alloc: Global) -> Result<Command<'a>, AllocError>
 fn with_gateway_options<'a>(alloc: Global, command: Command<'a>) -> Result<Command<'a>, AllocError>
     requires { (out-Command command).has_globals ≡ false }
     ensures app { IfOk result (λ new. app_of new
-        ≡ with_rule (with_rule (app_of command) (text_rule (codes "to"))) (flag_rule (codes "crlf"))) }
+        ≡ with_rule (with_rule (app_of command.entry) (text_rule (codes "to"))) (flag_rule (codes "crlf"))) }
     ensures local { IfOk result (λ new. (out-Command new).has_globals ≡ false) }
 {
     let command = command

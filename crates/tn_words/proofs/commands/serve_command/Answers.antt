@@ -1,5 +1,6 @@
-use Rattle.std.proofs.Common.{ap}
-use Rattle.clap.specs.Words.{App}
+use Rattle.std.proofs.Common.{ap, ◌∙◌, codes}
+use Rattle.clap.specs.Words.{App, with_rule}
+use Rattle.tn_words.specs.Commands.{flag_rule, text_rule}
 use Rattle.tn_words.proofs.Commanding.{with_one_more, still_local}
 use Rattle.tn_words.proofs.commands.serve_command.Goals as goal
 
@@ -17,10 +18,7 @@ returns-clause-shape c =
     ap (λ (a : App). a.top) (c.in_ok-command-2.ensures.app ∙ ap (λ (a : App). with_rule (with_rule a (text_rule (codes "to"))) (flag_rule (codes "crlf"))) a9)
 
 pub with_gateway_options-requires : goal.with_gateway_options-requires
-with_gateway_options-requires c = ?
-
-pub returns-clause-local : goal.returns-clause-local
-returns-clause-local c =
+with_gateway_options-requires c =
     let a1 = still_local c.described-command.result c.in_ok-arg.field-0 c.host_option.result c.in_ok-arg.ensures c.host_option.ensures.local c.described-command.ensures.local in
     let a2 = still_local c.in_ok-arg.field-0 c.in_ok-arg-2.field-0 c.required_port.result c.in_ok-arg-2.ensures c.required_port.ensures.local a1 in
     let a3 = still_local c.in_ok-arg-2.field-0 c.in_ok-arg-3.field-0 c.whole_option.result c.in_ok-arg-3.ensures c.whole_option.ensures.local a2 in
@@ -31,3 +29,6 @@ returns-clause-local c =
     let a8 = still_local c.in_ok-arg-7.field-0 c.in_ok-arg-8.field-0 c.flag_option.result c.in_ok-arg-8.ensures c.flag_option.ensures.local a7 in
     let a9 = still_local c.in_ok-arg-8.field-0 c.in_ok-command.command c.flag_option-2.result c.in_ok-command.ensures c.flag_option-2.ensures.local a8 in
     a9
+
+pub returns-clause-local : goal.returns-clause-local
+returns-clause-local c = c.in_ok-command-2.ensures.local
