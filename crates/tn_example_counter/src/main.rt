@@ -131,7 +131,7 @@ impl<H: Host> Service for Polling<H> {
 #[derive(Drop)]
 struct OneJob<H>(Option<Poller<H>>);
 
-impl<H: Wait> Maker for OneJob<H> {
+impl<H: Drop + Wait> Maker for OneJob<H> {
     type Job = Poller<H>;
 
     fn next(&mut self, _alloc: Global) -> Result<Option<Poller<H>>, AllocError> {
@@ -145,7 +145,7 @@ struct Poller<H> {
     poll: Arc<Mutex<Poll>, Global>,
 }
 
-impl<H: Wait> Job for Poller<H> {
+impl<H: Drop + Wait> Job for Poller<H> {
     ghost use Rattle.std.specs.Prelude.{◌≡◌, ⊤};
     ghost use Rattle.tn_discipline.specs.declared.reads.Entry.TheVariants.{Eof};
     ghost use Rattle.tn_example_counter.specs.Polls.{Tells, after};
