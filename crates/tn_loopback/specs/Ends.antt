@@ -2,11 +2,25 @@
 use Rattle.std.specs.Prelude.{◌≡◌, ◌⊎◌, ℕ, Option, None, List}
 use Rattle.tn_loopback.specs.declared.served.Served.{Served}
 use Rattle.tn_session.specs.Client.{RunningClient}
-use Rattle.tn_session.specs.Facts.{client_result}
+use Rattle.tn_session.specs.Facts.{Window, client_result}
 use Rattle.tn_session.specs.declared.parties.ClientPorts.{ClientPorts}
+use Rattle.tn_streams.specs.Known.{KnownReader}
 use Rattle.tn_session.specs.declared.parties.Report.{Report}
 use Rattle.tn_messages.specs.declared.faults.Ended.TheVariants.{HangUp, Done}
 use Rattle.tn_loopback.specs.declared.settings.Connecting.{Connecting}
+use Rattle.tn_loopback.specs.declared.settings.Origin.{Origin}
+use Rattle.tn_loopback.specs.declared.settings.Origin.TheVariants.{Reader, Input, Terminal}
+
+abbrev pub window_of : Connecting → Window
+window_of connecting =
+    record { width = connecting.width; height = connecting.height; limit = connecting.line_limit }
+
+-- What is known beforehand of the keys: all that is known of the reader, or nothing where they are waited
+-- for.
+abbrev pub foreseen : Origin → Option (List ℕ) → Option (List ℕ)
+foreseen Reader bytes = bytes
+foreseen Input bytes = None
+foreseen Terminal bytes = None
 
 -- the session ended in no fault
 abbrev pub EndsWhole : Report → Type 0
@@ -14,15 +28,19 @@ EndsWhole report = (report.ended ≡ HangUp) ⊎ (report.ended ≡ Done)
 
 -- a client's session ran with these keys and this screen, before and after it; nothing is known of what the
 -- connection carried
-abbrev pub RunsClient : Connecting → Option (List ℕ) → Option (List ℕ) → Option (List ℕ)
+abbrev pub RunsWith : Window → KnownReader → Option (List ℕ) → Option (List ℕ)
     → Report → ClientPorts → Type 0
-RunsClient connecting keys seen now report ports =
-    RunningClient
-    (record { width = connecting.width; height = connecting.height; limit = connecting.line_limit })
-    (record { bytes = keys; failures = None }) (record { bytes = None; failures = None })
+RunsWith window keys seen now report ports =
+    RunningClient window keys (record { bytes = None; failures = None })
     (record { before = record { bytes = None; calls = None }; after = record { bytes = None; calls = None } })
     (record { before = record { bytes = seen; calls = None }; after = record { bytes = now; calls = None } })
     (client_result report ports)
+
+-- the same with these keys, of which no failure is foretold
+abbrev pub RunsClient : Window → Option (List ℕ) → Option (List ℕ) → Option (List ℕ)
+    → Report → ClientPorts → Type 0
+RunsClient window keys seen now report ports =
+    RunsWith window (record { bytes = keys; failures = None }) seen now report ports
 
 -- as many connections were accepted as were asked for
 abbrev pub ServesAll : ℕ → Served → Type 0

@@ -1,5 +1,9 @@
 //! How to serve and how to connect.
 
+use crate::link::Link;
+use std::alloc::Global;
+use std::fs::File;
+use std::sync::Arc;
 use tn_discipline::Limit;
 use tn_server::Editing;
 
@@ -27,7 +31,19 @@ pub struct Serving {
     pub verbose: bool,
 }
 
-/// How to connect to a port of this machine.
+/// Where the keys of a client come from.
+#[derive(Clone, Copy, Debug, PartialEq, Eq)]
+pub enum Origin {
+    /// A reader of which nothing else is known: each of its bytes is a key.
+    Reader,
+    /// Standard input, each of whose bytes is a key; it is waited for, so that the session ends though
+    /// nothing comes.
+    Input,
+    /// The same at a terminal, whose user speaks to the client itself behind the escape character.
+    Terminal,
+}
+
+/// How to connect.
 #[derive(Clone, Copy, Debug, PartialEq, Eq)]
 pub struct Connecting {
     /// The port, of 1 to 65,535.
@@ -38,4 +54,18 @@ pub struct Connecting {
     pub height: u16,
     /// How many bytes a line has at most.
     pub line_limit: Limit,
+    pub origin: Origin,
+    /// The escape character of a terminal, if it has one.
+    pub escape: Option<u8>,
+}
+
+/// What is noted beside a client's session.
+#[derive(Drop)]
+pub struct Notes<'a> {
+    /// Gets a line for each item that comes and goes.
+    pub trace: Option<File>,
+    /// Gets the causes of a fault, a line each.
+    pub causes: &'a mut Vec<u8>,
+    /// The connection, as the screen has it.
+    pub link: Arc<Link, Global>,
 }

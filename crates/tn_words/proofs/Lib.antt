@@ -1,3 +1,5 @@
 pub mod Asking
 pub mod Commanding
+pub mod Given
+pub mod Hosts
 pub mod Wholes

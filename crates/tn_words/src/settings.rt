@@ -1,5 +1,8 @@
 //! How to serve and how to connect.
 
+ghost use Rattle.std.specs.Prelude.{◌≡◌, ℕ, None, IfSome};
+ghost use Rattle.tn_words.specs.Escapes.{IsControlOf, WritesEscape};
+
 use tn_discipline::Limit;
 
 /// How to serve.
@@ -26,15 +29,56 @@ pub struct Serving {
     pub verbose: bool,
 }
 
-/// How to connect.
+/// The key by which the user at a terminal speaks to the client itself.
 #[derive(Clone, Copy, Debug, PartialEq, Eq)]
+pub enum Escape {
+    /// This control character, from 1 to 31.
+    Key(u8),
+    /// No key does.
+    None,
+}
+
+impl Escape {
+    // The escape key that a text writes: a caret and a letter or a sign, or `none`.
+    pub(crate) fn from_text(text: &str) -> Option<Escape>
+        ensures some { IfSome result (WritesEscape text.now) }
+        ensures none { result ≡ None → (escape : Escape) → ¬ WritesEscape text.now escape }
+    {
+        match text.as_bytes() {
+            b"none" => Some(Escape::None),
+            [b'^', letter] => Some(Escape::Key(control_of(*letter)?)),
+            _ => None,
+        }
+    }
+}
+
+// The control character that a caret before this letter or sign writes.
+fn control_of(letter: u8) -> Option<u8>
+    ensures some { IfSome result (IsControlOf letter) }
+    ensures none { result ≡ None → (key : ℕ) → ¬ IsControlOf letter key }
+{
+    match letter {
+        b'A'..=b'_' => Some(letter - b'@'),
+        b'a'..=b'z' => Some(letter - b'`'),
+        _ => None,
+    }
+}
+
+/// How to connect.
+#[derive(Debug, Drop, PartialEq, Eq)]
 pub struct Connecting {
-    /// The port on this machine, from 1 to 65,535.
+    /// The address of the host, or a name that has one.
+    pub host: String,
+    /// The port, from 1 to 65,535.
     pub port: u16,
-    /// The width of the window in characters; 0 if it is not known.
-    pub width: u16,
-    /// The height of the window in lines; 0 if it is not known.
-    pub height: u16,
+    /// The width of the window in characters, or 0 for none that is told; `None` where none is given.
+    pub width: Option<u16>,
+    /// The height of the window in lines, or 0 for none that is told; `None` where none is given.
+    pub height: Option<u16>,
     /// The most bytes in a line.
     pub line_limit: Limit,
+    /// The key by which the user at a terminal speaks to the client itself.
+    pub escape: Escape,
+    /// The file that gets a trace of the connection.
+    pub trace: Option<String>,
 }

@@ -1,5 +1,6 @@
 //! Running sessions: over memory, with gates that hold their threads, and over connections of this machine.
 
+mod clients;
 mod connections;
 mod cores;
 mod gates;

@@ -6,7 +6,7 @@ use Rattle.tn_words.proofs.commands.serve_command.Goals as goal
 pub returns-clause-shape : goal.returns-clause-shape
 returns-clause-shape c =
     let a1 = with_one_more c.described-command.result c.in_ok-arg.field-0 c.host_option.result _ _ c.in_ok-arg.ensures c.host_option.ensures.local c.host_option.ensures.rule c.described-command.ensures.app in
-    let a2 = with_one_more c.in_ok-arg.field-0 c.in_ok-arg-2.field-0 c.port_option.result _ _ c.in_ok-arg-2.ensures c.port_option.ensures.local c.port_option.ensures.rule a1 in
+    let a2 = with_one_more c.in_ok-arg.field-0 c.in_ok-arg-2.field-0 c.required_port.result _ _ c.in_ok-arg-2.ensures c.required_port.ensures.local c.required_port.ensures.rule a1 in
     let a3 = with_one_more c.in_ok-arg-2.field-0 c.in_ok-arg-3.field-0 c.whole_option.result _ _ c.in_ok-arg-3.ensures c.whole_option.ensures.local c.whole_option.ensures.rule a2 in
     let a4 = with_one_more c.in_ok-arg-3.field-0 c.in_ok-arg-4.field-0 c.whole_option-2.result _ _ c.in_ok-arg-4.ensures c.whole_option-2.ensures.local c.whole_option-2.ensures.rule a3 in
     let a5 = with_one_more c.in_ok-arg-4.field-0 c.in_ok-arg-5.field-0 c.whole_option-3.result _ _ c.in_ok-arg-5.ensures c.whole_option-3.ensures.local c.whole_option-3.ensures.rule a4 in
@@ -19,7 +19,7 @@ returns-clause-shape c =
 pub returns-clause-local : goal.returns-clause-local
 returns-clause-local c =
     let a1 = still_local c.described-command.result c.in_ok-arg.field-0 c.host_option.result c.in_ok-arg.ensures c.host_option.ensures.local c.described-command.ensures.local in
-    let a2 = still_local c.in_ok-arg.field-0 c.in_ok-arg-2.field-0 c.port_option.result c.in_ok-arg-2.ensures c.port_option.ensures.local a1 in
+    let a2 = still_local c.in_ok-arg.field-0 c.in_ok-arg-2.field-0 c.required_port.result c.in_ok-arg-2.ensures c.required_port.ensures.local a1 in
     let a3 = still_local c.in_ok-arg-2.field-0 c.in_ok-arg-3.field-0 c.whole_option.result c.in_ok-arg-3.ensures c.whole_option.ensures.local a2 in
     let a4 = still_local c.in_ok-arg-3.field-0 c.in_ok-arg-4.field-0 c.whole_option-2.result c.in_ok-arg-4.ensures c.whole_option-2.ensures.local a3 in
     let a5 = still_local c.in_ok-arg-4.field-0 c.in_ok-arg-5.field-0 c.whole_option-3.result c.in_ok-arg-5.ensures c.whole_option-3.ensures.local a4 in

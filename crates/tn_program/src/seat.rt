@@ -1,0 +1,25 @@
+//! Where a reader's bytes come from, and whom they are for.
+
+ghost use Rattle.tn_loopback.specs.Ends.{foreseen};
+
+use std::alloc::Global;
+use std::io;
+use std::io::Read;
+use std::sync::Arc;
+use tn_loopback::{Link, Origin};
+
+/// A reader, where its bytes come from, and the connection that they are for, as the screen has it.
+#[derive(Drop)]
+pub struct Seat<R> {
+    pub origin: Origin,
+    pub reader: R,
+    pub link: Arc<Link, Global>,
+}
+
+impl<R: Read> Read for Seat<R> {
+    ghost remaining = { λ seat. foreseen seat.origin (R.Read.remaining seat.reader) };
+
+    fn read(&mut self, buf: &mut [u8]) -> io::Result<usize> {
+        self.reader.read(buf)
+    }
+}
