@@ -1,5 +1,5 @@
 -- How sessions over connections ended.
-use Rattle.std.specs.Prelude.{◌≡◌, ◌⊎◌, ℕ, Option, None, List}
+use Rattle.std.specs.Prelude.{◌≡◌, ◌⊎◌, ℕ, Option, Some, None, List, []}
 use Rattle.tn_loopback.specs.declared.served.Served.{Served}
 use Rattle.tn_session.specs.Client.{RunningClient}
 use Rattle.tn_session.specs.Facts.{Window, client_result}
@@ -26,12 +26,12 @@ foreseen Terminal bytes = None
 abbrev pub EndsWhole : Report → Type 0
 EndsWhole report = (report.ended ≡ HangUp) ⊎ (report.ended ≡ Done)
 
--- a client's session ran with these keys and this screen, before and after it; nothing is known of what the
--- connection carried
+-- a client's session ran with these keys and this screen, before and after it; of the connection nothing is
+-- known, but that it tells no size
 abbrev pub RunsWith : Window → KnownReader → Option (List ℕ) → Option (List ℕ)
     → Report → ClientPorts → Type 0
 RunsWith window keys seen now report ports =
-    RunningClient window keys (record { bytes = None; failures = None })
+    RunningClient window keys (record { bytes = None; failures = None; sizes = Some [] })
     (record { before = record { bytes = None; calls = None }; after = record { bytes = None; calls = None } })
     (record { before = record { bytes = seen; calls = None }; after = record { bytes = now; calls = None } })
     (client_result report ports)

@@ -8,4 +8,5 @@ mod lines;
 mod programs;
 mod refusals;
 mod sessions;
+mod sizes;
 mod terminals;
