@@ -72,7 +72,6 @@ acted c from Take new a = turned c from Take new (λ piece e. cc) (ap (λ (r : R
 acted c from (Said job text after) new a = turned c from (Said job text after) new (λ piece e. cc) (ap (λ (r : Run). r.history) a) (ap (λ (r : Run). r.stream) a)
 acted c from Refused new a = turned c from Refused new (λ piece e. cc) (ap (λ (r : Run). r.history) a) (ap (λ (r : Run). r.stream) a)
 acted c from Left new a = turned c from Left new (λ piece e. cc) (ap (λ (r : Run). r.history) a) (ap (λ (r : Run). r.stream) a)
-
 acted c from (Resized size) new a =
     let other : (piece : List ℕ) → Resized size ≡ Piece piece → ⊥ = λ piece e. cc in
     record {
