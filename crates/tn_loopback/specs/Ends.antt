@@ -15,12 +15,12 @@ abbrev pub window_of : Connecting → Window
 window_of connecting =
     record { width = connecting.width; height = connecting.height; limit = connecting.line_limit }
 
--- What is known beforehand of the keys: all that is known of the reader, or nothing where they are waited
--- for.
-abbrev pub foreseen : Origin → Option (List ℕ) → Option (List ℕ)
-foreseen Reader bytes = bytes
-foreseen Input bytes = None
-foreseen Terminal bytes = None
+-- What is known beforehand of the keys of a reader with these bytes: the bytes, and that no size of a window is
+-- told; or nothing where they are waited for.
+abbrev pub foreseen : Origin → Option (List ℕ) → KnownReader
+foreseen Reader bytes = record { bytes = bytes; failures = None; sizes = Some [] }
+foreseen Input bytes = record { bytes = None; failures = None; sizes = None }
+foreseen Terminal bytes = record { bytes = None; failures = None; sizes = None }
 
 -- the session ended in no fault
 abbrev pub EndsWhole : Report → Type 0
@@ -28,19 +28,13 @@ EndsWhole report = (report.ended ≡ HangUp) ⊎ (report.ended ≡ Done)
 
 -- a client's session ran with these keys and this screen, before and after it; of the connection nothing is
 -- known, but that it tells no size
-abbrev pub RunsWith : Window → KnownReader → Option (List ℕ) → Option (List ℕ)
+abbrev pub RunsClient : Window → KnownReader → Option (List ℕ) → Option (List ℕ)
     → Report → ClientPorts → Type 0
-RunsWith window keys seen now report ports =
+RunsClient window keys seen now report ports =
     RunningClient window keys (record { bytes = None; failures = None; sizes = Some [] })
     (record { before = record { bytes = None; calls = None }; after = record { bytes = None; calls = None } })
     (record { before = record { bytes = seen; calls = None }; after = record { bytes = now; calls = None } })
     (client_result report ports)
-
--- the same with these keys, of which no failure is foretold
-abbrev pub RunsClient : Window → Option (List ℕ) → Option (List ℕ) → Option (List ℕ)
-    → Report → ClientPorts → Type 0
-RunsClient window keys seen now report ports =
-    RunsWith window (record { bytes = keys; failures = None }) seen now report ports
 
 -- as many connections were accepted as were asked for
 abbrev pub ServesAll : ℕ → Served → Type 0

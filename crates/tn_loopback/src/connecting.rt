@@ -1,7 +1,7 @@
 //! `tn connect`: a client's session over a connection.
 
 ghost use Rattle.std.specs.Prelude.{◌≡◌, ◌≢◌, Ok, Err, IfOk, IfErr, OnErr};
-ghost use Rattle.tn_loopback.specs.Ends.{EndsWhole, RunsClient, RunsWith, foreseen, window_of};
+ghost use Rattle.tn_loopback.specs.Ends.{EndsWhole, RunsClient, foreseen, window_of};
 ghost use Rattle.tn_loopback.specs.Faults.{IsOfNetwork};
 ghost use Rattle.tn_streams.specs.Known.{known_reader};
 
@@ -16,6 +16,7 @@ use crate::link::Link;
 use crate::outgoing::{Outgoing, Sending, Throttle, queue_for};
 use crate::reaching::reach;
 use crate::settings::{Connecting, Notes, Origin};
+use crate::sizes::Sizes;
 use crate::trace::Trace;
 use std::alloc::Global;
 use std::fs::File;
@@ -72,7 +73,7 @@ fn talk<H: Host, K: Source + Drop + Send + 'static, S: Write>(
     connecting: Connecting,
 ) -> Result<(Report, ClientPorts), SessionFault>
     ensures { IfOk result (λ r.
-        RunsWith (window_of connecting) (known_reader K.remaining K.foretold keys)
+        RunsClient (window_of connecting) (known_reader K.remaining K.foretold K.sizes keys)
         (S.contents screen.old) (S.contents screen.new) r.0 r.1) }
 {
     let Ok(gate) = Arc::new(alloc, Unwatched) else {
@@ -106,11 +107,11 @@ fn talk_from<H: Host, K: Read + Drop + Send + 'static, S: Write>(
             talk(rt, alloc, incoming, outgoing, keys, screen, connecting)
         },
         Origin::Input => {
-            let keys = Console::new(rt, typing, None);
+            let keys = Console::new(rt, typing, None, Sizes::none());
             talk(rt, alloc, incoming, outgoing, keys, screen, connecting)
         },
         Origin::Terminal => {
-            let keys = Console::new(rt, typing, connecting.escape);
+            let keys = Console::new(rt, typing, connecting.escape, Sizes::open(&rt));
             talk(rt, alloc, incoming, outgoing, keys, screen, connecting)
         },
     }

@@ -1,14 +1,17 @@
 //! Standard input as keys: it is waited for, so that a session ends though nobody types, and at a terminal
 //! the user speaks to the client itself behind an escape character.
 
+ghost use Rattle.std.specs.Prelude.{None};
+
 use crate::keys::Typing;
+use crate::sizes::Sizes;
 use libc::net::{POLLIN, poll};
 use libc::types::pollfd;
 use std::io;
 use std::io::{ErrorKind, Print, Read};
 use std::sync::Wait;
 use tn_escape::{Command, Escaping, Typed};
-use tn_streams::Source;
+use tn_streams::{Source, WindowSize};
 
 /// The descriptor of standard input (POSIX, `STDIN_FILENO`).
 const STANDARD_INPUT: i32 = 0;
@@ -20,6 +23,13 @@ const LOOK: i32 = 200;
 const HELP: &str = "q  closes the connection and leaves\r\n?  shows these keys\r\n\
     s  shows the state of the session\r\nand the escape character again sends itself\r\n";
 
+// What a wait ends with.
+enum Ready {
+    Size,
+    Key,
+    Over,
+}
+
 /// Keys from standard input, and what its user asks the client itself for. Of what is typed nothing is known
 /// beforehand.
 #[derive(Drop)]
@@ -27,33 +37,55 @@ pub(crate) struct Console<H, K> {
     rt: H,
     typing: Typing<H, K>,
     escaping: Escaping,
+    sizes: Sizes,
+    // The size that was told last, and has not been said.
+    resized: Option<WindowSize>,
 }
 
 impl<H: Copy + Print + Wait, K: Read + Drop> Console<H, K> {
-    pub(crate) fn new(rt: H, typing: Typing<H, K>, escape: Option<u8>) -> Console<H, K> {
+    pub(crate) fn new(
+        rt: H,
+        typing: Typing<H, K>,
+        escape: Option<u8>,
+        sizes: Sizes,
+    ) -> Console<H, K> {
         Console {
             rt,
             typing,
             escaping: Escaping::new(escape),
+            sizes,
+            resized: None,
         }
     }
 
-    // Waits until a key can be read. False where the session is over first.
-    fn is_ready(&self) -> bool {
+    // Waits until a size is told, a key can be read, or the session is over.
+    fn wait(&self) -> Ready {
         for _ in self.rt.forever() {
             if self.typing.link.is_closed() {
-                return false;
+                return Ready::Over;
             }
-            let mut waited = [pollfd {
-                fd: STANDARD_INPUT,
-                events: POLLIN,
-                revents: 0,
-            }];
-            if poll(&mut waited, LOOK) > 0 {
-                return true;
+            let mut waited = [waits_at(self.sizes.descriptor()), waits_at(STANDARD_INPUT)];
+            if poll(&mut waited, LOOK) <= 0 {
+                continue;
+            }
+            let [sizes, keys] = waited;
+            if sizes.revents != 0 {
+                return Ready::Size;
+            }
+            if keys.revents != 0 {
+                return Ready::Key;
             }
         }
-        false
+        Ready::Over
+    }
+
+    // A size is said between two reads.
+    fn take_size(&mut self) {
+        if let Some(size) = self.sizes.read() {
+            self.typing.width = size.width;
+            self.typing.height = size.height;
+            self.resized = Some(size);
+        }
     }
 
     // Leaves the keys of the session at the front of the bytes, and does what the others ask for. Returns
@@ -120,15 +152,35 @@ impl<H: Copy + Print + Wait, K: Read + Drop> Console<H, K> {
     }
 }
 
+// A descriptor that is waited at.
+fn waits_at(fd: i32) -> pollfd {
+    pollfd {
+        fd,
+        events: POLLIN,
+        revents: 0,
+    }
+}
+
 fn place_of(is_here: bool) -> &'static str {
     if is_here { "here" } else { "at the other end" }
 }
 
 impl<H: Copy + Print + Wait, K: Read + Drop> Source for Console<H, K> {
+    ghost sizes = { λ _. None };
+
+    fn resized(&mut self) -> Option<WindowSize> {
+        self.resized.take()
+    }
+
     fn read_some(&mut self, buf: &mut [u8]) -> io::Result<usize> {
         self.typing.throttle.wait();
-        if !self.is_ready() {
-            return Ok(0);
+        match self.wait() {
+            Ready::Over => return Ok(0),
+            Ready::Size => {
+                self.take_size();
+                return Err(io::Error::from(ErrorKind::Interrupted));
+            },
+            Ready::Key => {},
         }
         let count = self.typing.keys.read(buf)?;
         if count == 0 {

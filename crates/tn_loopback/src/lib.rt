@@ -42,4 +42,5 @@ mod service;
 mod serving;
 mod session;
 mod settings;
+mod sizes;
 mod trace;

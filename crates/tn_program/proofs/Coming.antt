@@ -10,6 +10,7 @@ use Rattle.tn_program.specs.Runs.{DoesAsAsked, RunsAsked}
 use Rattle.tn_program.specs.Statuses.{status_of_connection, status_of}
 use Rattle.tn_program.specs.declared.outcome.Outcome.{Outcome}
 use Rattle.tn_program.specs.declared.outcome.Outcome.TheVariants as outcome
+use Rattle.tn_streams.specs.Known.{KnownReader}
 use Rattle.tn_words.specs.declared.words.Asked.{Asked}
 
 -- what follows of a value follows of it where it is there
@@ -36,7 +37,7 @@ disconnected connection.Trace zero = omega (arith, zero)
 
 -- the run that was asked for
 
-ran : (a : Asked) (input old new : Option (List ℕ)) (came : Outcome) → ComesOfRun a input old new came
+ran : (a : Asked) (input : KnownReader) (old new : Option (List ℕ)) (came : Outcome) → ComesOfRun a input old new came
     → status_of came ≡ 0 → RunsAsked a input old new
 ran a input old new (outcome.Local (Ok done)) (e, ends) zero = subst (λ a. RunsAsked a input old new) (sym e) ends.run.ok
 ran a input old new (outcome.Local (Err f)) h zero = absurd (faulted f zero)
@@ -59,7 +60,7 @@ ran a input old new outcome.Memory h zero = absurd h
 
 -- or the help or the version
 
-helped : (words : List (List ℕ)) (input old new : Option (List ℕ)) (came : Outcome)
+helped : (words : List (List ℕ)) (input : KnownReader) (old new : Option (List ℕ)) (came : Outcome)
     → ComesOfNoRun words old new came → status_of came ≡ 0 → DoesAsAsked words input old new
 helped words input old new (outcome.Help (Ok done)) (asks, ends) zero = inr (inl (asks, ends.ok))
 helped words input old new (outcome.Help (Err f)) h zero = absurd (faulted f zero)
@@ -75,7 +76,7 @@ helped words input old new (outcome.World ended) h zero = absurd h
 helped words input old new (outcome.Served ended) h zero = absurd h
 helped words input old new (outcome.Connected ended) h zero = absurd h
 
-pub does : (words : List (List ℕ)) (input old new : Option (List ℕ)) (came : Outcome)
+pub does : (words : List (List ℕ)) (input : KnownReader) (old new : Option (List ℕ)) (came : Outcome)
     → status_of came ≡ 0 → ComesOf words input old new came → DoesAsAsked words input old new
 does words input old new came zero (inl (a, asks, h)) = inl (a, asks, ran a input old new came h zero)
 does words input old new came zero (inr h) = helped words input old new came h zero

@@ -15,6 +15,7 @@ use Rattle.tn_program.specs.Settings.{window_as}
 use Rattle.tn_roster.specs.Held.{IsLimit}
 use Rattle.tn_session.specs.declared.parties.ClientPorts.{ClientPorts}
 use Rattle.tn_session.specs.declared.parties.Report.{Report}
+use Rattle.tn_streams.specs.Known.{KnownReader}
 use Rattle.tn_words.specs.Words.{AskFor, AsksForHelp, AsksForVersion, Refuses, version_line}
 use Rattle.tn_words.specs.declared.settings.Connecting.{Connecting}
 use Rattle.tn_words.specs.declared.settings.Serving.{Serving}
@@ -32,7 +33,7 @@ pub record EndsServing (serving : Serving) (ended : Result Served LoopbackFault)
 
 -- What came of connecting.
 pub record EndsConnecting (connecting : Connecting) (ended : Result (Report × ClientPorts) LoopbackFault)
-    (input old new : Option (List ℕ)) : Type 0 where
+    (input : KnownReader) (old new : Option (List ℕ)) : Type 0 where
   pub ran : IfOk ended (λ r. RunsClient (window_as connecting) input old new r.0 r.1)
   pub whole : IfOk ended (λ r. EndsWhole r.0)
   pub unwritten : OnErr ended (ended ≢ Err connection.Session → new ≡ old)
@@ -49,11 +50,11 @@ pub record EndsVersion (ended : Result ⊤ CliFault) (old new : Option (List ℕ
   pub fault : IfErr ended (λ f. f ≡ fault.Write)
 
 -- what was asked for was run, and this came of it
-abbrev pub ComesOfRun : Asked → Option (List ℕ) → Option (List ℕ) → Option (List ℕ) → Outcome → Type 0
-ComesOfRun a input old new (outcome.Local ended) = (a ≡ asked.Local) × EndsLocal ended input old new
-ComesOfRun a input old new (outcome.Replay ended) = (a ≡ asked.Replay) × EndsReplay ended input old new
-ComesOfRun a input old new (outcome.Decode ended) = (a ≡ asked.Decode) × EndsDecode ended input old new
-ComesOfRun a input old new (outcome.World ended) = (a ≡ asked.World) × EndsWorld ended input old new
+abbrev pub ComesOfRun : Asked → KnownReader → Option (List ℕ) → Option (List ℕ) → Outcome → Type 0
+ComesOfRun a input old new (outcome.Local ended) = (a ≡ asked.Local) × EndsLocal ended input.bytes old new
+ComesOfRun a input old new (outcome.Replay ended) = (a ≡ asked.Replay) × EndsReplay ended input.bytes old new
+ComesOfRun a input old new (outcome.Decode ended) = (a ≡ asked.Decode) × EndsDecode ended input.bytes old new
+ComesOfRun a input old new (outcome.World ended) = (a ≡ asked.World) × EndsWorld ended input.bytes old new
 ComesOfRun a input old new (outcome.Served ended) =
     (serving : Serving) × (a ≡ asked.Serve serving) × EndsServing serving ended old new
 ComesOfRun a input old new (outcome.Connected ended) =
@@ -80,12 +81,12 @@ ComesOfNoRun words old new (outcome.Served ended) = ⊥
 ComesOfNoRun words old new (outcome.Connected ended) = ⊥
 
 -- this came of the words: the run that they ask for, or none
-abbrev pub ComesOf : List (List ℕ) → Option (List ℕ) → Option (List ℕ) → Option (List ℕ) → Outcome → Type 0
+abbrev pub ComesOf : List (List ℕ) → KnownReader → Option (List ℕ) → Option (List ℕ) → Outcome → Type 0
 ComesOf words input old new came =
     ((a : Asked) × AskFor words a × ComesOfRun a input old new came) ⊎ ComesOfNoRun words old new came
 
 -- the status of what came of the words
-abbrev pub EndsWith : List (List ℕ) → Option (List ℕ) → Option (List ℕ) → Option (List ℕ) → ℕ → Type 0
+abbrev pub EndsWith : List (List ℕ) → KnownReader → Option (List ℕ) → Option (List ℕ) → ℕ → Type 0
 EndsWith words input old new status =
     (came : Outcome) × ComesOf words input old new came × (status ≡ status_of came)
 

@@ -17,7 +17,7 @@ pub struct Seat<R> {
 }
 
 impl<R: Read> Read for Seat<R> {
-    ghost remaining = { λ seat. foreseen seat.origin (R.Read.remaining seat.reader) };
+    ghost remaining = { λ seat. (foreseen seat.origin (R.Read.remaining seat.reader)).bytes };
 
     fn read(&mut self, buf: &mut [u8]) -> io::Result<usize> {
         self.reader.read(buf)
