@@ -1,5 +1,6 @@
 -- How sessions over connections ended.
-use Rattle.std.specs.Prelude.{◌≡◌, ◌⊎◌, ℕ, Option, Some, None, List, []}
+use Rattle.std.specs.Prelude.{◌≡◌, ◌⊎◌, ℕ, Option, Some, None, IfOk, IsOk, List, []}
+use Rattle.tn_loopback.specs.declared.finished.Finished.{Finished}
 use Rattle.tn_loopback.specs.declared.served.Served.{Served}
 use Rattle.tn_session.specs.Client.{RunningClient}
 use Rattle.tn_session.specs.Facts.{Window, client_result}
@@ -25,6 +26,10 @@ foreseen Terminal bytes = record { bytes = None; failures = None; sizes = None }
 -- the session ended in no fault
 abbrev pub EndsWhole : Report → Type 0
 EndsWhole report = (report.ended ≡ HangUp) ⊎ (report.ended ≡ Done)
+
+-- and so did this one, which came to its report
+abbrev pub IsWhole : Finished → Type 0
+IsWhole finished = IsOk finished.report × IfOk finished.report EndsWhole
 
 -- a client's session ran with these keys and this screen, before and after it; of the connection nothing is
 -- known, but that it tells no size

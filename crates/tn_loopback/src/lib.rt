@@ -2,7 +2,7 @@
 //! jobs that a `Service` makes, and a client.
 //!
 //! ```
-//! serve(rt, alloc, Serving { port: 2323, .. }, service, &mut errors)?;
+//! serve(rt, alloc, "127.0.0.1", 2323, serving, service, &mut errors)?;
 //! ```
 //!
 //! Nothing is proved about what a connection carries: the sessions are proved for whatever their readers
@@ -11,6 +11,8 @@
 
 pub use connecting::connect;
 pub use fault::LoopbackFault;
+pub use finished::Finished;
+pub use hook::{Call, Hook};
 pub use host::Host;
 pub use link::Link;
 pub use screen::Screen;
@@ -28,6 +30,7 @@ mod console;
 mod events;
 mod fault;
 mod finished;
+mod hook;
 mod host;
 mod incoming;
 mod keys;

@@ -1,5 +1,8 @@
 //! How to serve and how to connect.
 
+ghost use Rattle.std.specs.Prelude.{◌≡◌};
+ghost use Rattle.tn_discipline.specs.Limits.{standard_limit};
+
 use crate::link::Link;
 use std::alloc::Global;
 use std::fs::File;
@@ -17,6 +20,21 @@ pub struct SessionOptions {
     /// After how many seconds in which the client sends nothing a session ends as by a hang-up, or 0 for
     /// never.
     pub idle: u32,
+}
+
+impl SessionOptions {
+    /// Lines of the standard limit, which the server edits, from clients that may be silent for ever.
+    pub fn standard() -> SessionOptions
+        ensures line_limit { result.line_limit ≡ standard_limit }
+        ensures editing { result.editing ≡ Editing.Remote }
+        ensures idle { result.idle ≡ 0 }
+    {
+        SessionOptions {
+            line_limit: Limit::standard(),
+            editing: Editing::Remote,
+            idle: 0,
+        }
+    }
 }
 
 /// How to serve.

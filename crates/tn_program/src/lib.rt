@@ -9,12 +9,14 @@
 //! It does not set a terminal to raw mode: whoever starts it does.
 #![tactic(auto)]
 
+pub use gateway::{Heard, Joiner, Joining, Told};
 pub use outcome::Outcome;
 pub use program::{outcome_of_words, run_words};
 pub use seat::Seat;
 pub use settings::Answering;
 pub use tn_loopback::{Link, Origin, Screen};
 
+mod gateway;
 mod outcome;
 mod program;
 mod seat;

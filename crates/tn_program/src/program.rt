@@ -6,16 +6,17 @@ ghost use Rattle.tn_loopback.specs.Ends.{foreseen};
 ghost use Rattle.tn_program.specs.Outcomes.{ComesOf, ComesOfRun, EndsVersion, EndsWith, AskForNothing};
 ghost use Rattle.tn_program.specs.Runs.{DoesAsAsked};
 
+use crate::gateway::serve_asked;
 use crate::outcome::Outcome;
 use crate::seat::Seat;
-use crate::settings::{Answering, connecting_of, options_of};
+use crate::settings::connecting_of;
 use std::alloc::{AllocError, Global};
 use std::fs::{File, Files};
 use std::io;
 use std::io::{ErrorKind, Read, Write};
 use std::net::{Net, TcpListener, TcpStream};
 use tn_cli::{CliFault, run_decode, run_local, run_replay, run_world};
-use tn_loopback::{Host, LoopbackFault, Notes, Serving, connect, serve};
+use tn_loopback::{Host, LoopbackFault, Notes, connect};
 use tn_words::{Asked, Connecting, VERSION_LINE, WordsFault, read_words};
 
 /// Runs what the words of the command line ask for, where they could be read. The program's name is the
@@ -192,16 +193,7 @@ fn run_asked<
         Asked::Replay => Outcome::Replay(run_replay(alloc, &mut seat, writer)),
         Asked::Decode => Outcome::Decode(run_decode(alloc, &mut seat, writer)),
         Asked::World => Outcome::World(run_world(alloc, &mut seat, writer)),
-        Asked::Serve(asked) => {
-            let (host, service) = (asked.host.as_str(), Answering { ticks: asked.ticks });
-            let serving = Serving {
-                sessions: asked.sessions,
-                count: asked.count,
-                options: options_of(&asked),
-                verbose: asked.verbose,
-            };
-            Outcome::Served(serve(rt, alloc, host, asked.port, serving, service, errors))
-        },
+        Asked::Serve(asked) => Outcome::Served(serve_asked(rt, alloc, &asked, errors)),
         Asked::Connect(asked) => run_connect(rt, alloc, asked, seat, writer, causes),
     }
 }

@@ -6,7 +6,7 @@ ghost use Rattle.tn_program.specs.Settings.{editing_as, escape_as, window_as};
 
 use std::alloc::{AllocError, Global};
 use tn_answerer::{Answerer, Answerers};
-use tn_loopback::{Connecting, Origin, Service, SessionOptions};
+use tn_loopback::{Call, Connecting, Origin, Service, SessionOptions};
 use tn_server::Editing;
 use tn_words::Escape;
 
@@ -22,7 +22,7 @@ impl Service for Answering {
 
     type Jobs = Answerers;
 
-    fn session(&mut self, _alloc: Global, _number: usize) -> Result<Answerers, AllocError> {
+    fn session(&mut self, _alloc: Global, _call: Call) -> Result<Answerers, AllocError> {
         Ok(Answerers::new(self.ticks))
     }
 }

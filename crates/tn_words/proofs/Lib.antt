@@ -1,3 +1,4 @@
+pub mod Addresses
 pub mod Asking
 pub mod Commanding
 pub mod Given

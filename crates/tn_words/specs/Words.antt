@@ -1,23 +1,20 @@
 -- What words ask for, of the command line that `tn` takes.
 use Rattle.std.specs.Prelude.{◌≡◌, ◌≢◌, ◌⊎◌, ◌≤◌, ⊤, ℕ, Bool, true, false, not, ◌&&◌, Option, Some, None, is_some, option_map, unwrap_or, List, [], codes, string_bytes}
-use Rattle.std.specs.Str.Parse.{IsNumeral, digits_value, without_leading_plus}
 use Rattle.clap.specs.Words.{Row, Text, subcommand_of, takes, fault_of, first_of, one_of, IsAmong}
 use Rattle.clap.specs.declared.error.kind.ErrorKind.{ErrorKind}
 use Rattle.clap.specs.declared.error.kind.ErrorKind.TheVariants as kind
+use Rattle.tn_words.specs.Addresses.{WritesAddress}
 use Rattle.tn_words.specs.Commands.{tn}
 use Rattle.tn_words.specs.Escapes.{WritesEscape}
+use Rattle.tn_words.specs.Numbers.{Writes}
 use Rattle.tn_words.specs.declared.words.Asked.{Asked}
 use Rattle.tn_words.specs.declared.words.Asked.TheVariants.{Local, Replay, Decode, World, Serve, Connect}
+use Rattle.tn_words.specs.declared.settings.Address.{Address}
 use Rattle.tn_words.specs.declared.settings.Connecting.{Connecting}
 use Rattle.tn_words.specs.declared.settings.Escape.{Escape}
 use Rattle.tn_words.specs.declared.settings.Serving.{Serving}
 use Rattle.tn_words.specs.declared.words.WordsFault.{WordsFault}
 use Rattle.tn_words.specs.declared.words.WordsFault.TheVariants as fault
-
--- the number that a text writes in decimal digits, where a plus may stand first
-pub record Writes (text : Text) (number : ℕ) : Type 0 where
-  pub numeral : IsNumeral 10 (without_leading_plus text)
-  pub value : digits_value 10 (without_leading_plus text) ≡ number
 
 -- The option of this name has this number, which lies in its range.
 pub record HasNumber (rows : List Row) (name : Text) (least most number : ℕ) : Type 0 where
@@ -50,6 +47,17 @@ pub record HasFlag (rows : List Row) (name : Text) (flag : Bool) : Type 0 where
 abbrev pub HasText : List Row → Text → Text → Type 0
 HasText rows name text = first_of name rows ≡ Some text
 
+-- The text of the option `--to` writes this address.
+pub record HasAddress (rows : List Row) (address : Address) : Type 0 where
+  pub text : Text
+  pub has : HasText rows (codes "to") text
+  pub writes : WritesAddress text (string_bytes address.host) address.port
+
+-- the same, or it is not given
+abbrev pub MayHaveAddress : List Row → Option Address → Type 0
+MayHaveAddress rows None = is_given (codes "to") rows ≡ false
+MayHaveAddress rows (Some address) = HasAddress rows address
+
 pub record AsksServe (rows : List Row) (asked : Serving) : Type 0 where
   pub host : HasText rows (codes "host") (string_bytes asked.host)
   pub port : HasNumber rows (codes "port") 1 65535 asked.port
@@ -60,6 +68,8 @@ pub record AsksServe (rows : List Row) (asked : Serving) : Type 0 where
   pub idle : HasNumber rows (codes "idle") 0 86400 asked.idle
   pub edited : HasFlag rows (codes "local") asked.local
   pub verbose : HasFlag rows (codes "verbose") asked.verbose
+  pub to : MayHaveAddress rows asked.to
+  pub crlf : HasFlag rows (codes "crlf") asked.crlf
 
 -- the host that is named, or this machine
 abbrev pub host_of : List Row → Text

@@ -3,7 +3,7 @@
 ghost use Rattle.std.specs.Prelude.{◌≡◌, false, IfOk, codes, pos};
 ghost use Rattle.tn_words.specs.Commands.{tn, alone, offline, plain, serve, connect, whole_rule, with_default, flag_rule};
 ghost use Rattle.tn_words.specs.Commands.{escape_rule, host_rule, line_rule, place_rule, port_rule, text_rule};
-ghost use Rattle.clap.specs.Words.{app_of, new_app, rule_of, shape_of};
+ghost use Rattle.clap.specs.Words.{app_of, new_app, rule_of, shape_of, with_rule};
 ghost use Rattle.clap.specs.declared.builder.command.Command.TheViews.{out-Command};
 ghost use Rattle.clap.specs.declared.builder.value_parser.ValueParser.TheVariants as parser;
 
@@ -89,6 +89,10 @@ pub(crate) const TRACE: &str = "trace";
 pub(crate) const LOCALLY: &str = "local";
 
 pub(crate) const VERBOSE: &str = "verbose";
+
+pub(crate) const TO: &str = "to";
+
+pub(crate) const CRLF: &str = "crlf";
 
 /// The version of `tn`, which the line that it prints has too.
 const VERSION: &str = "1.0.0";
@@ -255,6 +259,28 @@ fn serve_command<'a>(alloc: Global) -> Result<Command<'a>, AllocError>
             alloc,
             VERBOSE,
             "Notes on standard error who connects and how each session ends",
+        ))?;
+    let command = with_gateway_options(alloc, command)?;
+    Ok(command)
+}
+
+fn with_gateway_options<'a>(alloc: Global, command: Command<'a>) -> Result<Command<'a>, AllocError>
+    requires { (out-Command command).has_globals ≡ false }
+    ensures app { IfOk result (λ new. app_of new
+        ≡ with_rule (with_rule (app_of command.entry) (text_rule (codes "to"))) (flag_rule (codes "crlf"))) }
+    ensures local { IfOk result (λ new. (out-Command new).has_globals ≡ false) }
+{
+    let command = command
+        .arg(text_option(
+            alloc,
+            TO,
+            "HOST:PORT",
+            "Joins each session to the line service there: lines go to it, and what it says comes back",
+        ))?
+        .arg(flag_option(
+            alloc,
+            CRLF,
+            "Ends each line to that service with CR LF in place of LF",
         ))?;
     Ok(command)
 }

@@ -2,6 +2,7 @@
 
 ghost use Rattle.std.specs.Prelude.{◌≡◌, ℕ, List, true, false, [], ◌∷◌, None, codes};
 ghost use Rattle.clap.specs.Words.{subcommand_of, takes};
+ghost use Rattle.tn_words.specs.Addresses.{WritesAddress};
 ghost use Rattle.tn_words.specs.Commands.{tn};
 ghost use Rattle.tn_words.specs.Escapes.{WritesEscape};
 ghost use Rattle.tn_words.specs.Words.{AskFor, AskForHost, AsksForHelp, AsksForVersion, AsksNothing};
@@ -48,6 +49,16 @@ pub fn hosts_and_ports()
         → AskFor (codes "tn" ∷ codes "connect" ∷ codes "::1" ∷ []) (Connect asked)
         → (asked.width ≡ None) × (asked.height ≡ None) × (asked.escape ≡ escape.Key 29)
         × (asked.trace ≡ None) }
+{}
+
+/// A host, a colon and a port write an address, and no text writes two.
+pub fn addresses()
+    ensures name { WritesAddress (codes "redis:6379") (codes "redis") 6379 }
+    ensures colons { WritesAddress (codes "::1:7") (codes "::1") 7 }
+    ensures one_host { (text h g : List ℕ) (p q : ℕ)
+        → WritesAddress text h p → WritesAddress text g q → h ≡ g }
+    ensures one_port { (text h g : List ℕ) (p q : ℕ)
+        → WritesAddress text h p → WritesAddress text g q → p ≡ q }
 {}
 
 /// A caret and a letter, capital or small, or a sign write a control character; no text writes two keys.

@@ -1,9 +1,55 @@
 //! How to serve and how to connect.
 
-ghost use Rattle.std.specs.Prelude.{◌≡◌, ℕ, None, IfSome};
+ghost use Rattle.std.specs.Prelude.{◌≡◌, ℕ, List, Ok, None, IfOk, IfSome, string_bytes};
+ghost use Rattle.tn_words.specs.Addresses.{WritesAddress};
 ghost use Rattle.tn_words.specs.Escapes.{IsControlOf, WritesEscape};
 
+use std::alloc::{AllocError, Global};
 use tn_discipline::Limit;
+
+/// Where a service is.
+#[derive(Debug, Drop, PartialEq, Eq)]
+pub struct Address {
+    /// The address of its host, or a name that has one.
+    pub host: String,
+    /// The port, from 1 to 65,535.
+    pub port: u16,
+}
+
+impl Address {
+    // The address that a text writes: what stands before its last colon is the host.
+    pub(crate) fn from_text(alloc: Global, text: &str) -> Result<Option<Address>, AllocError>
+        ensures some { IfOk result (λ read. IfSome read (λ address.
+            WritesAddress text.now (string_bytes address.host) address.port)) }
+        ensures none { result ≡ Ok None
+            → (host : List ℕ) (port : ℕ) → ¬ WritesAddress text.now host port }
+    {
+        match host_and_port(text) {
+            Some((host, port)) => {
+                let host = String::from_str(alloc, host)?;
+                Ok(Some(Address { host, port }))
+            },
+            None => Ok(None),
+        }
+    }
+}
+
+fn host_and_port(text: &str) -> Option<(&str, u16)>
+    ensures some { IfSome result (λ read. WritesAddress text.now read.0.now read.1) }
+    ensures none { result ≡ None → (host : List ℕ) (port : ℕ) → ¬ WritesAddress text.now host port }
+{
+    let (host, number) = text.rsplit_once(':')?;
+    if host.is_empty() {
+        return None;
+    }
+    let Ok(port) = number.parse::<u16>() else {
+        return None;
+    };
+    if port == 0 {
+        return None;
+    }
+    Some((host, port))
+}
 
 /// How to serve.
 #[derive(Debug, Drop, PartialEq, Eq)]
@@ -27,6 +73,10 @@ pub struct Serving {
     pub local: bool,
     /// Whether connections and the ends of their sessions are logged.
     pub verbose: bool,
+    /// The line service that each session is joined to.
+    pub to: Option<Address>,
+    /// Whether a line ends for that service with a carriage return and a line feed.
+    pub crlf: bool,
 }
 
 /// The key by which the user at a terminal speaks to the client itself.

@@ -3,14 +3,14 @@
 ghost use Rattle.std.specs.Prelude.{◌≡◌, ◌≤◌, ℕ, ⊤, None, Option, IfOk, IfErr, IfSome, codes, map, option_map, string_bytes};
 ghost use Rattle.clap.specs.Words.{kind_of, rows_of, first_of, found_of, subcommand_rows_of};
 ghost use Rattle.tn_words.specs.Words.{AskFor, AsksIn, AsksNothing, AsksServe, AsksConnect, AsksPort, HasEscape, HasNumber};
-ghost use Rattle.tn_words.specs.Words.{HasText, Lacks, MayHaveNumber, MissesNumber, Refuses, TellsKind};
+ghost use Rattle.tn_words.specs.Words.{HasText, Lacks, MayHaveAddress, MayHaveNumber, MissesNumber, Refuses, TellsKind};
 ghost use Rattle.tn_words.specs.Words.{detail_of, host_of, is_given, names_only_host};
 
 use crate::commands::{
-    CONNECT, COUNT, DECODE, ESCAPE, HEIGHT, HOST, IDLE, LIMIT, LINE, LOCAL, LOCALLY, PORT, REPLAY,
-    SERVE, TICKS, TRACE, VERBOSE, VERSION_LINE, WIDTH, WORLD, Whole, tn_command,
+    CONNECT, COUNT, CRLF, DECODE, ESCAPE, HEIGHT, HOST, IDLE, LIMIT, LINE, LOCAL, LOCALLY, PORT,
+    REPLAY, SERVE, TICKS, TO, TRACE, VERBOSE, VERSION_LINE, WIDTH, WORLD, Whole, tn_command,
 };
-use crate::settings::{Connecting, Escape, Serving};
+use crate::settings::{Address, Connecting, Escape, Serving};
 use clap::error::ErrorKind;
 use clap::{ArgMatches, Error};
 use std::alloc::{AllocError, Global};
@@ -82,6 +82,10 @@ enum Lack<'a> {
     #[error("error: invalid value '{0}' for '--escape <C>': it is neither `none` nor a caret and one of \
          A to Z, [, \\, ], ^ and _\n\nFor more information, try '--help'.\n")]
     Escape(&'a str),
+    /// The text writes no address.
+    #[error("error: invalid value '{0}' for '--to <HOST:PORT>': it is no host with a port of 1 to 65535 behind \
+         a colon\n\nFor more information, try '--help'.\n")]
+    Address(&'a str),
     /// `clap` takes no such words.
     #[error("error: a value is missing or out of its range\n\nFor more information, try '--help'.\n")]
     Value,
@@ -131,15 +135,32 @@ fn serving(alloc: Global, words: &ArgMatches<'_>) -> Result<Serving, WordsFault>
     let Some(host) = words.get_str(HOST) else {
         return Err(lacking(alloc, &Lack::Value));
     };
+    let to = to_of(alloc, words)?;
     let host = String::from_str(alloc, host)?;
-    match serving_at(host, words) {
+    match serving_at(host, to, words) {
         Some(serving) => Ok(serving),
         None => Err(lacking(alloc, &Lack::Value)),
     }
 }
 
-fn serving_at(host: String, words: &ArgMatches<'_>) -> Option<Serving>
+// The address of the service that is named, if one is.
+fn to_of(alloc: Global, words: &ArgMatches<'_>) -> Result<Option<Address>, WordsFault>
+    ensures asked { IfOk result (MayHaveAddress (rows_of (found_of words.now))) }
+    ensures lacks { IfErr result (Lacks
+        ((to : Option Address) → ¬ MayHaveAddress (rows_of (found_of words.now)) to)) }
+{
+    let Some(text) = words.get_str(TO) else {
+        return Ok(None);
+    };
+    match Address::from_text(alloc, text)? {
+        Some(address) => Ok(Some(address)),
+        None => Err(lacking(alloc, &Lack::Address(text))),
+    }
+}
+
+fn serving_at(host: String, to: Option<Address>, words: &ArgMatches<'_>) -> Option<Serving>
     requires host { HasText (rows_of (found_of words.now)) (codes "host") (string_bytes host) }
+    requires to { MayHaveAddress (rows_of (found_of words.now)) to }
     ensures asked { IfSome result (AsksServe (rows_of (found_of words.now))) }
     ensures none { result ≡ None → (asked : Serving) → ¬ AsksServe (rows_of (found_of words.now)) asked }
 {
@@ -153,6 +174,8 @@ fn serving_at(host: String, words: &ArgMatches<'_>) -> Option<Serving>
         idle: number(words, IDLE)?,
         local: words.get_flag(LOCALLY),
         verbose: words.get_flag(VERBOSE),
+        to,
+        crlf: words.get_flag(CRLF),
     })
 }
 

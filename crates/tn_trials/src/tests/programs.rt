@@ -10,7 +10,8 @@ use std::io::{self, ErrorKind, Read};
 use std::process::Abort;
 use std::test::Fail;
 use tn_cli::{
-    Asked, CliFault, Connecting, Escape, Serving, WordsFault, read_words, run_local, run_replay,
+    Address, Asked, CliFault, Connecting, Escape, Serving, WordsFault, read_words, run_local,
+    run_replay,
 };
 use tn_discipline::Limit;
 use tn_streams::{Drain, Source, Tally};
@@ -60,6 +61,8 @@ fn words_ask_for_a_server(rt: HostRuntime) -> Result<(), Fail> {
         idle: 0,
         local: false,
         verbose: false,
+        to: None,
+        crlf: false,
     });
     asks(&rt, rt.alloc(), "tn serve --port 2323", Some(asked));
     Ok(())
@@ -77,10 +80,15 @@ fn words_ask_for_all_of_a_server(rt: HostRuntime) -> Result<(), Fail> {
         idle: 86_400,
         local: true,
         verbose: true,
+        to: Some(Address {
+            host: String::from_str(rt.alloc(), "::1")?,
+            port: 7,
+        }),
+        crlf: true,
     });
     let line =
         "tn serve --limit=64 --count 1000000 --ticks=1000 --host ::1 --line 4095 --idle 86400 \
-                --local --verbose --port=2323";
+                --local --verbose --port=2323 --to ::1:7 --crlf";
     asks(&rt, rt.alloc(), line, Some(asked));
     Ok(())
 }
@@ -153,6 +161,12 @@ const REFUSED: &[&str] = &[
     "tn serve --port 7 --count 0",
     "tn serve --port 7 --count 1000001",
     "tn serve --port 7 --ticks 1001",
+    "tn serve --port 7 --to h",
+    "tn serve --port 7 --to :7",
+    "tn serve --port 7 --to h:",
+    "tn serve --port 7 --to h:0",
+    "tn serve --port 7 --to h:65536",
+    "tn serve --port 7 --to h:7x",
     "tn serve --port 7 --line 254",
     "tn serve --port 7 --line 4096",
     "tn serve --port 7 --ticks -1",

@@ -4,6 +4,7 @@ mod clients;
 mod connections;
 mod cores;
 mod gates;
+mod gateways;
 mod lines;
 mod programs;
 mod refusals;
