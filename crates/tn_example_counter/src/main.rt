@@ -13,18 +13,15 @@ use std::sync::{Arc, Mutex, Wait};
 use std::{io, thread};
 use tn_discipline::{Entry, Text};
 use tn_jobs::{After, Job, Reaction};
-use tn_loopback::{Call, Host, Service, Serving, SessionOptions, serve_on};
-use tn_session::Maker;
+use tn_loopback::{Call, Host, OneJob, Service, Serving, serve_on};
 
 fn main(rt: HostRuntime) -> io::Result<()> {
     let alloc = rt.alloc();
     let listener = TcpListener::bind(&rt, (Ipv4Addr::LOCALHOST, 0))?;
     let address = listener.local_addr()?;
     let serving = Serving {
-        sessions: 8,
         count: 2,
-        options: SessionOptions::standard(),
-        verbose: false,
+        ..Serving::standard()
     };
     let poll = Arc::new(alloc, Mutex::new(Poll::new()))?;
     let server = thread::spawn(&rt, move || -> bool {
@@ -117,25 +114,13 @@ struct Polling<H> {
 impl<H: Host> Service for Polling<H> {
     type Job = Poller<H>;
 
-    type Jobs = OneJob<H>;
+    type Jobs = OneJob<Poller<H>>;
 
-    fn session(&mut self, _alloc: Global, _call: Call) -> Result<OneJob<H>, AllocError> {
-        Ok(OneJob(Some(Poller {
+    fn session(&mut self, _alloc: Global, _call: Call) -> Result<OneJob<Poller<H>>, AllocError> {
+        Ok(OneJob::new(Poller {
             rt: self.rt,
             poll: Arc::try_clone(&self.poll)?,
-        })))
-    }
-}
-
-// Makes the job, unless it was made already.
-#[derive(Drop)]
-struct OneJob<H>(Option<Poller<H>>);
-
-impl<H: Drop + Wait> Maker for OneJob<H> {
-    type Job = Poller<H>;
-
-    fn next(&mut self, _alloc: Global) -> Result<Option<Poller<H>>, AllocError> {
-        Ok(self.0.take())
+        }))
     }
 }
 

@@ -10,19 +10,13 @@ use std::net::{Ipv4Addr, TcpListener, TcpStream};
 use std::{io, thread};
 use tn_discipline::{Entry, Text};
 use tn_jobs::{After, Job, Reaction};
-use tn_loopback::{Call, Service, Serving, SessionOptions, serve_on};
-use tn_session::Maker;
+use tn_loopback::{Call, OneJob, Service, Serving, serve_on};
 
 fn main(rt: HostRuntime) -> io::Result<()> {
     let alloc = rt.alloc();
     let listener = TcpListener::bind(&rt, (Ipv4Addr::LOCALHOST, 0))?;
     let mut client = TcpStream::connect(&rt, listener.local_addr()?)?;
-    let serving = Serving {
-        sessions: 8,
-        count: 1,
-        options: SessionOptions::standard(),
-        verbose: false,
-    };
+    let serving = Serving::standard();
     let server = thread::spawn(&rt, move || -> bool {
         serve_on(rt, alloc, &listener, serving, Quoters, &mut io::sink()).is_ok()
     })?;
@@ -39,23 +33,10 @@ struct Quoters;
 impl Service for Quoters {
     type Job = Quoter;
 
-    type Jobs = OneQuoter;
+    type Jobs = OneJob<Quoter>;
 
-    fn session(&mut self, _alloc: Global, _call: Call) -> Result<OneQuoter, AllocError> {
-        Ok(OneQuoter(true))
-    }
-}
-
-#[derive(Drop)]
-struct OneQuoter(bool);
-
-impl Maker for OneQuoter {
-    type Job = Quoter;
-
-    fn next(&mut self, _alloc: Global) -> Result<Option<Quoter>, AllocError> {
-        let next = self.0.then_some(Quoter);
-        self.0 = false;
-        Ok(next)
+    fn session(&mut self, _alloc: Global, _call: Call) -> Result<OneJob<Quoter>, AllocError> {
+        Ok(OneJob::new(Quoter))
     }
 }
 

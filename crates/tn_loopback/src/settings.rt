@@ -1,6 +1,6 @@
 //! How to serve and how to connect.
 
-ghost use Rattle.std.specs.Prelude.{◌≡◌};
+ghost use Rattle.std.specs.Prelude.{◌≡◌, false};
 ghost use Rattle.tn_discipline.specs.Limits.{standard_limit};
 
 use crate::link::Link;
@@ -47,6 +47,28 @@ pub struct Serving {
     pub options: SessionOptions,
     /// Whether it is noted which connections come and how their sessions end.
     pub verbose: bool,
+}
+
+/// How many sessions there may be at once where nothing else is asked for.
+const SESSIONS: u16 = 8;
+
+impl Serving {
+    /// One connection alone, with the standard options, of which nothing is noted.
+    pub fn standard() -> Serving
+        ensures sessions { result.sessions ≡ 8 }
+        ensures count { result.count ≡ 1 }
+        ensures line_limit { result.options.line_limit ≡ standard_limit }
+        ensures editing { result.options.editing ≡ Editing.Remote }
+        ensures idle { result.options.idle ≡ 0 }
+        ensures verbose { result.verbose ≡ false }
+    {
+        Serving {
+            sessions: SESSIONS,
+            count: 1,
+            options: SessionOptions::standard(),
+            verbose: false,
+        }
+    }
 }
 
 /// Where the keys of a client come from.
