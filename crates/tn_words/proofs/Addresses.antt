@@ -1,13 +1,17 @@
 -- A text is split at its last colon.
-use Rattle.std.proofs.Common.{◌≡◌, ◌≢◌, ℕ, zero, suc, ◌<◌, ◌≤◌, ◌==◌, Bool, true, false, Option, Some, None, List, [], ◌∷◌, ◌++◌, length, get_or, drop, slice_index, cond, refl, sym, ap, ◌∙◌, subst, arith, option_map, MatchOption, codes}
+use Rattle.std.proofs.Common.{◌≡◌, ◌≢◌, ℕ, zero, suc, ◌+◌, ◌<◌, ◌≤◌, ◌==◌, Bool, true, false, Option, Some, None, List, [], ◌∷◌, ◌++◌, length, get_or, drop, slice_index, cond, eqb, eqb-true, take-append-drop, refl, sym, ap, ap₂, ◌∙◌, subst, arith, option_map, MatchOption, codes}
 use Rattle.std.specs.Borrow.{Bor}
-use Rattle.std.specs.Path.{rsplit_once}
 use Rattle.std.specs.Str.Parse.{AllDigits, digits_value, without_leading_plus}
 use Rattle.std.specs.Char.{digit_value}
+use Rattle.std.specs.Str.{NoCharPasses}
 use Rattle.std.specs.Str.Pattern.{RFindsChar, SplitsAroundMatch}
-use Rattle.std.proofs.Paths.Parts.{Lacks, rsplit_once_char, rsplit_once_parts}
+use Rattle.std.proofs.lemmas.Str.Pattern.{NoCharPasses-char, drop_at_char}
 use Rattle.tn_words.specs.Addresses.{WritesAddress}
 use Rattle.tn_words.specs.Numbers.{Writes}
+
+-- no byte is this one
+abbrev pub Lacks : ℕ → List ℕ → Type 0
+Lacks byte text = (i : ℕ) → i < length text → get_or text i 0 ≡ byte → ⊥
 
 false_true : false ≡ true → ⊥
 false_true e = cc
@@ -34,7 +38,7 @@ signed_lack true first rest is all =
 signed_lack false first rest is all = digits_lack (first ∷ rest) all
 
 number_lacks : (number : List ℕ) (port : ℕ) → Writes number port → Lacks 58 number
-number_lacks [] port writes i under at = omega (arith, under)
+number_lacks [] port writes = λ i under at. omega (arith, under)
 number_lacks (first ∷ rest) port writes =
     signed_lack (first == 43) first rest refl writes.numeral.1
 
@@ -73,12 +77,13 @@ one_port text h g p q one two =
 abbrev pub Splits : List ℕ → Option (Bor (List ℕ) × Bor (List ℕ)) → Type 0
 Splits text r = MatchOption r (RFindsChar 58 text None) (λ x. SplitsAroundMatch (RFindsChar 58) text x.0.now x.1.now)
 
-abbrev Parts : List ℕ → Option (List ℕ × List ℕ) → Type 0
-Parts text o = MatchOption {T = List ℕ × List ℕ} o (Lacks 58 text) (λ split. (text ≡ split.0 ++ 58 ∷ split.1) × Lacks 58 split.1)
-
-parts : (text : List ℕ) (r : Option (Bor (List ℕ) × Bor (List ℕ))) → Splits text r → Parts text (option_map (λ x. (x.0.now, x.1.now)) r)
-parts text r splits =
-    subst (λ o. Parts text o) (sym (rsplit_once_char 58 text r splits (omega arith))) (rsplit_once_parts 58 text)
+parts : (text : List ℕ) (r : Option (Bor (List ℕ) × Bor (List ℕ))) → Splits text r
+    → MatchOption r (Lacks 58 text) (λ x. (text ≡ x.0.now ++ 58 ∷ x.1.now) × Lacks 58 x.1.now)
+parts text None none = λ i under. NoCharPasses-char 58 text i none (omega arith) under
+parts text (Some x) h = (
+  sym (take-append-drop h.0 text) ∙ ap₂ (λ (front back : List ℕ). front ++ back) (sym h.3) (drop_at_char 58 text h.0 h.1 h.2.1 (omega arith) ∙ ap (λ (l : List ℕ). 58 ∷ l) (sym h.4)),
+  λ i under. NoCharPasses-char 58 x.1.now i (subst (NoCharPasses (λ d. eqb d 58)) (sym h.4) h.2.0) (omega arith) under,
+)
 
 pub parts_some : (text : List ℕ) (r : Option (Bor (List ℕ) × Bor (List ℕ))) (x : Bor (List ℕ) × Bor (List ℕ)) → Splits text r → r ≡ Some x → (text ≡ x.0.now ++ 58 ∷ x.1.now) × Lacks 58 x.1.now
 parts_some text r x splits is = parts text (Some x) (subst (λ o. Splits text o) is splits)
@@ -86,28 +91,32 @@ parts_some text r x splits is = parts text (Some x) (subst (λ o. Splits text o)
 pub parts_none : (text : List ℕ) (r : Option (Bor (List ℕ) × Bor (List ℕ))) → Splits text r → r ≡ None → Lacks 58 text
 parts_none text r splits is = parts text None (subst (λ o. Splits text o) is splits)
 
+empty : (l : List ℕ) → (length l == 0) ≡ true → l ≡ []
+empty [] is = refl
+empty (x ∷ l) is = let none : length (x ∷ l) ≡ 0 = eqb-true _ _ is in absurd (omega (arith, none))
+
 -- the host may not be empty
-pub named_none : (text host number : List ℕ) → text ≡ host ++ 58 ∷ number → Lacks 58 number → host ≡ [] → (h : List ℕ) (port : ℕ) → WritesAddress text h port → ⊥
-named_none text host number is lacks empty h port w =
-    w.named (sym (writes_so text host number h port is lacks w).0 ∙ empty)
+pub named_none : (text host number : List ℕ) → (text ≡ host ++ 58 ∷ number) × Lacks 58 number → (length host == 0) ≡ true → (h : List ℕ) (port : ℕ) → WritesAddress text h port → ⊥
+named_none text host number split none h port w =
+    w.named (sym (writes_so text host number h port split.0 split.1 w).0 ∙ empty host none)
 
 -- the number that stands there is the port's
-pub numbered : (text host number : List ℕ) → text ≡ host ++ 58 ∷ number → Lacks 58 number → (h : List ℕ) (port : ℕ) → WritesAddress text h port → Writes number port × (1 ≤ port) × (port ≤ 65535)
-numbered text host number is lacks h port w =
-    let same = (writes_so text host number h port is lacks w).1 in
+pub numbered : (text host number : List ℕ) → (text ≡ host ++ 58 ∷ number) × Lacks 58 number → (h : List ℕ) (port : ℕ) → WritesAddress text h port → Writes number port × (1 ≤ port) × (port ≤ 65535)
+numbered text host number split h port w =
+    let same = (writes_so text host number h port split.0 split.1 w).1 in
     (subst (λ n. Writes n port) (sym same) w.writes, w.at_least, w.at_most)
 
 -- ADDRESSES THAT ARE WRITTEN OUT
 
 named : (byte : ℕ) (rest : List ℕ) → byte ∷ rest ≢ []
-named byte rest is = let bad : 1 + length rest ≡ 0 = ap (λ (l : List ℕ). length l) is in omega (arith, bad)
+named byte rest is = let bad : suc (length rest) ≡ 0 = ap (λ (l : List ℕ). length l) is in omega (arith, bad)
 
 pub name_is : WritesAddress (codes "redis:6379") (codes "redis") 6379
 name_is = record {
   number = codes "6379";
   text_is = refl;
   named = named _ _;
-  writes = record { numeral = ?; value = refl };
+  writes = record { numeral = (omega arith, (omega arith, (omega arith, (omega arith, (omega arith, tt))))); value = refl };
   at_least = omega arith;
   at_most = omega arith;
 }
@@ -117,7 +126,7 @@ colons_are = record {
   number = codes "7";
   text_is = refl;
   named = named _ _;
-  writes = record { numeral = ?; value = refl };
+  writes = record { numeral = (omega arith, (omega arith, tt)); value = refl };
   at_least = omega arith;
   at_most = omega arith;
 }

@@ -12,4 +12,5 @@ returns-in_default-clause-lacks c =
 pub serving_at-requires : goal.serving_at-requires
 serving_at-requires c = record {
   host = given_some (found_of c.args.words.now) (codes "host") c.get_str.result c.get_str.ensures c.in-Some.host c.in-Some.is ∙ ap Some (sym c.in_ok-host.ensures.ok);
+  to = c.in_ok-to.ensures.asked;
 }
