@@ -32,8 +32,8 @@ Reacts contents told (side.Shows old) entry reaction new =
     (reaction ≡ silent Stay) × (new ≡ side.Shows old)
 
 -- a step is one of the job in the background; the other one makes none
-abbrev pub Steps : {R W : Type 0} → (R → Option (List ℕ)) → (R → Option Failures) → (R → Option (List WindowSize))
-    → Gateway R W → Reaction → Gateway R W → Type 0
+abbrev pub Steps : {R W : Type 0} → (R → Option (List ℕ)) → (R → Option Failures)
+    → (R → Option (List WindowSize)) → Gateway R W → Reaction → Gateway R W → Type 0
 Steps remaining foretold sizes (side.Shows old) reaction (side.Shows new) =
     Shows reaction.text reaction.after
     (known_reader remaining foretold sizes old.reader) (known_reader remaining foretold sizes new.reader)

@@ -65,8 +65,8 @@ pub record ShowsAll (reactions : List Reaction) (first last : KnownReader) : Typ
   pub all : EndsAtLast reactions → IsAtEnd last.bytes ⊎ IsToFail first.failures
 
 -- these steps led the job in the background here
-abbrev pub ShowsTalk : {R W : Type 0} → (R → Option (List ℕ)) → (R → Option Failures) → (R → Option (List WindowSize))
-    → Showing R → List Reaction → Gateway R W → Type 0
+abbrev pub ShowsTalk : {R W : Type 0} → (R → Option (List ℕ)) → (R → Option Failures)
+    → (R → Option (List WindowSize)) → Showing R → List Reaction → Gateway R W → Type 0
 ShowsTalk remaining foretold sizes first reactions (side.Shows last) =
     ShowsAll reactions
     (known_reader remaining foretold sizes first.reader) (known_reader remaining foretold sizes last.reader)
