@@ -2,19 +2,21 @@
 
 use std::alloc::Global;
 use std::io::{Read, Write};
-use std::net::{Ipv4Addr, Shutdown, TcpListener, TcpStream};
+use std::net::{Ipv4Addr, Net, Shutdown, TcpListener, TcpStream};
 use std::process::Abort;
 use std::test::Fail;
 use std::thread;
 use std::thread::JoinHandle;
 use tn_gateway::LineEnd;
-use tn_loopback::{Serving, SessionOptions, serve_on};
+use tn_loopback::{Host, Serving, serve_on};
 use tn_program::Joining;
 
 // Serves one connection, joined to the service at this port. Returns the thread, which tells whether all went
 // well, and a client of it.
-fn join(rt: HostRuntime, port: u16) -> Result<(JoinHandle<bool>, TcpStream), Fail> {
-    let alloc = rt.alloc();
+fn join<H>(rt: H, alloc: Global, port: u16) -> Result<(JoinHandle<bool>, TcpStream), Fail>
+where
+    H: Host + Net<Listener = TcpListener, Stream = TcpStream>,
+{
     let listener = TcpListener::bind(&rt, (Ipv4Addr::LOCALHOST, 0))?;
     let client = TcpStream::connect(&rt, listener.local_addr()?)?;
     let service = Joining {
@@ -23,12 +25,7 @@ fn join(rt: HostRuntime, port: u16) -> Result<(JoinHandle<bool>, TcpStream), Fai
         port,
         line_end: LineEnd::CrLf,
     };
-    let serving = Serving {
-        sessions: 1,
-        count: 1,
-        options: SessionOptions::standard(),
-        verbose: false,
-    };
+    let serving = Serving::standard();
     let server = thread::spawn(&rt, move || -> bool {
         let mut errors = Vec::new(alloc);
         let served = serve_on(rt, alloc, &listener, serving, service, &mut errors);
@@ -69,7 +66,7 @@ fn lines_go_to_a_service_and_its_words_come_back(rt: HostRuntime) -> Result<(), 
     let listener = TcpListener::bind(&rt, (Ipv4Addr::LOCALHOST, 0))?;
     let port = listener.local_addr()?.port();
     let service = thread::spawn(&rt, move || -> Option<Vec<u8>> { listen(alloc, &listener) })?;
-    let (server, client) = join(rt, port)?;
+    let (server, client) = join(rt, alloc, port)?;
     let screen = screen_of(alloc, client, b"helo\x7flo\r\0a\x1ab\r\0half\x04\x04")?;
     assert!(rt; shows(&screen, b"farewell\r\n"));
     let got = service.join(&rt).unwrap_or(Vec::new(alloc));
@@ -84,7 +81,7 @@ fn an_interrupt_ends_a_session_with_a_service(rt: HostRuntime) -> Result<(), Fai
     let listener = TcpListener::bind(&rt, (Ipv4Addr::LOCALHOST, 0))?;
     let port = listener.local_addr()?.port();
     let service = thread::spawn(&rt, move || -> Option<Vec<u8>> { listen(alloc, &listener) })?;
-    let (server, client) = join(rt, port)?;
+    let (server, client) = join(rt, alloc, port)?;
     let screen = screen_of(alloc, client, b"one\r\0two\x03")?;
     assert!(rt; !screen.is_empty());
     let got = service.join(&rt).unwrap_or(Vec::new(alloc));
@@ -99,7 +96,7 @@ fn a_service_that_is_not_there_is_told(rt: HostRuntime) -> Result<(), Fail> {
     let listener = TcpListener::bind(&rt, (Ipv4Addr::LOCALHOST, 0))?;
     let port = listener.local_addr()?.port();
     drop(listener);
-    let (server, client) = join(rt, port)?;
+    let (server, client) = join(rt, alloc, port)?;
     let screen = screen_of(alloc, client, b"")?;
     assert!(rt; shows(&screen, b"the service cannot be reached\r\n"));
     assert!(rt; server.join(&rt));
