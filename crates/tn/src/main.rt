@@ -15,13 +15,20 @@
 
 use std::alloc::{AllocError, Global};
 use std::env::{Env, FillError};
+use std::fs::{File, Files};
 use std::process::ExitCode;
 use std::sync::Arc;
-use std::{env, io};
+use std::{env, io, str};
 use tn_program::{Link, Origin, Screen, Seat, run_words};
 
 /// The environment variable by which the launcher says that standard input is a terminal in raw mode.
 const TERMINAL: &str = "TN_TERMINAL";
+
+/// The environment variable by which the launcher names the pipe that tells the sizes of the window.
+const SIZES: &str = "TN_SIZES";
+
+/// How many bytes the path of that pipe has at most.
+const MAX_PATH: usize = 4_096;
 
 /// The status when out of memory before anything is run.
 const NO_MEMORY: u8 = 1;
@@ -32,6 +39,14 @@ fn origin_of<R: Env>(rt: &R) -> Origin {
         Err(FillError::NotPresent) => Origin::Input,
         _ => Origin::Terminal,
     }
+}
+
+// The pipe that tells the sizes of the window, if there is one.
+fn sizes_of<R: Env + Files<File = File>>(rt: &R) -> Option<File> {
+    let mut path = [0; MAX_PATH];
+    let count = rt.var(SIZES, &mut path).ok()?;
+    let path = str::from_utf8(&path[..count]).ok()?;
+    File::open(rt, path).ok()
 }
 
 // A connection that is to be, for the keys and for the screen.
@@ -54,6 +69,7 @@ fn main(rt: HostRuntime) -> ExitCode {
     let seat = Seat {
         origin: origin_of(&rt),
         reader: rt.stdin(),
+        sizes: sizes_of(&rt),
         link,
     };
     let mut screen = Screen {

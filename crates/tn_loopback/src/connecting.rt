@@ -107,11 +107,11 @@ fn talk_from<H: Host, K: Read + Drop + Send + 'static, S: Write>(
             talk(rt, alloc, incoming, outgoing, keys, screen, connecting)
         },
         Origin::Input => {
-            let keys = Console::new(rt, typing, None, Sizes::none());
+            let keys = Console::new(rt, typing, None);
             talk(rt, alloc, incoming, outgoing, keys, screen, connecting)
         },
         Origin::Terminal => {
-            let keys = Console::new(rt, typing, connecting.escape, Sizes::open(&rt));
+            let keys = Console::new(rt, typing, connecting.escape);
             talk(rt, alloc, incoming, outgoing, keys, screen, connecting)
         },
     }
@@ -144,6 +144,7 @@ pub fn connect<
 {
     let Notes {
         trace,
+        sizes,
         causes,
         link,
     } = notes;
@@ -164,6 +165,7 @@ pub fn connect<
         port: connecting.port,
         width: connecting.width,
         height: connecting.height,
+        sizes: Sizes::new(sizes),
     };
     let Ok(sending) = thread::spawn(&rt, move || -> io::Result<()> { sending.run() }) else {
         return Err(LoopbackFault::Memory);

@@ -4,7 +4,6 @@
 ghost use Rattle.std.specs.Prelude.{None};
 
 use crate::keys::Typing;
-use crate::sizes::Sizes;
 use libc::net::{POLLIN, poll};
 use libc::types::pollfd;
 use std::io;
@@ -37,23 +36,16 @@ pub(crate) struct Console<H, K> {
     rt: H,
     typing: Typing<H, K>,
     escaping: Escaping,
-    sizes: Sizes,
     // The size that was told last, and has not been said.
     resized: Option<WindowSize>,
 }
 
 impl<H: Copy + Print + Wait, K: Read + Drop> Console<H, K> {
-    pub(crate) fn new(
-        rt: H,
-        typing: Typing<H, K>,
-        escape: Option<u8>,
-        sizes: Sizes,
-    ) -> Console<H, K> {
+    pub(crate) fn new(rt: H, typing: Typing<H, K>, escape: Option<u8>) -> Console<H, K> {
         Console {
             rt,
             typing,
             escaping: Escaping::new(escape),
-            sizes,
             resized: None,
         }
     }
@@ -64,7 +56,10 @@ impl<H: Copy + Print + Wait, K: Read + Drop> Console<H, K> {
             if self.typing.link.is_closed() {
                 return Ready::Over;
             }
-            let mut waited = [waits_at(self.sizes.descriptor()), waits_at(STANDARD_INPUT)];
+            let mut waited = [
+                waits_at(self.typing.sizes.descriptor()),
+                waits_at(STANDARD_INPUT),
+            ];
             if poll(&mut waited, LOOK) <= 0 {
                 continue;
             }
@@ -81,7 +76,7 @@ impl<H: Copy + Print + Wait, K: Read + Drop> Console<H, K> {
 
     // A size is said between two reads.
     fn take_size(&mut self) {
-        if let Some(size) = self.sizes.read() {
+        if let Some(size) = self.typing.sizes.read() {
             self.typing.width = size.width;
             self.typing.height = size.height;
             self.resized = Some(size);

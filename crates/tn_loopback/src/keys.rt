@@ -4,12 +4,14 @@ ghost use Rattle.std.specs.Prelude.{◌≡◌};
 
 use crate::link::Link;
 use crate::outgoing::Throttle;
+use crate::sizes::Sizes;
 use std::alloc::Global;
 use std::io;
 use std::io::Read;
 use std::sync::{Arc, Wait};
 
-/// Where keys come from: their reader, what holds them back, and the connection that they are for.
+/// Where keys come from: their reader, what holds them back, the connection that they are for, and the window
+/// in which they are typed.
 #[derive(Drop)]
 pub(crate) struct Typing<H, K> {
     pub(crate) keys: K,
@@ -19,6 +21,7 @@ pub(crate) struct Typing<H, K> {
     pub(crate) port: u16,
     pub(crate) width: u16,
     pub(crate) height: u16,
+    pub(crate) sizes: Sizes,
 }
 
 /// The bytes of a reader as keys, which are read only while few of those before them wait to be sent.

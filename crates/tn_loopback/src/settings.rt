@@ -99,11 +99,14 @@ pub struct Connecting {
     pub escape: Option<u8>,
 }
 
-/// What is noted beside a client's session.
+/// What a client's session has beside its keys and its screen.
 #[derive(Drop)]
 pub struct Notes<'a> {
     /// Gets a line for each item that comes and goes.
     pub trace: Option<File>,
+    /// Tells each new size of the window, where standard input is waited for: width and height, five characters
+    /// each, a space between them and a line feed behind them.
+    pub sizes: Option<File>,
     /// Gets the causes of a fault, a line each.
     pub causes: &'a mut Vec<u8>,
     /// The connection, as the screen has it.

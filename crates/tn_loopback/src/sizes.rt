@@ -1,18 +1,10 @@
-//! The sizes of the window, as the launcher tells them at a terminal.
+//! The sizes of the window, as whoever set the terminal tells them.
 
-use std::env::Env;
-use std::fs::{File, Files};
+use std::fs::File;
 use std::io::Read;
 use std::os::fd::AsRawFd;
 use std::str;
 use tn_streams::WindowSize;
-
-/// The environment variable that names the pipe in which the launcher writes each size that is new: width
-/// and height, five characters each, separated by a space, and a line feed.
-const SIZES: &str = "TN_SIZES";
-
-/// How many bytes a path has at most.
-const MAX_PATH: usize = 4_096;
 
 /// How many bytes are read at once: 21 lines of 12, so that no line is cut.
 const LINES: usize = 252;
@@ -20,23 +12,16 @@ const LINES: usize = 252;
 /// The descriptor that `poll` passes over (POSIX).
 const NO_DESCRIPTOR: i32 = -1;
 
-/// The sizes that the launcher tells, if it does.
+/// A pipe that tells each new size: width and height, five characters each, a space between them and a line
+/// feed behind them. Where there is none, no sizes are told.
 #[derive(Drop)]
 pub(crate) struct Sizes {
     pipe: Option<File>,
 }
 
 impl Sizes {
-    /// The pipe that the environment names. Where it can't be opened, no sizes are told.
-    pub(crate) fn open<H: Env + Files<File = File>>(rt: &H) -> Sizes {
-        Sizes {
-            pipe: open_pipe(rt),
-        }
-    }
-
-    /// No sizes are told.
-    pub(crate) fn none() -> Sizes {
-        Sizes { pipe: None }
+    pub(crate) fn new(pipe: Option<File>) -> Sizes {
+        Sizes { pipe }
     }
 
     /// The descriptor to wait at.
@@ -58,13 +43,6 @@ impl Sizes {
             },
         }
     }
-}
-
-fn open_pipe<H: Env + Files<File = File>>(rt: &H) -> Option<File> {
-    let mut path = [0; MAX_PATH];
-    let count = rt.var(SIZES, &mut path).ok()?;
-    let path = str::from_utf8(&path[..count]).ok()?;
-    File::open(rt, path).ok()
 }
 
 // The size in the last of these lines.

@@ -219,10 +219,12 @@ fn run_connect<
     let Seat {
         origin,
         reader,
+        sizes,
         link,
     } = seat;
     let notes = Notes {
         trace,
+        sizes,
         causes,
         link,
     };

@@ -49,6 +49,7 @@ where
     let mut causes = Vec::new(alloc);
     let notes = Notes {
         trace: None,
+        sizes: None,
         causes: &mut causes,
         link,
     };

@@ -102,6 +102,7 @@ where
     let mut causes = Vec::new(alloc);
     let notes = Notes {
         trace: None,
+        sizes: None,
         causes: &mut causes,
         link: Arc::new(alloc, Link::new())?,
     };

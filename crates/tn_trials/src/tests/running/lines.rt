@@ -231,6 +231,7 @@ where
     let (mut screen, mut causes) = (Vec::new(alloc), Vec::new(alloc));
     let notes = Notes {
         trace: None,
+        sizes: None,
         causes: &mut causes,
         link: Arc::new(alloc, Link::new())?,
     };

@@ -70,6 +70,7 @@ fn faults_are_told(rt: HostRuntime) {
         let seat = Seat {
             origin: Origin::Reader,
             reader: Cursor::new(*b"a\n"),
+            sizes: None,
             link,
         };
         let ended = run_words(rt, alloc, Ok(words), seat, &mut writer, &mut errors);
@@ -99,6 +100,7 @@ fn the_line_of_a_fault_is_told(rt: HostRuntime) {
         let seat = Seat {
             origin: Origin::Reader,
             reader: *script,
+            sizes: None,
             link,
         };
         let ended = run_words(rt, alloc, Ok(words), seat, &mut output, &mut errors);
