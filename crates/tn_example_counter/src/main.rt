@@ -13,7 +13,8 @@ use std::sync::{Arc, Mutex, Wait};
 use std::{io, thread};
 use tn_discipline::{Entry, Text};
 use tn_jobs::{After, Job, Reaction};
-use tn_loopback::{Call, Host, OneJob, Service, Serving, serve_on};
+use tn_loopback::{Call, Host, Service, Serving, serve_on};
+use tn_session::Maker;
 
 fn main(rt: HostRuntime) -> io::Result<()> {
     let alloc = rt.alloc();
@@ -114,13 +115,25 @@ struct Polling<H> {
 impl<H: Host> Service for Polling<H> {
     type Job = Poller<H>;
 
-    type Jobs = OneJob<Poller<H>>;
+    type Jobs = OneJob<H>;
 
-    fn session(&mut self, _alloc: Global, _call: Call) -> Result<OneJob<Poller<H>>, AllocError> {
-        Ok(OneJob::new(Poller {
+    fn session(&mut self, _alloc: Global, _call: Call) -> Result<OneJob<H>, AllocError> {
+        Ok(OneJob(Some(Poller {
             rt: self.rt,
             poll: Arc::try_clone(&self.poll)?,
-        }))
+        })))
+    }
+}
+
+// Makes the job, unless it was made already.
+#[derive(Drop)]
+struct OneJob<H>(Option<Poller<H>>);
+
+impl<H: Drop + Wait> Maker for OneJob<H> {
+    type Job = Poller<H>;
+
+    fn next(&mut self, _alloc: Global) -> Result<Option<Poller<H>>, AllocError> {
+        Ok(self.0.take())
     }
 }
 

@@ -10,7 +10,8 @@ use std::net::{Ipv4Addr, TcpListener, TcpStream};
 use std::{io, thread};
 use tn_discipline::{Entry, Text};
 use tn_jobs::{After, Job, Reaction};
-use tn_loopback::{Call, OneJob, Service, Serving, serve_on};
+use tn_loopback::{Call, Service, Serving, serve_on};
+use tn_session::Maker;
 
 fn main(rt: HostRuntime) -> io::Result<()> {
     let alloc = rt.alloc();
@@ -33,10 +34,24 @@ struct Quoters;
 impl Service for Quoters {
     type Job = Quoter;
 
-    type Jobs = OneJob<Quoter>;
+    type Jobs = OneQuoter;
 
-    fn session(&mut self, _alloc: Global, _call: Call) -> Result<OneJob<Quoter>, AllocError> {
-        Ok(OneJob::new(Quoter))
+    fn session(&mut self, _alloc: Global, _call: Call) -> Result<OneQuoter, AllocError> {
+        Ok(OneQuoter(true))
+    }
+}
+
+// Makes the job, unless it was made already.
+#[derive(Drop)]
+struct OneQuoter(bool);
+
+impl Maker for OneQuoter {
+    type Job = Quoter;
+
+    fn next(&mut self, _alloc: Global) -> Result<Option<Quoter>, AllocError> {
+        let next = self.0.then_some(Quoter);
+        self.0 = false;
+        Ok(next)
     }
 }
 

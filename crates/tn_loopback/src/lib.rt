@@ -17,7 +17,7 @@ pub use host::Host;
 pub use link::Link;
 pub use screen::Screen;
 pub use served::Served;
-pub use service::{OneJob, Service};
+pub use service::Service;
 pub use serving::{serve, serve_on};
 pub use session::serve_connection;
 pub use settings::{Connecting, Notes, Origin, Serving, SessionOptions};

@@ -1,7 +1,5 @@
 //! What a server does for its users.
 
-ghost use Rattle.std.specs.Prelude.{◌≡◌, Some, IfSome};
-
 use crate::finished::Finished;
 use crate::hook::Call;
 use std::alloc::{AllocError, Global};
@@ -23,34 +21,4 @@ pub trait Service {
     /// The session with this number has ended so, and its threads are joined; or none of its threads could be
     /// started. It comes once for each session whose jobs were to be made, before its number is given again.
     fn ended(&mut self, _number: usize, _finished: &Finished) {}
-}
-
-/// The one job of a session: a foreground job, with none in the background.
-#[derive(Drop)]
-pub struct OneJob<J: Job> {
-    job: Option<J>,
-    ghost unused: { IfSome job (λ job. J.fresh job) },
-}
-
-impl<J: Job> OneJob<J> {
-    /// This job, which has done nothing yet.
-    pub fn new(job: J) -> OneJob<J>
-        requires fresh { J.fresh job }
-        ensures job { result.job ≡ Some job }
-    {
-        OneJob { job: Some(job) }
-    }
-}
-
-impl<J: Job> Maker for OneJob<J> {
-    ghost use Rattle.std.specs.Prelude.{Some};
-    ghost use Rattle.tn_loopback.specs.Makers.{jobs_in};
-
-    type Job = J;
-
-    ghost left = { λ makes. Some (jobs_in makes.job) };
-
-    fn next(&mut self, _alloc: Global) -> Result<Option<J>, AllocError> {
-        Ok(self.job.take())
-    }
 }
