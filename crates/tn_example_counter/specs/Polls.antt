@@ -7,16 +7,16 @@ use Rattle.tn_jobs.specs.declared.verdicts.After.{After}
 use Rattle.tn_jobs.specs.declared.verdicts.After.TheVariants.{Stay, Done}
 
 abbrev pub told : ℕ → ℕ → ℕ → After → Reaction
-told yes no all after = record {
-  text = decimal yes ++ (codes " yes, " ++ (decimal no ++ (codes " no, " ++ (decimal all ++ codes " in all\n"))));
+told ayes noes all after = record {
+  text = decimal ayes ++ (codes " yes, " ++ (decimal noes ++ (codes " no, " ++ (decimal all ++ codes " in all\n"))));
   after = after;
 }
 
 -- Some votes were for it and some against, and no more than these were cast.
 pub record Tells (reaction : Reaction) (after : After) : Type 0 where
-  pub yes : ℕ
-  pub no : ℕ
-  pub says : reaction ≡ told yes no (yes + no) after
+  pub ayes : ℕ
+  pub noes : ℕ
+  pub says : reaction ≡ told ayes noes (ayes + noes) after
 
 -- the end of the file ends the job
 abbrev pub after : Entry → After

@@ -76,17 +76,17 @@ fn vote(rt: &HostRuntime, client: &mut TcpStream, keys: &[u8]) -> io::Result<()>
 /// How a poll stands.
 #[derive(Clone, Copy)]
 struct Poll {
-    yes: u32,
-    no: u32,
+    ayes: u32,
+    noes: u32,
     all: u32,
-    ghost counted: { yes + no ≡ all },
+    ghost counted: { ayes + noes ≡ all },
 }
 
 impl Poll {
     fn new() -> Poll {
         Poll {
-            yes: 0,
-            no: 0,
+            ayes: 0,
+            noes: 0,
             all: 0,
         }
     }
@@ -97,9 +97,9 @@ impl Poll {
             return;
         }
         if line == b"yes\n".as_slice() {
-            self.yes += 1;
+            self.ayes += 1;
         } else {
-            self.no += 1;
+            self.noes += 1;
         }
         self.all += 1;
     }
@@ -182,8 +182,8 @@ impl<H: Wait> Poller<H> {
 fn tell(alloc: Global, poll: Poll, after: After) -> Result<Reaction, AllocError>
     ensures { IfOk result (λ reaction. Tells reaction after) }
 {
-    let Poll { yes, no, all } = poll;
-    let text = format!(in alloc; "{yes} yes, {no} no, {all} in all\n")?.into_bytes();
+    let Poll { ayes, noes, all } = poll;
+    let text = format!(in alloc; "{ayes} yes, {noes} no, {all} in all\n")?.into_bytes();
     let text = Text::from(text);
     Ok(Reaction { text, after })
 }

@@ -25,6 +25,24 @@ const LOOKS: u32 = 20;
 /// What a user is told in place of what the service says.
 const UNREACHED: &[u8] = b"the service cannot be reached\n";
 
+/// What a thread of a session needs of the network: a network names its types, and what it sends to a thread
+/// may rest on no bound that does.
+pub trait Dial {
+    /// Both halves of a connection to a service.
+    fn dial(&self, host: &str, port: u16) -> io::Result<(TcpStream, TcpStream)>;
+}
+
+impl<H: Net<Listener = TcpListener, Stream = TcpStream>> Dial for H {
+    fn dial(&self, host: &str, port: u16) -> io::Result<(TcpStream, TcpStream)> {
+        let stream = TcpStream::connect(self, (host, port))?;
+        stream.set_nodelay(true)?;
+        stream.set_read_timeout(Some(Duration::from_millis(LOOK)))?;
+        stream.set_write_timeout(Some(Duration::from_millis(LOOK)))?;
+        let heard = stream.try_clone()?;
+        Ok((heard, stream))
+    }
+}
+
 /// Serves as was asked for.
 pub(crate) fn serve_asked<H, E>(
     rt: H,
@@ -33,7 +51,7 @@ pub(crate) fn serve_asked<H, E>(
     errors: &mut E,
 ) -> Result<Served, LoopbackFault>
 where
-    H: Host + Net<Listener = TcpListener, Stream = TcpStream>,
+    H: Dial + Host + Net<Listener = TcpListener, Stream = TcpStream>,
     E: Write,
     ensures all { IfOk result (ServesAll asked.now.count) }
     ensures limit { IsErrOf result LoopbackFault.Limit → ¬ IsLimit asked.now.sessions }
@@ -73,10 +91,7 @@ pub struct Joining<H> {
     pub line_end: LineEnd,
 }
 
-impl<H> Service for Joining<H>
-where
-    H: Host + Net<Listener = TcpListener, Stream = TcpStream>,
-{
+impl<H: Dial + Host> Service for Joining<H> {
     type Job = Gateway<Heard<H>, Told<H>>;
 
     type Jobs = Joiner<H>;
@@ -104,13 +119,10 @@ pub struct Joiner<H> {
     jobs: Option<Gateways<Heard<H>, Told<H>>>,
 }
 
-impl<H> Joiner<H>
-where
-    H: Host + Net<Listener = TcpListener, Stream = TcpStream>,
-{
+impl<H: Dial + Host> Joiner<H> {
     fn join(&self, hook: Hook) -> Result<Gateways<Heard<H>, Told<H>>, AllocError> {
         let rt = self.rt;
-        let (heard, told) = match reach(&rt, self.host.as_str(), self.port) {
+        let (heard, told) = match rt.dial(self.host.as_str(), self.port) {
             Ok((heard, told)) => (Some(heard), Some(told)),
             Err(_) => (None, None),
         };
@@ -130,10 +142,7 @@ where
     }
 }
 
-impl<H> Maker for Joiner<H>
-where
-    H: Host + Net<Listener = TcpListener, Stream = TcpStream>,
-{
+impl<H: Dial + Host> Maker for Joiner<H> {
     type Job = Gateway<Heard<H>, Told<H>>;
 
     fn next(&mut self, alloc: Global) -> Result<Option<Gateway<Heard<H>, Told<H>>>, AllocError> {
@@ -148,19 +157,6 @@ where
             None => Ok(None),
         }
     }
-}
-
-// Both halves of a connection to a service.
-fn reach<H>(rt: &H, host: &str, port: u16) -> io::Result<(TcpStream, TcpStream)>
-where
-    H: Net<Listener = TcpListener, Stream = TcpStream>,
-{
-    let stream = TcpStream::connect(rt, (host, port))?;
-    stream.set_nodelay(true)?;
-    stream.set_read_timeout(Some(Duration::from_millis(LOOK)))?;
-    stream.set_write_timeout(Some(Duration::from_millis(LOOK)))?;
-    let heard = stream.try_clone()?;
-    Ok((heard, stream))
 }
 
 /// What the service says. Its end hangs up, and where the session is over, it ends.

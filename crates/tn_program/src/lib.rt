@@ -9,7 +9,7 @@
 //! It does not set a terminal to raw mode: whoever starts it does.
 #![tactic(auto)]
 
-pub use gateway::{Heard, Joiner, Joining, Told};
+pub use gateway::{Dial, Heard, Joiner, Joining, Told};
 pub use outcome::Outcome;
 pub use program::{outcome_of_words, run_words};
 pub use seat::Seat;

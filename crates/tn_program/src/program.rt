@@ -6,7 +6,7 @@ ghost use Rattle.tn_loopback.specs.Ends.{foreseen};
 ghost use Rattle.tn_program.specs.Outcomes.{ComesOf, ComesOfRun, EndsVersion, EndsWith, AskForNothing};
 ghost use Rattle.tn_program.specs.Runs.{DoesAsAsked};
 
-use crate::gateway::serve_asked;
+use crate::gateway::{Dial, serve_asked};
 use crate::outcome::Outcome;
 use crate::seat::Seat;
 use crate::settings::connecting_of;
@@ -24,7 +24,7 @@ use tn_words::{Asked, Connecting, VERSION_LINE, WordsFault, read_words};
 /// (`EndsWith`). A fault is reported in one line on `errors`, and behind it what is wrong with words, or why;
 /// a line that cannot be written is dropped. Of a seat at standard input nothing is known beforehand.
 pub fn run_words<
-    H: Host + Files<File = File> + Net<Listener = TcpListener, Stream = TcpStream>,
+    H: Dial + Host + Files<File = File> + Net<Listener = TcpListener, Stream = TcpStream>,
     R: Read + Drop + Send + 'static,
     W: Write,
     E: Write,
@@ -60,7 +60,7 @@ pub fn run_words<
 /// The same without the status and the lines: returns what comes of the words, and appends the causes of a
 /// fault, a line each.
 pub fn outcome_of_words<
-    H: Host + Files<File = File> + Net<Listener = TcpListener, Stream = TcpStream>,
+    H: Dial + Host + Files<File = File> + Net<Listener = TcpListener, Stream = TcpStream>,
     R: Read + Drop + Send + 'static,
     W: Write,
     E: Write,
@@ -101,7 +101,7 @@ fn refusal(kind: ErrorKind) -> Outcome
 }
 
 fn run_strings<
-    H: Host + Files<File = File> + Net<Listener = TcpListener, Stream = TcpStream>,
+    H: Dial + Host + Files<File = File> + Net<Listener = TcpListener, Stream = TcpStream>,
     R: Read + Drop + Send + 'static,
     W: Write,
     E: Write,
@@ -134,7 +134,7 @@ fn texts_of<'a>(alloc: Global, words: &'a [String]) -> Result<Vec<&'a str>, Allo
 }
 
 fn run_texts<
-    H: Host + Files<File = File> + Net<Listener = TcpListener, Stream = TcpStream>,
+    H: Dial + Host + Files<File = File> + Net<Listener = TcpListener, Stream = TcpStream>,
     R: Read + Drop + Send + 'static,
     W: Write,
     E: Write,
@@ -172,7 +172,7 @@ fn write_version<W: Write>(writer: &mut W) -> Result<(), CliFault>
 }
 
 fn run_asked<
-    H: Host + Files<File = File> + Net<Listener = TcpListener, Stream = TcpStream>,
+    H: Dial + Host + Files<File = File> + Net<Listener = TcpListener, Stream = TcpStream>,
     R: Read + Drop + Send + 'static,
     W: Write,
     E: Write,

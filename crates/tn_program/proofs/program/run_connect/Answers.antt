@@ -4,6 +4,18 @@ use Rattle.tn_loopback.specs.declared.settings.Origin.{Origin}
 use Rattle.tn_session.specs.Facts.{Window}
 use Rattle.tn_program.proofs.program.run_connect.Goals as goal
 
+pub returns-in_default : goal.returns-in_default
+returns-in_default g c = (
+  c.args.asked,
+  refl,
+  record {
+    ran = tt;
+    whole = tt;
+    unwritten = λ other. refl;
+    no_limit = λ bad. absurd (let is = bad in cc);
+  },
+)
+
 pub returns : goal.returns
 returns g c = (
   c.args.asked,
