@@ -9,13 +9,52 @@
 //! words are read by `tn_words`, and what they ask for is done by `tn_program`: here the handle of the
 //! runtime, the words and the streams are handed on, and the status comes back.
 //!
-//! It sets no terminal to raw mode, which the launcher `./tn` does for `connect`. It listens on and
-//! connects to this machine alone, asks for no password, encrypts nothing, and reads no urgent data.
+//! It sets no terminal to raw mode, which the launcher `./tn` does for `connect`. It asks for no password,
+//! encrypts nothing, and reads no urgent data.
 #![tactic(auto)]
 
+use std::alloc::{AllocError, Global};
+use std::env::{Env, FillError};
+use std::fs::{File, Files};
 use std::process::ExitCode;
-use std::{env, io};
-use tn_program::run_words;
+use std::sync::Arc;
+use std::{env, io, str};
+use tn_program::{Link, Origin, Screen, Seat, run_words};
+
+/// The environment variable by which the launcher says that standard input is a terminal in raw mode.
+const TERMINAL: &str = "TN_TERMINAL";
+
+/// The environment variable by which the launcher names the pipe that tells the sizes of the window.
+const SIZES: &str = "TN_SIZES";
+
+/// How many bytes the path of that pipe has at most.
+const MAX_PATH: usize = 4_096;
+
+/// The status when out of memory before anything is run.
+const NO_MEMORY: u8 = 1;
+
+fn origin_of<R: Env>(rt: &R) -> Origin {
+    let mut value = [0; 1];
+    match rt.var(TERMINAL, &mut value) {
+        Err(FillError::NotPresent) => Origin::Input,
+        _ => Origin::Terminal,
+    }
+}
+
+// The pipe that tells the sizes of the window, if there is one.
+fn sizes_of<R: Env + Files<File = File>>(rt: &R) -> Option<File> {
+    let mut path = [0; MAX_PATH];
+    let count = rt.var(SIZES, &mut path).ok()?;
+    let path = str::from_utf8(&path[..count]).ok()?;
+    File::open(rt, path).ok()
+}
+
+// A connection that is to be, for the keys and for the screen.
+fn links(alloc: Global) -> Result<(Arc<Link, Global>, Arc<Link, Global>), AllocError> {
+    let link = Arc::new(alloc, Link::new())?;
+    let linked = Arc::try_clone(&link)?;
+    Ok((link, linked))
+}
 
 fn main(rt: HostRuntime) -> ExitCode {
     let alloc = rt.alloc();
@@ -23,13 +62,20 @@ fn main(rt: HostRuntime) -> ExitCode {
         Ok(words) => words.collect(alloc).map_err(io::Error::from),
         Err(error) => Err(error),
     };
-    let status = run_words(
-        rt,
-        alloc,
-        words,
-        rt.stdin(),
-        &mut rt.stdout(),
-        &mut rt.stderr(),
-    );
+    let Ok((link, linked)) = links(alloc) else {
+        let _ = eprintln!(rt; "tn: memory");
+        return ExitCode::from(NO_MEMORY);
+    };
+    let seat = Seat {
+        origin: origin_of(&rt),
+        reader: rt.stdin(),
+        sizes: sizes_of(&rt),
+        link,
+    };
+    let mut screen = Screen {
+        writer: rt.stdout(),
+        link: linked,
+    };
+    let status = run_words(rt, alloc, words, seat, &mut screen, &mut rt.stderr());
     ExitCode::from(status)
 }

@@ -1,10 +1,10 @@
 -- What one message does.
-use Rattle.std.proofs.Common.{◌≡◌, ◌<◌, All, ℕ, Bool, true, false, if◌then◌else◌, Some, None, List, [], ◌∷◌, ◌++◌, refl, sym, ap, ◌∙◌, subst, append-nil, append_assoc}
+use Rattle.std.proofs.Common.{◌≡◌, ◌<◌, All, ℕ, Bool, true, false, if◌then◌else◌, Some, None, Result, Ok, Err, OnOk, OnErr, List, [], ◌∷◌, ◌++◌, refl, sym, ap, ◌∙◌, subst, append-nil, append_assoc}
 use Rattle.std.proofs.lemmas.List.Elements.{All-append, All-nil}
 use Rattle.tn_client.proofs.lemmas.Histories.{items-gets, gets-append, sent-gets, shown-gets}
 use Rattle.tn_client.specs.Calls.{End, IsStopCause, IsFault, call_fault}
 use Rattle.tn_client.specs.Calls as client
-use Rattle.tn_client.specs.Events.{History, begun, next, got, gets, items}
+use Rattle.tn_client.specs.Events.{History, begun, next, got, resized, gets, items}
 use Rattle.tn_client.specs.Replies.{items_said, replies}
 use Rattle.tn_client.specs.Screen.{text_shown}
 use Rattle.tn_client.specs.declared.faults.ClientFault.{ClientFault}
@@ -12,12 +12,13 @@ use Rattle.tn_client.specs.declared.faults.ClientFault.TheVariants as client_fau
 use Rattle.tn_client_core.proofs.Typing.{items-types, said_front, shown_front}
 use Rattle.tn_client_core.specs.Counting.{nothing_yet, after_piece, after_message}
 use Rattle.tn_client_core.specs.Reaching.{LeadsTo, TypesAll, TypesPrefix, DoesWhole, StopsWithin}
-use Rattle.tn_client_core.specs.Run.{Run, Reads, Acts, ActsUnless, Handles, types, type_keys, feed, turns, start, sent_after}
+use Rattle.tn_client_core.specs.Run.{Run, resize, Reads, Acts, ActsUnless, Handles, types, type_keys, feed, turns, start, sent_after}
 use Rattle.tn_client_core.specs.declared.machine.Core.{Core}
 use Rattle.tn_client_core.specs.declared.messages.Origin.{Origin}
 use Rattle.tn_client_core.specs.declared.messages.Origin.TheVariants.{Keys, Net}
 use Rattle.tn_client_core.specs.declared.messages.Told.{Told}
 use Rattle.tn_client_core.specs.declared.progress.Progress.{Progress}
+use Rattle.tn_streams.specs.declared.window.WindowSize.{WindowSize}
 use Rattle.tn_messages.proofs.lemmas.Pieces.{read_on, read_as}
 use Rattle.tn_nvt.proofs.lemmas.Reading.{spells-append}
 use Rattle.tn_nvt.specs.Feeding.{DecoderState}
@@ -25,7 +26,7 @@ use Rattle.tn_nvt.specs.Feeding as nvt
 use Rattle.tn_nvt.specs.Spelling.{spells}
 use Rattle.tn_nvt.specs.declared.items.Item.{Item}
 use Rattle.tn_messages.specs.declared.messages.Message.{Message}
-use Rattle.tn_messages.specs.declared.messages.Message.TheVariants.{Piece, HangUp, ReadFailed, Take, Said, Refused, Left}
+use Rattle.tn_messages.specs.declared.messages.Message.TheVariants.{Piece, HangUp, ReadFailed, Take, Said, Refused, Left, Resized}
 
 -- the core is over: nothing is known of its end
 pub is_over : (c : Run) (core : Core) → core.progress.over ≡ true → core.progress ≡ c.progress → LeadsTo c core
@@ -204,14 +205,76 @@ feed_stops piece old new end x y u v f small on is why memory failed = by_test o
     by_test true e cause = let same = failed cause in stops_failed piece old new x y u v on e same.0 same.1
     by_test false e cause = stops_feed piece old new end x y u v small on is (memory cause)
 
+-- THE WINDOW
+pub does_resize : (from : Origin) (size : WindowSize) (old new : Core) (x y u : List ℕ) → old.progress.over ≡ false → new ≡ record old { end = new.end } → client.Advances old.end (resized size.width size.height) new.end → client.Sends old.end (resized size.width size.height) x y → client.ReadsNothing old.end new.end → DoesWhole old (record { from = from; message = Resized size }) x y u u new
+does_resize from size old new x y u on is goes sends keeps = record {
+  said = sends.said;
+  text = [];
+  appended = sends.appended;
+  displayed = sym (append-nil u);
+  leads = λ c at.
+      let told : Told = record { from = from; message = Resized size } in
+      let h = c.history in
+      let later = next h (resized size.width size.height) in
+      let l = at.live on in
+      let whole = resize size c in
+      let leads : LeadsTo whole new = record {
+        live = λ _. record {
+          leads = goes.leads h l.leads;
+          read = read_as old.end.decoder new.end.decoder c.stream (items h) (items later) keeps.decoder refl l.read;
+          bytes = l.bytes;
+          failed = keeps.failed ∙ l.failed;
+          latest = λ e. sent_open c.progress.closed c.sent later e;
+        };
+        progress = ap (λ (core : Core). core.progress) is ∙ at.progress;
+      } in (
+        whole,
+        handled c whole old told on at refl,
+        leads,
+        refl,
+        ap (λ (xs : List Item). items_said h ++ xs) (sends.replies h l.leads),
+        refl,
+      );
+}
+
+pub stops_resize : (from : Origin) (size : WindowSize) (old new : Core) (x y u : List ℕ) → old.progress.over ≡ false → new ≡ record old { end = new.end } → y ≡ x → StopsWithin old (record { from = from; message = Resized size }) x y u u new
+stops_resize from size old new x y u on is same = record {
+  part = [];
+  text = [];
+  appended = same ∙ sym (append-nil x);
+  displayed = sym (append-nil u);
+  leads = λ c at.
+      let told : Told = record { from = from; message = Resized size } in
+      let h = c.history in
+      let said = replies h (resized size.width size.height) in (
+        resize size c,
+        handled c (resize size c) old told on at refl,
+        ap (λ (core : Core). core.progress) is ∙ at.progress,
+        refl,
+        (spells said, spells-append (items_said h) said),
+        ([], refl),
+      );
+}
+
+-- where it shows nothing, whatever was shown before
+pub shows_ok : {T E : Type 0} (r : Result T E) (P : List ℕ → Type 0) (seen : List ℕ) → OnOk r ((u : List ℕ) → P u) → OnOk r (P seen)
+shows_ok (Ok x) P seen h = h seen
+shows_ok (Err e) P seen h = tt
+
+pub shows_err : {T E : Type 0} (r : Result T E) (P : List ℕ → Type 0) (seen : List ℕ) → OnErr r ((u : List ℕ) → P u) → OnErr r (P seen)
+shows_err (Ok x) P seen h = tt
+shows_err (Err e) P seen h = h seen
+
 -- OTHER MESSAGES
--- a message that brings no bytes
+-- a message that brings no bytes, and no size
 abbrev pub IsPlain : Message → Type 0
 IsPlain (Piece piece) = ⊥
+IsPlain (Resized size) = ⊥
 IsPlain _ = Unit {0}
 
 acts_plain : (c : Run) (from : Origin) (m : Message) → IsPlain m → Acts c from m (turns (after_message from m) c)
 acts_plain c from (Piece piece) plain = absurd plain
+acts_plain c from (Resized size) plain = absurd plain
 acts_plain c from HangUp plain = refl
 acts_plain c from ReadFailed plain = refl
 acts_plain c from Take plain = refl
@@ -235,6 +298,8 @@ still_open Net (Piece piece) p e = e
 still_open Net Take p e = e
 still_open Net (Said job text after) p e = e
 still_open Net Left p e = e
+still_open Keys (Resized size) p e = e
+still_open Net (Resized size) p e = e
 
 pub does_step : (told : Told) (old new : Core) (x u : List ℕ) → IsPlain told.message → old.progress.over ≡ false → new ≡ record old { progress = after_message told.from told.message old.progress } → DoesWhole old told x x u u new
 does_step told old new x u plain on is = record {
@@ -277,11 +342,12 @@ starts width height limit end core s r runs is = rw is (record {
   progress = refl;
 })
 
-pub is_plain : (m : Message) → ((piece : List ℕ) → m ≡ Piece piece → ⊥) → IsPlain m
-is_plain (Piece piece) other = other piece refl
-is_plain HangUp other = tt
-is_plain ReadFailed other = tt
-is_plain Take other = tt
-is_plain (Said job text after) other = tt
-is_plain Refused other = tt
-is_plain Left other = tt
+pub is_plain : (m : Message) → ((piece : List ℕ) → m ≡ Piece piece → ⊥) → ((size : WindowSize) → m ≡ Resized size → ⊥) → IsPlain m
+is_plain (Piece piece) other unsized = other piece refl
+is_plain (Resized size) other unsized = unsized size refl
+is_plain HangUp other unsized = tt
+is_plain ReadFailed other unsized = tt
+is_plain Take other unsized = tt
+is_plain (Said job text after) other unsized = tt
+is_plain Refused other unsized = tt
+is_plain Left other unsized = tt

@@ -1,10 +1,11 @@
 -- Each call is refused for its cause.
-use Rattle.std.proofs.Common.{◌≡◌, ◌⊎◌, inl, inr, ℕ, ◌+◌, ◌<◌, All, Bool, true, false, if◌then◌else◌, Some, None, List, [], ◌∷◌, ◌++◌, length, take, drop, sym, ap, ◌∙◌}
+use Rattle.std.proofs.Common.{◌≡◌, ◌≢◌, ◌⊎◌, inl, inr, ℕ, ◌+◌, ◌<◌, All, Bool, true, false, if◌then◌else◌, Some, None, List, [], ◌∷◌, ◌++◌, length, take, drop, sym, ap, ◌∙◌}
 use Rattle.std.proofs.lemmas.List.{drop_more, take-append-drop}
 use lib.ListN.{get_or}
 use Rattle.tn_client.specs.Calls.{End, IsStopCause, IsFault, SaysOrShows, call_fault}
 use Rattle.tn_client.specs.Calls as client
-use Rattle.tn_client.specs.Events.{History, typed, gets, items}
+use Rattle.tn_client.specs.Events.{History, typed, resized, gets, items}
+use Rattle.tn_client.specs.Replies.{replies}
 use Rattle.tn_client.specs.declared.faults.ClientFault.{ClientFault}
 use Rattle.tn_client.specs.declared.faults.ClientFault.TheVariants as client_fault
 use Rattle.tn_client_core.proofs.Doing.{read_past}
@@ -12,11 +13,13 @@ use Rattle.tn_client_core.specs.Reaching.{TypesAll, RefusesFor}
 use Rattle.tn_client_core.specs.Refusing.{RefusesAtKey, RefusesAtItem, RefusesAtByte}
 use Rattle.tn_client_core.specs.Run.{Run, Reads, types}
 use Rattle.tn_client_core.specs.declared.machine.Core.{Core}
-use Rattle.tn_client_core.specs.declared.messages.Origin.TheVariants.{Net}
+use Rattle.tn_client_core.specs.declared.messages.Origin.{Origin}
+use Rattle.tn_streams.specs.declared.window.WindowSize.{WindowSize}
+use Rattle.tn_client_core.specs.declared.messages.Origin.TheVariants.{Keys, Net}
 use Rattle.tn_nvt.specs.Feeding.{DecoderState}
 use Rattle.tn_nvt.specs.Feeding as nvt
 use Rattle.tn_nvt.specs.declared.items.Item.{Item}
-use Rattle.tn_messages.specs.declared.messages.Message.TheVariants.{Piece}
+use Rattle.tn_messages.specs.declared.messages.Message.TheVariants.{Piece, Resized}
 
 -- an end that has not failed refuses only when out of memory
 only_memory : (end : End) (f : ClientFault) → end.failed ≡ false → IsFault (call_fault end) f → f ≡ client_fault.Memory
@@ -55,3 +58,14 @@ feed_cause piece old x y u v f small on why memory = λ c at.
     let s = memory is in
     let past = read_past piece old x y u v small on s c at in
     (is, at_stop c piece s.front s.back s.done s.left past.0 s.part s.here s.whole (s.reads c.stream (items c.history) l.read) past.1 (s.cause c.history c.stream (items c.history) l.leads l.read))
+
+-- a size was refused
+pub resize_cause : (from : Origin) (size : WindowSize) (old : Core) (f : ClientFault) → old.progress.over ≡ false → IsFault (call_fault old.end) f → (f ≡ client_fault.Memory → (h : History) → client.LeadsTo h old.end → replies h (resized size.width size.height) ≢ []) → RefusesFor old (record { from = from; message = Resized size }) f
+resize_cause Keys size old f on why grows = λ c at.
+    let l = at.live on in
+    let is = only_memory old.end f l.failed why in
+    (is, grows is c.history l.leads)
+resize_cause Net size old f on why grows = λ c at.
+    let l = at.live on in
+    let is = only_memory old.end f l.failed why in
+    (is, grows is c.history l.leads)

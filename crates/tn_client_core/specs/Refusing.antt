@@ -1,7 +1,8 @@
 -- Why a call of the client end is refused within a message: memory runs out for what the message leads to.
-use Rattle.std.specs.Prelude.{◌≡◌, ℕ, ◌⊎◌, List, ◌∷◌, ◌++◌}
+use Rattle.std.specs.Prelude.{◌≡◌, ◌≢◌, ℕ, ◌⊎◌, List, [], ◌∷◌, ◌++◌}
 use Rattle.tn_client.specs.Calls.{SaysOrShows, MayWantMemory}
-use Rattle.tn_client.specs.Events.{History, typed, gets, items}
+use Rattle.tn_client.specs.Events.{History, typed, resized, gets, items}
+use Rattle.tn_client.specs.Replies.{replies}
 use Rattle.tn_client.specs.declared.faults.ClientFault.{ClientFault}
 use Rattle.tn_client.specs.declared.faults.ClientFault.TheVariants.{Memory}
 use Rattle.tn_client_core.specs.Run.{Run, Reads, types}
@@ -10,7 +11,7 @@ use Rattle.tn_client_core.specs.declared.messages.Origin.TheVariants.{Keys, Net}
 use Rattle.tn_nvt.specs.declared.items.Item.{Item}
 use Rattle.tn_messages.specs.Pieces.{WantsMemoryWithin}
 use Rattle.tn_messages.specs.declared.messages.Message.{Message}
-use Rattle.tn_messages.specs.declared.messages.Message.TheVariants.{Piece}
+use Rattle.tn_messages.specs.declared.messages.Message.TheVariants.{Piece, Resized}
 
 -- one of these keys says or shows something, once those before it were typed
 abbrev pub RefusesAtKey : History → List ℕ → Type 0
@@ -28,8 +29,10 @@ RefusesAtItem c piece =
 abbrev pub RefusesAtByte : Run → List ℕ → Type 0
 RefusesAtByte c piece = WantsMemoryWithin c.stream (items c.history) piece
 
--- a piece is refused for lack of memory, and nothing else is refused
+-- a piece, or a size that is told, is refused for lack of memory, and nothing else is refused
 abbrev pub IsRefusalCause : Run → Origin → Message → ClientFault → Type 0
 IsRefusalCause c Keys (Piece piece) f = (f ≡ Memory) × RefusesAtKey c.history piece
 IsRefusalCause c Net (Piece piece) f = (f ≡ Memory) × (RefusesAtItem c piece ⊎ RefusesAtByte c piece)
+IsRefusalCause c _ (Resized size) f =
+    (f ≡ Memory) × (replies c.history (resized size.width size.height) ≢ [])
 IsRefusalCause c _ _ f = ⊥

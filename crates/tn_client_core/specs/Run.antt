@@ -1,6 +1,6 @@
 -- What the messages do: a fold over those that were handled, over the history of the client end.
 use Rattle.std.specs.Prelude.{◌≡◌, ℕ, Bool, true, false, List, [], ◌∷◌, ◌++◌}
-use Rattle.tn_client.specs.Events.{History, begun, next, typed, gets, items}
+use Rattle.tn_client.specs.Events.{History, begun, next, typed, resized, gets, items}
 use Rattle.tn_client_core.specs.Counting as counting
 use Rattle.tn_client_core.specs.declared.messages.Origin.{Origin}
 use Rattle.tn_client_core.specs.declared.messages.Origin.TheVariants.{Keys, Net}
@@ -9,7 +9,8 @@ use Rattle.tn_client_core.specs.declared.progress.Progress.{Progress}
 use Rattle.tn_nvt.specs.declared.items.Item.{Item}
 use Rattle.tn_messages.specs.declared.faults.SessionFault.{SessionFault}
 use Rattle.tn_messages.specs.declared.messages.Message.{Message}
-use Rattle.tn_messages.specs.declared.messages.Message.TheVariants.{Piece}
+use Rattle.tn_messages.specs.declared.messages.Message.TheVariants.{Piece, Resized}
+use Rattle.tn_streams.specs.declared.window.WindowSize.{WindowSize}
 use Rattle.tn_wire.specs.Prefixes.{IsRead}
 
 -- All that has happened at the core: at its client end, with the network's pieces joined; the first part of
@@ -48,6 +49,10 @@ feed piece xs c =
 abbrev pub Reads : Run → List ℕ → List Item → Type 0
 Reads c piece xs = IsRead (c.stream ++ piece) (items c.history ++ xs)
 
+-- the window has another size
+abbrev pub resize : WindowSize → Run → Run
+resize size c = goes_on (next c.history (resized size.width size.height)) c
+
 -- something failed
 abbrev pub fail : SessionFault → Run → Run
 fail f c = turns (counting.after_failure f) c
@@ -60,6 +65,7 @@ TakesPiece c Net piece new = (xs : List Item) × Reads c piece xs × (new ≡ fe
 -- a message that has its effect
 abbrev pub Acts : Run → Origin → Message → Run → Type 0
 Acts c from (Piece piece) new = TakesPiece c from piece new
+Acts c from (Resized size) new = new ≡ resize size c
 Acts c from m new = new ≡ turns (counting.after_message from m) c
 
 abbrev pub ActsUnless : Bool → Run → Told → Run → Type 0

@@ -1,6 +1,6 @@
 //! The core of a client session, which alone uses the client end.
 
-ghost use Rattle.std.specs.Prelude.{◌≡◌, true, false, OnOk, OnErr, IfOk, IfErr, []};
+ghost use Rattle.std.specs.Prelude.{◌≡◌, ℕ, List, true, false, OnOk, OnErr, IfOk, IfErr, []};
 ghost use Rattle.tn_client.specs.Calls as client;
 ghost use Rattle.tn_client.specs.Events.{History};
 ghost use Rattle.tn_client_core.specs.Counting as counting;
@@ -16,6 +16,7 @@ use std::alloc::Global;
 use tn_client::{ClientEnd, ClientFault};
 use tn_discipline::Limit;
 use tn_messages::{Message, SessionFault};
+use tn_streams::WindowSize;
 
 /// The core of a client session.
 #[derive(Drop)]
@@ -132,6 +133,27 @@ impl Core {
         }
     }
 
+    // The window has another size.
+    fn resize(
+        &mut self,
+        from: Origin,
+        size: WindowSize,
+        out: &mut Vec<u8>,
+    ) -> Result<(), ClientFault>
+        requires { self.old.progress.over ≡ false }
+        ensures ok { OnOk result ((seen : List ℕ) → DoesWhole self.old
+            (record { from = from; message = Message.Resized size })
+            out.old.items out.new.items seen seen self.new) }
+        ensures err { OnErr result ((seen : List ℕ) → StopsWithin self.old
+            (record { from = from; message = Message.Resized size })
+            out.old.items out.new.items seen seen self.new) }
+        ensures cause { IfErr result (RefusesFor self.old
+            (record { from = from; message = Message.Resized size })) }
+    {
+        self.end.resize(size.width, size.height, out)?;
+        Ok(())
+    }
+
     // What a message that brings no bytes changes.
     fn step(&mut self, from: Origin, message: &Message)
         ensures { self.new ≡ record self.old {
@@ -167,6 +189,7 @@ impl Core {
         let Told { from, message } = told;
         match message {
             Message::Piece(piece) => self.piece(from, piece.as_slice(), out, screen),
+            Message::Resized(size) => self.resize(from, size, out),
             other => {
                 self.step(from, &other);
                 Ok(())

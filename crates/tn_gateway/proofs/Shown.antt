@@ -16,6 +16,7 @@ use Rattle.tn_jobs.specs.declared.verdicts.After.{After}
 use Rattle.tn_jobs.specs.declared.verdicts.After.TheVariants.{Stay, WantsInput, Done, Stop}
 use Rattle.tn_streams.specs.Foretelling.{Failures, ForetellsCall, HasCome}
 use Rattle.tn_streams.specs.Known.{KnownReader, known_reader}
+use Rattle.tn_streams.specs.declared.window.WindowSize.{WindowSize}
 
 pub consumes_more : (a b c : Option (List ℕ)) (xs ys : List ℕ) → Consumes a b xs → Consumes b c ys → Consumes a c (xs ++ ys)
 consumes_more None b c xs ys one two = tt
@@ -79,27 +80,27 @@ all_shown old (r ∷ next ∷ reactions) new (between, one, rest) (goes_on, ends
 
 -- THE STEPS OF THE JOB
 
-module _ {R W : Type 0} (remaining : R → Option (List ℕ)) (foretold : R → Option Failures) where
+module _ {R W : Type 0} (remaining : R → Option (List ℕ)) (foretold : R → Option Failures) (sizes : R → Option (List WindowSize)) where
   abbrev pub Through : Showing R → List Reaction → Gateway R W → Type 0
-  Through first reactions (side.Shows last) = ShowOn (known_reader remaining foretold first.reader) reactions (known_reader remaining foretold last.reader)
+  Through first reactions (side.Shows last) = ShowOn (known_reader remaining foretold sizes first.reader) reactions (known_reader remaining foretold sizes last.reader)
   Through first reactions (side.Sends last) = ⊥
 
-  one_more : (first mid : Showing R) (r : Reaction) (reactions : List Reaction) (last : Gateway R W) → Shows r.text r.after (known_reader remaining foretold first.reader) (known_reader remaining foretold mid.reader) → Through mid reactions last → Through first (r ∷ reactions) last
-  one_more first mid r reactions (side.Shows last) one rest = (known_reader remaining foretold mid.reader, one, rest)
+  one_more : (first mid : Showing R) (r : Reaction) (reactions : List Reaction) (last : Gateway R W) → Shows r.text r.after (known_reader remaining foretold sizes first.reader) (known_reader remaining foretold sizes mid.reader) → Through mid reactions last → Through first (r ∷ reactions) last
+  one_more first mid r reactions (side.Shows last) one rest = (known_reader remaining foretold sizes mid.reader, one, rest)
   one_more first mid r reactions (side.Sends last) one rest = absurd rest
 
-  through : (first : Showing R) (reactions : List Reaction) (last : Gateway R W) → FoldsTo (Steps {W = W} remaining foretold) (side.Shows first) reactions last → Through first reactions last
+  through : (first : Showing R) (reactions : List Reaction) (last : Gateway R W) → FoldsTo (Steps {W = W} remaining foretold sizes) (side.Shows first) reactions last → Through first reactions last
   through first [] last is = let P : Gateway R W → Type 0 = λ g. Through first [] g in subst P is refl
   through first (r ∷ reactions) last (side.Shows mid, one, rest) =
       one_more first mid r reactions last one (through mid reactions last rest)
   through first (r ∷ reactions) last (side.Sends mid, one, rest) = absurd one
 
-  talk : (first : Showing R) (reactions : List Reaction) (last : Gateway R W) → Through first reactions last → ShowsTalk {W = W} remaining foretold first reactions last
+  talk : (first : Showing R) (reactions : List Reaction) (last : Gateway R W) → Through first reactions last → ShowsTalk {W = W} remaining foretold sizes first reactions last
   talk first reactions (side.Shows last) all = record {
-    shown = shown (known_reader remaining foretold first.reader) reactions (known_reader remaining foretold last.reader) all;
-    all = all_shown (known_reader remaining foretold first.reader) reactions (known_reader remaining foretold last.reader) all;
+    shown = shown (known_reader remaining foretold sizes first.reader) reactions (known_reader remaining foretold sizes last.reader) all;
+    all = all_shown (known_reader remaining foretold sizes first.reader) reactions (known_reader remaining foretold sizes last.reader) all;
   }
   talk first reactions (side.Sends last) all = absurd all
 
-  pub in_order : (first : Showing R) (reactions : List Reaction) (last : Gateway R W) → FoldsTo (Steps {W = W} remaining foretold) (side.Shows first) reactions last → ShowsTalk {W = W} remaining foretold first reactions last
+  pub in_order : (first : Showing R) (reactions : List Reaction) (last : Gateway R W) → FoldsTo (Steps {W = W} remaining foretold sizes) (side.Shows first) reactions last → ShowsTalk {W = W} remaining foretold sizes first reactions last
   in_order first reactions last steps = talk first reactions last (through first reactions last steps)

@@ -10,6 +10,7 @@ use Rattle.tn_jobs.specs.declared.reactions.Reaction.{Reaction}
 use Rattle.tn_jobs.specs.declared.verdicts.After.TheVariants.{Stay, Done}
 use Rattle.tn_streams.specs.Foretelling.{Failures}
 use Rattle.tn_streams.specs.Known.{known_reader}
+use Rattle.tn_streams.specs.declared.window.WindowSize.{WindowSize}
 use Rattle.tn_streams.specs.Telling.{Calls}
 
 -- how many jobs are to come of something that is there, or not
@@ -32,10 +33,10 @@ Reacts contents told (side.Shows old) entry reaction new =
 
 -- a step is one of the job in the background; the other one makes none
 abbrev pub Steps : {R W : Type 0} → (R → Option (List ℕ)) → (R → Option Failures)
-    → Gateway R W → Reaction → Gateway R W → Type 0
-Steps remaining foretold (side.Shows old) reaction (side.Shows new) =
+    → (R → Option (List WindowSize)) → Gateway R W → Reaction → Gateway R W → Type 0
+Steps remaining foretold sizes (side.Shows old) reaction (side.Shows new) =
     Shows reaction.text reaction.after
-    (known_reader remaining foretold old.reader) (known_reader remaining foretold new.reader)
-Steps remaining foretold (side.Shows old) reaction (side.Sends new) = ⊥
-Steps remaining foretold (side.Sends old) reaction new =
+    (known_reader remaining foretold sizes old.reader) (known_reader remaining foretold sizes new.reader)
+Steps remaining foretold sizes (side.Shows old) reaction (side.Sends new) = ⊥
+Steps remaining foretold sizes (side.Sends old) reaction new =
     (reaction ≡ silent Done) × (new ≡ side.Sends old)

@@ -19,6 +19,7 @@ use Rattle.tn_jobs.specs.declared.verdicts.After.TheVariants.{Stay, Done}
 use Rattle.tn_session.specs.Turns.{Writes, Tells}
 use Rattle.tn_streams.specs.Foretelling.{Failures}
 use Rattle.tn_streams.specs.Known.{KnownReader, KnownWriting, known_reader, known_writing}
+use Rattle.tn_streams.specs.declared.window.WindowSize.{WindowSize}
 use Rattle.tn_streams.specs.Telling.{Calls}
 
 -- what is due to the service: each line once, in order, up to the end of file, an interrupt or a quit
@@ -65,8 +66,8 @@ pub record ShowsAll (reactions : List Reaction) (first last : KnownReader) : Typ
 
 -- these steps led the job in the background here
 abbrev pub ShowsTalk : {R W : Type 0} → (R → Option (List ℕ)) → (R → Option Failures)
-    → Showing R → List Reaction → Gateway R W → Type 0
-ShowsTalk remaining foretold first reactions (side.Shows last) =
+    → (R → Option (List WindowSize)) → Showing R → List Reaction → Gateway R W → Type 0
+ShowsTalk remaining foretold sizes first reactions (side.Shows last) =
     ShowsAll reactions
-    (known_reader remaining foretold first.reader) (known_reader remaining foretold last.reader)
-ShowsTalk remaining foretold first reactions (side.Sends last) = ⊥
+    (known_reader remaining foretold sizes first.reader) (known_reader remaining foretold sizes last.reader)
+ShowsTalk remaining foretold sizes first reactions (side.Sends last) = ⊥

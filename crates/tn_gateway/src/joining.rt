@@ -26,7 +26,7 @@ impl<R: Source + Drop, W: Finish + Drop> Job for Gateway<R, W> {
 
     ghost reacts = { λ old entry reaction new. Reacts W.contents W.told old entry reaction new };
 
-    ghost steps = { λ old reaction new. Steps R.remaining R.foretold old reaction new };
+    ghost steps = { λ old reaction new. Steps R.remaining R.foretold R.sizes old reaction new };
 
     // The job in the background is asked for none.
     fn entry(&mut self, alloc: Global, entry: Entry) -> Result<Reaction, AllocError> {

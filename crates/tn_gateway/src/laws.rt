@@ -28,6 +28,6 @@ pub fn lines_go_in_order<R: Source, W: Finish>()
 /// the reader's end.
 pub fn all_is_shown<R: Source, W: Finish>()
     ensures { (first : Showing R) (reactions : List Reaction) (last : Gateway R W)
-        → FoldsTo (Steps R.remaining R.foretold) (side.Shows first) reactions last
-        → ShowsTalk R.remaining R.foretold first reactions last }
+        → FoldsTo (Steps R.remaining R.foretold R.sizes) (side.Shows first) reactions last
+        → ShowsTalk R.remaining R.foretold R.sizes first reactions last }
 {}

@@ -24,8 +24,8 @@ impl<R: Source> Showing<R> {
     /// Waits for what the service says next. Its end ends the job, and so does a read that fails.
     pub(crate) fn step(&mut self, alloc: Global) -> Result<Reaction, AllocError>
         ensures { IfOk result (λ reaction. Shows reaction.text reaction.after
-            (known_reader R.remaining R.foretold self.old.reader)
-            (known_reader R.remaining R.foretold self.new.reader)) }
+            (known_reader R.remaining R.foretold R.sizes self.old.reader)
+            (known_reader R.remaining R.foretold R.sizes self.new.reader)) }
     {
         let mut bytes = Vec::from_elem(alloc, 0u8, PIECE_BYTES)?;
         match self.reader.read_some(bytes.as_mut_slice()) {

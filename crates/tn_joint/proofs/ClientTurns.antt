@@ -1,8 +1,8 @@
--- What the core does with a message keeps whatever keys and items keep, of the history whose replies go to the
+-- What the core does with a message keeps whatever keys, sizes and items keep, of the history whose replies go to the
 -- network.
 use Rattle.std.proofs.Common.{◌≡◌, ℕ, Bool, true, false, List, [], ◌∷◌, ◌++◌, refl, sym, ap, ◌∙◌, subst, append_assoc}
 use Rattle.tn_client.proofs.lemmas.Histories.{items-gets}
-use Rattle.tn_client.specs.Events.{History, next, typed, got, items, gets}
+use Rattle.tn_client.specs.Events.{History, next, typed, got, resized, items, gets}
 use Rattle.tn_client_core.specs.Counting.{after_message}
 use Rattle.tn_client_core.specs.Marks.{Turns}
 use Rattle.tn_client_core.specs.Run.{Run, Acts, ActsUnless, types, sent_after}
@@ -14,11 +14,12 @@ use Rattle.tn_client_core.specs.declared.messages.Told.{Told}
 use Rattle.tn_client_core.specs.declared.progress.Progress.{Progress}
 use Rattle.tn_nvt.specs.declared.items.Item.{Item}
 use Rattle.tn_messages.specs.declared.messages.Message.{Message}
-use Rattle.tn_messages.specs.declared.messages.Message.TheVariants.{Piece, HangUp, ReadFailed, Take, Said, Refused, Left}
+use Rattle.tn_messages.specs.declared.messages.Message.TheVariants.{Piece, HangUp, ReadFailed, Take, Said, Refused, Left, Resized}
 use Rattle.tn_streams.specs.Prefixes.{IsPrefixOf}
 
 pub record ClientKeeps (T : History → Type 0) (said : List Item) : Type 0 where
   pub types_on : (h : History) (key : ℕ) → T h → T (next h (typed key))
+  pub resizes : (h : History) (width height : ℕ) → T h → T (next h (resized width height))
   pub comes : (h : History) (x : Item) → IsPrefixOf (items h ++ x ∷ []) said → T h → T (next h (got x))
 
 -- as long as replies go to the network, they are those of all that happened
@@ -35,6 +36,7 @@ opens Net Take p e = e
 opens Net (Said job text after) p e = e
 opens Net Refused p e = e
 opens Net Left p e = e
+opens Net (Resized size) p e = e
 opens Keys (Piece piece) p e = e
 opens Keys HangUp p e = e
 opens Keys ReadFailed p e = e
@@ -42,6 +44,7 @@ opens Keys Take p e = e
 opens Keys (Said job text after) p e = e
 opens Keys Refused p e = e
 opens Keys Left p e = cc
+opens Keys (Resized size) p e = e
 
 pub sent_latest : (b : Bool) (sent h : History) → b ≡ false → sent_after b sent h ≡ h
 sent_latest true sent h e = cc
@@ -91,6 +94,8 @@ module _ (T : History → Type 0) (said : List Item) (s : ClientKeeps T said) wh
   acts c new from Take a p t = turned c new from Take (ap (λ (r : Run). r.sent) a) (ap (λ (r : Run). r.history) a) (ap (λ (r : Run). r.progress) a) t
   acts c new from (Said job text after) a p t = turned c new from (Said job text after) (ap (λ (r : Run). r.sent) a) (ap (λ (r : Run). r.history) a) (ap (λ (r : Run). r.progress) a) t
   acts c new from Refused a p t = turned c new from Refused (ap (λ (r : Run). r.sent) a) (ap (λ (r : Run). r.history) a) (ap (λ (r : Run). r.progress) a) t
+  acts c new from (Resized size) a p t =
+      went_on c new (next c.history (resized size.width size.height)) (ap (λ (r : Run). r.sent) a) (ap (λ (r : Run). r.history) a) (ap (λ (r : Run). r.progress.closed) a) (s.resizes c.history size.width size.height) t
   acts c new from Left a p t = turned c new from Left (ap (λ (r : Run). r.sent) a) (ap (λ (r : Run). r.history) a) (ap (λ (r : Run). r.progress) a) t
 
   handles : (o : Bool) (c new : Run) (x : Told) → ActsUnless o c x new → IsPrefixOf (items new.history) said → ClientAt T c → ClientAt T new

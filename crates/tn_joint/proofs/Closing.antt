@@ -1,7 +1,7 @@
 -- In a client's session no key comes once what the client says goes nowhere.
 use Rattle.std.proofs.Common.{◌≡◌, ℕ, Bool, true, false, Option, List, [], ◌∷◌, ◌++◌, refl, sym, ap, ◌∙◌, subst, map, ⊎_elim}
 use Rattle.tn_client.proofs.lemmas.Histories.{keys-gets}
-use Rattle.tn_client.specs.Events.{History, keys, gets}
+use Rattle.tn_client.specs.Events.{History, next, resized, keys, gets}
 use Rattle.tn_client_core.specs.Counting.{after_message}
 use Rattle.tn_client_core.specs.Marks.{Turns, Runs}
 use Rattle.tn_client_core.specs.Run.{Run, Acts, ActsUnless, types, sent_after, start}
@@ -15,13 +15,13 @@ use Rattle.tn_joint.proofs.ClientTurns.{opens, sent_latest}
 use Rattle.tn_session.specs.CoreTurns.{all_told}
 use Rattle.tn_session.specs.Mailbox.{from, mail}
 use Rattle.tn_session.specs.Reader.{Closes}
-use Rattle.tn_session.specs.Reading.{IsEnding, pieces_of}
+use Rattle.tn_session.specs.Reading.{IsEnding, Telling, piece_told, size_told, told_messages, pieces_in}
 use Rattle.tn_session.specs.declared.mail.Mail.{Mail}
 use Rattle.tn_session.specs.declared.mail.Sender.{Sender}
 use Rattle.tn_session.specs.declared.mail.Sender.TheVariants as sender
 use Rattle.tn_streams.specs.Foretelling.{Failures}
 use Rattle.tn_messages.specs.declared.messages.Message.{Message}
-use Rattle.tn_messages.specs.declared.messages.Message.TheVariants.{Piece, HangUp, ReadFailed, Take, Said, Refused, Left}
+use Rattle.tn_messages.specs.declared.messages.Message.TheVariants.{Piece, HangUp, ReadFailed, Take, Said, Refused, Left, Resized}
 
 abbrev pub NoPiece : List Message → Type 0
 NoPiece [] = Unit {0}
@@ -55,6 +55,7 @@ may_always closed Keys Take e = tt
 may_always closed Keys (Said job text after) e = tt
 may_always closed Keys Refused e = tt
 may_always closed Keys Left e = tt
+may_always closed Keys (Resized size) e = tt
 may_always closed Net m e = tt
 
 record Typed (c : Run) : Type 0 where
@@ -82,6 +83,15 @@ acts c new Net (Piece piece) a may t =
     record {
       latest = λ o. e ∙ sent_latest c.progress.closed c.sent (gets c.history a.0) (sym g ∙ o) ∙ sym f;
       same = ap keys e ∙ same_sent c.progress.closed c.sent c.history (gets c.history a.0) t.same (keys-gets c.history a.0) ∙ sym (ap keys f);
+    }
+acts c new from (Resized size) a may t =
+    let later = next c.history (resized size.width size.height) in
+    let e = ap (λ (r : Run). r.sent) a in
+    let f = ap (λ (r : Run). r.history) a in
+    let g = ap (λ (r : Run). r.progress.closed) a in
+    record {
+      latest = λ o. e ∙ sent_latest c.progress.closed c.sent later (sym g ∙ o) ∙ sym f;
+      same = ap keys e ∙ same_sent c.progress.closed c.sent c.history later t.same refl ∙ sym (ap keys f);
     }
 acts c new from HangUp a may t = turned c new from HangUp (ap (λ (r : Run). r.sent) a) (ap (λ (r : Run). r.history) a) (ap (λ (r : Run). r.progress) a) t
 acts c new from ReadFailed a may t = turned c new from ReadFailed (ap (λ (r : Run). r.sent) a) (ap (λ (r : Run). r.history) a) (ap (λ (r : Run). r.progress) a) t
@@ -120,6 +130,8 @@ acts_open c new Keys Refused is a = ap (λ (r : Run). r.progress.closed) a
 acts_open c new Net Refused is a = ap (λ (r : Run). r.progress.closed) a
 acts_open c new Keys Left is a = absurd is
 acts_open c new Net Left is a = ap (λ (r : Run). r.progress.closed) a
+acts_open c new Keys (Resized size) is a = ap (λ (r : Run). r.progress.closed) a
+acts_open c new Net (Resized size) is a = ap (λ (r : Run). r.progress.closed) a
 
 handles_open : (o : Bool) (c new : Run) (x : Told) → IsOpen x.from x.message → ActsUnless o c x new → new.progress.closed ≡ c.progress.closed
 handles_open true c new x is a = ap (λ (r : Run). r.progress.closed) a
@@ -151,6 +163,7 @@ none_first closed Keys Take ms n = record { may = tt; later = n }
 none_first closed Keys (Said job text after) ms n = record { may = tt; later = n }
 none_first closed Keys Refused ms n = record { may = tt; later = n }
 none_first closed Keys Left ms n = record { may = tt; later = n }
+none_first closed Keys (Resized size) ms n = record { may = tt; later = n }
 
 run_closed : (marked : List (Told × Mark)) (c new : Run) → Runs c marked new → NoPiece (keys_messages (tolds marked)) → Typed c → Typed new
 run_closed [] c new r n t = typed_as c new r t
@@ -172,6 +185,7 @@ first_of_keys Keys Take ms l = more tt l
 first_of_keys Keys (Said job text after) ms l = more tt l
 first_of_keys Keys Refused ms l = more tt l
 first_of_keys Keys Left ms l = last l
+first_of_keys Keys (Resized size) ms l = more tt l
 
 run_typed : (marked : List (Told × Mark)) (c new : Run) → Runs c marked new → c.progress.closed ≡ false → LeftLast (keys_messages (tolds marked)) → Typed c → Typed new
 run_typed [] c new r open_now l t = typed_as c new r t
@@ -182,9 +196,10 @@ run_typed ((x, k) ∷ marked) c new r open_now l t = go (first_of_keys x.from x.
     go (more is l) u later = later (turn_open c r.0 x k is r.1 ∙ open_now) l u
 
 -- what Keys sends
-pieces_last : (pieces : List (List ℕ)) (close : List Message) → LeftLast close → LeftLast (pieces_of pieces ++ close)
-pieces_last [] close l = l
-pieces_last (p ∷ ps) close l = pieces_last ps close l
+told_last : (told : List Telling) (close : List Message) → LeftLast close → LeftLast (told_messages told ++ close)
+told_last [] close l = l
+told_last (piece_told p ∷ told) close l = told_last told close l
+told_last (size_told s ∷ told) close l = told_last told close l
 
 ending_last : (m : Message) (left : Option (List ℕ)) → IsEnding m left → LeftLast (m ∷ Left ∷ [])
 ending_last (Piece p) left e = absurd e
@@ -194,6 +209,7 @@ ending_last Take left e = absurd e
 ending_last (Said job text after) left e = absurd e
 ending_last Refused left e = tt
 ending_last Left left e = tt
+ending_last (Resized size) left e = absurd e
 
 closes_last : (may_stop : Bool) (pieces : List (List ℕ)) (left : Option (List ℕ)) (foretold : Option Failures) (close : List Message) → Closes may_stop pieces left foretold close → LeftLast close
 closes_last may_stop pieces left foretold close closes =
@@ -219,10 +235,10 @@ pub mailed : (ms : List Message) → messages_in (map (mail sender.Keys) ms) ≡
 mailed [] = refl
 mailed (m ∷ ms) = ap (λ (l : List Message). m ∷ l) (mailed ms)
 
-pub keys_sent : (width height limit : ℕ) (marked : List (Told × Mark)) (new : Run) (handled : List Mail) (may_stop : Bool) (pieces : List (List ℕ)) (left : Option (List ℕ)) (foretold : Option Failures) (close : List Message)
-    → Runs (start width height limit) marked new → tolds marked ≡ all_told handled → from sender.Keys handled ≡ map (mail sender.Keys) (pieces_of pieces ++ close) → Closes may_stop pieces left foretold close → keys new.sent ≡ keys new.history
-keys_sent width height limit marked new handled may_stop pieces left foretold close runs is sent closes =
-    let all = ap keys_messages is ∙ told_all handled ∙ ap messages_in sent ∙ mailed (pieces_of pieces ++ close) in
-    let l = subst (λ (ms : List Message). LeftLast ms) (sym all) (pieces_last pieces close (closes_last may_stop pieces left foretold close closes)) in
+pub keys_sent : (width height limit : ℕ) (marked : List (Told × Mark)) (new : Run) (handled : List Mail) (may_stop : Bool) (told : List Telling) (left : Option (List ℕ)) (foretold : Option Failures) (close : List Message)
+    → Runs (start width height limit) marked new → tolds marked ≡ all_told handled → from sender.Keys handled ≡ map (mail sender.Keys) (told_messages told ++ close) → Closes may_stop (pieces_in told) left foretold close → keys new.sent ≡ keys new.history
+keys_sent width height limit marked new handled may_stop told left foretold close runs is sent closes =
+    let all = ap keys_messages is ∙ told_all handled ∙ ap messages_in sent ∙ mailed (told_messages told ++ close) in
+    let l = subst (λ (ms : List Message). LeftLast ms) (sym all) (told_last told close (closes_last may_stop (pieces_in told) left foretold close closes)) in
     let t = run_typed marked (start width height limit) new runs refl l (record { latest = λ o. refl; same = refl }) in
     t.same

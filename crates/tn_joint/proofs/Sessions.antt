@@ -21,7 +21,7 @@ use Rattle.tn_server.specs.Lines.{entries}
 use Rattle.tn_session.specs.CoreTurns.{all_told}
 use Rattle.tn_session.specs.Facts.{JobFacts}
 use Rattle.tn_session.specs.Mailbox.{sender, mail}
-use Rattle.tn_session.specs.Reading.{pieces_of}
+use Rattle.tn_session.specs.Reading.{told_messages}
 use Rattle.tn_session.specs.declared.channels.View.{View}
 use Rattle.tn_session.specs.declared.mail.Mail.{Mail}
 use Rattle.tn_session.specs.declared.mail.Sender.TheVariants as who
@@ -71,7 +71,7 @@ module _ {J : Type 0} (facts : JobFacts J) (law : LawOfRuns) (canon : Canon) (bo
       let last : Both = record { server = schedule.run; client = c.ran.run } in
       let l = law schedule.wrote_opening canon both.editing both.server.ran.jobs both.width both.height schedule.marked c.ran.marked last standard schedule.runs c.ran.runs carried in
       let typed = c.ran.typed in
-      let sent = one_list c.ran.from_keys (map (mail who.Keys) (pieces_of typed.0 ++ typed.2)) (sym c.ran.keys_is ∙ typed.5) in
+      let sent = one_list c.ran.from_keys (map (mail who.Keys) (told_messages typed.0 ++ typed.2)) (sym c.ran.keys_is ∙ typed.5) in
       let same = keys_sent both.width both.height canon.limit c.ran.marked c.ran.run c.ran.handled _ typed.0 typed.1 _ typed.2 c.ran.runs c.ran.messages (c.ran.woven who.Keys ∙ sent) typed.4 in
       let local = ap (λ (ks : List ℕ). typed_entries canon ks) same in
       record {

@@ -17,6 +17,7 @@ ties canon editing width height standard = record {
   writes = λ h k bytes t. histories.called canon h k (server.wrote bytes) tt t;
   pulls = λ h k n t. histories.called canon h k (server.pulled n) tt t;
   types_on = histories.types canon;
+  resizes = histories.resizes canon;
   returns = histories.returns canon;
   prefix = histories.prefix canon;
   complete = histories.complete canon;

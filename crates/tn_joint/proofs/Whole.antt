@@ -16,7 +16,7 @@ use Rattle.tn_joint.specs.Sessions.{HasHangUp}
 use Rattle.tn_session.specs.CoreTurns.{all_told}
 use Rattle.tn_session.specs.Mailbox.{from, mail}
 use Rattle.tn_session.specs.Reader.{Closes}
-use Rattle.tn_session.specs.Reading.{IsEnding, pieces_of}
+use Rattle.tn_session.specs.Reading.{IsEnding, Telling, piece_told, size_told, told_messages, pieces_in}
 use Rattle.tn_session.specs.declared.mail.Mail.{Mail}
 use Rattle.tn_session.specs.declared.mail.Sender.TheVariants as sender
 use Rattle.tn_streams.specs.Foretelling.{Failures}
@@ -26,7 +26,7 @@ use Rattle.tn_messages.specs.declared.faults.Ended.TheVariants as ended
 use Rattle.tn_messages.specs.declared.faults.SessionFault.{SessionFault}
 use Rattle.tn_messages.specs.declared.faults.SessionFault.TheVariants as fault
 use Rattle.tn_messages.specs.declared.messages.Message.{Message}
-use Rattle.tn_messages.specs.declared.messages.Message.TheVariants.{Piece, HangUp, ReadFailed, Take, Said, Refused, Left}
+use Rattle.tn_messages.specs.declared.messages.Message.TheVariants.{Piece, HangUp, ReadFailed, Take, Said, Refused, Left, Resized}
 
 -- WHAT FAILED IS TOLD
 abbrev ended_of : Run → Ended
@@ -64,6 +64,8 @@ acts c new Keys Refused a t = failed c new fault.Memory (ap ended_of a)
 acts c new Net Refused a t = failed c new fault.Memory (ap ended_of a)
 acts c new Keys Left a t = same c new (ap ended_of a) (ap over_of a) t
 acts c new Net Left a t = same c new (ap ended_of a) (ap over_of a) t
+acts c new Keys (Resized size) a t = same c new (ap ended_of a) (ap over_of a) t
+acts c new Net (Resized size) a t = same c new (ap ended_of a) (ap over_of a) t
 
 handles : (o : Bool) (c new : Run) (x : Told) → ActsUnless o c x new → Tells c → Tells new
 handles true c new x a t = same c new (ap ended_of a) (ap over_of a) t
@@ -95,13 +97,15 @@ brought_all : (ts : List Told) → brought Keys ts ≡ bytes_in (keys_messages t
 brought_all [] = refl
 brought_all (x ∷ ts) = brought_more x.from x.message ts (keys_messages ts) (brought_all ts)
 
-pieces_bytes : (pieces : List (List ℕ)) (close : List Message) → bytes_in (pieces_of pieces ++ close) ≡ concat pieces ++ bytes_in close
-pieces_bytes [] close = refl
-pieces_bytes (p ∷ ps) close = ap (λ (l : List ℕ). p ++ l) (pieces_bytes ps close) ∙ sym (append_assoc p (concat ps) (bytes_in close))
+told_bytes : (told : List Telling) (close : List Message) → bytes_in (told_messages told ++ close) ≡ concat (pieces_in told) ++ bytes_in close
+told_bytes [] close = refl
+told_bytes (piece_told p ∷ told) close = ap (λ (l : List ℕ). p ++ l) (told_bytes told close) ∙ sym (append_assoc p (concat (pieces_in told)) (bytes_in close))
+told_bytes (size_told s ∷ told) close = told_bytes told close
 
-pieces_end : (pieces : List (List ℕ)) (close : List Message) → HasHangUp (pieces_of pieces ++ close) → HasHangUp close
-pieces_end [] close e = e
-pieces_end (p ∷ ps) close e = pieces_end ps close e
+told_end : (told : List Telling) (close : List Message) → HasHangUp (told_messages told ++ close) → HasHangUp close
+told_end [] close e = e
+told_end (piece_told p ∷ told) close e = told_end told close e
+told_end (size_told s ∷ told) close e = told_end told close e
 
 -- where the reader's end was told, nothing follows, and nothing is left
 record IsWhole (left : Option (List ℕ)) (close : List Message) : Type 0 where
@@ -116,6 +120,7 @@ ends_whole Take left e h = absurd e
 ends_whole (Said job text after) left e h = absurd e
 ends_whole Refused left e h = absurd h
 ends_whole Left left e h = absurd e
+ends_whole (Resized size) left e h = absurd e
 
 closes_whole : (may_stop : Bool) (pieces : List (List ℕ)) (left : Option (List ℕ)) (foretold : Option Failures) (close : List Message) → Closes may_stop pieces left foretold close → HasHangUp close → IsWhole left close
 closes_whole may_stop pieces left foretold close closes h =
@@ -128,12 +133,13 @@ nothing_left : (bytes first : List ℕ) (left : Option (List ℕ)) → Consumes 
 nothing_left bytes first None c e = absurd c
 nothing_left bytes first (Some ys) c e = c ∙ ap (λ (l : List ℕ). first ++ l) e ∙ append-nil first
 
-pub all_brought : (handled from_keys : List Mail) (may_stop : Bool) (pieces : List (List ℕ)) (left : Option (List ℕ)) (foretold : Option Failures) (close : List Message) (bytes : List ℕ)
-    → from sender.Keys handled ≡ from_keys → from_keys ≡ map (mail sender.Keys) (pieces_of pieces ++ close) → Closes may_stop pieces left foretold close → Consumes (Some bytes) left (concat pieces) → HasHangUp (map (λ (x : Mail). x.message) from_keys) → bytes ≡ brought Keys (all_told handled)
-all_brought handled from_keys may_stop pieces left foretold close bytes woven sent closes consumed h =
-    let told : messages_in from_keys ≡ pieces_of pieces ++ close = ap messages_in sent ∙ mailed (pieces_of pieces ++ close) in
-    let w = closes_whole may_stop pieces left foretold close closes (pieces_end pieces close (subst (λ (ms : List Message). HasHangUp ms) told h)) in
+pub all_brought : (handled from_keys : List Mail) (may_stop : Bool) (told : List Telling) (left : Option (List ℕ)) (foretold : Option Failures) (close : List Message) (bytes : List ℕ)
+    → from sender.Keys handled ≡ from_keys → from_keys ≡ map (mail sender.Keys) (told_messages told ++ close) → Closes may_stop (pieces_in told) left foretold close → Consumes (Some bytes) left (concat (pieces_in told)) → HasHangUp (map (λ (x : Mail). x.message) from_keys) → bytes ≡ brought Keys (all_told handled)
+all_brought handled from_keys may_stop told left foretold close bytes woven sent closes consumed h =
+    let pieces = pieces_in told in
+    let said : messages_in from_keys ≡ told_messages told ++ close = ap messages_in sent ∙ mailed (told_messages told ++ close) in
+    let w = closes_whole may_stop pieces left foretold close closes (told_end told close (subst (λ (ms : List Message). HasHangUp ms) said h)) in
     let all : brought Keys (all_told handled) ≡ concat pieces =
-    brought_all (all_told handled) ∙ ap bytes_in (told_all handled ∙ ap messages_in woven ∙ told) ∙ pieces_bytes pieces close
+    brought_all (all_told handled) ∙ ap bytes_in (told_all handled ∙ ap messages_in woven ∙ said) ∙ told_bytes told close
     ∙ ap (λ (l : List ℕ). concat pieces ++ l) w.none ∙ append-nil (concat pieces) in
     nothing_left bytes (concat pieces) left consumed w.at_end ∙ sym all

@@ -15,6 +15,7 @@ use Rattle.tn_session.specs.declared.parties.Report.{Report}
 use Rattle.tn_streams.specs.Foretelling.{Failures}
 use Rattle.tn_streams.specs.Known.{KnownReader, KnownWriting}
 use Rattle.tn_streams.specs.Prefixes.{IsPrefixOf}
+use Rattle.tn_streams.specs.declared.window.WindowSize.{WindowSize}
 use Rattle.tn_term.specs.Giving.{entries_put}
 use Rattle.tn_messages.specs.declared.faults.Ended.TheVariants.{HangUp}
 use Rattle.tn_messages.specs.declared.messages.Message.{Message}
@@ -31,14 +32,15 @@ pub record Serves {J : Type 0} (facts : JobFacts J) (settings : TermSettings) (r
 -- What the call of a client's session promises, for a user whose reader gives these keys.
 pub record Connects (window : Window) (typed : List ℕ) (report : Report) : Type 0 where
   pub keys_foretold : Option Failures
+  pub sizes : Option (List WindowSize)
   pub reader : KnownReader
   pub writer : KnownWriting
   pub screen : KnownWriting
   pub keys : View
   pub net : View
   pub core : View
-  pub ran : RunningClient window (record { bytes = Some typed; failures = keys_foretold }) reader writer
-      screen (record { report = report; keys = keys; net = net; core = core })
+  pub ran : RunningClient window (record { bytes = Some typed; failures = keys_foretold; sizes = sizes })
+      reader writer screen (record { report = report; keys = keys; net = net; core = core })
 
 -- BOTH, with lines of one limit. `typed` is all that the user's reader gives.
 pub record Two {J : Type 0} (facts : JobFacts J) (canon : Canon) : Type 0 where

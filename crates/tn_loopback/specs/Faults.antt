@@ -1,6 +1,6 @@
 -- Which faults come from where.
 use Rattle.tn_loopback.specs.declared.fault.LoopbackFault.{LoopbackFault}
-use Rattle.tn_loopback.specs.declared.fault.LoopbackFault.TheVariants.{Network, Session, Limit, Memory}
+use Rattle.tn_loopback.specs.declared.fault.LoopbackFault.TheVariants.{Network, Session, Limit, Memory, Trace}
 use Rattle.tn_roster.specs.declared.RosterFault.{RosterFault}
 use Rattle.tn_roster.specs.declared.RosterFault.TheVariants as roster
 
@@ -10,6 +10,7 @@ IsOfNetwork Network = Unit {0}
 IsOfNetwork Memory = Unit {0}
 IsOfNetwork Session = ⊥
 IsOfNetwork Limit = ⊥
+IsOfNetwork Trace = ⊥
 
 -- what a fault of the roster is told as
 abbrev pub told_as : RosterFault → LoopbackFault

@@ -1,18 +1,25 @@
 //! What a client sends, and how long a server bears its silence.
 
+ghost use Rattle.std.specs.Io.{ReadsAtMost};
+
 use std::alloc::{AllocError, Global};
-use std::io;
 use std::io::{ErrorKind, Read};
 use std::net::{Shutdown, TcpStream};
 use std::sync::atomic::{AtomicBool, Ordering};
 use std::sync::{Arc, Wait};
 use std::time::{Clock, Duration, Instant};
+use std::{io, thread};
 
 /// How many milliseconds a read waits before it looks whether its session is over.
 const LOOK: u64 = 500;
 
 /// How many seconds a peer has to close after it was told that no more comes.
 const LINGER: u64 = 5;
+
+/// How often it is looked at most whether a session is held still, and how many milliseconds lie between.
+const HOLDS: u8 = 40;
+
+const HOLD: u64 = 50;
 
 /// What the two sides of a server's connection and its session know of each other.
 #[derive(Drop)]
@@ -21,6 +28,12 @@ pub(crate) struct Standing {
     pub(crate) finished: AtomicBool,
     /// The peer sent nothing for too long.
     pub(crate) idle: AtomicBool,
+    /// A job of the session wants it to end as by a hang-up.
+    pub(crate) hung_up: AtomicBool,
+    /// A job of the session still has to write once nothing more comes from the peer.
+    pub(crate) held: AtomicBool,
+    /// Nothing more comes from the peer.
+    pub(crate) gone: AtomicBool,
 }
 
 impl Standing {
@@ -28,13 +41,32 @@ impl Standing {
         let standing = Standing {
             finished: AtomicBool::new(false),
             idle: AtomicBool::new(false),
+            hung_up: AtomicBool::new(false),
+            held: AtomicBool::new(false),
+            gone: AtomicBool::new(false),
         };
         Ok(Arc::new(alloc, standing)?)
     }
+
+    pub(crate) fn is_finished(&self) -> bool {
+        self.finished.load(Ordering::SeqCst)
+    }
+
+    // Whether the session is to end as by a hang-up, and the peer has not been told yet that no more comes.
+    fn is_to_end(&self) -> bool {
+        self.hung_up.load(Ordering::SeqCst) && !self.is_finished()
+    }
+
+    // Whether the session is to go on although nothing more comes from the peer.
+    fn is_held(&self) -> bool {
+        self.held.load(Ordering::SeqCst)
+            && !self.hung_up.load(Ordering::SeqCst)
+            && !self.is_finished()
+    }
 }
 
-/// What a client sends. It ends, as by a hang-up, where the client sends nothing for too long, and where it
-/// does not close in time after it was told that no more comes.
+/// What a client sends. It ends, as by a hang-up, where the client sends nothing for too long, where a job of
+/// the session wants that, and where the client does not close in time after it was told that no more comes.
 #[derive(Drop)]
 pub(crate) struct Attended<H> {
     rt: H,
@@ -73,13 +105,9 @@ impl<H: Clock + Copy> Attended<H> {
         }
     }
 
-    fn is_finished(&self) -> bool {
-        self.standing.finished.load(Ordering::SeqCst)
-    }
-
     // Whether no more is read: the peer had its time to close, or sent nothing for too long.
     fn is_over(&mut self) -> bool {
-        if self.is_finished() {
+        if self.standing.is_finished() {
             if self.finished.is_none() {
                 self.finished = Instant::now(&self.rt).ok();
             }
@@ -93,15 +121,33 @@ impl<H: Clock + Copy> Attended<H> {
     }
 }
 
-impl<H: Clock + Copy + Wait> Read for Attended<H> {
-    fn read(&mut self, buf: &mut [u8]) -> io::Result<usize> {
+impl<H: Clock + Copy + Wait> Attended<H> {
+    // Waits as long as the session is held, for two seconds at most.
+    fn hold(&self) {
+        for _ in 0..HOLDS {
+            if !self.standing.is_held() {
+                return;
+            }
+            thread::sleep(&self.rt, Duration::from_millis(HOLD));
+        }
+    }
+
+    fn read_on(&mut self, buf: &mut [u8]) -> io::Result<usize>
+        ensures { ReadsAtMost result buf.new }
+    {
         let rt = self.rt;
         for _ in rt.forever() {
+            if self.standing.is_to_end() {
+                return Ok(0);
+            }
             let read = self.stream.read(buf);
             if !is_timeout(&read) {
                 self.heard = Instant::now(&self.rt).ok();
+                if matches!(read, Ok(0)) {
+                    self.hold();
+                }
                 // A session that is over discards what still comes.
-                if !self.is_finished() || !matches!(read, Ok(1..)) {
+                if !self.standing.is_finished() || !matches!(read, Ok(1..)) {
                     return read;
                 }
             }
@@ -111,6 +157,24 @@ impl<H: Clock + Copy + Wait> Read for Attended<H> {
         }
         let _ = self.stream.shutdown(Shutdown::Read);
         Ok(0)
+    }
+}
+
+impl<H: Clock + Copy + Wait> Read for Attended<H> {
+    fn read(&mut self, buf: &mut [u8]) -> io::Result<usize> {
+        let read = self.read_on(buf);
+        if is_last(&read) {
+            self.standing.gone.store(true, Ordering::SeqCst);
+        }
+        read
+    }
+}
+
+// No more is read after this.
+fn is_last(read: &io::Result<usize>) -> bool {
+    match read {
+        Ok(count) => *count == 0,
+        Err(error) => error.kind() != ErrorKind::Interrupted,
     }
 }
 

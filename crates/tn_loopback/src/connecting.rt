@@ -1,29 +1,126 @@
 //! `tn connect`: a client's session over a connection.
 
 ghost use Rattle.std.specs.Prelude.{◌≡◌, ◌≢◌, Ok, Err, IfOk, IfErr, OnErr};
-ghost use Rattle.tn_loopback.specs.Ends.{EndsWhole, RunsClient};
+ghost use Rattle.tn_loopback.specs.Ends.{EndsWhole, RunsClient, foreseen, window_of};
+ghost use Rattle.tn_loopback.specs.Faults.{IsOfNetwork};
+ghost use Rattle.tn_streams.specs.Known.{known_reader};
 
 use crate::connection::Connection;
+use crate::console::Console;
 use crate::fault::LoopbackFault;
 use crate::finished::ends_whole;
 use crate::host::Host;
-use crate::keys::{Incoming, Keys};
-use crate::outgoing::queue_for;
-use crate::settings::Connecting;
+use crate::incoming::Incoming;
+use crate::keys::{Keys, Typing};
+use crate::link::Link;
+use crate::outgoing::{Outgoing, Sending, Throttle, queue_for};
+use crate::reaching::reach;
+use crate::settings::{Connecting, Notes, Origin};
+use crate::sizes::Sizes;
+use crate::trace::Trace;
 use std::alloc::Global;
+use std::fs::File;
 use std::io::{Read, Write};
-use std::net::{Ipv4Addr, Net, TcpListener, TcpStream};
+use std::net::{Net, TcpListener, TcpStream};
 use std::sync::Arc;
-use std::sync::atomic::AtomicBool;
-use std::thread;
-use tn_session::{ClientPorts, Finish, Report, SessionFault, Unwatched, client_session};
+use std::{io, thread};
+use tn_session::{ClientPorts, Ended, Finish, Report, SessionFault, Unwatched, client_session};
+use tn_streams::Source;
 
-/// Connects to a port on this machine, and runs a client's session over the connection, with these keys
-/// and this screen, until the server has closed. A session that ends without a fault gives its report, and
-/// the ports in which contracts see what was sent and handled.
-///
-/// Where `TN_TERMINAL` is set in the environment, a read that gives no key means only that none was typed
-/// yet, as at a terminal whose reads time out, until the server has closed.
+// A connection's two directions, of which the second is sent by a thread of its own.
+#[derive(Drop)]
+struct Wires<H> {
+    incoming: Incoming<H, TcpStream>,
+    outgoing: Outgoing<H>,
+    sending: Sending<H, Connection>,
+    throttle: Throttle<H>,
+}
+
+// Lays out a connection's two directions.
+fn wire<H: Host>(
+    rt: H,
+    alloc: Global,
+    stream: TcpStream,
+    link: &Arc<Link, Global>,
+    trace: &Trace<H>,
+    origin: Origin,
+) -> Result<Wires<H>, LoopbackFault>
+    ensures { IfErr result IsOfNetwork }
+{
+    let (reader, writer) = Connection::split(stream)?;
+    link.attach(&rt, reader.try_clone()?);
+    let sent = Arc::try_clone(link)?;
+    let (outgoing, sending, throttle) = queue_for(rt, alloc, writer, sent, trace.try_clone()?)?;
+    let is_watched = origin == Origin::Terminal;
+    let read = Arc::try_clone(link)?;
+    let incoming = Incoming::new(alloc, reader, read, trace.try_clone()?, is_watched);
+    Ok(Wires {
+        incoming,
+        outgoing,
+        sending,
+        throttle,
+    })
+}
+
+// Runs a session over a connection's two directions, with these keys and this screen.
+fn talk<H: Host, K: Source + Drop + Send + 'static, S: Write>(
+    rt: H,
+    alloc: Global,
+    incoming: Incoming<H, TcpStream>,
+    outgoing: &mut Outgoing<H>,
+    keys: K,
+    screen: &mut S,
+    connecting: Connecting,
+) -> Result<(Report, ClientPorts), SessionFault>
+    ensures { IfOk result (λ r.
+        RunsClient (window_of connecting) (known_reader K.remaining K.foretold K.sizes keys)
+        (S.contents screen.old) (S.contents screen.new) r.0 r.1) }
+{
+    let Ok(gate) = Arc::new(alloc, Unwatched) else {
+        return Err(SessionFault::Memory);
+    };
+    let (width, height) = (connecting.width, connecting.height);
+    let limit = connecting.line_limit;
+    client_session(
+        rt, alloc, incoming, keys, outgoing, screen, width, height, limit, gate,
+    )
+}
+
+// The same, with the keys of a reader.
+fn talk_from<H: Host, K: Read + Drop + Send + 'static, S: Write>(
+    rt: H,
+    alloc: Global,
+    incoming: Incoming<H, TcpStream>,
+    outgoing: &mut Outgoing<H>,
+    typing: Typing<H, K>,
+    screen: &mut S,
+    connecting: Connecting,
+) -> Result<(Report, ClientPorts), SessionFault>
+    ensures { IfOk result (λ r.
+        RunsClient (window_of connecting) (foreseen connecting.origin (K.remaining typing.keys))
+        (S.contents screen.old) (S.contents screen.new) r.0 r.1) }
+{
+    let origin = connecting.origin;
+    match origin {
+        Origin::Reader => {
+            let keys = Keys::new(typing);
+            talk(rt, alloc, incoming, outgoing, keys, screen, connecting)
+        },
+        Origin::Input => {
+            let keys = Console::new(rt, typing, None);
+            talk(rt, alloc, incoming, outgoing, keys, screen, connecting)
+        },
+        Origin::Terminal => {
+            let keys = Console::new(rt, typing, connecting.escape);
+            talk(rt, alloc, incoming, outgoing, keys, screen, connecting)
+        },
+    }
+}
+
+/// Connects to a host, an address or a name, and runs a client's session over the connection, with these
+/// keys and this screen, until the server has closed or the user leaves. A session that ends without a fault
+/// gives its report, and the ports in which contracts see what was sent and handled. Of a fault the causes
+/// are noted.
 pub fn connect<
     H: Host + Net<Listener = TcpListener, Stream = TcpStream>,
     K: Read + Drop + Send + 'static,
@@ -31,52 +128,106 @@ pub fn connect<
 >(
     rt: H,
     alloc: Global,
+    host: &str,
     connecting: Connecting,
     keys: K,
     screen: &mut S,
+    notes: Notes<'_>,
 ) -> Result<(Report, ClientPorts), LoopbackFault>
     ensures ran { IfOk result (λ r.
-        RunsClient connecting (K.remaining keys) (S.contents screen.old) (S.contents screen.new) r.0 r.1) }
+        RunsClient (window_of connecting) (foreseen connecting.origin (K.remaining keys))
+        (S.contents screen.old) (S.contents screen.new) r.0 r.1) }
     ensures whole { IfOk result (λ r. EndsWhole r.0) }
     ensures unshown { OnErr result (result ≢ Err LoopbackFault.Session →
         S.contents screen.new ≡ S.contents screen.old) }
     ensures no_limit { result ≢ Err LoopbackFault.Limit }
 {
-    let stream = TcpStream::connect(&rt, (Ipv4Addr::LOCALHOST, connecting.port))?;
-    let (reader, writer) = Connection::split(stream)?;
-    let gate = Arc::new(alloc, Unwatched)?;
-    let closed = Arc::new(alloc, AtomicBool::new(false))?;
-    let (mut outgoing, sending, throttle) = queue_for(rt, alloc, writer)?;
-    let keys = Keys::new(&rt, keys, Arc::try_clone(&closed)?, throttle);
-    let reader = Incoming::new(reader, closed);
-    let Ok(sending) = thread::spawn(&rt, move || -> bool { sending.run() }) else {
+    let Notes {
+        trace,
+        sizes,
+        causes,
+        link,
+    } = notes;
+    let stream = reach(&rt, host, connecting.port, causes)?;
+    let trace = Trace::new(rt, alloc, trace)?;
+    let wires = wire(rt, alloc, stream, &link, &trace, connecting.origin)?;
+    let Wires {
+        incoming,
+        mut outgoing,
+        sending,
+        throttle,
+    } = wires;
+    let typing = Typing {
+        keys,
+        throttle,
+        link: Arc::try_clone(&link)?,
+        host: String::from_str(alloc, host)?,
+        port: connecting.port,
+        width: connecting.width,
+        height: connecting.height,
+        sizes: Sizes::new(sizes),
+    };
+    let Ok(sending) = thread::spawn(&rt, move || -> io::Result<()> { sending.run() }) else {
         return Err(LoopbackFault::Memory);
     };
-    let Connecting {
-        width,
-        height,
-        line_limit,
-        ..
-    } = connecting;
-    let ended = client_session(
+    let ended = talk_from(
         rt,
         alloc,
-        reader,
-        keys,
+        incoming,
         &mut outgoing,
+        typing,
         screen,
-        width,
-        height,
-        line_limit,
-        gate,
+        connecting,
     );
     outgoing.finish();
-    let all_sent = sending.join(&rt);
+    let sent = sending.join(&rt);
+    if let Some(fault) = fault_of(&ended) {
+        note_fault(causes, fault, &link);
+    }
+    note_unsent(causes, &sent, outgoing.waiting());
+    if !trace.end() {
+        let _ = writeln!(causes, "tn: the trace is not whole");
+    }
     let ended = if_whole(ended)?;
-    if !all_sent {
+    if sent.is_err() && !link.is_left() {
         return Err(LoopbackFault::Session);
     }
     Ok(ended)
+}
+
+// The fault that a session ended in, if it did.
+fn fault_of<P: Drop>(ended: &Result<(Report, P), SessionFault>) -> Option<SessionFault> {
+    match ended {
+        Ok((report, _)) => match report.ended {
+            Ended::Fault(fault) => Some(fault),
+            Ended::HangUp | Ended::Done => None,
+        },
+        Err(fault) => Some(*fault),
+    }
+}
+
+fn note_fault(causes: &mut Vec<u8>, fault: SessionFault, link: &Link) {
+    let _ = match fault {
+        SessionFault::Read if link.is_broken() => writeln!(causes, "tn: the connection broke"),
+        SessionFault::Read => writeln!(causes, "tn: the keys could not be read"),
+        SessionFault::Write if link.is_dark() => writeln!(causes, "tn: the screen takes no more"),
+        SessionFault::Write => writeln!(causes, "tn: the connection takes no more"),
+        fault => writeln!(causes, "tn: {}", fault),
+    };
+}
+
+// Notes what was not sent, and why.
+fn note_unsent(causes: &mut Vec<u8>, sent: &io::Result<()>, waiting: usize) {
+    if let Err(error) = sent {
+        let _ = writeln!(causes, "tn: sending failed: {}", error);
+    }
+    if waiting > 0 {
+        let _ = writeln!(
+            causes,
+            "tn: closed by the other end; {} bytes typed were not sent",
+            waiting
+        );
+    }
 }
 
 // The result of a session that ended without a fault.

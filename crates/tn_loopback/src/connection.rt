@@ -45,6 +45,11 @@ impl Connection {
         let standing = Some(standing);
         Connection { standing, ..self }
     }
+
+    pub(crate) fn into_stream(self) -> TcpStream {
+        let Connection { stream, .. } = self;
+        stream
+    }
 }
 
 // Where the system refuses one of these, the connection goes on without it.

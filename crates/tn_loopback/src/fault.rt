@@ -21,6 +21,9 @@ pub enum LoopbackFault {
     Limit,
     #[error("memory")]
     Memory,
+    /// The file for a trace could not be made.
+    #[error("write")]
+    Trace,
 }
 
 impl From<AllocError> for LoopbackFault {

@@ -1,22 +1,37 @@
 //! How a session over a connection ended.
 
 ghost use Rattle.std.specs.Prelude.{◌≡◌, true, false};
-ghost use Rattle.tn_loopback.specs.Ends.{EndsWhole};
+ghost use Rattle.tn_loopback.specs.Ends.{EndsWhole, IsWhole};
 
 use tn_session::{Ended, Report, SessionFault};
 
 /// How a session over a connection ended.
-#[derive(Drop)]
-pub(crate) struct Finished {
-    pub(crate) report: Result<Report, SessionFault>,
+#[derive(Clone, Copy, Debug, PartialEq, Eq)]
+pub struct Finished {
+    /// What the session tells, or why it did not run to its report.
+    pub report: Result<Report, SessionFault>,
     /// Its client sent nothing for too long.
-    pub(crate) idle: bool,
+    pub idle: bool,
 }
 
 impl Finished {
+    // None of its threads could be started.
+    pub(crate) fn unstarted() -> Finished {
+        Finished {
+            report: Err(SessionFault::Start),
+            idle: false,
+        }
+    }
+
     /// Whether it ended without a fault.
-    pub(crate) fn is_whole(&self) -> bool {
-        matches!(&self.report, Ok(report) if ends_whole(report))
+    pub fn is_whole(&self) -> bool
+        ensures whole { result ≡ true → IsWhole self.now }
+        ensures faulted { result ≡ false → ¬ IsWhole self.now }
+    {
+        match &self.report {
+            Ok(report) => ends_whole(report),
+            Err(_) => false,
+        }
     }
 }
 

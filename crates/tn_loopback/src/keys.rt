@@ -1,85 +1,48 @@
-//! Keys that end with the connection.
+//! Keys of a reader of which nothing else is known: each byte is one.
 
 ghost use Rattle.std.specs.Prelude.{◌≡◌};
 
+use crate::link::Link;
 use crate::outgoing::Throttle;
+use crate::sizes::Sizes;
 use std::alloc::Global;
-use std::env::{Env, FillError};
 use std::io;
-use std::io::{ErrorKind, Read};
-use std::sync::atomic::{AtomicBool, Ordering};
+use std::io::Read;
 use std::sync::{Arc, Wait};
 
-/// The environment variable that says that the keys come from a terminal whose reads time out.
-const TERMINAL: &str = "TN_TERMINAL";
-
-/// What the peer sends. Its end is noted, so that the keys can end too.
+/// Where keys come from: their reader, what holds them back, the connection that they are for, and the window
+/// in which they are typed.
 #[derive(Drop)]
-pub(crate) struct Incoming<N> {
-    reader: N,
-    closed: Arc<AtomicBool, Global>,
+pub(crate) struct Typing<H, K> {
+    pub(crate) keys: K,
+    pub(crate) throttle: Throttle<H>,
+    pub(crate) link: Arc<Link, Global>,
+    pub(crate) host: String,
+    pub(crate) port: u16,
+    pub(crate) width: u16,
+    pub(crate) height: u16,
+    pub(crate) sizes: Sizes,
 }
 
-impl<N> Incoming<N> {
-    pub(crate) fn new(reader: N, closed: Arc<AtomicBool, Global>) -> Incoming<N> {
-        Incoming { reader, closed }
-    }
-}
-
-impl<N: Read> Read for Incoming<N> {
-    fn read(&mut self, buf: &mut [u8]) -> io::Result<usize> {
-        let got = self.reader.read(buf);
-        let goes_on = match &got {
-            Ok(count) => *count > 0,
-            Err(error) => error.kind() == ErrorKind::Interrupted,
-        };
-        if !goes_on {
-            self.closed.store(true, Ordering::SeqCst);
-        }
-        got
-    }
-}
-
-/// The user's keys, which are read only while few of those before them wait to be sent. At a terminal whose
-/// reads time out, a read that gives no key counts as interrupted, and as the end of the keys only once the
-/// peer has closed.
+/// The bytes of a reader as keys, which are read only while few of those before them wait to be sent.
 #[derive(Drop)]
 pub(crate) struct Keys<H, K> {
-    keys: K,
-    waits_for_a_time: bool,
-    closed: Arc<AtomicBool, Global>,
-    throttle: Throttle<H>,
+    typing: Typing<H, K>,
 }
 
 impl<H, K> Keys<H, K> {
-    pub(crate) fn new<R: Env>(
-        rt: &R,
-        keys: K,
-        closed: Arc<AtomicBool, Global>,
-        throttle: Throttle<H>,
-    ) -> Keys<H, K>
-        ensures { result.keys ≡ keys }
+    pub(crate) fn new(typing: Typing<H, K>) -> Keys<H, K>
+        ensures { result.typing ≡ typing }
     {
-        let mut value = [0; 1];
-        let waits_for_a_time = !matches!(rt.var(TERMINAL, &mut value), Err(FillError::NotPresent));
-        Keys {
-            keys,
-            waits_for_a_time,
-            closed,
-            throttle,
-        }
+        Keys { typing }
     }
 }
 
 impl<H: Wait, K: Read> Read for Keys<H, K> {
-    ghost remaining = { λ k. K.remaining k.keys };
+    ghost remaining = { λ k. K.remaining k.typing.keys };
 
     fn read(&mut self, buf: &mut [u8]) -> io::Result<usize> {
-        self.throttle.wait();
-        let count = self.keys.read(buf)?;
-        if count == 0 && self.waits_for_a_time && !self.closed.load(Ordering::SeqCst) {
-            return Err(io::Error::from(ErrorKind::Interrupted));
-        }
-        Ok(count)
+        self.typing.throttle.wait();
+        self.typing.keys.read(buf)
     }
 }

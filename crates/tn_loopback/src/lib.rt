@@ -2,7 +2,7 @@
 //! jobs that a `Service` makes, and a client.
 //!
 //! ```
-//! serve(rt, alloc, Serving { port: 2323, .. }, service, &mut errors)?;
+//! serve(rt, alloc, "127.0.0.1", 2323, serving, service, &mut errors)?;
 //! ```
 //!
 //! Nothing is proved about what a connection carries: the sessions are proved for whatever their readers
@@ -11,27 +11,39 @@
 
 pub use connecting::connect;
 pub use fault::LoopbackFault;
+pub use finished::Finished;
+pub use hook::{Call, Hook};
 pub use host::Host;
+pub use link::Link;
+pub use screen::Screen;
 pub use served::Served;
 pub use service::Service;
 pub use serving::{serve, serve_on};
 pub use session::serve_connection;
-pub use settings::{Connecting, Serving, SessionOptions};
+pub use settings::{Connecting, Notes, Origin, Serving, SessionOptions};
 
 mod acceptor;
 mod attended;
 mod connecting;
 mod connection;
+mod console;
 mod events;
 mod fault;
 mod finished;
+mod hook;
 mod host;
+mod incoming;
 mod keys;
+mod link;
 mod notes;
 mod outgoing;
+mod reaching;
 mod running;
+mod screen;
 mod served;
 mod service;
 mod serving;
 mod session;
 mod settings;
+mod sizes;
+mod trace;

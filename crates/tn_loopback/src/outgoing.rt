@@ -1,5 +1,7 @@
 //! What a client sends goes out in a thread of its own, so that it reads on while the server does not.
 
+use crate::link::Link;
+use crate::trace::{Direction, Trace};
 use crossbeam_channel::{Receiver, Sender, bounded};
 use std::alloc::{AllocError, Global};
 use std::io;
@@ -35,9 +37,12 @@ impl Waiting {
         self.bytes.fetch_sub(bytes, Ordering::SeqCst);
     }
 
+    fn bytes(&self) -> usize {
+        self.bytes.load(Ordering::SeqCst)
+    }
+
     fn is_little(&self) -> bool {
-        self.writes.load(Ordering::SeqCst) <= WRITES_MARK
-            && self.bytes.load(Ordering::SeqCst) <= BYTES_MARK
+        self.writes.load(Ordering::SeqCst) <= WRITES_MARK && self.bytes() <= BYTES_MARK
     }
 }
 
@@ -48,6 +53,7 @@ pub(crate) struct Outgoing<H> {
     alloc: Global,
     pieces: Option<Sender<Vec<u8>, Global>>,
     waiting: Arc<Waiting, Global>,
+    trace: Trace<H>,
 }
 
 /// Sends what waits.
@@ -58,6 +64,7 @@ pub(crate) struct Sending<H, W> {
     pieces: Receiver<Vec<u8>, Global>,
     waiting: Arc<Waiting, Global>,
     sent: Sender<(), Global>,
+    link: Arc<Link, Global>,
 }
 
 /// Lets keys be read once little waits.
@@ -68,11 +75,13 @@ pub(crate) struct Throttle<H> {
     sent: Receiver<(), Global>,
 }
 
-/// The three sides of what goes out by this writer.
+/// The three sides of what goes out by this writer over this link.
 pub(crate) fn queue_for<H: Copy, W>(
     rt: H,
     alloc: Global,
     writer: W,
+    link: Arc<Link, Global>,
+    trace: Trace<H>,
 ) -> Result<(Outgoing<H>, Sending<H, W>, Throttle<H>), AllocError>
 where
     W: Drop,
@@ -95,17 +104,26 @@ where
         pieces,
         waiting: Arc::try_clone(&waiting)?,
         sent,
+        link,
     };
     let outgoing = Outgoing {
         rt,
         alloc,
         pieces: Some(sender),
         waiting,
+        trace,
     };
     Ok((outgoing, sending, throttle))
 }
 
-impl<H: Wait> Write for Outgoing<H> {
+impl<H> Outgoing<H> {
+    /// How many bytes wait to be sent.
+    pub(crate) fn waiting(&self) -> usize {
+        self.waiting.bytes()
+    }
+}
+
+impl<H: Copy + Wait> Write for Outgoing<H> {
     fn write(&mut self, buf: &[u8]) -> io::Result<usize> {
         let Some(pieces) = &self.pieces else {
             return Err(io::Error::from(ErrorKind::BrokenPipe));
@@ -113,6 +131,7 @@ impl<H: Wait> Write for Outgoing<H> {
         let mut piece = Vec::new(self.alloc);
         piece.extend_from_slice(buf)?;
         self.waiting.add(buf.len());
+        self.trace.note(Direction::Went, buf);
         match pieces.send(&self.rt, piece) {
             Ok(()) => Ok(buf.len()),
             Err(_) => Err(io::Error::from(ErrorKind::BrokenPipe)),
@@ -124,34 +143,39 @@ impl<H: Wait> Write for Outgoing<H> {
     }
 }
 
-impl<H: Wait> Finish for Outgoing<H> {
+impl<H: Copy + Wait> Finish for Outgoing<H> {
     fn finish(&mut self) {
         self.pieces = None;
     }
 }
 
 impl<H: Copy + Wait, W: Drop + Finish + Write> Sending<H, W> {
-    /// Sends all until no more comes, and finishes the writer. True where all was sent.
-    pub(crate) fn run(self) -> bool {
+    /// Sends all until no more comes, and finishes the writer. Where a write fails the link is ended, since
+    /// the other end hears no more. Once the user has left, what still comes is discarded.
+    pub(crate) fn run(self) -> io::Result<()> {
         let Sending {
             rt,
             mut writer,
             pieces,
             waiting,
             sent,
+            link,
         } = self;
         for _ in rt.forever() {
             let Ok(piece) = pieces.recv(&rt) else {
-                writer.finish();
-                return true;
+                break;
             };
-            if writer.write_all(&piece).is_err() {
-                return false;
+            let wrote = writer.write_all(&piece);
+            if wrote.is_err() && !link.is_left() {
+                link.hang_up();
+                return wrote;
             }
+            link.count_went(piece.len());
             waiting.remove(piece.len());
             let _ = sent.try_send(&rt, ());
         }
-        false
+        writer.finish();
+        Ok(())
     }
 }
 

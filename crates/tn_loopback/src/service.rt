@@ -1,16 +1,24 @@
 //! What a server does for its users.
 
+use crate::finished::Finished;
+use crate::hook::Call;
 use std::alloc::{AllocError, Global};
 use tn_jobs::Job;
 use tn_session::Maker;
 
-/// What a server does for its users: it gives each session its jobs.
+/// What a server does for its users: it gives each session its jobs. Both calls come one after another from
+/// the thread that serves, and so should not wait: what takes time is for `Maker::next`, which is called in
+/// the session's own thread, and for the jobs.
 pub trait Service {
     type Job: Job + Send + 'static;
 
     type Jobs: Maker<Job = Self::Job> + Drop + Send + 'static;
 
-    /// What makes the jobs of the session with this number. It is called in the accept loop, and so should
-    /// not wait. Out of memory, the connection is closed and counts as a session that ended in a fault.
-    fn session(&mut self, alloc: Global, number: usize) -> Result<Self::Jobs, AllocError>;
+    /// What makes the jobs of the session of this connection. Out of memory, the connection is closed and counts
+    /// as a session that ended in a fault.
+    fn session(&mut self, alloc: Global, call: Call) -> Result<Self::Jobs, AllocError>;
+
+    /// The session with this number has ended so, and its threads are joined; or none of its threads could be
+    /// started. It comes once for each session whose jobs were to be made, before its number is given again.
+    fn ended(&mut self, _number: usize, _finished: &Finished) {}
 }

@@ -5,9 +5,11 @@ ghost use Rattle.tn_loopback.specs.Ends.{ServesAll};
 ghost use Rattle.tn_roster.specs.Held.{IsLimit};
 
 use crate::acceptor::Acceptor;
+use crate::attended::Standing;
 use crate::events::Event;
 use crate::fault::LoopbackFault;
 use crate::finished::Finished;
+use crate::hook::{Call, Hook};
 use crate::host::Host;
 use crate::notes::{note_end, note_listening, note_peer};
 use crate::running::{Running, tell_fault, tell_if_faulted};
@@ -32,8 +34,10 @@ const EVENTS: usize = 16;
 const KEPT_OPEN: usize = 16;
 
 /// Serves an address, or a name that has one, until so many connections were accepted and all their
-/// sessions have ended. A session that ends in a fault is reported in one line on `errors`, and changes
-/// nothing else.
+/// sessions have ended. Each connection has a session in threads of its own, with the jobs that the service
+/// makes for it, as long as there are no more of them than the limit; one more is told `full` and closed. A
+/// session does what the contract of `serve_session` says of those jobs, for whatever the connection gives. One
+/// that ends in a fault is reported in one line on `errors`, and changes nothing else.
 pub fn serve<H, V, E>(
     rt: H,
     alloc: Global,
@@ -159,7 +163,7 @@ impl<H: Host, V: Service> Open<H, V> {
             note_peer(&self.rt, number, peer);
         }
         if self.running.has_room() {
-            if let Some(session) = self.start(stream, number) {
+            if let Some(session) = self.start(stream, number, *peer) {
                 return self.running.keep(number, session);
             }
         }
@@ -169,19 +173,32 @@ impl<H: Host, V: Service> Open<H, V> {
     }
 
     // Runs a session in a thread of its own, where one can be had.
-    fn start(&mut self, stream: TcpStream, number: usize) -> Option<JoinHandle<Finished>>
+    fn start(
+        &mut self,
+        stream: TcpStream,
+        number: usize,
+        peer: SocketAddr,
+    ) -> Option<JoinHandle<Finished>>
         ensures running { self.new.running ≡ self.old.running }
     {
         let events = self.events.clone().ok()?;
-        let jobs = self.service.session(self.alloc, number).ok()?;
+        let standing = Standing::new(self.alloc).ok()?;
+        let hook = Hook::new(&standing).ok()?;
+        let call = Call { number, peer, hook };
+        let jobs = self.service.session(self.alloc, call).ok()?;
         let session = Session {
             rt: self.rt,
             alloc: self.alloc,
             stream,
             options: self.serving.options,
             jobs,
+            standing,
         };
-        session.start(number, events)
+        let started = session.start(number, events);
+        if started.is_none() {
+            self.service.ended(number, &Finished::unstarted());
+        }
+        started
     }
 
     // The session with this number has ended, and its number is free.
@@ -189,6 +206,7 @@ impl<H: Host, V: Service> Open<H, V> {
         let Some(finished) = self.running.join(&self.rt, number) else {
             return;
         };
+        self.service.ended(number, &finished);
         self.roster.leave(number);
         if self.serving.verbose {
             note_end(&self.rt, number, &finished);

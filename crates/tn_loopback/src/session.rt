@@ -8,6 +8,7 @@ use crate::host::Host;
 use crate::settings::SessionOptions;
 use crossbeam_channel::Sender;
 use std::alloc::Global;
+use std::io::Read;
 use std::net::TcpStream;
 use std::sync::Arc;
 use std::sync::atomic::Ordering;
@@ -24,6 +25,7 @@ pub(crate) struct Session<H, M> {
     pub(crate) stream: TcpStream,
     pub(crate) options: SessionOptions,
     pub(crate) jobs: M,
+    pub(crate) standing: Arc<Standing, Global>,
 }
 
 impl<H, M> Session<H, M>
@@ -56,9 +58,9 @@ where
     M::Job: Send + 'static,
 {
     fn run(self) -> Finished {
-        match Standing::new(self.alloc) {
+        match Arc::try_clone(&self.standing) {
             Ok(standing) => {
-                let report = self.converse(&standing);
+                let report = self.converse();
                 let idle = standing.idle.load(Ordering::SeqCst);
                 Finished { report, idle }
             },
@@ -69,15 +71,16 @@ where
         }
     }
 
-    fn converse(self, standing: &Arc<Standing, Global>) -> Result<Report, SessionFault> {
+    fn converse(self) -> Result<Report, SessionFault> {
         let Session {
             rt,
             alloc,
             stream,
             options,
             jobs,
+            standing,
         } = self;
-        let (Ok(theirs), Ok(ours)) = (Arc::try_clone(standing), Arc::try_clone(standing)) else {
+        let (Ok(theirs), Ok(ours)) = (Arc::try_clone(&standing), Arc::try_clone(&standing)) else {
             return Err(SessionFault::Memory);
         };
         let Ok((stream, writer)) = Connection::split(stream) else {
@@ -107,7 +110,19 @@ where
             jobs,
             gate,
         )?;
+        if standing.hung_up.load(Ordering::SeqCst) {
+            linger(rt, writer.into_stream(), standing);
+        }
         Ok(report)
+    }
+}
+
+// Reads what a peer still sends after it was told that no more comes, until it has closed or had its time to.
+// A connection that is closed here before that could lose what was sent last.
+fn linger<H: Host>(rt: H, stream: TcpStream, standing: Arc<Standing, Global>) {
+    if let Ok(mut rest) = Attended::new(rt, stream, standing, 0) {
+        let mut unread = [0; 512];
+        let _ = rest.read(&mut unread);
     }
 }
 
@@ -125,12 +140,16 @@ where
     M: Maker + Drop,
     M::Job: Send + 'static,
 {
+    let Ok(standing) = Standing::new(alloc) else {
+        return Err(SessionFault::Memory);
+    };
     let session = Session {
         rt,
         alloc,
         stream,
         options,
         jobs,
+        standing,
     };
     session.run().report
 }

@@ -1,5 +1,12 @@
 //! How to serve and how to connect.
 
+ghost use Rattle.std.specs.Prelude.{◌≡◌, false};
+ghost use Rattle.tn_discipline.specs.Limits.{standard_limit};
+
+use crate::link::Link;
+use std::alloc::Global;
+use std::fs::File;
+use std::sync::Arc;
 use tn_discipline::Limit;
 use tn_server::Editing;
 
@@ -15,6 +22,21 @@ pub struct SessionOptions {
     pub idle: u32,
 }
 
+impl SessionOptions {
+    /// Lines of the standard limit, which the server edits, from clients that may be silent for ever.
+    pub fn standard() -> SessionOptions
+        ensures line_limit { result.line_limit ≡ standard_limit }
+        ensures editing { result.editing ≡ Editing.Remote }
+        ensures idle { result.idle ≡ 0 }
+    {
+        SessionOptions {
+            line_limit: Limit::standard(),
+            editing: Editing::Remote,
+            idle: 0,
+        }
+    }
+}
+
 /// How to serve.
 #[derive(Clone, Copy, Debug, PartialEq, Eq)]
 pub struct Serving {
@@ -27,7 +49,41 @@ pub struct Serving {
     pub verbose: bool,
 }
 
-/// How to connect to a port of this machine.
+/// How many sessions there may be at once where nothing else is asked for.
+const SESSIONS: u16 = 8;
+
+impl Serving {
+    /// One connection alone, with the standard options, of which nothing is noted.
+    pub fn standard() -> Serving
+        ensures sessions { result.sessions ≡ 8 }
+        ensures count { result.count ≡ 1 }
+        ensures line_limit { result.options.line_limit ≡ standard_limit }
+        ensures editing { result.options.editing ≡ Editing.Remote }
+        ensures idle { result.options.idle ≡ 0 }
+        ensures verbose { result.verbose ≡ false }
+    {
+        Serving {
+            sessions: SESSIONS,
+            count: 1,
+            options: SessionOptions::standard(),
+            verbose: false,
+        }
+    }
+}
+
+/// Where the keys of a client come from.
+#[derive(Clone, Copy, Debug, PartialEq, Eq)]
+pub enum Origin {
+    /// A reader of which nothing else is known: each of its bytes is a key.
+    Reader,
+    /// Standard input, each of whose bytes is a key; it is waited for, so that the session ends though
+    /// nothing comes.
+    Input,
+    /// The same at a terminal, whose user speaks to the client itself behind the escape character.
+    Terminal,
+}
+
+/// How to connect.
 #[derive(Clone, Copy, Debug, PartialEq, Eq)]
 pub struct Connecting {
     /// The port, of 1 to 65,535.
@@ -38,4 +94,21 @@ pub struct Connecting {
     pub height: u16,
     /// How many bytes a line has at most.
     pub line_limit: Limit,
+    pub origin: Origin,
+    /// The escape character of a terminal, if it has one.
+    pub escape: Option<u8>,
+}
+
+/// What a client's session has beside its keys and its screen.
+#[derive(Drop)]
+pub struct Notes<'a> {
+    /// Gets a line for each item that comes and goes.
+    pub trace: Option<File>,
+    /// Tells each new size of the window, where standard input is waited for: width and height, five characters
+    /// each, a space between them and a line feed behind them.
+    pub sizes: Option<File>,
+    /// Gets the causes of a fault, a line each.
+    pub causes: &'a mut Vec<u8>,
+    /// The connection, as the screen has it.
+    pub link: Arc<Link, Global>,
 }

@@ -2,6 +2,7 @@
 
 use tn_discipline::Text;
 use tn_jobs::{After, JobId};
+use tn_streams::WindowSize;
 
 /// A message to the terminal or to the core of a client.
 #[derive(Debug, Drop)]
@@ -20,6 +21,8 @@ pub enum Message {
         text: Text,
         after: After,
     },
+    /// The window in which a client's keys are typed has this size now.
+    Resized(WindowSize),
     /// A thread found no memory.
     Refused,
     /// A thread ends.

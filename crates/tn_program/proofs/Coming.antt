@@ -1,5 +1,5 @@
 -- Where the status is 0, what was asked for was done.
-use Rattle.std.proofs.Common.{◌≡◌, ℕ, inl, inr, Option, List, Result, Ok, Err, IfOk, sym, subst, arith}
+use Rattle.std.proofs.Common.{◌≡◌, ℕ, inl, inr, Option, Some, None, List, Result, Ok, Err, IfOk, sym, subst, arith}
 use Rattle.tn_cli.specs.Faults as cli
 use Rattle.tn_cli.specs.declared.fault.CliFault.{CliFault}
 use Rattle.tn_cli.specs.declared.fault.CliFault.TheVariants.{Read, TooLong, Script, World, Write, Memory}
@@ -10,6 +10,7 @@ use Rattle.tn_program.specs.Runs.{DoesAsAsked, RunsAsked}
 use Rattle.tn_program.specs.Statuses.{status_of_connection, status_of}
 use Rattle.tn_program.specs.declared.outcome.Outcome.{Outcome}
 use Rattle.tn_program.specs.declared.outcome.Outcome.TheVariants as outcome
+use Rattle.tn_streams.specs.Known.{KnownReader}
 use Rattle.tn_words.specs.declared.words.Asked.{Asked}
 
 -- what follows of a value follows of it where it is there
@@ -32,15 +33,18 @@ disconnected connection.Network zero = omega (arith, zero)
 disconnected connection.Session zero = omega (arith, zero)
 disconnected connection.Limit zero = omega (arith, zero)
 disconnected connection.Memory zero = omega (arith, zero)
+disconnected connection.Trace zero = omega (arith, zero)
 
 -- the run that was asked for
 
-ran : (a : Asked) (input old new : Option (List ℕ)) (came : Outcome) → ComesOfRun a input old new came
+ran : (a : Asked) (input : KnownReader) (old new : Option (List ℕ)) (came : Outcome) → ComesOfRun a input old new came
     → status_of came ≡ 0 → RunsAsked a input old new
 ran a input old new (outcome.Local (Ok done)) (e, ends) zero = subst (λ a. RunsAsked a input old new) (sym e) ends.run.ok
 ran a input old new (outcome.Local (Err f)) h zero = absurd (faulted f zero)
 ran a input old new (outcome.Replay (Ok done)) (e, ends) zero = subst (λ a. RunsAsked a input old new) (sym e) ends.run.ok
 ran a input old new (outcome.Replay (Err f)) h zero = absurd (faulted f zero)
+ran a input old new (outcome.Decode (Ok done)) (e, ends) zero = subst (λ a. RunsAsked a input old new) (sym e) ends.run.ok
+ran a input old new (outcome.Decode (Err f)) h zero = absurd (faulted f zero)
 ran a input old new (outcome.World (Ok done)) (e, ends) zero = subst (λ a. RunsAsked a input old new) (sym e) ends.run.ok
 ran a input old new (outcome.World (Err f)) h zero = absurd (faulted f zero)
 ran a input old new (outcome.Served (Ok served)) (serving, e, ends) zero =
@@ -50,24 +54,29 @@ ran a input old new (outcome.Connected (Ok r)) (connecting, e, ends) zero =
     subst (λ a. RunsAsked a input old new) (sym e) (r.0, r.1, ends.ran, ends.whole)
 ran a input old new (outcome.Connected (Err f)) h zero = absurd (disconnected f zero)
 ran a input old new (outcome.Help ended) h zero = absurd h
-ran a input old new outcome.Usage h zero = absurd h
+ran a input old new (outcome.Version ended) h zero = absurd h
+ran a input old new (outcome.Usage detail) h zero = absurd h
 ran a input old new outcome.Memory h zero = absurd h
 
--- or the help
+-- or the help or the version
 
-helped : (words : List (List ℕ)) (input old new : Option (List ℕ)) (came : Outcome)
+helped : (words : List (List ℕ)) (input : KnownReader) (old new : Option (List ℕ)) (came : Outcome)
     → ComesOfNoRun words old new came → status_of came ≡ 0 → DoesAsAsked words input old new
-helped words input old new (outcome.Help (Ok done)) (asks, ends) zero = inr (asks, ends.ok)
+helped words input old new (outcome.Help (Ok done)) (asks, ends) zero = inr (inl (asks, ends.ok))
 helped words input old new (outcome.Help (Err f)) h zero = absurd (faulted f zero)
-helped words input old new outcome.Usage h zero = absurd (omega (arith, zero))
+helped words input old new (outcome.Version (Ok done)) (asks, ends) zero = inr (inr (asks, ends.ok))
+helped words input old new (outcome.Version (Err f)) h zero = absurd (faulted f zero)
+helped words input old new (outcome.Usage (Some detail)) h zero = absurd (omega (arith, zero))
+helped words input old new (outcome.Usage None) h zero = absurd h
 helped words input old new outcome.Memory h zero = absurd (omega (arith, zero))
 helped words input old new (outcome.Local ended) h zero = absurd h
 helped words input old new (outcome.Replay ended) h zero = absurd h
+helped words input old new (outcome.Decode ended) h zero = absurd h
 helped words input old new (outcome.World ended) h zero = absurd h
 helped words input old new (outcome.Served ended) h zero = absurd h
 helped words input old new (outcome.Connected ended) h zero = absurd h
 
-pub does : (words : List (List ℕ)) (input old new : Option (List ℕ)) (came : Outcome)
+pub does : (words : List (List ℕ)) (input : KnownReader) (old new : Option (List ℕ)) (came : Outcome)
     → status_of came ≡ 0 → ComesOf words input old new came → DoesAsAsked words input old new
 does words input old new came zero (inl (a, asks, h)) = inl (a, asks, ran a input old new came h zero)
 does words input old new came zero (inr h) = helped words input old new came h zero

@@ -1,7 +1,7 @@
 -- What comes of the words of a command line.
-use Rattle.std.specs.Prelude.{◌≡◌, ◌≢◌, ◌⊎◌, ⊤, ℕ, Option, Result, Err, OnOk, OnErr, IfOk, IfErr, IsErrOf, List}
+use Rattle.std.specs.Prelude.{◌≡◌, ◌≢◌, ◌⊎◌, ⊤, ℕ, Option, Some, None, Result, Err, OnOk, OnErr, IfOk, IfErr, IsErrOf, List}
 use Rattle.std.specs.Io.KnownBytes.{Appends}
-use Rattle.tn_cli.specs.Ends.{EndsLocal, EndsReplay, EndsWorld}
+use Rattle.tn_cli.specs.Ends.{EndsDecode, EndsLocal, EndsReplay, EndsWorld}
 use Rattle.tn_cli.specs.declared.fault.CliFault.{CliFault}
 use Rattle.tn_cli.specs.declared.fault.CliFault.TheVariants as fault
 use Rattle.tn_loopback.specs.Ends.{EndsWhole, RunsClient, ServesAll}
@@ -11,11 +11,12 @@ use Rattle.tn_loopback.specs.declared.served.Served.{Served}
 use Rattle.tn_program.specs.Statuses.{status_of}
 use Rattle.tn_program.specs.declared.outcome.Outcome.{Outcome}
 use Rattle.tn_program.specs.declared.outcome.Outcome.TheVariants as outcome
-use Rattle.tn_program.specs.Settings.{connecting_as}
+use Rattle.tn_program.specs.Settings.{window_as}
 use Rattle.tn_roster.specs.Held.{IsLimit}
 use Rattle.tn_session.specs.declared.parties.ClientPorts.{ClientPorts}
 use Rattle.tn_session.specs.declared.parties.Report.{Report}
-use Rattle.tn_words.specs.Words.{AskFor, AsksForHelp, Refuses}
+use Rattle.tn_streams.specs.Known.{KnownReader}
+use Rattle.tn_words.specs.Words.{AskFor, AsksForHelp, AsksForVersion, Refuses, version_line}
 use Rattle.tn_words.specs.declared.settings.Connecting.{Connecting}
 use Rattle.tn_words.specs.declared.settings.Serving.{Serving}
 use Rattle.tn_words.specs.declared.words.Asked.{Asked}
@@ -32,8 +33,8 @@ pub record EndsServing (serving : Serving) (ended : Result Served LoopbackFault)
 
 -- What came of connecting.
 pub record EndsConnecting (connecting : Connecting) (ended : Result (Report × ClientPorts) LoopbackFault)
-    (input old new : Option (List ℕ)) : Type 0 where
-  pub ran : IfOk ended (λ r. RunsClient (connecting_as connecting) input old new r.0 r.1)
+    (input : KnownReader) (old new : Option (List ℕ)) : Type 0 where
+  pub ran : IfOk ended (λ r. RunsClient (window_as connecting) input old new r.0 r.1)
   pub whole : IfOk ended (λ r. EndsWhole r.0)
   pub unwritten : OnErr ended (ended ≢ Err connection.Session → new ≡ old)
   pub no_limit : ended ≢ Err connection.Limit
@@ -43,41 +44,52 @@ pub record EndsHelp (ended : Result ⊤ CliFault) (old new : Option (List ℕ)) 
   pub ok : OnOk ended ((help : List ℕ) × Appends old new help)
   pub fault : IfErr ended (λ f. f ≡ fault.Write)
 
+-- What came of writing the version.
+pub record EndsVersion (ended : Result ⊤ CliFault) (old new : Option (List ℕ)) : Type 0 where
+  pub ok : OnOk ended (Appends old new version_line)
+  pub fault : IfErr ended (λ f. f ≡ fault.Write)
+
 -- what was asked for was run, and this came of it
-abbrev pub ComesOfRun : Asked → Option (List ℕ) → Option (List ℕ) → Option (List ℕ) → Outcome → Type 0
-ComesOfRun a input old new (outcome.Local ended) = (a ≡ asked.Local) × EndsLocal ended input old new
-ComesOfRun a input old new (outcome.Replay ended) = (a ≡ asked.Replay) × EndsReplay ended input old new
-ComesOfRun a input old new (outcome.World ended) = (a ≡ asked.World) × EndsWorld ended input old new
+abbrev pub ComesOfRun : Asked → KnownReader → Option (List ℕ) → Option (List ℕ) → Outcome → Type 0
+ComesOfRun a input old new (outcome.Local ended) = (a ≡ asked.Local) × EndsLocal ended input.bytes old new
+ComesOfRun a input old new (outcome.Replay ended) = (a ≡ asked.Replay) × EndsReplay ended input.bytes old new
+ComesOfRun a input old new (outcome.Decode ended) = (a ≡ asked.Decode) × EndsDecode ended input.bytes old new
+ComesOfRun a input old new (outcome.World ended) = (a ≡ asked.World) × EndsWorld ended input.bytes old new
 ComesOfRun a input old new (outcome.Served ended) =
     (serving : Serving) × (a ≡ asked.Serve serving) × EndsServing serving ended old new
 ComesOfRun a input old new (outcome.Connected ended) =
     (connecting : Connecting) × (a ≡ asked.Connect connecting)
     × EndsConnecting connecting ended input old new
 ComesOfRun a input old new (outcome.Help ended) = ⊥
-ComesOfRun a input old new outcome.Usage = ⊥
+ComesOfRun a input old new (outcome.Version ended) = ⊥
+ComesOfRun a input old new (outcome.Usage detail) = ⊥
 ComesOfRun a input old new outcome.Memory = ⊥
 
--- nothing was run: the words ask for help, or are not accepted, or memory ran out
+-- nothing was run: the words ask for help or for the version, or are not accepted, or memory ran out
 abbrev pub ComesOfNoRun : List (List ℕ) → Option (List ℕ) → Option (List ℕ) → Outcome → Type 0
 ComesOfNoRun words old new (outcome.Help ended) = AsksForHelp words × EndsHelp ended old new
-ComesOfNoRun words old new outcome.Usage = Refuses words words_fault.Usage × (new ≡ old)
+ComesOfNoRun words old new (outcome.Version ended) = AsksForVersion words × EndsVersion ended old new
+ComesOfNoRun words old new (outcome.Usage (Some detail)) =
+    Refuses words (words_fault.Usage detail) × (new ≡ old)
+ComesOfNoRun words old new (outcome.Usage None) = ⊥
 ComesOfNoRun words old new outcome.Memory = new ≡ old
 ComesOfNoRun words old new (outcome.Local ended) = ⊥
 ComesOfNoRun words old new (outcome.Replay ended) = ⊥
+ComesOfNoRun words old new (outcome.Decode ended) = ⊥
 ComesOfNoRun words old new (outcome.World ended) = ⊥
 ComesOfNoRun words old new (outcome.Served ended) = ⊥
 ComesOfNoRun words old new (outcome.Connected ended) = ⊥
 
 -- this came of the words: the run that they ask for, or none
-abbrev pub ComesOf : List (List ℕ) → Option (List ℕ) → Option (List ℕ) → Option (List ℕ) → Outcome → Type 0
+abbrev pub ComesOf : List (List ℕ) → KnownReader → Option (List ℕ) → Option (List ℕ) → Outcome → Type 0
 ComesOf words input old new came =
     ((a : Asked) × AskFor words a × ComesOfRun a input old new came) ⊎ ComesOfNoRun words old new came
 
 -- the status of what came of the words
-abbrev pub EndsWith : List (List ℕ) → Option (List ℕ) → Option (List ℕ) → Option (List ℕ) → ℕ → Type 0
+abbrev pub EndsWith : List (List ℕ) → KnownReader → Option (List ℕ) → Option (List ℕ) → ℕ → Type 0
 EndsWith words input old new status =
     (came : Outcome) × ComesOf words input old new came × (status ≡ status_of came)
 
--- they ask for no run and for no help
+-- they ask for no run, for no help and not for the version
 abbrev pub AskForNothing : List (List ℕ) → Type 0
-AskForNothing words = ((a : Asked) → ¬ AskFor words a) × (¬ AsksForHelp words)
+AskForNothing words = ((a : Asked) → ¬ AskFor words a) × (¬ AsksForHelp words) × (¬ AsksForVersion words)

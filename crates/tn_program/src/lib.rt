@@ -1,16 +1,23 @@
 //! The program `tn`: takes its words and its streams, does what they ask for, and gives a status.
 //!
 //! ```
-//! let status = run_words(rt, alloc, Ok(words), rt.stdin(), &mut rt.stdout(), &mut rt.stderr());
+//! let link = Arc::new(alloc, Link::new())?;
+//! let seat = Seat { origin: Origin::Input, reader: rt.stdin(), sizes: None, link };
+//! let status = run_words(rt, alloc, Ok(words), seat, &mut rt.stdout(), &mut rt.stderr());
 //! ```
 //!
 //! It does not set a terminal to raw mode: whoever starts it does.
 #![tactic(auto)]
 
+pub use gateway::{Dial, Heard, Joiner, Joining, Told};
 pub use outcome::Outcome;
 pub use program::{outcome_of_words, run_words};
+pub use seat::Seat;
 pub use settings::Answering;
+pub use tn_loopback::{Link, Origin, Screen};
 
+mod gateway;
 mod outcome;
 mod program;
+mod seat;
 mod settings;

@@ -9,23 +9,29 @@ use std::io::Write;
 use tn_cli::CliFault;
 use tn_loopback::{LoopbackFault, Served};
 use tn_session::{ClientPorts, Report};
-use tn_words::WordsFault;
 
 /// The status of a process whose words were not accepted.
 const USAGE: u8 = 2;
+
+/// What is told of words that could not be read.
+const UNREAD: &str =
+    "error: a word of the command line is not text\n\nFor more information, try '--help'.\n";
 
 /// What comes of the words of a command line: what the run that they ask for returned, or why none was run.
 #[derive(Drop)]
 pub enum Outcome {
     Local(Result<(), CliFault>),
     Replay(Result<(), CliFault>),
+    Decode(Result<(), CliFault>),
     World(Result<(), CliFault>),
     Served(Result<Served, LoopbackFault>),
     Connected(Result<(Report, ClientPorts), LoopbackFault>),
     /// They ask for help; it was written, or that failed.
     Help(Result<(), CliFault>),
-    /// They are not accepted.
-    Usage,
+    /// They ask for the version; it was written, or that failed.
+    Version(Result<(), CliFault>),
+    /// They are not accepted, for the reason that is told; or they could not be read.
+    Usage(Option<String>),
     /// Out of memory for the words.
     Memory,
 }
@@ -38,25 +44,31 @@ impl Outcome {
         match self {
             Outcome::Local(ended) => after_run(ended),
             Outcome::Replay(ended) => after_run(ended),
+            Outcome::Decode(ended) => after_run(ended),
             Outcome::World(ended) => after_run(ended),
             Outcome::Served(ended) => after_sessions(ended),
             Outcome::Connected(ended) => after_sessions(ended),
             Outcome::Help(ended) => after_run(ended),
-            Outcome::Usage => USAGE,
+            Outcome::Version(ended) => after_run(ended),
+            Outcome::Usage(_) => USAGE,
             Outcome::Memory => CliFault::Memory.status(),
         }
     }
 
-    /// Reports a fault in one line on `errors`. A line that cannot be written is dropped.
+    /// Reports a fault in one line on `errors`; behind it stands what is wrong with words. A line that
+    /// cannot be written is dropped.
     pub(crate) fn tell<E: Write>(&self, errors: &mut E) {
         match self {
             Outcome::Local(Err(fault)) => tell(errors, fault),
             Outcome::Replay(Err(fault)) => tell(errors, fault),
+            Outcome::Decode(Err(fault)) => tell(errors, fault),
             Outcome::World(Err(fault)) => tell(errors, fault),
             Outcome::Served(Err(fault)) => tell(errors, fault),
             Outcome::Connected(Err(fault)) => tell(errors, fault),
             Outcome::Help(Err(fault)) => tell(errors, fault),
-            Outcome::Usage => tell(errors, &WordsFault::Usage),
+            Outcome::Version(Err(fault)) => tell(errors, fault),
+            Outcome::Usage(Some(detail)) => tell_usage(errors, detail.as_str()),
+            Outcome::Usage(None) => tell_usage(errors, UNREAD),
             Outcome::Memory => tell(errors, &CliFault::Memory),
             _ => {},
         }
@@ -79,6 +91,7 @@ fn after_sessions<T>(ended: &Result<T, LoopbackFault>) -> u8
         Ok(_) => 0,
         Err(LoopbackFault::Network) => 1,
         Err(LoopbackFault::Memory) => 1,
+        Err(LoopbackFault::Trace) => 1,
         Err(LoopbackFault::Limit) => 2,
         Err(LoopbackFault::Session) => 3,
     }
@@ -86,4 +99,9 @@ fn after_sessions<T>(ended: &Result<T, LoopbackFault>) -> u8
 
 fn tell<E: Write, F: Display>(errors: &mut E, fault: &F) {
     let _ = writeln!(errors, "tn: {fault}");
+}
+
+fn tell_usage<E: Write>(errors: &mut E, detail: &str) {
+    tell(errors, &"usage");
+    let _ = errors.write_all(detail.as_bytes());
 }

@@ -1,25 +1,30 @@
 //! The program: words and streams in, a status out.
 
-ghost use Rattle.std.specs.Prelude.{◌≡◌, ◌≢◌, ◌⊎◌, IfErr, IfOk, IsOk, OnErr, map, string_bytes};
+ghost use Rattle.std.specs.Prelude.{◌≡◌, ◌≢◌, ◌⊎◌, None, IfErr, IfOk, IsOk, OnErr, map, string_bytes};
 ghost use Rattle.std.specs.IoError.{error_kind};
-ghost use Rattle.tn_program.specs.Outcomes.{ComesOf, ComesOfRun, EndsWith, AskForNothing};
+ghost use Rattle.tn_loopback.specs.Ends.{foreseen};
+ghost use Rattle.tn_program.specs.Outcomes.{ComesOf, ComesOfRun, EndsVersion, EndsWith, AskForNothing};
 ghost use Rattle.tn_program.specs.Runs.{DoesAsAsked};
 
+use crate::gateway::{Dial, serve_asked};
 use crate::outcome::Outcome;
-use crate::settings::{Answering, connecting_of, options_of};
+use crate::seat::Seat;
+use crate::settings::connecting_of;
 use std::alloc::{AllocError, Global};
+use std::fs::{File, Files};
 use std::io;
 use std::io::{ErrorKind, Read, Write};
 use std::net::{Net, TcpListener, TcpStream};
-use tn_cli::{CliFault, run_local, run_replay, run_world};
-use tn_loopback::{Host, Serving, connect, serve};
-use tn_words::{Asked, WordsFault, read_words};
+use tn_cli::{CliFault, run_decode, run_local, run_replay, run_world};
+use tn_loopback::{Host, LoopbackFault, Notes, connect};
+use tn_words::{Asked, Connecting, VERSION_LINE, WordsFault, read_words};
 
 /// Runs what the words of the command line ask for, where they could be read. The program's name is the
 /// first of them. Returns the status to end with: 0 where that was done, and else the status of its fault
-/// (`EndsWith`). A fault is reported in one line on `errors`; a line that cannot be written is dropped.
+/// (`EndsWith`). A fault is reported in one line on `errors`, and behind it what is wrong with words, or why;
+/// a line that cannot be written is dropped. Of a seat at standard input nothing is known beforehand.
 pub fn run_words<
-    H: Host + Net<Listener = TcpListener, Stream = TcpStream>,
+    H: Dial + Host + Files<File = File> + Net<Listener = TcpListener, Stream = TcpStream>,
     R: Read + Drop + Send + 'static,
     W: Write,
     E: Write,
@@ -27,7 +32,7 @@ pub fn run_words<
     rt: H,
     alloc: Global,
     words: io::Result<Vec<String>>,
-    reader: R,
+    seat: Seat<R>,
     writer: &mut W,
     errors: &mut E,
 ) -> u8
@@ -36,21 +41,26 @@ pub fn run_words<
     ensures usage { IfErr words (λ error. error_kind error ≢ ErrorKind.OutOfMemory → result ≡ 2) }
     ensures unwritten { OnErr words (W.contents writer.new ≡ W.contents writer.old) }
     ensures done { result ≡ 0 → IfOk words (λ words. DoesAsAsked (map string_bytes words.items)
-        (R.remaining reader) (W.contents writer.old) (W.contents writer.new)) }
+        (foreseen seat.origin (R.remaining seat.reader))
+        (W.contents writer.old) (W.contents writer.new)) }
     ensures ended { IfOk words (λ words. EndsWith (map string_bytes words.items)
-        (R.remaining reader) (W.contents writer.old) (W.contents writer.new) result) }
+        (foreseen seat.origin (R.remaining seat.reader))
+        (W.contents writer.old) (W.contents writer.new) result) }
     // 1 when out of memory
     ensures refused { IfOk words (λ words. AskForNothing (map string_bytes words.items) →
         ((result ≡ 2) ⊎ (result ≡ 1)) × (W.contents writer.new ≡ W.contents writer.old)) }
 {
-    let outcome = outcome_of_words(rt, alloc, words, reader, writer, errors);
+    let mut causes = Vec::new(alloc);
+    let outcome = outcome_of_words(rt, alloc, words, seat, writer, errors, &mut causes);
     outcome.tell(errors);
+    let _ = errors.write_all(&causes);
     outcome.status()
 }
 
-/// The same without the status and the line: returns what comes of the words.
+/// The same without the status and the lines: returns what comes of the words, and appends the causes of a
+/// fault, a line each.
 pub fn outcome_of_words<
-    H: Host + Net<Listener = TcpListener, Stream = TcpStream>,
+    H: Dial + Host + Files<File = File> + Net<Listener = TcpListener, Stream = TcpStream>,
     R: Read + Drop + Send + 'static,
     W: Write,
     E: Write,
@@ -58,20 +68,22 @@ pub fn outcome_of_words<
     rt: H,
     alloc: Global,
     words: io::Result<Vec<String>>,
-    reader: R,
+    seat: Seat<R>,
     writer: &mut W,
     errors: &mut E,
+    causes: &mut Vec<u8>,
 ) -> Outcome
     ensures memory { IfErr words (λ error. error_kind error ≡ ErrorKind.OutOfMemory →
         result ≡ Outcome.Memory) }
     ensures usage { IfErr words (λ error. error_kind error ≢ ErrorKind.OutOfMemory →
-        result ≡ Outcome.Usage) }
+        result ≡ Outcome.Usage None) }
     ensures unwritten { OnErr words (W.contents writer.new ≡ W.contents writer.old) }
-    ensures comes { IfOk words (λ words. ComesOf (map string_bytes words.items) (R.remaining reader)
+    ensures comes { IfOk words (λ words. ComesOf (map string_bytes words.items)
+        (foreseen seat.origin (R.remaining seat.reader))
         (W.contents writer.old) (W.contents writer.new) result) }
 {
     match words {
-        Ok(words) => run_strings(rt, alloc, &words, reader, writer, errors),
+        Ok(words) => run_strings(rt, alloc, &words, seat, writer, errors, causes),
         Err(error) => refusal(error.kind()),
     }
 }
@@ -80,25 +92,33 @@ pub fn outcome_of_words<
 // accepted.
 fn refusal(kind: ErrorKind) -> Outcome
     ensures memory { kind ≡ ErrorKind.OutOfMemory → result ≡ Outcome.Memory }
-    ensures usage { kind ≢ ErrorKind.OutOfMemory → result ≡ Outcome.Usage }
+    ensures usage { kind ≢ ErrorKind.OutOfMemory → result ≡ Outcome.Usage None }
 {
     if kind == ErrorKind::OutOfMemory {
         return Outcome::Memory;
     }
-    Outcome::Usage
+    Outcome::Usage(None)
 }
 
 fn run_strings<
-    H: Host + Net<Listener = TcpListener, Stream = TcpStream>,
+    H: Dial + Host + Files<File = File> + Net<Listener = TcpListener, Stream = TcpStream>,
     R: Read + Drop + Send + 'static,
     W: Write,
     E: Write,
->(rt: H, alloc: Global, words: &[String], reader: R, writer: &mut W, errors: &mut E) -> Outcome
-    ensures { ComesOf (map string_bytes words.now) (R.remaining reader)
+>(
+    rt: H,
+    alloc: Global,
+    words: &[String],
+    seat: Seat<R>,
+    writer: &mut W,
+    errors: &mut E,
+    causes: &mut Vec<u8>,
+) -> Outcome
+    ensures { ComesOf (map string_bytes words.now) (foreseen seat.origin (R.remaining seat.reader))
         (W.contents writer.old) (W.contents writer.new) result }
 {
     match texts_of(alloc, words) {
-        Ok(texts) => run_texts(rt, alloc, &texts, reader, writer, errors),
+        Ok(texts) => run_texts(rt, alloc, &texts, seat, writer, errors, causes),
         Err(_) => Outcome::Memory,
     }
 }
@@ -114,49 +134,119 @@ fn texts_of<'a>(alloc: Global, words: &'a [String]) -> Result<Vec<&'a str>, Allo
 }
 
 fn run_texts<
-    H: Host + Net<Listener = TcpListener, Stream = TcpStream>,
+    H: Dial + Host + Files<File = File> + Net<Listener = TcpListener, Stream = TcpStream>,
     R: Read + Drop + Send + 'static,
     W: Write,
     E: Write,
->(rt: H, alloc: Global, words: &[&str], reader: R, writer: &mut W, errors: &mut E) -> Outcome
-    ensures { ComesOf (map (λ word. word.now) words.now) (R.remaining reader)
+>(
+    rt: H,
+    alloc: Global,
+    words: &[&str],
+    seat: Seat<R>,
+    writer: &mut W,
+    errors: &mut E,
+    causes: &mut Vec<u8>,
+) -> Outcome
+    ensures { ComesOf (map (λ word. word.now) words.now) (foreseen seat.origin (R.remaining seat.reader))
         (W.contents writer.old) (W.contents writer.new) result }
 {
     match read_words(alloc, words) {
-        Ok(asked) => return run_asked(rt, alloc, asked, reader, writer, errors),
+        Ok(asked) => return run_asked(rt, alloc, asked, seat, writer, errors, causes),
         Err(WordsFault::Help(text)) => {
             let written = writer.write_all(text.as_bytes());
             return Outcome::Help(written.map_err(|_| CliFault::Write));
         },
+        Err(WordsFault::Version) => return Outcome::Version(write_version(writer)),
         Err(WordsFault::Memory) => return Outcome::Memory,
-        Err(WordsFault::Usage) => return Outcome::Usage,
+        Err(WordsFault::Usage(detail)) => return Outcome::Usage(Some(detail)),
+    }
+}
+
+fn write_version<W: Write>(writer: &mut W) -> Result<(), CliFault>
+    ensures { EndsVersion result (W.contents writer.old) (W.contents writer.new) }
+{
+    match writer.write_all(VERSION_LINE.as_bytes()) {
+        Ok(()) => Ok(()),
+        Err(_) => Err(CliFault::Write),
     }
 }
 
 fn run_asked<
-    H: Host + Net<Listener = TcpListener, Stream = TcpStream>,
+    H: Dial + Host + Files<File = File> + Net<Listener = TcpListener, Stream = TcpStream>,
     R: Read + Drop + Send + 'static,
     W: Write,
     E: Write,
->(rt: H, alloc: Global, asked: Asked, mut reader: R, writer: &mut W, errors: &mut E) -> Outcome
-    ensures { ComesOfRun asked (R.remaining reader) (W.contents writer.old) (W.contents writer.new) result }
+>(
+    rt: H,
+    alloc: Global,
+    asked: Asked,
+    mut seat: Seat<R>,
+    writer: &mut W,
+    errors: &mut E,
+    causes: &mut Vec<u8>,
+) -> Outcome
+    ensures { ComesOfRun asked (foreseen seat.origin (R.remaining seat.reader))
+        (W.contents writer.old) (W.contents writer.new) result }
 {
     match asked {
-        Asked::Local => Outcome::Local(run_local(alloc, &mut reader, writer)),
-        Asked::Replay => Outcome::Replay(run_replay(alloc, &mut reader, writer)),
-        Asked::World => Outcome::World(run_world(alloc, &mut reader, writer)),
-        Asked::Serve(asked) => {
-            let (host, service) = (asked.host.as_str(), Answering { ticks: asked.ticks });
-            let serving = Serving {
-                sessions: asked.sessions,
-                count: asked.count,
-                options: options_of(&asked),
-                verbose: asked.verbose,
-            };
-            Outcome::Served(serve(rt, alloc, host, asked.port, serving, service, errors))
-        },
-        Asked::Connect(asked) => {
-            Outcome::Connected(connect(rt, alloc, connecting_of(asked), reader, writer))
+        Asked::Local => Outcome::Local(run_local(alloc, &mut seat, writer)),
+        Asked::Replay => Outcome::Replay(run_replay(alloc, &mut seat, writer)),
+        Asked::Decode => Outcome::Decode(run_decode(alloc, &mut seat, writer)),
+        Asked::World => Outcome::World(run_world(alloc, &mut seat, writer)),
+        Asked::Serve(asked) => Outcome::Served(serve_asked(rt, alloc, &asked, errors)),
+        Asked::Connect(asked) => run_connect(rt, alloc, asked, seat, writer, causes),
+    }
+}
+
+fn run_connect<
+    H: Host + Files<File = File> + Net<Listener = TcpListener, Stream = TcpStream>,
+    R: Read + Drop + Send + 'static,
+    W: Write,
+>(
+    rt: H,
+    alloc: Global,
+    asked: Connecting,
+    seat: Seat<R>,
+    writer: &mut W,
+    causes: &mut Vec<u8>,
+) -> Outcome
+    ensures { ComesOfRun (Asked.Connect asked) (foreseen seat.origin (R.remaining seat.reader))
+        (W.contents writer.old) (W.contents writer.new) result }
+{
+    let Ok(trace) = open_trace(&rt, &asked, causes) else {
+        return Outcome::Connected(Err(LoopbackFault::Trace));
+    };
+    let Seat {
+        origin,
+        reader,
+        sizes,
+        link,
+    } = seat;
+    let notes = Notes {
+        trace,
+        sizes,
+        causes,
+        link,
+    };
+    let connecting = connecting_of(&asked, origin);
+    let host = asked.host.as_str();
+    Outcome::Connected(connect(rt, alloc, host, connecting, reader, writer, notes))
+}
+
+// The file that gets the trace, if one is wanted. Where it can't be made, that is noted.
+fn open_trace<H: Files<File = File>>(
+    rt: &H,
+    asked: &Connecting,
+    causes: &mut Vec<u8>,
+) -> io::Result<Option<File>> {
+    let Some(path) = &asked.trace else {
+        return Ok(None);
+    };
+    match File::create(rt, path.as_str()) {
+        Ok(file) => Ok(Some(file)),
+        Err(error) => {
+            let _ = writeln!(causes, "tn: {}: {}", path, error);
+            Err(error)
         },
     }
 }

@@ -1,12 +1,14 @@
 //! What was asked for, as sessions over connections take it.
 
 ghost use Rattle.std.specs.Prelude.{◌≡◌};
-ghost use Rattle.tn_program.specs.Settings.{connecting_as, editing_as};
+ghost use Rattle.tn_loopback.specs.Ends.{window_of};
+ghost use Rattle.tn_program.specs.Settings.{editing_as, escape_as, window_as};
 
 use std::alloc::{AllocError, Global};
 use tn_answerer::{Answerer, Answerers};
-use tn_loopback::{Connecting, Service, SessionOptions};
+use tn_loopback::{Call, Connecting, Origin, Service, SessionOptions};
 use tn_server::Editing;
+use tn_words::Escape;
 
 /// Gives each session the jobs of `tn serve`.
 #[derive(Clone, Copy, Drop)]
@@ -20,7 +22,7 @@ impl Service for Answering {
 
     type Jobs = Answerers;
 
-    fn session(&mut self, _alloc: Global, _number: usize) -> Result<Answerers, AllocError> {
+    fn session(&mut self, _alloc: Global, _call: Call) -> Result<Answerers, AllocError> {
         Ok(Answerers::new(self.ticks))
     }
 }
@@ -43,13 +45,31 @@ pub(crate) fn options_of(asked: &tn_words::Serving) -> SessionOptions
     }
 }
 
-pub(crate) fn connecting_of(asked: tn_words::Connecting) -> Connecting
-    ensures { result ≡ connecting_as asked }
+/// The width and the height of a window of which no size is known.
+const WIDTH: u16 = 80;
+
+const HEIGHT: u16 = 24;
+
+pub(crate) fn connecting_of(asked: &tn_words::Connecting, origin: Origin) -> Connecting
+    ensures window { window_of result ≡ window_as asked.now }
+    ensures origin { result.origin ≡ origin }
+    ensures escape { result.escape ≡ escape_as asked.now.escape }
 {
     Connecting {
         port: asked.port,
-        width: asked.width,
-        height: asked.height,
+        width: asked.width.unwrap_or(WIDTH),
+        height: asked.height.unwrap_or(HEIGHT),
         line_limit: asked.line_limit,
+        origin,
+        escape: escape_of(asked.escape),
+    }
+}
+
+fn escape_of(escape: Escape) -> Option<u8>
+    ensures { result ≡ escape_as escape }
+{
+    match escape {
+        Escape::Key(key) => Some(key),
+        Escape::None => None,
     }
 }

@@ -8,7 +8,7 @@ use Rattle.tn_session.proofs.Mailbox.{sender_share}
 use Rattle.tn_session.specs.CoreTurns.{all_told}
 use Rattle.tn_session.specs.Mailbox.{same, from, mail, sender}
 use Rattle.tn_session.specs.Reader.{ReaderSends, Closes}
-use Rattle.tn_session.specs.Reading.{IsEnding, pieces_of}
+use Rattle.tn_session.specs.Reading.{IsEnding, Telling, piece_told, size_told, told_messages, pieces_in}
 use Rattle.tn_session.specs.declared.channels.View.{View}
 use Rattle.tn_session.specs.declared.mail.Mail.{Mail}
 use Rattle.tn_session.specs.declared.mail.Sender.{Sender}
@@ -16,7 +16,7 @@ use Rattle.tn_session.specs.declared.mail.Sender.TheVariants.{Net, Desk, Back, K
 use Rattle.tn_streams.specs.Foretelling.{Failures}
 use Rattle.tn_streams.specs.Known.{KnownReader}
 use Rattle.tn_messages.specs.declared.messages.Message.{Message}
-use Rattle.tn_messages.specs.declared.messages.Message.TheVariants.{Piece, HangUp, ReadFailed, Take, Said, Refused, Left}
+use Rattle.tn_messages.specs.declared.messages.Message.TheVariants.{Piece, HangUp, ReadFailed, Take, Said, Refused, Left, Resized}
 
 abbrev piece_bytes : Message → List ℕ
 piece_bytes (Piece piece) = piece
@@ -34,6 +34,7 @@ keys_bytes Take = refl
 keys_bytes (Said job text after) = refl
 keys_bytes Refused = refl
 keys_bytes Left = refl
+keys_bytes (Resized size) = refl
 
 net_bytes : (m : Message) → brought_from origin.Net origin.Net m ≡ piece_bytes m
 net_bytes (Piece piece) = refl
@@ -43,6 +44,7 @@ net_bytes Take = refl
 net_bytes (Said job text after) = refl
 net_bytes Refused = refl
 net_bytes Left = refl
+net_bytes (Resized size) = refl
 
 -- the keys are what Keys sent
 keys_more : (s : Sender) (m : Message) (xs : List Mail) → brought origin.Keys (all_told xs) ≡ bytes_of (from Keys xs) → brought origin.Keys (all_told (mail s m ∷ xs)) ≡ bytes_of (from Keys (mail s m ∷ xs))
@@ -83,9 +85,10 @@ net_all [] desk back = refl
 net_all (x ∷ xs) desk back = net_more x.from x.message xs desk back (net_all xs (none_later Desk x xs desk) (none_later Back x xs back))
 
 -- a reader's thread sends its pieces, and nothing else that brings bytes
-pieces_bytes : (s : Sender) (pieces : List (List ℕ)) (close : List Message) → bytes_of (map (mail s) (pieces_of pieces ++ close)) ≡ concat pieces ++ bytes_of (map (mail s) close)
-pieces_bytes s [] close = refl
-pieces_bytes s (p ∷ ps) close = ap (λ (bs : List ℕ). p ++ bs) (pieces_bytes s ps close) ∙ sym (append_assoc p (concat ps) (bytes_of (map (mail s) close)))
+told_bytes : (s : Sender) (told : List Telling) (close : List Message) → bytes_of (map (mail s) (told_messages told ++ close)) ≡ concat (pieces_in told) ++ bytes_of (map (mail s) close)
+told_bytes s [] close = refl
+told_bytes s (piece_told p ∷ told) close = ap (λ (bs : List ℕ). p ++ bs) (told_bytes s told close) ∙ sym (append_assoc p (concat (pieces_in told)) (bytes_of (map (mail s) close)))
+told_bytes s (size_told z ∷ told) close = told_bytes s told close
 
 ending_bytes : (m : Message) (left : Option (List ℕ)) → IsEnding m left → piece_bytes m ≡ []
 ending_bytes (Piece piece) left e = absurd e
@@ -95,6 +98,7 @@ ending_bytes Take left e = refl
 ending_bytes (Said job text after) left e = refl
 ending_bytes Refused left e = refl
 ending_bytes Left left e = refl
+ending_bytes (Resized s) left e = refl
 
 close_bytes : (s : Sender) (may_stop : Bool) (pieces : List (List ℕ)) (left : Option (List ℕ)) (foretold : Option Failures) (close : List Message) → Closes may_stop pieces left foretold close → bytes_of (map (mail s) close) ≡ []
 close_bytes s may_stop pieces left foretold close closes =
@@ -111,9 +115,10 @@ one_list s a b v e f = is_some a b (sym (sender_share s a v e) ∙ sender_share 
     is_some x y eq = cc
 
 reader_bytes : (who : Sender) (may_stop : Bool) (reader : KnownReader) (v : View) (mails : List Mail) → ReaderSends who may_stop reader v → v ≡ sender who mails → (left : Option (List ℕ)) × Consumes reader.bytes left (bytes_of mails)
-reader_bytes who may_stop reader v mails (pieces, left, close, consumed, closes, is, small) e =
+reader_bytes who may_stop reader v mails (told, left, close, consumed, closes, is, small, sizes) e =
+    let pieces = pieces_in told in
     let all : bytes_of mails ≡ concat pieces =
-    ap bytes_of (one_list who mails (map (mail who) (pieces_of pieces ++ close)) v e is) ∙ pieces_bytes who pieces close
+    ap bytes_of (one_list who mails (map (mail who) (told_messages told ++ close)) v e is) ∙ told_bytes who told close
     ∙ ap (λ (bs : List ℕ). concat pieces ++ bs) (close_bytes who may_stop pieces left reader.failures close closes) ∙ append-nil (concat pieces) in
     let P : List ℕ → Type 0 = λ bs. Consumes reader.bytes left bs in
     (left, subst P (sym all) consumed)

@@ -10,7 +10,7 @@ use Rattle.tn_session.proofs.Ending.{messages_from}
 use Rattle.tn_session.specs.CoreTurns.{all_told}
 use Rattle.tn_session.specs.Mailbox.{Interleaves, from, four, sender}
 use Rattle.tn_session.specs.Reader.{ReaderSends, Closes}
-use Rattle.tn_session.specs.Reading.{IsReadCause, max_reads, pieces_of}
+use Rattle.tn_session.specs.Reading.{IsReadCause, max_reads, Telling, told_messages, pieces_in}
 use Rattle.tn_session.specs.Turns.{Tells, max_writes, messages_of}
 use Rattle.tn_session.specs.declared.channels.View.{View}
 use Rattle.tn_session.specs.declared.mail.Mail.{Mail}
@@ -44,15 +44,15 @@ failure_told marked before last after mails whole is e =
 cause_of : (foretold : Option Failures) (count : ℕ) (last : Message) → last ≡ ReadFailed → IsReadCause foretold count last → WillFail max_reads count foretold
 cause_of foretold count last e cause = subst (λ (m : Message). IsReadCause foretold count m) e cause
 
-close_cause : (may_stop : Bool) (foretold : Option Failures) (pieces : List (List ℕ)) (left : Option (List ℕ)) (close : List Message) → Closes may_stop pieces left foretold close → HasFailure (pieces_of pieces ++ close) → WillFail max_reads (length pieces) foretold
-close_cause may_stop foretold pieces left close closes h =
-    let Fails : List Message → Type 0 = λ ms. HasFailure (pieces_of pieces ++ ms) in
+close_cause : (may_stop : Bool) (foretold : Option Failures) (told : List Telling) (left : Option (List ℕ)) (close : List Message) → Closes may_stop (pieces_in told) left foretold close → HasFailure (told_messages told ++ close) → WillFail max_reads (length (pieces_in told)) foretold
+close_cause may_stop foretold told left close closes h =
+    let Fails : List Message → Type 0 = λ ms. HasFailure (told_messages told ++ ms) in
     ⊎_elim
-    (λ x. cause_of foretold (length pieces) x.0 (failure_last pieces x.0 (subst Fails x.2 h)) x.1.1)
-    (λ x. absurd (failure_never pieces (subst Fails x.2 h)))
+    (λ x. cause_of foretold (length (pieces_in told)) x.0 (failure_last told x.0 (subst Fails x.2 h)) x.1.1)
+    (λ x. absurd (failure_never told (subst Fails x.2 h)))
     closes
 
-pub read_cause : (keys_reader net_reader : KnownReader) (from_keys from_net handled : List Mail) (keys net : View) (marked : List (Told × Mark)) → keys ≡ sender Keys from_keys → net ≡ sender Net from_net → Interleaves handled (four from_net [] [] from_keys) → (typed : ReaderSends Keys true keys_reader keys) → (read : ReaderSends Net false net_reader net) → map (λ m. m.0) marked ≡ all_told handled → (c : Run) → IsEndedAt c marked (ended.Fault fault.Read) → WillFail max_reads (length typed.0) keys_reader.failures ⊎ WillFail max_reads (length read.0) net_reader.failures
+pub read_cause : (keys_reader net_reader : KnownReader) (from_keys from_net handled : List Mail) (keys net : View) (marked : List (Told × Mark)) → keys ≡ sender Keys from_keys → net ≡ sender Net from_net → Interleaves handled (four from_net [] [] from_keys) → (typed : ReaderSends Keys true keys_reader keys) → (read : ReaderSends Net false net_reader net) → map (λ m. m.0) marked ≡ all_told handled → (c : Run) → IsEndedAt c marked (ended.Fault fault.Read) → WillFail max_reads (length (pieces_in typed.0)) keys_reader.failures ⊎ WillFail max_reads (length (pieces_in read.0)) net_reader.failures
 read_cause keys_reader net_reader from_keys from_net handled keys net marked keys_is net_is woven typed read messages c r =
     let who = failure_from handled (failure_told marked r.before r.last r.after handled r.whole messages r.ends) in
     by who.0 who.1
@@ -60,9 +60,9 @@ read_cause keys_reader net_reader from_keys from_net handled keys net marked key
     none : (s : Sender) → from s handled ≡ [] → HasFailure (messages_of (from s handled)) → ⊥
     none s is h = let Fails : List Mail → Type 0 = λ l. HasFailure (messages_of l) in subst Fails is h
 
-    by : (s : Sender) → HasFailure (messages_of (from s handled)) → WillFail max_reads (length typed.0) keys_reader.failures ⊎ WillFail max_reads (length read.0) net_reader.failures
-    by Net h = inr (close_cause false net_reader.failures read.0 read.1 read.2 read.4 (subst HasFailure (messages_from Net net from_net handled (pieces_of read.0 ++ read.2) net_is read.5 (woven Net)) h))
-    by Keys h = inl (close_cause true keys_reader.failures typed.0 typed.1 typed.2 typed.4 (subst HasFailure (messages_from Keys keys from_keys handled (pieces_of typed.0 ++ typed.2) keys_is typed.5 (woven Keys)) h))
+    by : (s : Sender) → HasFailure (messages_of (from s handled)) → WillFail max_reads (length (pieces_in typed.0)) keys_reader.failures ⊎ WillFail max_reads (length (pieces_in read.0)) net_reader.failures
+    by Net h = inr (close_cause false net_reader.failures read.0 read.1 read.2 read.4 (subst HasFailure (messages_from Net net from_net handled (told_messages read.0 ++ read.2) net_is read.5 (woven Net)) h))
+    by Keys h = inl (close_cause true keys_reader.failures typed.0 typed.1 typed.2 typed.4 (subst HasFailure (messages_from Keys keys from_keys handled (told_messages typed.0 ++ typed.2) keys_is typed.5 (woven Keys)) h))
     by Desk h = absurd (none Desk (woven Desk) h)
     by Back h = absurd (none Back (woven Back) h)
 

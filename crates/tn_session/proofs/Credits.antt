@@ -3,11 +3,11 @@ use Rattle.std.proofs.Common.{◌≡◌, ℕ, ◌+◌, List, [], ◌∷◌, ◌+
 use Rattle.std.proofs.lemmas.List.{map-append}
 use Rattle.crossbeam_channel.specs.Fifo.{Pushes, Pops, Forks, Learns}
 use Rattle.tn_messages.specs.declared.messages.Message.{Message}
-use Rattle.tn_messages.specs.declared.messages.Message.TheVariants.{Piece, HangUp, ReadFailed, Take, Said, Refused, Left}
+use Rattle.tn_messages.specs.declared.messages.Message.TheVariants.{Piece, HangUp, ReadFailed, Take, Said, Refused, Left, Resized}
 use Rattle.tn_session.specs.Credits.{AnyTally, none_taken, one_taken, HaveTaken, piece_one, pieces_among}
 use Rattle.tn_session.specs.Mailbox.{mail, sender}
 use Rattle.tn_session.specs.Reader.{sends}
-use Rattle.tn_session.specs.Reading.{IsEnding, pieces_of}
+use Rattle.tn_session.specs.Reading.{IsEnding, Telling, piece_told, size_told, told_messages, pieces_in}
 use Rattle.tn_session.specs.declared.channels.View.{View}
 use Rattle.tn_session.specs.declared.credit.Credit.{Credit}
 use Rattle.tn_session.specs.declared.credit.CreditSeat.{CreditSeat}
@@ -15,7 +15,7 @@ use Rattle.tn_session.specs.declared.credit.Tally.{Tally}
 use Rattle.tn_session.specs.declared.mail.Mail.{Mail}
 use Rattle.tn_session.specs.declared.mail.Sender.{Sender}
 use Rattle.tn_session.specs.declared.mail.Sender.TheVariants.{Net, Desk, Back, Keys}
-use Rattle.tn_session.proofs.Readers.{Says, said, said_two, said_piece}
+use Rattle.tn_session.proofs.Readers.{Says, said, said_two, said_piece, pieces-push}
 
 -- THE RULE
 
@@ -55,9 +55,10 @@ pieces-append : (xs ys : List Mail) → pieces_among (xs ++ ys) ≡ pieces_among
 pieces-append [] ys = omega arith
 pieces-append (x ∷ xs) ys = omega (arith, pieces-append xs ys)
 
-count_pieces : (who : Sender) (ps : List (List ℕ)) → pieces_among (map (mail who) (pieces_of ps)) ≡ length ps
-count_pieces who [] = refl
-count_pieces who (p ∷ ps) = omega (arith, count_pieces who ps)
+count_told : (who : Sender) (told : List Telling) → pieces_among (map (mail who) (told_messages told)) ≡ length (pieces_in told)
+count_told who [] = refl
+count_told who (piece_told p ∷ told) = omega (arith, count_told who told)
+count_told who (size_told s ∷ told) = omega (arith, count_told who told)
 
 sender_is : (who : Sender) (a b : List Mail) → sender who a ≡ sender who b → a ≡ b
 sender_is Net a b e = let same : Some a ≡ Some b = ap (λ (v : View). v.net) e in cc
@@ -73,26 +74,27 @@ no_piece (Piece p) left e = absurd e
 no_piece Take left e = refl
 no_piece (Said id text after) left e = refl
 no_piece Left left e = refl
+no_piece (Resized s) left e = refl
 
-counted : (who : Sender) (ps : List (List ℕ)) (close : List Message) (v : View) (mails : List Mail) → v ≡ sends who (pieces_of ps ++ close) → pieces_among (map (mail who) close) ≡ 0 → v ≡ sender who mails → pieces_among mails ≡ length ps
-counted who ps close v mails e none f =
-    let all = map (mail who) (pieces_of ps) ++ map (mail who) close in
-    let same : mails ≡ all = sender_is who mails all (sym f ∙ e ∙ ap (sender who) (map-append (mail who) (pieces_of ps) close)) in
-    omega (arith, ap pieces_among same, pieces-append (map (mail who) (pieces_of ps)) (map (mail who) close), count_pieces who ps, none)
+counted : (who : Sender) (told : List Telling) (close : List Message) (v : View) (mails : List Mail) → v ≡ sends who (told_messages told ++ close) → pieces_among (map (mail who) close) ≡ 0 → v ≡ sender who mails → pieces_among mails ≡ length (pieces_in told)
+counted who told close v mails e none f =
+    let all = map (mail who) (told_messages told) ++ map (mail who) close in
+    let same : mails ≡ all = sender_is who mails all (sym f ∙ e ∙ ap (sender who) (map-append (mail who) (told_messages told) close)) in
+    omega (arith, ap pieces_among same, pieces-append (map (mail who) (told_messages told)) (map (mail who) close), count_told who told, none)
 
 as_many : (n m : ℕ) (a b : Option CreditSeat) → n ≡ m → HaveTaken m a b → HaveTaken n a b
 as_many n m a b e h = subst (λ (k : ℕ). HaveTaken k a b) (sym e) h
 
 -- the reading ended
-pub paid_ends : (who : Sender) (ps : List (List ℕ)) (last : Message) (left : Option (List ℕ)) (v w u : View) (a b : Option CreditSeat) → IsEnding last left → HaveTaken (length ps) a b → v ≡ sends who (pieces_of ps) → Says who last v w → Says who Left w u → (mails : List Mail) → u ≡ sender who mails → HaveTaken (pieces_among mails) a b
-paid_ends who ps last left v w u a b ending taken old one two mails e =
-    let whole = said_two who (pieces_of ps) last Left v w u old one two in
-    as_many (pieces_among mails) (length ps) a b (counted who ps (last ∷ Left ∷ []) u mails whole (omega (arith, no_piece last left ending)) e) taken
+pub paid_ends : (who : Sender) (told : List Telling) (last : Message) (left : Option (List ℕ)) (v w u : View) (a b : Option CreditSeat) → IsEnding last left → HaveTaken (length (pieces_in told)) a b → v ≡ sends who (told_messages told) → Says who last v w → Says who Left w u → (mails : List Mail) → u ≡ sender who mails → HaveTaken (pieces_among mails) a b
+paid_ends who told last left v w u a b ending taken old one two mails e =
+    let whole = said_two who (told_messages told) last Left v w u old one two in
+    as_many (pieces_among mails) (length (pieces_in told)) a b (counted who told (last ∷ Left ∷ []) u mails whole (omega (arith, no_piece last left ending)) e) taken
 
 -- it was stopped after a piece
-pub paid_stops : (who : Sender) (ps : List (List ℕ)) (p : List ℕ) (v w u : View) (a b d : Option CreditSeat) → HaveTaken (length ps) a b → HaveTaken 1 b d → v ≡ sends who (pieces_of ps) → Says who (Piece p) v w → Says who Left w u → (mails : List Mail) → u ≡ sender who mails → HaveTaken (pieces_among mails) a d
-paid_stops who ps p v w u a b d taken one_more old one two mails e =
-    let all = ps ++ p ∷ [] in
-    let whole = said who (pieces_of all) Left w u (said_piece who ps p v w old one) two in
-    let count : pieces_among mails ≡ length ps + 1 = counted who all (Left ∷ []) u mails whole refl e ∙ length-append ps (p ∷ []) in
-    as_many (pieces_among mails) (length ps + 1) a d count (taken_more (length ps) a b d taken one_more)
+pub paid_stops : (who : Sender) (told : List Telling) (p : List ℕ) (v w u : View) (a b d : Option CreditSeat) → HaveTaken (length (pieces_in told)) a b → HaveTaken 1 b d → v ≡ sends who (told_messages told) → Says who (Piece p) v w → Says who Left w u → (mails : List Mail) → u ≡ sender who mails → HaveTaken (pieces_among mails) a d
+paid_stops who told p v w u a b d taken one_more old one two mails e =
+    let all = told ++ piece_told p ∷ [] in
+    let whole = said who (told_messages all) Left w u (said_piece who told p v w old one) two in
+    let count : pieces_among mails ≡ length (pieces_in told) + 1 = counted who all (Left ∷ []) u mails whole refl e ∙ ap length (pieces-push told p) ∙ length-append (pieces_in told) (p ∷ []) in
+    as_many (pieces_among mails) (length (pieces_in told) + 1) a d count (taken_more (length (pieces_in told)) a b d taken one_more)

@@ -16,7 +16,7 @@ use Rattle.tn_session.proofs.Readers.{closes_ending}
 use Rattle.tn_session.specs.Facts.{JobFacts, SessionJobs, SessionResult, TermSettings}
 use Rattle.tn_session.specs.Mailbox.{same, from, sender, mail}
 use Rattle.tn_session.specs.EntryChannel.{taker}
-use Rattle.tn_session.specs.Reading.{IsEnding, IsReadCause, max_reads, pieces_of}
+use Rattle.tn_session.specs.Reading.{IsEnding, IsReadCause, max_reads, Telling, piece_told, size_told, told_messages, pieces_in}
 use Rattle.tn_session.specs.Session.{Schedule, HearsReader, TakesEntries}
 use Rattle.tn_session.specs.Stepping.{IsClose, step_said}
 use Rattle.tn_session.specs.Talk.{Closes, turns_said, entries_of, ends_done}
@@ -40,7 +40,7 @@ use Rattle.tn_term.specs.Run.{Run}
 use Rattle.tn_messages.specs.declared.faults.Ended.TheVariants as ended
 use Rattle.tn_messages.specs.declared.faults.SessionFault.TheVariants as fault
 use Rattle.tn_messages.specs.declared.messages.Message.{Message}
-use Rattle.tn_messages.specs.declared.messages.Message.TheVariants.{Piece, HangUp, ReadFailed, Take, Said, Refused, Left}
+use Rattle.tn_messages.specs.declared.messages.Message.TheVariants.{Piece, HangUp, ReadFailed, Take, Said, Refused, Left, Resized}
 use Rattle.tn_wire.specs.Prefixes.{IsRead}
 
 true_false : true ≡ false → ⊥
@@ -56,6 +56,7 @@ is_of_net Take = false
 is_of_net (Said id text after) = false
 is_of_net Refused = false
 is_of_net Left = false
+is_of_net (Resized size) = false
 
 abbrev NoneOfNet : List Message → Type 0
 NoneOfNet [] = Unit {0}
@@ -79,6 +80,7 @@ brings_nothing at_end Take e = record { may = tt; after = refl; bytes = refl }
 brings_nothing at_end (Said id text after) e = record { may = tt; after = refl; bytes = refl }
 brings_nothing at_end Refused e = record { may = tt; after = refl; bytes = refl }
 brings_nothing at_end Left e = record { may = tt; after = refl; bytes = refl }
+brings_nothing at_end (Resized size) e = record { may = tt; after = refl; bytes = refl }
 
 -- what holds of the mails of all others
 abbrev Others : List Mail → Type 0
@@ -120,8 +122,9 @@ of_net at_end [] others may = record { may = tt; bytes = refl }
 of_net at_end (x ∷ xs) others may = of_net_next at_end x xs others (λ b m. of_net b xs (others_tail x xs others) m) may
 
 -- its list
-net_may : (pieces : List (List ℕ)) (last : Message) (left : Option (List ℕ)) → IsEnding last left → MayAllCome false (pieces_of pieces ++ last ∷ Left ∷ [])
-net_may (p ∷ pieces) last left e = (refl, net_may pieces last left e)
+net_may : (told : List Telling) (last : Message) (left : Option (List ℕ)) → IsEnding last left → MayAllCome false (told_messages told ++ last ∷ Left ∷ [])
+net_may (piece_told p ∷ told) last left e = (refl, net_may told last left e)
+net_may (size_told s ∷ told) last left e = (tt, net_may told last left e)
 net_may [] HangUp left e = (tt, (tt, tt))
 net_may [] ReadFailed left e = (tt, (tt, tt))
 net_may [] Refused left e = (tt, (tt, tt))
@@ -129,9 +132,11 @@ net_may [] (Piece p) left e = absurd e
 net_may [] Take left e = absurd e
 net_may [] (Said id t a) left e = absurd e
 net_may [] Left left e = absurd e
+net_may [] (Resized s) left e = absurd e
 
-net_bytes : (pieces : List (List ℕ)) (last : Message) (left : Option (List ℕ)) → IsEnding last left → heard (pieces_of pieces ++ last ∷ Left ∷ []) ≡ concat pieces
-net_bytes (p ∷ pieces) last left e = ap (λ (bs : List ℕ). p ++ bs) (net_bytes pieces last left e)
+net_bytes : (told : List Telling) (last : Message) (left : Option (List ℕ)) → IsEnding last left → heard (told_messages told ++ last ∷ Left ∷ []) ≡ concat (pieces_in told)
+net_bytes (piece_told p ∷ told) last left e = ap (λ (bs : List ℕ). p ++ bs) (net_bytes told last left e)
+net_bytes (size_told s ∷ told) last left e = net_bytes told last left e
 net_bytes [] HangUp left e = refl
 net_bytes [] ReadFailed left e = refl
 net_bytes [] Refused left e = refl
@@ -139,6 +144,7 @@ net_bytes [] (Piece p) left e = absurd e
 net_bytes [] Take left e = absurd e
 net_bytes [] (Said id t a) left e = absurd e
 net_bytes [] Left left e = absurd e
+net_bytes [] (Resized s) left e = absurd e
 
 none_fails : (ms : List Message) → NoneOfNet ms → HasFailure ms → ⊥
 none_fails [] n h = h
@@ -227,6 +233,7 @@ net_at_end id (Piece p) left e k = absurd e
 net_at_end id Take left e k = absurd e
 net_at_end id (Said job t a) left e k = absurd e
 net_at_end id Left left e k = absurd e
+net_at_end id (Resized s) left e k = absurd e
 
 -- what the left bytes leave of the known ones
 known_left : (bytes stream : List ℕ) (left : Option (List ℕ)) → Consumes (Some bytes) left stream → (rest : List ℕ) × (bytes ≡ stream ++ rest) × (IsAtEnd left → rest ≡ [])
@@ -273,13 +280,13 @@ module _ {J : Type 0} {facts : JobFacts J} {jobs : SessionJobs} {settings : Term
   none_of_others Keys e = subst (λ (l : List Mail). NoneOfNet (messages_of l)) (sym (s.woven Keys)) tt
 
   -- how the reading ended: nothing stops the thread that reads from the network
-  net_end : (last : Message) × (IsEnding last s.read.1 × IsReadCause reader.failures (length s.read.0) last) × (s.read.2 ≡ last ∷ Left ∷ [])
-  net_end = closes_ending s.read.0 s.read.1 reader.failures s.read.2 s.read.4
+  net_end : (last : Message) × (IsEnding last s.read.1 × IsReadCause reader.failures (length (pieces_in s.read.0)) last) × (s.read.2 ≡ last ∷ Left ∷ [])
+  net_end = closes_ending (pieces_in s.read.0) s.read.1 reader.failures s.read.2 s.read.4
 
-  net_said : messages_of (from Net s.handled) ≡ pieces_of s.read.0 ++ net_end.0 ∷ Left ∷ []
+  net_said : messages_of (from Net s.handled) ≡ told_messages s.read.0 ++ net_end.0 ∷ Left ∷ []
   net_said =
-      messages_from Net result.views.net s.from_net s.handled (pieces_of s.read.0 ++ s.read.2) s.net_is s.read.5 (s.woven Net)
-      ∙ ap (λ (ms : List Message). pieces_of s.read.0 ++ ms) net_end.2
+      messages_from Net result.views.net s.from_net s.handled (told_messages s.read.0 ++ s.read.2) s.net_is s.read.5 (s.woven Net)
+      ∙ ap (λ (ms : List Message). told_messages s.read.0 ++ ms) net_end.2
 
   nets : OfNet false s.handled
   nets = of_net false s.handled none_of_others (subst (MayAllCome false) (sym net_said) (net_may s.read.0 net_end.0 s.read.1 net_end.1.0))
@@ -289,17 +296,17 @@ module _ {J : Type 0} {facts : JobFacts J} {jobs : SessionJobs} {settings : Term
   may_come = subst (MayAllCome false) (sym s.messages) nets.may
 
   -- the pieces that were handled are those that were read
-  all_pieces : heard messages ≡ concat s.read.0
+  all_pieces : heard messages ≡ concat (pieces_in s.read.0)
   all_pieces = ap heard s.messages ∙ nets.bytes ∙ ap heard net_said ∙ net_bytes s.read.0 net_end.0 s.read.1 net_end.1.0
 
   pub heard_of_reader : Hears settings.canon settings.editing messages s.run → (result.report.ended ≡ ended.HangUp → HangsUp jobs.first.0 messages s.run) → HearsReader reader.bytes result.report.ended s.run
   heard_of_reader h hung = record {
     left = prepend_known h.unheard s.read.1;
-    consumed = consumes_front reader.bytes s.read.1 (concat s.read.0) s.run.stream h.unheard (sym all_pieces ∙ h.stream_first) s.read.3;
+    consumed = consumes_front reader.bytes s.read.1 (concat (pieces_in s.read.0)) s.run.stream h.unheard (sym all_pieces ∙ h.stream_first) s.read.3;
     all = λ e.
         let u = hung e in
         let keeps = keep_from jobs.first.0 Net s.handled (subst (AllKeepOn jobs.first.0) s.messages u.kept_on) in
-        let last = keep_last jobs.first.0 (pieces_of s.read.0) net_end.0 (Left ∷ []) (subst (AllKeepOn jobs.first.0) net_said keeps) in
+        let last = keep_last jobs.first.0 (told_messages s.read.0) net_end.0 (Left ∷ []) (subst (AllKeepOn jobs.first.0) net_said keeps) in
         at_end_still s.read.1 h.unheard (none_unheard s.run.stream h.unheard (heard messages) h.stream_first u.all_heard) (net_at_end jobs.first.0 net_end.0 s.read.1 net_end.1.0 last);
     read = h.read;
   }
@@ -334,16 +341,16 @@ module _ {J : Type 0} {facts : JobFacts J} {jobs : SessionJobs} {settings : Term
       )
 
   -- a message that reading failed is Net's, and it had its cause
-  pub read_cause : (c : Run) → IsEndedAt c s.marked (ended.Fault fault.Read) → WillFail max_reads (length s.read.0) reader.failures
+  pub read_cause : (c : Run) → IsEndedAt c s.marked (ended.Fault fault.Read) → WillFail max_reads (length (pieces_in s.read.0)) reader.failures
   read_cause c r =
       let told = has_failure s.marked r.before r.last r.after r.whole r.ends in
       let who = failure_from s.handled (subst HasFailure s.messages told) in
       by who.0 who.1
     where
-      cause_of : (last : Message) → last ≡ ReadFailed → IsReadCause reader.failures (length s.read.0) last → WillFail max_reads (length s.read.0) reader.failures
-      cause_of last e cause = subst (λ (m : Message). IsReadCause reader.failures (length s.read.0) m) e cause
+      cause_of : (last : Message) → last ≡ ReadFailed → IsReadCause reader.failures (length (pieces_in s.read.0)) last → WillFail max_reads (length (pieces_in s.read.0)) reader.failures
+      cause_of last e cause = subst (λ (m : Message). IsReadCause reader.failures (length (pieces_in s.read.0)) m) e cause
 
-      by : (r : Sender) → HasFailure (messages_of (from r s.handled)) → WillFail max_reads (length s.read.0) reader.failures
+      by : (r : Sender) → HasFailure (messages_of (from r s.handled)) → WillFail max_reads (length (pieces_in s.read.0)) reader.failures
       by Net h = cause_of net_end.0 (failure_last s.read.0 net_end.0 (subst HasFailure net_said h)) net_end.1.1
       by Desk h = absurd (none_fails (messages_of (from Desk s.handled)) none_of_desk h)
       by Back h = absurd (none_fails (messages_of (from Back s.handled)) none_of_back h)

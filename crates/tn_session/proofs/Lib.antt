@@ -4,6 +4,7 @@ pub mod EntryChannel
 pub mod Reading
 pub mod Readers
 pub mod Credits
+pub mod Telling
 pub mod Talk
 pub mod Turning
 pub mod Going

@@ -4,14 +4,14 @@ use Rattle.std.proofs.lemmas.List.{map-append}
 use Rattle.tn_session.proofs.Lefts.{EndsLeft, lefts-append}
 use Rattle.tn_session.specs.Mailbox.{sender, mail}
 use Rattle.tn_session.specs.Reader.{ReaderSends}
-use Rattle.tn_session.specs.Reading.{IsEnding, pieces_of}
+use Rattle.tn_session.specs.Reading.{IsEnding, Telling, piece_told, size_told, told_messages}
 use Rattle.tn_session.specs.Turns.{left_one, lefts_of}
 use Rattle.tn_session.specs.declared.channels.View.{View}
 use Rattle.tn_session.specs.declared.mail.Mail.{Mail}
 use Rattle.tn_session.specs.declared.mail.Sender.{Sender}
 use Rattle.tn_streams.specs.Known.{KnownReader}
 use Rattle.tn_messages.specs.declared.messages.Message.{Message}
-use Rattle.tn_messages.specs.declared.messages.Message.TheVariants.{Piece, HangUp, ReadFailed, Take, Said, Refused, Left}
+use Rattle.tn_messages.specs.declared.messages.Message.TheVariants.{Piece, HangUp, ReadFailed, Take, Said, Refused, Left, Resized}
 
 abbrev pub NoLeft : List Message → Type 0
 NoLeft [] = Unit {0}
@@ -42,9 +42,10 @@ one_left s ms all mails n e is =
       one = ap lefts_of split ∙ (let a = lefts-append (map (mail s) ms) (mail s Left ∷ []) in let z = none_left s ms n in omega (arith, a, z));
     }
 
-pieces_stay : (pieces : List (List ℕ)) → NoLeft (pieces_of pieces)
-pieces_stay [] = tt
-pieces_stay (p ∷ ps) = (refl, pieces_stay ps)
+told_stay : (told : List Telling) → NoLeft (told_messages told)
+told_stay [] = tt
+told_stay (piece_told p ∷ told) = (refl, told_stay told)
+told_stay (size_told s ∷ told) = (refl, told_stay told)
 
 ending_stays : (m : Message) (left : Option (List ℕ)) → IsEnding m left → left_one m ≡ 0
 ending_stays HangUp left e = refl
@@ -54,6 +55,7 @@ ending_stays (Piece p) left e = refl
 ending_stays Take left e = refl
 ending_stays (Said id t a) left e = refl
 ending_stays Left left e = absurd e
+ending_stays (Resized s) left e = absurd e
 
 -- what a sender's view says
 pub record Sent (s : Sender) (v : View) : Type 0 where
@@ -69,10 +71,10 @@ sent_by s ms all v n e is =
 
 -- a thread that reads
 pub reader_sent : (who : Sender) (may_stop : Bool) (reader : KnownReader) (v : View) → ReaderSends who may_stop reader v → Sent who v
-reader_sent who may_stop reader v (pieces, left, close, consumed, closes, is, small) =
-    let read = pieces_of pieces in
+reader_sent who may_stop reader v (told, left, close, consumed, closes, is, small, sizes) =
+    let read = told_messages told in
     let P : List Message → Type 0 = λ ms. v ≡ sender who (map (mail who) (read ++ ms)) in
     ⊎_elim
-    (λ x. sent_by who (read ++ x.0 ∷ []) (read ++ x.0 ∷ Left ∷ []) v (no_left-append read (x.0 ∷ []) (pieces_stay pieces) (ending_stays x.0 left x.1.0, tt)) (sym (append_assoc read (x.0 ∷ []) (Left ∷ []))) (subst P x.2 is))
-    (λ x. sent_by who read (read ++ Left ∷ []) v (pieces_stay pieces) refl (subst P x.2 is))
+    (λ x. sent_by who (read ++ x.0 ∷ []) (read ++ x.0 ∷ Left ∷ []) v (no_left-append read (x.0 ∷ []) (told_stay told) (ending_stays x.0 left x.1.0, tt)) (sym (append_assoc read (x.0 ∷ []) (Left ∷ []))) (subst P x.2 is))
+    (λ x. sent_by who read (read ++ Left ∷ []) v (told_stay told) refl (subst P x.2 is))
     closes

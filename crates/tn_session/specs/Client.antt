@@ -20,7 +20,7 @@ use Rattle.tn_session.specs.CoreTurns.{all_told}
 use Rattle.tn_session.specs.Facts.{ClientResult, Window}
 use Rattle.tn_session.specs.Mailbox.{Interleaves, four, sender}
 use Rattle.tn_session.specs.Reader.{ReaderSends}
-use Rattle.tn_session.specs.Reading.{max_reads}
+use Rattle.tn_session.specs.Reading.{max_reads, pieces_in}
 use Rattle.tn_session.specs.Turns.{Tells, max_writes}
 use Rattle.tn_session.specs.declared.channels.View.{View}
 use Rattle.tn_session.specs.declared.client.Mailbox.{Mailbox}
@@ -112,7 +112,8 @@ pub record RunningClient (window : Window) (keys net : KnownReader) (writer scre
       → IsEndedAt (start window.width window.height window.limit) marked (Fault f)
   -- that reading failed, only where a read fails, or after as many as are made
   pub read_failed : result.report.ended ≡ Fault fault.Read
-      → WillFail max_reads (length typed.0) keys.failures ⊎ WillFail max_reads (length read.0) net.failures
+      → WillFail max_reads (length (pieces_in typed.0)) keys.failures
+      ⊎ WillFail max_reads (length (pieces_in read.0)) net.failures
   -- and that a write failed, only where one did, to the network or to the screen
   pub write_failed : result.report.ended ≡ Fault fault.Write
       → SomeFailed max_writes writer.before.calls writer.after.calls

@@ -1,11 +1,12 @@
 -- What a thread that reads takes from its reader.
-use Rattle.std.specs.Prelude.{ℕ, ◌<◌, ◌≤◌, List, Option, [], length, map, ⊤}
+use Rattle.std.specs.Prelude.{ℕ, ◌<◌, ◌≤◌, List, Option, [], ◌∷◌, length, map, ⊤}
 use Rattle.std.specs.Io.KnownBytes.{Consumes, IsAtEnd}
 use Rattle.tn_streams.specs.Foretelling.{Failures, HasCome, WillFail}
 use Rattle.tn_session.specs.declared.net.Got.{Got}
 use Rattle.tn_session.specs.declared.net.Got.TheVariants.{Bytes, Again, Last}
 use Rattle.tn_messages.specs.declared.messages.Message.{Message}
-use Rattle.tn_messages.specs.declared.messages.Message.TheVariants.{Piece, HangUp, ReadFailed, Refused}
+use Rattle.tn_messages.specs.declared.messages.Message.TheVariants.{Piece, HangUp, ReadFailed, Refused, Resized}
+use Rattle.tn_streams.specs.declared.window.WindowSize.{WindowSize}
 
 -- how the reading ended; after a hang-up nothing is left
 abbrev pub IsEnding : Message → Option (List ℕ) → Type 0
@@ -24,8 +25,27 @@ Gives old new (Bytes text) = Consumes old new text × IsPiece text
 Gives old new Again = Consumes old new []
 Gives old new (Last last) = Consumes old new [] × IsEnding last new
 
-abbrev pub pieces_of : List (List ℕ) → List Message
-pieces_of pieces = map (λ p. Piece p) pieces
+-- what a thread that reads tells before the end: a piece, or a size of the window
+pub data Telling : Type 0 where
+  piece_told : List ℕ → Telling
+  size_told : WindowSize → Telling
+
+abbrev pub message_of : Telling → Message
+message_of (piece_told p) = Piece p
+message_of (size_told s) = Resized s
+
+abbrev pub told_messages : List Telling → List Message
+told_messages told = map message_of told
+
+abbrev pub pieces_in : List Telling → List (List ℕ)
+pieces_in [] = []
+pieces_in (piece_told p ∷ told) = p ∷ pieces_in told
+pieces_in (size_told s ∷ told) = pieces_in told
+
+abbrev pub sizes_in : List Telling → List WindowSize
+sizes_in [] = []
+sizes_in (piece_told p ∷ told) = sizes_in told
+sizes_in (size_told s ∷ told) = s ∷ sizes_in told
 
 -- how many reads a thread makes at most
 abbrev pub max_reads : ℕ

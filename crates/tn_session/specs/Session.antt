@@ -16,7 +16,7 @@ use Rattle.tn_session.specs.Mailbox.{Interleaves, four, sender}
 use Rattle.tn_session.specs.EntryChannel.{putter, taker}
 use Rattle.tn_session.specs.Makers.{AreAll}
 use Rattle.tn_session.specs.Reader.{ReaderSends}
-use Rattle.tn_session.specs.Reading.{max_reads}
+use Rattle.tn_session.specs.Reading.{max_reads, pieces_in}
 use Rattle.tn_session.specs.Stepping.{AreSteps}
 use Rattle.tn_session.specs.Talk.{IsTalk}
 use Rattle.tn_session.specs.Turning.{IsQueue, ids_of}
@@ -178,7 +178,7 @@ pub record RunningSession {J : Type 0} (facts : JobFacts J) (to_make : Option �
       schedule.marked f
   -- that reading failed, only where a read fails, or after as many as are made
   pub read_failed : result.report.ended ≡ Fault fault.Read
-      → WillFail max_reads (length schedule.read.0) reader.failures
+      → WillFail max_reads (length (pieces_in schedule.read.0)) reader.failures
   -- and that a write failed, only where one did
   pub write_failed : result.report.ended ≡ Fault fault.Write
       → SomeFailed max_writes writer.before.calls writer.after.calls

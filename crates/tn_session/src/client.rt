@@ -146,8 +146,8 @@ where
         (started.keys.promise.who ≡ Sender.Keys) × (is_some started.keys.promise.stop.value ≡ true) }
     ensures fault { IfErr result (λ fault. fault ≡ SessionFault.Channel) }
     ensures ran { IfOk result (λ r.
-        IsClientRun core.old (known_reader K.remaining K.foretold started.keys.promise.reader.value)
-        (known_reader N.remaining N.foretold started.net.promise.reader.value)
+        IsClientRun core.old (known_reader K.remaining K.foretold K.sizes started.keys.promise.reader.value)
+        (known_reader N.remaining N.foretold N.sizes started.net.promise.reader.value)
         (known_writing W.contents W.told writer.old writer.new)
         (known_writing S.contents S.told screen.old screen.new) (client_result r.0 r.1)) }
 {
@@ -186,8 +186,8 @@ where
     requires { IsReadyForTwo outfit.mailbox }
     ensures fault { IfErr result IsOfThreads }
     ensures ran { IfOk result (λ r.
-        IsClientRun core.old (known_reader K.remaining K.foretold readers.keys)
-        (known_reader N.remaining N.foretold readers.net)
+        IsClientRun core.old (known_reader K.remaining K.foretold K.sizes readers.keys)
+        (known_reader N.remaining N.foretold N.sizes readers.net)
         (known_writing W.contents W.told writer.old writer.new)
         (known_writing S.contents S.told screen.old screen.new) (client_result r.0 r.1)) }
 {
@@ -249,8 +249,8 @@ where
     G: Gate + Drop + Send + Sync + 'static,
     ensures fault { IfErr result IsRefusal }
     ensures ran { IfOk result (λ r.
-        IsClientRun core.old (known_reader K.remaining K.foretold readers.keys)
-        (known_reader N.remaining N.foretold readers.net)
+        IsClientRun core.old (known_reader K.remaining K.foretold K.sizes readers.keys)
+        (known_reader N.remaining N.foretold N.sizes readers.net)
         (known_writing W.contents W.told writer.old writer.new)
         (known_writing S.contents S.told screen.old screen.new) (client_result r.0 r.1)) }
 {
@@ -285,7 +285,8 @@ where
     ensures fault { IfErr result IsRefusal }
     ensures ran { IfOk result (λ r.
         RunningClient (record { width = width; height = height; limit = limit })
-        (known_reader K.remaining K.foretold keys_reader) (known_reader N.remaining N.foretold net_reader)
+        (known_reader K.remaining K.foretold K.sizes keys_reader)
+        (known_reader N.remaining N.foretold N.sizes net_reader)
         (known_writing W.contents W.told net_writer.old net_writer.new)
         (known_writing S.contents S.told screen.old screen.new) (client_result r.0 r.1)) }
 {

@@ -5,12 +5,12 @@ ghost use Rattle.crossbeam_channel.specs.Claims.{view, IsSeatAt};
 ghost use Rattle.crossbeam_channel.specs.Ends.{sends_on};
 ghost use Rattle.tn_session.specs.Credits.{HaveTaken, IsSeated, pieces_among};
 ghost use Rattle.tn_session.specs.Mailbox.{sender};
-ghost use Rattle.tn_session.specs.Reader.{ReaderSends};
+ghost use Rattle.tn_session.specs.Reader.{ReaderSends, SaysSize};
 ghost use Rattle.tn_session.specs.Reading.{Gives, IsForetold};
 ghost use Rattle.tn_session.specs.declared.mail.Mail.{Mail as MailT};
 ghost use Rattle.tn_streams.specs.Known.{known_reader};
 
-use crate::channels::{MailPass, MailSeat};
+use crate::channels::{MailPass, MailSeat, MailSender};
 use crate::credit::{CreditSeat, take_credit};
 use crate::mail::Sender;
 use crate::parties::{Gate, Place};
@@ -37,6 +37,7 @@ pub(crate) enum Got {
 fn read_piece<Rd: Source>(reader: &mut Rd, alloc: Global) -> Got
     ensures gives { Gives (Rd.remaining reader.old) (Rd.remaining reader.new) result }
     ensures foretold { IsForetold (Rd.foretold reader.old) (Rd.foretold reader.new) result }
+    ensures sizes { Rd.sizes reader.new ≡ Rd.sizes reader.old }
 {
     let Ok(mut bytes) = Vec::from_elem(alloc, 0u8, PIECE_BYTES) else {
         return Got::Last(Message::Refused);
@@ -62,6 +63,28 @@ pub(crate) struct ReaderPart<G> {
     pub(crate) gate: Arc<G, Global>,
 }
 
+// Tells the size of the window, if it is another than before. `None` where the other end is gone.
+fn tell_size<R: Wait, Rd: Source>(
+    rt: &R,
+    to: &MailSender,
+    pass: MailPass,
+    who: Sender,
+    reader: &mut Rd,
+) -> Option<MailPass>
+    requires seat { IsSeatAt (sends_on to.now) pass }
+    requires role { (l : List MailT) × (view pass ≡ sender who l) }
+    ensures seat { IfSome result (λ p. IsSeatAt (sends_on to.now) p) }
+    ensures told { IfSome result (λ p. SaysSize who (Rd.sizes reader.old) (Rd.sizes reader.new) (view pass)
+        (view p)) }
+    ensures bytes { Rd.remaining reader.new ≡ Rd.remaining reader.old }
+    ensures foretold { Rd.foretold reader.new ≡ Rd.foretold reader.old }
+{
+    match reader.resized() {
+        Some(size) => say(rt, to, pass, who, Message::Resized(size)),
+        None => Some(pass),
+    }
+}
+
 // Whether the thread is to read on no more.
 fn is_stopped<G: Gate>(part: &ReaderPart<G>) -> bool
     ensures { result ≡ true → is_some part.now.stop ≡ true }
@@ -72,9 +95,9 @@ fn is_stopped<G: Gate>(part: &ReaderPart<G>) -> bool
     }
 }
 
-/// Sends the pieces that the reader gives, each for a credit where these are needed, and then how it
-/// ended: after 4,294,967,295 reads as if one had failed. Where there is a flag and it is set after a
-/// piece, it leaves. `None` where the other end is gone.
+/// Sends the pieces that the reader gives, each for a credit where these are needed, with the sizes that it
+/// tells between them, and then how it ended: after 4,294,967,295 reads as if one had failed. Where there is
+/// a flag and it is set after a piece, it leaves. `None` where the other end is gone.
 pub(crate) fn run_reader<R: Wait, Rd: Source + Drop, G: Gate>(
     rt: &R,
     alloc: Global,
@@ -87,12 +110,13 @@ pub(crate) fn run_reader<R: Wait, Rd: Source + Drop, G: Gate>(
     requires credits { IsSeated credits.old }
     ensures seat { IfSome result (λ p. IsSeatAt (sends_on seat.to) p) }
     ensures sent { IfSome result (λ p. ReaderSends part.now.who (is_some part.now.stop)
-        (known_reader Rd.remaining Rd.foretold reader) (view p)) }
+        (known_reader Rd.remaining Rd.foretold Rd.sizes reader) (view p)) }
     ensures credited { IfSome result (λ p. (mails : List MailT) → view p ≡ sender part.now.who mails →
         HaveTaken (pieces_among mails) credits.old credits.new) }
 {
     let MailSeat { to, mut pass } = seat;
     for _read in 0..u32::MAX {
+        pass = tell_size(rt, &to, pass, part.who, &mut reader)?;
         match read_piece(&mut reader, alloc) {
             Got::Bytes(text) => {
                 take_credit(rt, credits)?;

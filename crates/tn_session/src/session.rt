@@ -222,7 +222,7 @@ where
           first = started.desk.promise.id;
           others = queue_of started.back.promise.tostop started.back.promise.queue.value.items;
         })
-        (known_reader Rd.remaining Rd.foretold started.net.promise.reader.value)
+        (known_reader Rd.remaining Rd.foretold Rd.sizes started.net.promise.reader.value)
         (known_writing W.contents W.told writer.old writer.new) term.old (session_result r.0 r.1)) }
     ensures in_reach { IfOk result (λ r. StaysInReach term.old r.0.ended) }
 {
@@ -265,7 +265,7 @@ where
           first = begun.posts.first;
           others = queue_of begun.posts.tostop begun.posts.queue.items;
         })
-        (known_reader Rd.remaining Rd.foretold reader)
+        (known_reader Rd.remaining Rd.foretold Rd.sizes reader)
         (known_writing W.contents W.told writer.old writer.new) begun.term (session_result r.0 r.1)) }
     ensures in_reach { IfOk result (λ r. StaysInReach begun.term r.0.ended) }
 {
@@ -369,7 +369,7 @@ where
           first = begun.posts.first;
           others = queue_of begun.posts.tostop begun.posts.queue.items;
         })
-        begun.term begun.out.items (known_reader Rd.remaining Rd.foretold reader)
+        begun.term begun.out.items (known_reader Rd.remaining Rd.foretold Rd.sizes reader)
         (known_writing W.contents W.told writer.old writer.new) (session_result r.0 r.1)) }
     ensures in_reach { IfOk result (λ r. StaysInReach begun.term r.0.ended) }
 {
@@ -407,7 +407,7 @@ where
     ensures ran { IfOk result (λ r.
         RunningSession (job_facts M.Job.fresh M.Job.reacts M.Job.steps) (M.left maker)
         (record { canon = record { settings = settings; limit = limit }; editing = editing })
-        (known_reader Rd.remaining Rd.foretold reader)
+        (known_reader Rd.remaining Rd.foretold Rd.sizes reader)
         (known_writing W.contents W.told writer.old writer.new) (session_result r.0 r.1)) }
     ensures in_reach { IfOk result (λ r. r.0.ended ≢ too_far_ahead) }
 {

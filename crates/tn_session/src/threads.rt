@@ -50,8 +50,8 @@ impl<Rd: Source> Promise<Option<MailPass>> for ReaderSays<Rd> {
 
     ghost kept_by = { λ p r.
         IfSome r (λ pass. IsSeatAt (sends_on p.to.value) pass ×
-        ReaderSends p.who (is_some p.stop.value) (known_reader Rd.remaining Rd.foretold p.reader.value)
-        (view pass)) };
+        ReaderSends p.who (is_some p.stop.value)
+        (known_reader Rd.remaining Rd.foretold Rd.sizes p.reader.value) (view pass)) };
 }
 
 /// What the thread of the foreground job promises.
@@ -132,7 +132,7 @@ pub(crate) fn start_reader<
         requires { IsSeatAt (sends_on seat.to) seat.pass × (view seat.pass ≡ sender part.who []) ×
             IsSeated credits }
         ensures { IfSome result (λ p. IsSeatAt (sends_on seat.to) p ×
-            ReaderSends part.who (is_some part.stop) (known_reader Rd.remaining Rd.foretold reader)
+            ReaderSends part.who (is_some part.stop) (known_reader Rd.remaining Rd.foretold Rd.sizes reader)
             (view p)) }
     {
         let mut credits = credits;
@@ -241,7 +241,7 @@ impl<Rd: Source, J: Job> Started<Rd, J> {
     pub(crate) fn join<R: Threads + Wait>(self, rt: &R) -> Option<Returned>
         ensures net { IfSome result (λ r. IsSeatAt (sends_on self.net.promise.to.value) r.net ×
             ReaderSends self.net.promise.who (is_some self.net.promise.stop.value)
-            (known_reader Rd.remaining Rd.foretold self.net.promise.reader.value) (view r.net)) }
+            (known_reader Rd.remaining Rd.foretold Rd.sizes self.net.promise.reader.value) (view r.net)) }
         ensures desk { IfSome result (λ r. IsSeatAt (sends_on self.desk.promise.to.value) r.desk ×
             IsSeatAt (receives_on self.desk.promise.from.value) r.took ×
             IsTalk self.desk.promise.id J.fresh J.reacts (view r.desk) (view r.took)) }
@@ -283,10 +283,10 @@ impl<N: Source, K: Source> ClientStarted<N, K> {
     pub(crate) fn join<R: Threads + Wait>(self, rt: &R) -> Option<ClientReturned>
         ensures net { IfSome result (λ r. IsSeatAt (sends_on self.net.promise.to.value) r.net ×
             ReaderSends self.net.promise.who (is_some self.net.promise.stop.value)
-            (known_reader N.remaining N.foretold self.net.promise.reader.value) (view r.net)) }
+            (known_reader N.remaining N.foretold N.sizes self.net.promise.reader.value) (view r.net)) }
         ensures keys { IfSome result (λ r. IsSeatAt (sends_on self.keys.promise.to.value) r.keys ×
             ReaderSends self.keys.promise.who (is_some self.keys.promise.stop.value)
-            (known_reader K.remaining K.foretold self.keys.promise.reader.value) (view r.keys)) }
+            (known_reader K.remaining K.foretold K.sizes self.keys.promise.reader.value) (view r.keys)) }
     {
         let ClientStarted { net, keys } = self;
         let net = net.join(rt);

@@ -2,11 +2,13 @@
 use Rattle.std.specs.Prelude.{ℕ, Option, List}
 use Rattle.tn_streams.specs.Foretelling.{Failures}
 use Rattle.tn_streams.specs.Telling.{Calls}
+use Rattle.tn_streams.specs.declared.window.WindowSize.{WindowSize}
 
--- a reader: the bytes that it gives, and what it foretells of its calls
+-- a reader: the bytes that it gives, what it foretells of its calls, and the sizes of its window
 pub record KnownReader : Type 0 where
   pub bytes : Option (List ℕ)
   pub failures : Option Failures
+  pub sizes : Option (List WindowSize)
 
 -- a writer: the bytes that it holds, and what it tells of its calls
 pub record KnownWriter : Type 0 where
@@ -19,8 +21,10 @@ pub record KnownWriting : Type 0 where
   pub after : KnownWriter
 
 -- a value as it is known by these functions of its type, those of `Source` or of `Drain`
-abbrev pub known_reader : {R : Type 0} → (R → Option (List ℕ)) → (R → Option Failures) → R → KnownReader
-known_reader bytes failures reader = record { bytes = bytes reader; failures = failures reader }
+abbrev pub known_reader : {R : Type 0} → (R → Option (List ℕ)) → (R → Option Failures)
+    → (R → Option (List WindowSize)) → R → KnownReader
+known_reader bytes failures sizes reader =
+    record { bytes = bytes reader; failures = failures reader; sizes = sizes reader }
 
 abbrev pub known_writer : {W : Type 0} → (W → Option (List ℕ)) → (W → Option Calls) → W → KnownWriter
 known_writer bytes calls writer = record { bytes = bytes writer; calls = calls writer }

@@ -3,3 +3,4 @@ pub mod Counting
 pub mod Foretelling
 pub mod Prefixes
 pub mod Known
+pub mod Sizes

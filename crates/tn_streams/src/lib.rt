@@ -17,20 +17,24 @@
 //! back, and calls nothing again: `is_interrupted` says when to.
 #![tactic(auto)]
 
-ghost use Rattle.std.specs.Prelude.{◌≡◌, ◌≢◌, ℕ, List, None, Option, true, false};
+ghost use Rattle.std.specs.Prelude.{◌≡◌, ◌≢◌, ℕ, List, [], None, Some, Option, true, false};
 ghost use Rattle.std.specs.IoError.{error_kind};
 ghost use Rattle.std.specs.Io.{ReadsAtMost, WritesAtMost};
 ghost use Rattle.std.specs.Io.KnownBytes.{ReadConsumes, WriteAppends, Keeps};
 ghost use Rattle.tn_streams.specs.Foretelling.{Failures, ForetellsCall};
+ghost use Rattle.tn_streams.specs.Sizes.{TellsSize};
+ghost use Rattle.tn_streams.specs.declared.window.WindowSize.{WindowSize as WindowSizeT};
 ghost use Rattle.tn_streams.specs.Telling.{Calls, TellsCall, CountsRead, CountsWrite};
 
 use std::io::{Error, ErrorKind, Read, Result, Write};
 pub use tally::Tally;
+pub use window::WindowSize;
 
 mod tally;
+mod window;
 
 /// A reader that may tell how many of its calls failed, and foretell how many will: one that is given away
-/// can't be asked afterwards.
+/// can't be asked afterwards. Where its bytes are typed in a window, it tells the window's size too.
 pub trait Source {
     // The bytes that reads will give from here on, where they are known.
     ghost remaining: { Self → Option (List ℕ) } = { λ _. None };
@@ -41,12 +45,26 @@ pub trait Source {
     // What it foretells of the calls from here on.
     ghost foretold: { Self → Option Failures } = { λ _. None };
 
+    // The sizes that it will tell from here on, where they are known. Most readers have no window.
+    ghost sizes: { Self → Option (List WindowSizeT) } = { λ _. Some [] };
+
+    /// The size of the window, if it is another than the one that was told last.
+    fn resized(&mut self) -> Option<WindowSize>
+        ensures tells { TellsSize (sizes self.old) result (sizes self.new) }
+        ensures bytes { remaining self.new ≡ remaining self.old }
+        ensures told { told self.new ≡ told self.old }
+        ensures foretold { foretold self.new ≡ foretold self.old }
+    {
+        None
+    }
+
     /// Reads some bytes, none only at the end or where there is no room.
     fn read_some(&mut self, buf: &mut [u8]) -> Result<usize>
         ensures bound { ReadsAtMost result buf.new }
         ensures bytes { ReadConsumes (remaining self.old) (remaining self.new) result buf.new }
         ensures tells { TellsCall (CountsRead result) (told self.old) (told self.new) }
-        ensures foretells { ForetellsCall result (foretold self.old) (foretold self.new) };
+        ensures foretells { ForetellsCall result (foretold self.old) (foretold self.new) }
+        ensures sizes { sizes self.new ≡ sizes self.old };
 }
 
 /// A writer that may tell how many of its calls failed.

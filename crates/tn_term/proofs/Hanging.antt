@@ -26,7 +26,7 @@ use Rattle.tn_messages.specs.declared.faults.SessionFault.TheVariants as fault
 use Rattle.tn_term.specs.declared.messages.Mark.{Mark}
 use Rattle.tn_term.specs.declared.messages.Mark.TheVariants as mark
 use Rattle.tn_messages.specs.declared.messages.Message.{Message}
-use Rattle.tn_messages.specs.declared.messages.Message.TheVariants.{Piece, HangUp, ReadFailed, Take, Said, Refused, Left}
+use Rattle.tn_messages.specs.declared.messages.Message.TheVariants.{Piece, HangUp, ReadFailed, Take, Said, Refused, Left, Resized}
 
 true_false : true ≡ false → ⊥
 true_false e = cc
@@ -164,6 +164,7 @@ acts_ended c new Take a e = sym (ask_ended true c) ∙ sym (ap ended_of a) ∙ e
 acts_ended c new (Said id text after) a e = said_ended id.0 a.0 _ c (sym (ap ended_of a.2) ∙ e)
 acts_ended c new Refused a e = first_none (ended_of c) (ended.Fault fault.Memory) (sym (ap ended_of a) ∙ e)
 acts_ended c new Left a e = sym (ap ended_of a) ∙ e
+acts_ended c new (Resized size) a e = sym (ap ended_of a) ∙ e
 
 handles_ended : (o : Bool) (c new : Run) (m : Message) → ActsUnless o c m new → ended_of new ≡ ended.HangUp → ended_of c ≡ ended.HangUp
 handles_ended true c new m a e = sym (ap ended_of a) ∙ e
@@ -381,6 +382,8 @@ calm_acts id c new (Said job text after) others a e may s =
 calm_acts id c new Refused others a e may s = absurd (not_fault (ended_of c) fault.Memory (sym (ap ended_of a) ∙ e))
 calm_acts id c new Left others a e may s =
     calm_as id Left c (flush c) new a (record { calm = calm_flush id c s; at_end = refl; keeps = tt; stream = sym (append-nil c.stream) })
+calm_acts id c new (Resized size) others a e may s =
+    calm_as id (Resized size) c (flush c) new a (record { calm = calm_flush id c s; at_end = refl; keeps = tt; stream = sym (append-nil c.stream) })
 
 -- ALL MESSAGES
 

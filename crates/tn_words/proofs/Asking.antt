@@ -1,6 +1,6 @@
 -- What a parse of the words says of them.
-use Rattle.std.proofs.Common.{◌≡◌, ◌≢◌, ◌⊎◌, inl, inr, ℕ, Bool, true, false, Option, Some, None, List, [], ◌∷◌, codes, length, option_map, refl, sym, ap, ◌∙◌, subst, arith, ◌<◌}
-use Rattle.std.specs.Prelude.{unwrap_or}
+use Rattle.std.proofs.Common.{◌≡◌, ◌≢◌, ◌⊎◌, inl, inr, ℕ, Bool, true, false, Option, Some, None, List, [], ◌∷◌, codes, slice_index, option_map, refl, sym, ap, ◌∙◌, subst, arith, ◌<◌}
+use Rattle.std.specs.Prelude.{unwrap_or, ⊤}
 use Rattle.clap.specs.Words.{App, Row, Text, subcommand_name_of, subcommand_of, subcommand_rows_of, HasMatchesOf, takes, fault_of, is_simple, is_simple_and_free, IsAmong}
 use Rattle.clap.specs.declared.error.kind.ErrorKind.{ErrorKind}
 use Rattle.clap.specs.declared.error.kind.ErrorKind.TheVariants as kind
@@ -8,10 +8,10 @@ use Rattle.clap.specs.declared.parser.matches.ArgMatches.{ArgMatches}
 use Rattle.clap.specs.declared.parser.matches.ArgMatches.TheViews.{out-ArgMatches}
 use Rattle.clap.proofs.OnLiterals.{clap_on_literals}
 use Rattle.tn_words.specs.Commands.{tn}
-use Rattle.tn_words.specs.Words.{AskFor, Asks, AsksIn, AsksNothing, AsksConnect, AsksForHelp, AreWrong, Refuses, TellsKind}
+use Rattle.tn_words.specs.Words.{AskFor, Asks, AsksIn, AsksNothing, AsksConnect, AsksForHelp, AsksForVersion, AreWrong, Lacks, Refuses, TellsKind}
 use Rattle.tn_words.specs.declared.settings.Connecting.{Connecting}
 use Rattle.tn_words.specs.declared.words.Asked.{Asked}
-use Rattle.tn_words.specs.declared.words.Asked.TheVariants.{Local, Replay, World, Serve, Connect}
+use Rattle.tn_words.specs.declared.words.Asked.TheVariants.{Local, Replay, Decode, World, Serve, Connect}
 use Rattle.tn_words.specs.declared.words.WordsFault.{WordsFault}
 use Rattle.tn_words.specs.declared.words.WordsFault.TheVariants as fault
 
@@ -30,19 +30,23 @@ not_taken false k runs_out wants = refl
 abbrev IsKind : ErrorKind → List ErrorKind → Type 0
 IsKind k kinds = (k ≡ kind.OutOfMemory) ⊎ IsAmong k kinds
 
-among : (k : ErrorKind) (words : List (List ℕ)) → k ≡ kind.DisplayHelp → IsKind k (fault_of tn words) → AsksForHelp words
-among k words is (inl ran_out) = absurd (cc)
-among k words is (inr found) = subst (λ x. IsAmong x (fault_of tn words)) is found
+among : (k asked : ErrorKind) (words : List (List ℕ)) → k ≡ asked → asked ≢ kind.OutOfMemory → IsKind k (fault_of tn words) → IsAmong asked (fault_of tn words)
+among k asked words is wants (inl ran_out) = absurd (wants (sym is ∙ ran_out))
+among k asked words is wants (inr found) = subst (λ x. IsAmong x (fault_of tn words)) is found
 
-wrong : (k : ErrorKind) (words : List (List ℕ)) → k ≢ kind.OutOfMemory → k ≢ kind.DisplayHelp → IsKind k (fault_of tn words) → AreWrong words
-wrong k words wants other (inl ran_out) = absurd (wants ran_out)
-wrong k words wants other (inr found) = (k, other, found)
+wrong : (k : ErrorKind) (words : List (List ℕ)) → k ≢ kind.OutOfMemory → k ≢ kind.DisplayHelp → k ≢ kind.DisplayVersion → IsKind k (fault_of tn words) → AreWrong words
+wrong k words wants help version (inl ran_out) = absurd (wants ran_out)
+wrong k words wants help version (inr found) = (k, help, version, found)
 
 -- an error of the parse is told as it must be
 refused : (words : List (List ℕ)) (k : ErrorKind) (f : WordsFault) → (takes tn words ≡ true → k ≡ kind.OutOfMemory) → IsKind k (fault_of tn words) → TellsKind k f → Refuses words f
-refused words k fault.Usage passes kinds tells = inl (not_taken (takes tn words) k passes tells.0, wrong k words tells.0 tells.1 kinds)
+refused words k (fault.Usage detail) passes kinds tells =
+    inl (not_taken (takes tn words) k passes tells.0, wrong k words tells.0 tells.1 tells.2 kinds)
 refused words k fault.Memory passes kinds tells = tt
-refused words k (fault.Help text) passes kinds tells = (not_taken (takes tn words) k passes (λ ran_out. absurd (cc)), among k words tells kinds)
+refused words k (fault.Help text) passes kinds tells =
+    (not_taken (takes tn words) k passes (λ ran_out. absurd (cc)), among k kind.DisplayHelp words tells (λ ran_out. absurd (cc)) kinds)
+refused words k fault.Version passes kinds tells =
+    (not_taken (takes tn words) k passes (λ ran_out. absurd (cc)), among k kind.DisplayVersion words tells (λ ran_out. absurd (cc)) kinds)
 
 pub refused_by : (app : App) (words : List (List ℕ)) (k : ErrorKind) (f : WordsFault) → app ≡ tn → (takes app words ≡ true → k ≡ kind.OutOfMemory) → IsKind k (fault_of app words) → TellsKind k f → Refuses words f
 refused_by app words k f is passes kinds tells =
@@ -61,9 +65,28 @@ pub parse_asks_nothing : (words : List Text) (m : ArgMatches) → HasMatchesOf t
     → AsksNothing (subcommand_of tn words)
 parse_asks_nothing words m h nothing = subst (λ sub. AsksNothing sub) (h is_simple_tn).1 nothing
 
+-- what is lacking is told as it must be
+pub lacks_by : {P : Type 0} (f : WordsFault) → Lacks ⊤ f → P → Lacks P f
+lacks_by (fault.Usage detail) told p = p
+lacks_by fault.Memory told p = tt
+lacks_by (fault.Help text) told p = told
+lacks_by fault.Version told p = told
+
+pub refuses_lacking : (words : List Text) (m : ArgMatches) (f : WordsFault) → HasMatchesOf tn words m
+    → Lacks (AsksNothing (subcommand_rows_of m)) f → Refuses words f
+refuses_lacking words m (fault.Usage detail) h lacks = inr (parse_asks_nothing words m h lacks)
+refuses_lacking words m fault.Memory h lacks = tt
+refuses_lacking words m (fault.Help text) h lacks = absurd lacks
+refuses_lacking words m fault.Version h lacks = absurd lacks
+
 -- the name of a parse's subcommand
 pub name_in : (m : ArgMatches) → subcommand_name_of m ≡ option_map (λ p. p.0) (subcommand_rows_of m)
 name_in m = sym (composed _ _ (out-ArgMatches m).subcommand)
+
+-- names that begin with different letters are two
+apart : (name a b : Text) → name ≡ a → name ≡ b → slice_index a 0 < slice_index b 0 → ⊥
+apart name a b is_a is_b less =
+    let same : slice_index a 0 ≡ slice_index b 0 = ap (λ t. slice_index t 0) (sym is_a ∙ is_b) in absurd (omega arith)
 
 -- a subcommand `connect` whose options ask for no connection asks for nothing
 pub connects_not : (sub : Option (Text × List Row)) (name : Text) (rows : List Row) → option_map (λ p. p.0) sub ≡ Some name
@@ -73,17 +96,12 @@ connects_not None name rows named has is not asked asks = asks
 connects_not (Some p) name rows named has is not asked asks =
     let same : p.0 ≡ codes "connect" = ap (λ o. unwrap_or o name) named ∙ is in
     let at : p.1 ≡ rows = ap (λ o. unwrap_or o rows) has in go asked asks same at where
-      below : (n : ℕ) → n ≡ 7 → n < 7 → ⊥
-      below n is less = absurd (omega arith)
-
-      longer : (other : Text) → p.0 ≡ other → p.0 ≡ codes "connect" → length other ≡ 7
-      longer other is_other same = ap length (sym is_other ∙ same)
-
       go : (asked : Asked) → Asks p asked → p.0 ≡ codes "connect" → p.1 ≡ rows → ⊥
-      go Local is_other same at = below 5 (longer (codes "local") is_other same) (omega arith)
-      go Replay is_other same at = below 6 (longer (codes "replay") is_other same) (omega arith)
-      go World is_other same at = below 5 (longer (codes "world") is_other same) (omega arith)
-      go (Serve serving) asks same at = below 5 (longer (codes "serve") asks.0 same) (omega arith)
+      go Local other same at = apart p.0 (codes "connect") (codes "local") same other (omega arith)
+      go Replay other same at = apart p.0 (codes "connect") (codes "replay") same other (omega arith)
+      go Decode other same at = apart p.0 (codes "connect") (codes "decode") same other (omega arith)
+      go World other same at = apart p.0 (codes "connect") (codes "world") same other (omega arith)
+      go (Serve serving) asks same at = apart p.0 (codes "connect") (codes "serve") same asks.0 (omega arith)
       go (Connect connecting) asks same at = not connecting (subst (λ rs. AsksConnect rs connecting) at asks.1)
 
 -- words that are written out
@@ -94,6 +112,10 @@ asks_local = (refl, refl)
 pub asks_replay : AskFor (codes "tn" ∷ codes "replay" ∷ []) Replay
 unfolding clap_on_literals
 asks_replay = (refl, refl)
+
+pub asks_decode : AskFor (codes "tn" ∷ codes "decode" ∷ []) Decode
+unfolding clap_on_literals
+asks_decode = (refl, refl)
 
 pub asks_world : AskFor (codes "tn" ∷ codes "world" ∷ []) World
 unfolding clap_on_literals
@@ -106,6 +128,10 @@ local_is_taken = refl
 pub replay_is_taken : takes tn (codes "tn" ∷ codes "replay" ∷ []) ≡ true
 unfolding clap_on_literals
 replay_is_taken = refl
+
+pub decode_is_taken : takes tn (codes "tn" ∷ codes "decode" ∷ []) ≡ true
+unfolding clap_on_literals
+decode_is_taken = refl
 
 pub world_is_taken : takes tn (codes "tn" ∷ codes "world" ∷ []) ≡ true
 unfolding clap_on_literals
@@ -126,3 +152,7 @@ asks_for_help = inl refl
 pub asks_for_its_help : AsksForHelp (codes "tn" ∷ codes "local" ∷ codes "-h" ∷ [])
 unfolding clap_on_literals
 asks_for_its_help = inl refl
+
+pub asks_for_version : AsksForVersion (codes "tn" ∷ codes "--version" ∷ [])
+unfolding clap_on_literals
+asks_for_version = inl refl

@@ -1,3 +1,6 @@
+pub mod Addresses
 pub mod Asking
 pub mod Commanding
+pub mod Given
+pub mod Hosts
 pub mod Wholes

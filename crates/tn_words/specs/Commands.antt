@@ -4,10 +4,14 @@ use Rattle.clap.specs.Words.{App, Shape, Rule, Text, new_app, new_rule, with_sub
 use Rattle.clap.specs.declared.builder.action.ArgAction.TheVariants.{SetTrue}
 use Rattle.clap.specs.declared.builder.value_parser.ValueParser.TheVariants as parser
 
--- the command alone: it wants a subcommand, and has no subcommand `help`
+-- the command alone: it wants a subcommand, has a version, and has no subcommand `help`
 abbrev pub alone : App
 alone = record {
-  top = record (new_app (codes "tn")).top { subcommand_required = true; disable_help_subcommand = true };
+  top = record (new_app (codes "tn")).top {
+    has_version = true;
+    subcommand_required = true;
+    disable_help_subcommand = true;
+  };
   subs = [];
 }
 
@@ -46,11 +50,19 @@ port_rule = required (whole_rule (codes "port") 1 65535)
 abbrev pub text_rule : Text → Rule
 text_rule name = record (new_rule name) { long = Some name; value_names = 1 }
 
+-- an argument without a name before it, which takes a text
+abbrev pub place_rule : Text → Rule
+place_rule name = record (new_rule name) { value_names = 1 }
+
 abbrev pub host_rule : Rule
 host_rule = with_default (text_rule (codes "host")) (codes "127.0.0.1")
 
 abbrev pub line_rule : Rule
 line_rule = with_default (whole_rule (codes "line") 255 4095) (codes "255")
+
+-- the key ^], where no other one is given
+abbrev pub escape_rule : Rule
+escape_rule = with_default (text_rule (codes "escape")) (codes "^]")
 
 abbrev pub serve : Shape
 serve = with_rules (codes "serve") (
@@ -63,15 +75,20 @@ serve = with_rules (codes "serve") (
     ∷ with_default (whole_rule (codes "idle") 0 86400) (codes "0")
     ∷ flag_rule (codes "local")
     ∷ flag_rule (codes "verbose")
+    ∷ text_rule (codes "to")
+    ∷ flag_rule (codes "crlf")
     ∷ []
     )
 
 abbrev pub connect : Shape
 connect = with_rules (codes "connect") (
-    port_rule
-    ∷ with_default (whole_rule (codes "width") 0 65535) (codes "80")
-    ∷ with_default (whole_rule (codes "height") 0 65535) (codes "24")
+    place_rule (codes "host")
+    ∷ whole_rule (codes "port") 1 65535
+    ∷ whole_rule (codes "width") 0 65535
+    ∷ whole_rule (codes "height") 0 65535
     ∷ line_rule
+    ∷ escape_rule
+    ∷ text_rule (codes "trace")
     ∷ []
     )
 
@@ -80,7 +97,8 @@ abbrev pub offline : App
 offline =
     let with_local = with_subcommand alone (plain (codes "local")) in
     let with_replay = with_subcommand with_local (plain (codes "replay")) in
-    with_subcommand with_replay (plain (codes "world"))
+    let with_decode = with_subcommand with_replay (plain (codes "decode")) in
+    with_subcommand with_decode (plain (codes "world"))
 
 abbrev pub tn : App
 tn = with_subcommand (with_subcommand offline serve) connect

@@ -1,2 +1,5 @@
+pub mod Addresses
 pub mod Commands
+pub mod Escapes
+pub mod Numbers
 pub mod Words

@@ -1,21 +1,20 @@
 -- What words ask for, of the command line that `tn` takes.
-use Rattle.std.specs.Prelude.{◌≡◌, ◌≢◌, ◌⊎◌, ◌≤◌, ⊤, ℕ, Bool, true, false, Option, Some, None, List, [], codes, string_bytes}
-use Rattle.std.specs.Str.Parse.{IsNumeral, digits_value, without_leading_plus}
+use Rattle.std.specs.Prelude.{◌≡◌, ◌≢◌, ◌⊎◌, ◌≤◌, ⊤, ℕ, Bool, true, false, not, ◌&&◌, Option, Some, None, is_some, option_map, unwrap_or, List, [], codes, string_bytes}
 use Rattle.clap.specs.Words.{Row, Text, subcommand_of, takes, fault_of, first_of, one_of, IsAmong}
 use Rattle.clap.specs.declared.error.kind.ErrorKind.{ErrorKind}
 use Rattle.clap.specs.declared.error.kind.ErrorKind.TheVariants as kind
+use Rattle.tn_words.specs.Addresses.{WritesAddress}
 use Rattle.tn_words.specs.Commands.{tn}
+use Rattle.tn_words.specs.Escapes.{WritesEscape}
+use Rattle.tn_words.specs.Numbers.{Writes}
 use Rattle.tn_words.specs.declared.words.Asked.{Asked}
-use Rattle.tn_words.specs.declared.words.Asked.TheVariants.{Local, Replay, World, Serve, Connect}
+use Rattle.tn_words.specs.declared.words.Asked.TheVariants.{Local, Replay, Decode, World, Serve, Connect}
+use Rattle.tn_words.specs.declared.settings.Address.{Address}
 use Rattle.tn_words.specs.declared.settings.Connecting.{Connecting}
+use Rattle.tn_words.specs.declared.settings.Escape.{Escape}
 use Rattle.tn_words.specs.declared.settings.Serving.{Serving}
 use Rattle.tn_words.specs.declared.words.WordsFault.{WordsFault}
 use Rattle.tn_words.specs.declared.words.WordsFault.TheVariants as fault
-
--- the number that a text writes in decimal digits, where a plus may stand first
-pub record Writes (text : Text) (number : ℕ) : Type 0 where
-  pub numeral : IsNumeral 10 (without_leading_plus text)
-  pub value : digits_value 10 (without_leading_plus text) ≡ number
 
 -- The option of this name has this number, which lies in its range.
 pub record HasNumber (rows : List Row) (name : Text) (least most number : ℕ) : Type 0 where
@@ -29,6 +28,15 @@ pub record HasNumber (rows : List Row) (name : Text) (least most number : ℕ) :
 abbrev pub MissesNumber : List Row → Text → ℕ → ℕ → Type 0
 MissesNumber rows name least most = (number : ℕ) → ¬ HasNumber rows name least most number
 
+-- the option, or the host, of this name has a text
+abbrev pub is_given : Text → List Row → Bool
+is_given name rows = is_some (first_of name rows)
+
+-- the option has this number of its range, or it is not given
+abbrev pub MayHaveNumber : List Row → Text → ℕ → ℕ → Option ℕ → Type 0
+MayHaveNumber rows name least most None = is_given name rows ≡ false
+MayHaveNumber rows name least most (Some number) = HasNumber rows name least most number
+
 -- The option of this name, which takes no value, was given or not.
 pub record HasFlag (rows : List Row) (name : Text) (flag : Bool) : Type 0 where
   pub given : one_of name rows ≡ Some (codes "true") → flag ≡ true
@@ -38,6 +46,17 @@ pub record HasFlag (rows : List Row) (name : Text) (flag : Bool) : Type 0 where
 -- the option of this name has this text
 abbrev pub HasText : List Row → Text → Text → Type 0
 HasText rows name text = first_of name rows ≡ Some text
+
+-- The text of the option `--to` writes this address.
+pub record HasAddress (rows : List Row) (address : Address) : Type 0 where
+  pub text : Text
+  pub has : HasText rows (codes "to") text
+  pub writes : WritesAddress text (string_bytes address.host) address.port
+
+-- the same, or it is not given
+abbrev pub MayHaveAddress : List Row → Option Address → Type 0
+MayHaveAddress rows None = is_given (codes "to") rows ≡ false
+MayHaveAddress rows (Some address) = HasAddress rows address
 
 pub record AsksServe (rows : List Row) (asked : Serving) : Type 0 where
   pub host : HasText rows (codes "host") (string_bytes asked.host)
@@ -49,17 +68,42 @@ pub record AsksServe (rows : List Row) (asked : Serving) : Type 0 where
   pub idle : HasNumber rows (codes "idle") 0 86400 asked.idle
   pub edited : HasFlag rows (codes "local") asked.local
   pub verbose : HasFlag rows (codes "verbose") asked.verbose
+  pub to : MayHaveAddress rows asked.to
+  pub crlf : HasFlag rows (codes "crlf") asked.crlf
+
+-- the host that is named, or this machine
+abbrev pub host_of : List Row → Text
+host_of rows = unwrap_or (first_of (codes "host") rows) (codes "127.0.0.1")
+
+-- a host is named, and no port
+abbrev pub names_only_host : List Row → Bool
+names_only_host rows = is_given (codes "host") rows && not (is_given (codes "port") rows)
+
+-- the port that is given, or Telnet's where only a host is named
+abbrev pub AsksPort : List Row → ℕ → Type 0
+AsksPort rows port =
+    HasNumber rows (codes "port") 1 65535 port ⊎ (names_only_host rows ≡ true) × (port ≡ 23)
+
+-- The text of the option `--escape` writes this key.
+pub record HasEscape (rows : List Row) (escape : Escape) : Type 0 where
+  pub text : Text
+  pub has : HasText rows (codes "escape") text
+  pub writes : WritesEscape text escape
 
 pub record AsksConnect (rows : List Row) (asked : Connecting) : Type 0 where
-  pub port : HasNumber rows (codes "port") 1 65535 asked.port
-  pub width : HasNumber rows (codes "width") 0 65535 asked.width
-  pub height : HasNumber rows (codes "height") 0 65535 asked.height
+  pub host : string_bytes asked.host ≡ host_of rows
+  pub port : AsksPort rows asked.port
+  pub width : MayHaveNumber rows (codes "width") 0 65535 asked.width
+  pub height : MayHaveNumber rows (codes "height") 0 65535 asked.height
   pub line : HasNumber rows (codes "line") 255 4095 asked.line_limit
+  pub escape : HasEscape rows asked.escape
+  pub trace : option_map string_bytes asked.trace ≡ first_of (codes "trace") rows
 
 -- what a subcommand asks for, by its name and its options
 abbrev pub Asks : Text × List Row → Asked → Type 0
 Asks sub Local = sub.0 ≡ codes "local"
 Asks sub Replay = sub.0 ≡ codes "replay"
+Asks sub Decode = sub.0 ≡ codes "decode"
 Asks sub World = sub.0 ≡ codes "world"
 Asks sub (Serve serving) = (sub.0 ≡ codes "serve") × AsksServe sub.1 serving
 Asks sub (Connect connecting) = (sub.0 ≡ codes "connect") × AsksConnect sub.1 connecting
@@ -75,22 +119,54 @@ AsksNothing sub = (asked : Asked) → ¬ AsksIn sub asked
 abbrev pub AskFor : List Text → Asked → Type 0
 AskFor words asked = (fault_of tn words ≡ []) × AsksIn (subcommand_of tn words) asked
 
+-- where the words ask for a connection, it is to this host and this port
+abbrev pub AskForHost : List Text → Text → ℕ → Type 0
+AskForHost words host port = (asked : Connecting) → AskFor words (Connect asked)
+    → (string_bytes asked.host ≡ host) × (asked.port ≡ port)
+
 -- the words ask for help, before anything else is wrong with them
 abbrev pub AsksForHelp : List Text → Type 0
 AsksForHelp words = IsAmong kind.DisplayHelp (fault_of tn words)
 
+-- the words ask for the version, before anything else is wrong with them
+abbrev pub AsksForVersion : List Text → Type 0
+AsksForVersion words = IsAmong kind.DisplayVersion (fault_of tn words)
+
+-- what is printed for it
+abbrev pub version_line : Text
+version_line = codes "tn 1.0.0\n"
+
 -- something else is wrong with them
 abbrev pub AreWrong : List Text → Type 0
-AreWrong words = (k : ErrorKind) × (k ≢ kind.DisplayHelp) × IsAmong k (fault_of tn words)
+AreWrong words =
+    (k : ErrorKind) × (k ≢ kind.DisplayHelp) × (k ≢ kind.DisplayVersion) × IsAmong k (fault_of tn words)
 
 -- why words give no run: they are not taken, or name none; where memory runs out, they may be any
 abbrev pub Refuses : List Text → WordsFault → Type 0
-Refuses words fault.Usage = ((takes tn words ≡ false) × AreWrong words) ⊎ AsksNothing (subcommand_of tn words)
+Refuses words (fault.Usage detail) =
+    ((takes tn words ≡ false) × AreWrong words) ⊎ AsksNothing (subcommand_of tn words)
 Refuses words fault.Memory = ⊤
 Refuses words (fault.Help text) = (takes tn words ≡ false) × AsksForHelp words
+Refuses words fault.Version = (takes tn words ≡ false) × AsksForVersion words
 
 -- what an error of the parse is told as
 abbrev pub TellsKind : ErrorKind → WordsFault → Type 0
-TellsKind k fault.Usage = (k ≢ kind.OutOfMemory) × (k ≢ kind.DisplayHelp)
+TellsKind k (fault.Usage detail) =
+    (k ≢ kind.OutOfMemory) × (k ≢ kind.DisplayHelp) × (k ≢ kind.DisplayVersion)
 TellsKind k fault.Memory = ⊤
 TellsKind k (fault.Help text) = k ≡ kind.DisplayHelp
+TellsKind k fault.Version = k ≡ kind.DisplayVersion
+
+-- why taken words give no run: such a one is not asked for; where memory runs out, they may be any
+abbrev pub Lacks : Type 0 → WordsFault → Type 0
+Lacks P (fault.Usage detail) = P
+Lacks P fault.Memory = ⊤
+Lacks P (fault.Help text) = ⊥
+Lacks P fault.Version = ⊥
+
+-- what is told of words that are wrong
+abbrev pub detail_of : WordsFault → Option Text
+detail_of (fault.Usage detail) = Some (string_bytes detail)
+detail_of fault.Memory = None
+detail_of (fault.Help text) = None
+detail_of fault.Version = None

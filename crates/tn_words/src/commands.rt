@@ -1,9 +1,9 @@
 //! The command line that `tn` takes, as `clap` reads it.
 
 ghost use Rattle.std.specs.Prelude.{◌≡◌, false, IfOk, codes, pos};
-ghost use Rattle.tn_words.specs.Commands.{tn, offline, plain, serve, connect, whole_rule, with_default, flag_rule};
-ghost use Rattle.tn_words.specs.Commands.{host_rule, port_rule, line_rule};
-ghost use Rattle.clap.specs.Words.{app_of, new_app, rule_of, shape_of};
+ghost use Rattle.tn_words.specs.Commands.{tn, alone, offline, plain, serve, connect, whole_rule, with_default, flag_rule};
+ghost use Rattle.tn_words.specs.Commands.{escape_rule, host_rule, line_rule, place_rule, port_rule, text_rule};
+ghost use Rattle.clap.specs.Words.{app_of, new_app, rule_of, shape_of, with_rule};
 ghost use Rattle.clap.specs.declared.builder.command.Command.TheViews.{out-Command};
 ghost use Rattle.clap.specs.declared.builder.value_parser.ValueParser.TheVariants as parser;
 
@@ -14,6 +14,8 @@ use std::alloc::{AllocError, Global};
 pub(crate) const LOCAL: &str = "local";
 
 pub(crate) const REPLAY: &str = "replay";
+
+pub(crate) const DECODE: &str = "decode";
 
 pub(crate) const WORLD: &str = "world";
 
@@ -80,9 +82,23 @@ pub(crate) const HEIGHT: Whole = Whole {
 
 pub(crate) const HOST: &str = "host";
 
+pub(crate) const ESCAPE: &str = "escape";
+
+pub(crate) const TRACE: &str = "trace";
+
 pub(crate) const LOCALLY: &str = "local";
 
 pub(crate) const VERBOSE: &str = "verbose";
+
+pub(crate) const TO: &str = "to";
+
+pub(crate) const CRLF: &str = "crlf";
+
+/// The version of `tn`, which the line that it prints has too.
+const VERSION: &str = "1.0.0";
+
+/// What `tn --version` prints.
+pub const VERSION_LINE: &str = "tn 1.0.0\n";
 
 /// The whole command line.
 pub(crate) fn tn_command<'a>(alloc: Global) -> Result<Command<'a>, AllocError>
@@ -98,14 +114,23 @@ pub(crate) fn tn_command<'a>(alloc: Global) -> Result<Command<'a>, AllocError>
 fn offline_command<'a>(alloc: Global) -> Result<Command<'a>, AllocError>
     ensures { IfOk result (λ command. app_of command ≡ offline) }
 {
+    let command = bare_command(alloc).subcommand(local_command(alloc))?;
+    let command = command.subcommand(replay_command(alloc))?;
+    let command = command.subcommand(decode_command(alloc))?;
+    let command = command.subcommand(world_command(alloc))?;
+    Ok(command)
+}
+
+// The command without its subcommands.
+fn bare_command<'a>(alloc: Global) -> Command<'a>
+    ensures { app_of result ≡ alone }
+{
     Command::new(alloc, "tn")
+        .version(VERSION)
         .about("Telnet with LINEMODE: a line means the same wherever it was edited")
         .after_help("Example:\n  printf 'ab\\177c\\r' | tn local")
         .subcommand_required(true)
         .disable_help_subcommand(true)
-        .subcommand(local_command(alloc))?
-        .subcommand(replay_command(alloc))?
-        .subcommand(world_command(alloc))
 }
 
 fn local_command<'a>(alloc: Global) -> Command<'a>
@@ -136,6 +161,20 @@ fn replay_command<'a>(alloc: Global) -> Command<'a>
          and a new line is the line feed key; commands, option words and subnegotiations are passed \
          over. Prints the entries as `tn local` does.",
         "Example:\n  printf '\\377\\377\\r\\0' | tn replay\n  text ff0a",
+    )
+}
+
+fn decode_command<'a>(alloc: Global) -> Command<'a>
+    ensures shape { shape_of result ≡ plain (codes "decode") }
+    ensures local { (out-Command result).has_globals ≡ false }
+{
+    described(
+        alloc,
+        DECODE,
+        "Reads one direction of a Telnet byte stream, and prints its items",
+        "Reads one direction of a Telnet byte stream from standard input, at most 1 MiB, and prints one \
+         line for each item: data, commands, option words and subnegotiations.",
+        "Example:\n  printf 'ls\\377\\373\\042' | tn decode",
     )
 }
 
@@ -190,7 +229,7 @@ fn serve_command<'a>(alloc: Global) -> Result<Command<'a>, AllocError>
     );
     let command = command
         .arg(host_option(alloc))?
-        .arg(port_option(alloc, "The port to listen on"))?
+        .arg(required_port(alloc, "The port to listen on"))?
         .arg(whole_option(alloc, LIMIT, "8", "How many sessions there may be at once"))?
         .arg(whole_option(
             alloc,
@@ -221,6 +260,28 @@ fn serve_command<'a>(alloc: Global) -> Result<Command<'a>, AllocError>
             VERBOSE,
             "Notes on standard error who connects and how each session ends",
         ))?;
+    let command = with_gateway_options(alloc, command)?;
+    Ok(command)
+}
+
+fn with_gateway_options<'a>(alloc: Global, command: Command<'a>) -> Result<Command<'a>, AllocError>
+    requires { (out-Command command).has_globals ≡ false }
+    ensures app { IfOk result (λ new. app_of new
+        ≡ with_rule (with_rule (app_of command.entry) (text_rule (codes "to"))) (flag_rule (codes "crlf"))) }
+    ensures local { IfOk result (λ new. (out-Command new).has_globals ≡ false) }
+{
+    let command = command
+        .arg(text_option(
+            alloc,
+            TO,
+            "HOST:PORT",
+            "Joins each session to the line service there: lines go to it, and what it says comes back",
+        ))?
+        .arg(flag_option(
+            alloc,
+            CRLF,
+            "Ends each line to that service with CR LF in place of LF",
+        ))?;
     Ok(command)
 }
 
@@ -231,32 +292,52 @@ fn connect_command<'a>(alloc: Global) -> Result<Command<'a>, AllocError>
     let command = described(
         alloc,
         CONNECT,
-        "Joins a Telnet server on this machine, as a client with LINEMODE",
-        "Connects to a port of 127.0.0.1. Standard input is the keys, as they are typed, and standard \
-         output the screen. Where the server asks for it, lines are edited here and sent whole. At the \
-         end of its input it sends what is left, tells the server that no more comes, and ends once the \
-         server has closed.\n\n\
+        "Joins a Telnet server, as a client with LINEMODE",
+        "Connects to HOST, which is a name or an address, IPv4 or IPv6, at port 23 or at another one; \
+         without HOST to a port of this machine. Standard input is the keys, as they are typed, and \
+         standard output the screen. Where the server asks for it, lines are edited here and sent whole. \
+         At the end of its input it sends what is left, tells the server that no more comes, and ends once \
+         the server has closed.\n\n\
          At a terminal, start it with `./tn connect`, which sets the terminal so that each key is sent at \
          once, and sets it back at the end. With `tn serve` at the other end, the line `exit` ends the \
          session, and so does ^D on an empty line.",
         "Example, where `tn serve --port 2323` runs in another terminal:\n  \
          printf 'hello\\rexit\\r' | tn connect --port 2323",
     );
+    let command = with_connect_options(alloc, command)?;
+    Ok(command)
+}
+
+fn with_connect_options<'a>(alloc: Global, command: Command<'a>) -> Result<Command<'a>, AllocError>
+    requires app { app_of command ≡ new_app (codes "connect") }
+    requires local { (out-Command command).has_globals ≡ false }
+    ensures shape { IfOk result (λ command. shape_of command ≡ connect) }
+    ensures local { IfOk result (λ command. (out-Command command).has_globals ≡ false) }
+{
     let command = command
-        .arg(port_option(alloc, "The port of this machine to connect to"))?
-        .arg(whole_option(
+        .arg(host_place(alloc))?
+        .arg(port_option(
+            alloc,
+            "The port to connect to, which is 23 where a HOST is given and no port",
+        ))?
+        .arg(size_option(
             alloc,
             WIDTH,
-            "80",
-            "The width of the window, in characters; 0 tells none",
+            "The width of the window, in characters; 0 tells none; default: the terminal's, or 80",
         ))?
-        .arg(whole_option(
+        .arg(size_option(
             alloc,
             HEIGHT,
-            "24",
-            "The height of the window, in lines; 0 tells none",
+            "The height of the window, in lines; 0 tells none; default: the terminal's, or 24",
         ))?
-        .arg(line_option(alloc))?;
+        .arg(line_option(alloc))?
+        .arg(escape_option(alloc))?
+        .arg(text_option(
+            alloc,
+            TRACE,
+            "FILE",
+            "Writes to this file what goes over the connection",
+        ))?;
     Ok(command)
 }
 
@@ -311,13 +392,42 @@ fn whole_option<'a>(
         .help(help)
 }
 
+// An option for a port that need not be given.
 fn port_option<'a>(alloc: Global, help: &'static str) -> Arg<'a>
+    ensures rule { rule_of result ≡ whole_rule (codes "port") 1 65535 }
+    ensures local { result.global ≡ false }
+{
+    number_option(alloc, PORT).value_name("P").help(help)
+}
+
+fn required_port<'a>(alloc: Global, help: &'static str) -> Arg<'a>
     ensures rule { rule_of result ≡ port_rule }
     ensures local { result.global ≡ false }
 {
-    number_option(alloc, PORT)
-        .value_name("P")
-        .required(true)
+    port_option(alloc, help).required(true)
+}
+
+// An option for a size that need not be given.
+fn size_option<'a>(alloc: Global, whole: Whole, help: &'static str) -> Arg<'a>
+    ensures rule { rule_of result ≡ whole_rule whole.name.now whole.least whole.most }
+    ensures local { result.global ≡ false }
+{
+    number_option(alloc, whole).help(help)
+}
+
+// An option that takes a text.
+fn text_option<'a>(
+    alloc: Global,
+    name: &'static str,
+    value_name: &'static str,
+    help: &'static str,
+) -> Arg<'a>
+    ensures rule { rule_of result ≡ text_rule name.now }
+    ensures local { result.global ≡ false }
+{
+    Arg::new(alloc, name)
+        .long(name)
+        .value_name(value_name)
         .help(help)
 }
 
@@ -326,11 +436,37 @@ fn host_option<'a>(alloc: Global) -> Arg<'a>
     ensures rule { rule_of result ≡ host_rule }
     ensures local { result.global ≡ false }
 {
-    Arg::new(alloc, HOST)
-        .long(HOST)
-        .value_name("H")
-        .default_value("127.0.0.1")
-        .help("The address to listen on, or a name that has one")
+    text_option(
+        alloc,
+        HOST,
+        "H",
+        "The address to listen on, or a name that has one",
+    )
+    .default_value("127.0.0.1")
+}
+
+// The host to connect to, which has no name before it.
+fn host_place<'a>(alloc: Global) -> Arg<'a>
+    ensures rule { rule_of result ≡ place_rule (codes "host") }
+    ensures local { result.global ≡ false }
+{
+    Arg::new(alloc, HOST).value_name("HOST").help(
+        "The host to connect to, a name or an address; without it this machine",
+    )
+}
+
+fn escape_option<'a>(alloc: Global) -> Arg<'a>
+    ensures rule { rule_of result ≡ escape_rule }
+    ensures local { result.global ≡ false }
+{
+    text_option(
+        alloc,
+        ESCAPE,
+        "C",
+        "The key that speaks to the client itself at a terminal: a caret and one of A to Z, [, \\, ], ^ \
+         and _, or `none`",
+    )
+    .default_value("^]")
 }
 
 fn line_option<'a>(alloc: Global) -> Arg<'a>

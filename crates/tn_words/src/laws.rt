@@ -1,25 +1,71 @@
 //! Facts about the definitions alone.
 
-ghost use Rattle.std.specs.Prelude.{◌≡◌, true, false, [], ◌∷◌, codes};
-ghost use Rattle.clap.specs.Words.{takes};
+ghost use Rattle.std.specs.Prelude.{◌≡◌, ℕ, List, true, false, [], ◌∷◌, None, codes};
+ghost use Rattle.clap.specs.Words.{subcommand_of, takes};
+ghost use Rattle.tn_words.specs.Addresses.{WritesAddress};
 ghost use Rattle.tn_words.specs.Commands.{tn};
-ghost use Rattle.tn_words.specs.Words.{AskFor, AsksForHelp};
-ghost use Rattle.tn_words.specs.declared.words.Asked.TheVariants.{Local, Replay, World};
+ghost use Rattle.tn_words.specs.Escapes.{WritesEscape};
+ghost use Rattle.tn_words.specs.Words.{AskFor, AskForHost, AsksForHelp, AsksForVersion, AsksNothing};
+ghost use Rattle.tn_words.specs.declared.settings.Connecting.{Connecting};
+ghost use Rattle.tn_words.specs.declared.settings.Escape.{Escape};
+ghost use Rattle.tn_words.specs.declared.settings.Escape.TheVariants as escape;
+ghost use Rattle.tn_words.specs.declared.words.Asked.TheVariants.{Local, Replay, Decode, World, Connect};
 
 /// The name of a subcommand is accepted alone, and asks for its run.
 pub fn names_ask()
     ensures local { AskFor (codes "tn" ∷ codes "local" ∷ []) Local }
     ensures replay { AskFor (codes "tn" ∷ codes "replay" ∷ []) Replay }
+    ensures decode { AskFor (codes "tn" ∷ codes "decode" ∷ []) Decode }
     ensures world { AskFor (codes "tn" ∷ codes "world" ∷ []) World }
     ensures local_taken { takes tn (codes "tn" ∷ codes "local" ∷ []) ≡ true }
     ensures replay_taken { takes tn (codes "tn" ∷ codes "replay" ∷ []) ≡ true }
+    ensures decode_taken { takes tn (codes "tn" ∷ codes "decode" ∷ []) ≡ true }
     ensures world_taken { takes tn (codes "tn" ∷ codes "world" ∷ []) ≡ true }
 {}
 
-/// An extra word is not accepted, nor is no subcommand; `--help` asks for help.
+/// An extra word is not accepted, nor is no subcommand; `--help` asks for help, and `--version` for the
+/// version.
 pub fn other_words()
     ensures more { takes tn (codes "tn" ∷ codes "local" ∷ codes "x" ∷ []) ≡ false }
     ensures none { takes tn (codes "tn" ∷ []) ≡ false }
     ensures help { AsksForHelp (codes "tn" ∷ codes "--help" ∷ []) }
     ensures its_help { AsksForHelp (codes "tn" ∷ codes "local" ∷ codes "-h" ∷ []) }
+    ensures version { AsksForVersion (codes "tn" ∷ codes "--version" ∷ []) }
+{}
+
+/// A host without a port is connected to at port 23, a port without a host is one of this machine, and
+/// without both no connection is asked for. Without options the sizes are open, the escape key is `^]`, and
+/// no trace is written.
+pub fn hosts_and_ports()
+    ensures host { AskForHost (codes "tn" ∷ codes "connect" ∷ codes "::1" ∷ []) (codes "::1") 23 }
+    ensures host_taken { takes tn (codes "tn" ∷ codes "connect" ∷ codes "::1" ∷ []) ≡ true }
+    ensures port { AskForHost (codes "tn" ∷ codes "connect" ∷ codes "--port" ∷ codes "7" ∷ [])
+        (codes "127.0.0.1") 7 }
+    ensures port_taken { takes tn (codes "tn" ∷ codes "connect" ∷ codes "--port" ∷ codes "7" ∷ []) ≡ true }
+    ensures both { AskForHost (codes "tn" ∷ codes "connect" ∷ codes "h" ∷ codes "--port=7" ∷ [])
+        (codes "h") 7 }
+    ensures neither { AsksNothing (subcommand_of tn (codes "tn" ∷ codes "connect" ∷ [])) }
+    ensures plain { (asked : Connecting)
+        → AskFor (codes "tn" ∷ codes "connect" ∷ codes "::1" ∷ []) (Connect asked)
+        → (asked.width ≡ None) × (asked.height ≡ None) × (asked.escape ≡ escape.Key 29)
+        × (asked.trace ≡ None) }
+{}
+
+/// A host, a colon and a port write an address, and no text writes two.
+pub fn addresses()
+    ensures name { WritesAddress (codes "redis:6379") (codes "redis") 6379 }
+    ensures colons { WritesAddress (codes "::1:7") (codes "::1") 7 }
+    ensures one_host { (text h g : List ℕ) (p q : ℕ)
+        → WritesAddress text h p → WritesAddress text g q → h ≡ g }
+    ensures one_port { (text h g : List ℕ) (p q : ℕ)
+        → WritesAddress text h p → WritesAddress text g q → p ≡ q }
+{}
+
+/// A caret and a letter, capital or small, or a sign write a control character; no text writes two keys.
+pub fn escapes()
+    ensures sign { WritesEscape (codes "^]") (escape.Key 29) }
+    ensures capital { WritesEscape (codes "^A") (escape.Key 1) }
+    ensures small { WritesEscape (codes "^a") (escape.Key 1) }
+    ensures none { WritesEscape (codes "none") escape.None }
+    ensures one { (text : List ℕ) (a b : Escape) → WritesEscape text a → WritesEscape text b → a ≡ b }
 {}

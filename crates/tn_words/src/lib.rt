@@ -7,7 +7,8 @@
 //! It runs nothing itself.
 #![tactic(auto)]
 
-pub use settings::{Connecting, Serving};
+pub use commands::VERSION_LINE;
+pub use settings::{Address, Connecting, Escape, Serving};
 pub use words::{Asked, WordsFault, read_words};
 
 mod commands;

@@ -1,6 +1,55 @@
 //! How to serve and how to connect.
 
+ghost use Rattle.std.specs.Prelude.{◌≡◌, ℕ, List, Ok, None, IfOk, IfSome, string_bytes};
+ghost use Rattle.tn_words.specs.Addresses.{WritesAddress};
+ghost use Rattle.tn_words.specs.Escapes.{IsControlOf, WritesEscape};
+
+use std::alloc::{AllocError, Global};
 use tn_discipline::Limit;
+
+/// Where a service is.
+#[derive(Debug, Drop, PartialEq, Eq)]
+pub struct Address {
+    /// The address of its host, or a name that has one.
+    pub host: String,
+    /// The port, from 1 to 65,535.
+    pub port: u16,
+}
+
+impl Address {
+    // The address that a text writes: what stands before its last colon is the host.
+    pub(crate) fn from_text(alloc: Global, text: &str) -> Result<Option<Address>, AllocError>
+        ensures some { IfOk result (λ read. IfSome read (λ address.
+            WritesAddress text.now (string_bytes address.host) address.port)) }
+        ensures none { result ≡ Ok None
+            → (host : List ℕ) (port : ℕ) → ¬ WritesAddress text.now host port }
+    {
+        match host_and_port(text) {
+            Some((host, port)) => {
+                let host = String::from_str(alloc, host)?;
+                Ok(Some(Address { host, port }))
+            },
+            None => Ok(None),
+        }
+    }
+}
+
+fn host_and_port(text: &str) -> Option<(&str, u16)>
+    ensures some { IfSome result (λ read. WritesAddress text.now read.0.now read.1) }
+    ensures none { result ≡ None → (host : List ℕ) (port : ℕ) → ¬ WritesAddress text.now host port }
+{
+    let (host, number) = text.rsplit_once(':')?;
+    if host.is_empty() {
+        return None;
+    }
+    let Ok(port) = number.parse::<u16>() else {
+        return None;
+    };
+    if port == 0 {
+        return None;
+    }
+    Some((host, port))
+}
 
 /// How to serve.
 #[derive(Debug, Drop, PartialEq, Eq)]
@@ -24,17 +73,62 @@ pub struct Serving {
     pub local: bool,
     /// Whether connections and the ends of their sessions are logged.
     pub verbose: bool,
+    /// The line service that each session is joined to.
+    pub to: Option<Address>,
+    /// Whether a line ends for that service with a carriage return and a line feed.
+    pub crlf: bool,
+}
+
+/// The key by which the user at a terminal speaks to the client itself.
+#[derive(Clone, Copy, Debug, PartialEq, Eq)]
+pub enum Escape {
+    /// This control character, from 1 to 31.
+    Key(u8),
+    /// No key does.
+    None,
+}
+
+impl Escape {
+    // The escape key that a text writes: a caret and a letter or a sign, or `none`.
+    pub(crate) fn from_text(text: &str) -> Option<Escape>
+        ensures some { IfSome result (WritesEscape text.now) }
+        ensures none { result ≡ None → (escape : Escape) → ¬ WritesEscape text.now escape }
+    {
+        match text.as_bytes() {
+            b"none" => Some(Escape::None),
+            [b'^', letter] => Some(Escape::Key(control_of(*letter)?)),
+            _ => None,
+        }
+    }
+}
+
+// The control character that a caret before this letter or sign writes.
+fn control_of(letter: u8) -> Option<u8>
+    ensures some { IfSome result (IsControlOf letter) }
+    ensures none { result ≡ None → (key : ℕ) → ¬ IsControlOf letter key }
+{
+    match letter {
+        b'A'..=b'_' => Some(letter - b'@'),
+        b'a'..=b'z' => Some(letter - b'`'),
+        _ => None,
+    }
 }
 
 /// How to connect.
-#[derive(Clone, Copy, Debug, PartialEq, Eq)]
+#[derive(Debug, Drop, PartialEq, Eq)]
 pub struct Connecting {
-    /// The port on this machine, from 1 to 65,535.
+    /// The address of the host, or a name that has one.
+    pub host: String,
+    /// The port, from 1 to 65,535.
     pub port: u16,
-    /// The width of the window in characters; 0 if it is not known.
-    pub width: u16,
-    /// The height of the window in lines; 0 if it is not known.
-    pub height: u16,
+    /// The width of the window in characters, or 0 for none that is told; `None` where none is given.
+    pub width: Option<u16>,
+    /// The height of the window in lines, or 0 for none that is told; `None` where none is given.
+    pub height: Option<u16>,
     /// The most bytes in a line.
     pub line_limit: Limit,
+    /// The key by which the user at a terminal speaks to the client itself.
+    pub escape: Escape,
+    /// The file that gets a trace of the connection.
+    pub trace: Option<String>,
 }

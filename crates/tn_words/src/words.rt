@@ -1,26 +1,34 @@
 //! The words of the command line.
 
-ghost use Rattle.std.specs.Prelude.{◌≡◌, None, IfOk, IfErr, IfSome, codes, map, string_bytes};
-ghost use Rattle.clap.specs.Words.{kind_of, rows_of, found_of, subcommand_rows_of};
-ghost use Rattle.tn_words.specs.Words.{AskFor, AsksIn, AsksNothing, AsksServe, AsksConnect, HasNumber, HasText, MissesNumber};
-ghost use Rattle.tn_words.specs.Words.{Refuses, TellsKind};
+ghost use Rattle.std.specs.Prelude.{◌≡◌, ◌≤◌, ℕ, ⊤, None, Option, IfOk, IfErr, IfSome, codes, map, option_map, string_bytes};
+ghost use Rattle.clap.specs.Words.{kind_of, rows_of, first_of, found_of, subcommand_rows_of};
+ghost use Rattle.tn_words.specs.Words.{AskFor, AsksIn, AsksNothing, AsksServe, AsksConnect, AsksPort, HasEscape, HasNumber};
+ghost use Rattle.tn_words.specs.Words.{HasText, Lacks, MayHaveAddress, MayHaveNumber, MissesNumber, Refuses, TellsKind};
+ghost use Rattle.tn_words.specs.Words.{detail_of, host_of, is_given, names_only_host};
 
 use crate::commands::{
-    CONNECT, COUNT, HEIGHT, HOST, IDLE, LIMIT, LINE, LOCAL, LOCALLY, PORT, REPLAY, SERVE, TICKS,
-    VERBOSE, WIDTH, WORLD, Whole, tn_command,
+    CONNECT, COUNT, CRLF, DECODE, ESCAPE, HEIGHT, HOST, IDLE, LIMIT, LINE, LOCAL, LOCALLY, PORT,
+    REPLAY, SERVE, TICKS, TO, TRACE, VERBOSE, VERSION_LINE, WIDTH, WORLD, Whole, tn_command,
 };
-use crate::settings::{Connecting, Serving};
+use crate::settings::{Address, Connecting, Escape, Serving};
 use clap::error::ErrorKind;
 use clap::{ArgMatches, Error};
 use std::alloc::{AllocError, Global};
 use thiserror::Error as ErrorText;
 use tn_discipline::Limit;
 
+/// The host of a connection where none is named.
+const THIS_MACHINE: &str = "127.0.0.1";
+
+/// The port of a connection where only a host is named.
+const TELNET_PORT: u16 = 23;
+
 /// What the words ask for.
 #[derive(Debug, Drop, PartialEq, Eq)]
 pub enum Asked {
     Local,
     Replay,
+    Decode,
     World,
     Serve(Serving),
     Connect(Connecting),
@@ -29,14 +37,29 @@ pub enum Asked {
 /// Why nothing is run for the words.
 #[derive(Debug, Drop, ErrorText)]
 pub enum WordsFault {
-    /// The words are not accepted.
+    /// The words are not accepted. The text says why, and where help is.
     #[error("usage")]
-    Usage,
+    Usage(String),
     #[error("memory")]
     Memory,
     /// The help that was asked for, as `clap` lays it out.
     #[error("{0}")]
     Help(String),
+    /// The version was asked for.
+    #[error("{line}", line = VERSION_LINE)]
+    Version,
+}
+
+impl WordsFault {
+    /// What is wrong with words that are not accepted, and where help is, in whole lines.
+    pub fn detail(&self) -> Option<&str>
+        ensures { option_map (λ detail. detail.now) result ≡ detail_of self.now }
+    {
+        match self {
+            WordsFault::Usage(detail) => Some(detail.as_str()),
+            _ => None,
+        }
+    }
 }
 
 impl From<AllocError> for WordsFault {
@@ -49,62 +72,95 @@ impl From<AllocError> for WordsFault {
     }
 }
 
+/// Why words that `clap` takes ask for nothing.
+#[derive(Clone, Copy, Debug, ErrorText)]
+enum Lack<'a> {
+    #[error("error: the following required arguments were not provided:\n  HOST, or --port <P>\n\n\
+         Usage: tn connect [OPTIONS] [HOST]\n\nFor more information, try '--help'.\n")]
+    Port,
+    /// The text writes no key.
+    #[error("error: invalid value '{0}' for '--escape <C>': it is neither `none` nor a caret and one of \
+         A to Z, [, \\, ], ^ and _\n\nFor more information, try '--help'.\n")]
+    Escape(&'a str),
+    /// The text writes no address.
+    #[error("error: invalid value '{0}' for '--to <HOST:PORT>': it is no host with a port of 1 to 65535 behind \
+         a colon\n\nFor more information, try '--help'.\n")]
+    Address(&'a str),
+    /// `clap` takes no such words.
+    #[error("error: a value is missing or out of its range\n\nFor more information, try '--help'.\n")]
+    Value,
+}
+
 /// Reads the words of a command line, the program's name first.
 pub fn read_words(alloc: Global, words: &[&str]) -> Result<Asked, WordsFault>
     ensures asked { IfOk result (AskFor (map (λ word. word.now) words.now)) }
     ensures refuses { IfErr result (Refuses (map (λ word. word.now) words.now)) }
 {
     let command = tn_command(alloc)?;
-    let matches = match command.try_get_matches_from(words) {
-        Ok(matches) => matches,
-        Err(error) => return Err(words_fault(alloc, &error)),
-    };
-    let found = asked_of(alloc, &matches)?;
-    match found {
-        Some(asked) => Ok(asked),
-        None => Err(WordsFault::Usage),
+    match command.try_get_matches_from(words) {
+        Ok(matches) => asked_of(alloc, &matches),
+        Err(error) => Err(words_fault(alloc, &error)),
     }
 }
 
-fn asked_of(alloc: Global, matches: &ArgMatches<'_>) -> Result<Option<Asked>, AllocError>
-    ensures asked { IfOk result (λ found. IfSome found (AsksIn (subcommand_rows_of matches.now))) }
-    ensures none { IfOk result (λ found. found ≡ None → AsksNothing (subcommand_rows_of matches.now)) }
+fn asked_of(alloc: Global, matches: &ArgMatches<'_>) -> Result<Asked, WordsFault>
+    ensures asked { IfOk result (AsksIn (subcommand_rows_of matches.now)) }
+    ensures lacks { IfErr result (Lacks (AsksNothing (subcommand_rows_of matches.now))) }
 {
     let Some((name, words)) = matches.subcommand() else {
-        return Ok(None);
+        return Err(lacking(alloc, &Lack::Value));
     };
     match name {
-        LOCAL => Ok(Some(Asked::Local)),
-        REPLAY => Ok(Some(Asked::Replay)),
-        WORLD => Ok(Some(Asked::World)),
-        SERVE => match serving(alloc, words)? {
-            Some(serving) => Ok(Some(Asked::Serve(serving))),
-            None => Ok(None),
+        LOCAL => Ok(Asked::Local),
+        REPLAY => Ok(Asked::Replay),
+        DECODE => Ok(Asked::Decode),
+        WORLD => Ok(Asked::World),
+        SERVE => match serving(alloc, words) {
+            Ok(serving) => Ok(Asked::Serve(serving)),
+            Err(fault) => Err(fault),
         },
-        CONNECT => match connecting(words) {
-            Some(connecting) => Ok(Some(Asked::Connect(connecting))),
-            None => Ok(None),
+        CONNECT => match connecting(alloc, words) {
+            Ok(connecting) => Ok(Asked::Connect(connecting)),
+            Err(fault) => Err(fault),
         },
-        _ => Ok(None),
+        _ => Err(lacking(alloc, &Lack::Value)),
     }
 }
 
-fn serving(alloc: Global, words: &ArgMatches<'_>) -> Result<Option<Serving>, AllocError>
-    ensures asked { IfOk result (λ found. IfSome found (AsksServe (rows_of (found_of words.now)))) }
-    ensures none { IfOk result (λ found. found ≡ None →
-        (asked : Serving) → ¬ AsksServe (rows_of (found_of words.now)) asked) }
+fn serving(alloc: Global, words: &ArgMatches<'_>) -> Result<Serving, WordsFault>
+    ensures asked { IfOk result (AsksServe (rows_of (found_of words.now))) }
+    ensures lacks { IfErr result
+        (Lacks ((asked : Serving) → ¬ AsksServe (rows_of (found_of words.now)) asked)) }
 {
-    match words.get_str(HOST) {
-        Some(host) => {
-            let host = String::from_str(alloc, host)?;
-            Ok(serving_at(host, words))
-        },
-        None => Ok(None),
+    let Some(host) = words.get_str(HOST) else {
+        return Err(lacking(alloc, &Lack::Value));
+    };
+    let to = to_of(alloc, words)?;
+    let host = String::from_str(alloc, host)?;
+    match serving_at(host, to, words) {
+        Some(serving) => Ok(serving),
+        None => Err(lacking(alloc, &Lack::Value)),
     }
 }
 
-fn serving_at(host: String, words: &ArgMatches<'_>) -> Option<Serving>
+// The address of the service that is named, if one is.
+fn to_of(alloc: Global, words: &ArgMatches<'_>) -> Result<Option<Address>, WordsFault>
+    ensures asked { IfOk result (MayHaveAddress (rows_of (found_of words.now))) }
+    ensures lacks { IfErr result (Lacks
+        ((to : Option Address) → ¬ MayHaveAddress (rows_of (found_of words.now)) to)) }
+{
+    let Some(text) = words.get_str(TO) else {
+        return Ok(None);
+    };
+    match Address::from_text(alloc, text)? {
+        Some(address) => Ok(Some(address)),
+        None => Err(lacking(alloc, &Lack::Address(text))),
+    }
+}
+
+fn serving_at(host: String, to: Option<Address>, words: &ArgMatches<'_>) -> Option<Serving>
     requires host { HasText (rows_of (found_of words.now)) (codes "host") (string_bytes host) }
+    requires to { MayHaveAddress (rows_of (found_of words.now)) to }
     ensures asked { IfSome result (AsksServe (rows_of (found_of words.now))) }
     ensures none { result ≡ None → (asked : Serving) → ¬ AsksServe (rows_of (found_of words.now)) asked }
 {
@@ -118,19 +174,111 @@ fn serving_at(host: String, words: &ArgMatches<'_>) -> Option<Serving>
         idle: number(words, IDLE)?,
         local: words.get_flag(LOCALLY),
         verbose: words.get_flag(VERBOSE),
+        to,
+        crlf: words.get_flag(CRLF),
     })
 }
 
-fn connecting(words: &ArgMatches<'_>) -> Option<Connecting>
+fn connecting(alloc: Global, words: &ArgMatches<'_>) -> Result<Connecting, WordsFault>
+    ensures asked { IfOk result (AsksConnect (rows_of (found_of words.now))) }
+    ensures lacks { IfErr result
+        (Lacks ((asked : Connecting) → ¬ AsksConnect (rows_of (found_of words.now)) asked)) }
+{
+    let Some(port) = port_of(words) else {
+        return Err(lacking(alloc, &Lack::Port));
+    };
+    let Some(text) = words.get_str(ESCAPE) else {
+        return Err(lacking(alloc, &Lack::Value));
+    };
+    let Some(escape) = Escape::from_text(text) else {
+        return Err(lacking(alloc, &Lack::Escape(text)));
+    };
+    let host = host_of(alloc, words)?;
+    let trace = trace_of(alloc, words)?;
+    match connecting_to(host, port, escape, trace, words) {
+        Some(connecting) => Ok(connecting),
+        None => Err(lacking(alloc, &Lack::Value)),
+    }
+}
+
+fn connecting_to(
+    host: String,
+    port: u16,
+    escape: Escape,
+    trace: Option<String>,
+    words: &ArgMatches<'_>,
+) -> Option<Connecting>
+    requires host { string_bytes host ≡ host_of (rows_of (found_of words.now)) }
+    requires port { AsksPort (rows_of (found_of words.now)) port }
+    requires escape { HasEscape (rows_of (found_of words.now)) escape }
+    requires trace { option_map string_bytes trace ≡ first_of (codes "trace") (rows_of (found_of words.now)) }
     ensures asked { IfSome result (AsksConnect (rows_of (found_of words.now))) }
-    ensures none { result ≡ None → (asked : Connecting) → ¬ AsksConnect (rows_of (found_of words.now)) asked }
+    ensures none { result ≡ None →
+        (asked : Connecting) → ¬ AsksConnect (rows_of (found_of words.now)) asked }
 {
     Some(Connecting {
-        port: number(words, PORT)? as u16,
-        width: number(words, WIDTH)? as u16,
-        height: number(words, HEIGHT)? as u16,
+        host,
+        port,
+        width: size(words, WIDTH)?,
+        height: size(words, HEIGHT)?,
         line_limit: Limit::new(number(words, LINE)? as u16)?,
+        escape,
+        trace,
     })
+}
+
+// The port that is given, or Telnet's where only a host is named.
+fn port_of(words: &ArgMatches<'_>) -> Option<u16>
+    ensures some { IfSome result (AsksPort (rows_of (found_of words.now))) }
+    ensures none { result ≡ None → (port : ℕ) → ¬ AsksPort (rows_of (found_of words.now)) port }
+{
+    if names_only_host(words) {
+        return Some(TELNET_PORT);
+    }
+    Some(number(words, PORT)? as u16)
+}
+
+fn names_only_host(words: &ArgMatches<'_>) -> bool
+    ensures { result ≡ names_only_host (rows_of (found_of words.now)) }
+{
+    is_given(words, HOST) && !is_given(words, PORT.name)
+}
+
+fn is_given(words: &ArgMatches<'_>, name: &str) -> bool
+    ensures { result ≡ is_given name.now (rows_of (found_of words.now)) }
+{
+    words.get_str(name).is_some()
+}
+
+// The host that is named, or this machine.
+fn host_of(alloc: Global, words: &ArgMatches<'_>) -> Result<String, AllocError>
+    ensures { IfOk result (λ host. string_bytes host ≡ host_of (rows_of (found_of words.now))) }
+{
+    String::from_str(alloc, words.get_str(HOST).unwrap_or(THIS_MACHINE))
+}
+
+fn trace_of(alloc: Global, words: &ArgMatches<'_>) -> Result<Option<String>, AllocError>
+    ensures { IfOk result (λ trace.
+        option_map string_bytes trace ≡ first_of (codes "trace") (rows_of (found_of words.now))) }
+{
+    match words.get_str(TRACE) {
+        Some(path) => Ok(Some(String::from_str(alloc, path)?)),
+        None => Ok(None),
+    }
+}
+
+// The size that an option gives, if it is given; `None` where it gives none of its range.
+fn size(words: &ArgMatches<'_>, whole: Whole) -> Option<Option<u16>>
+    requires { whole.most ≤ 65535 }
+    ensures some { IfSome result
+        (MayHaveNumber (rows_of (found_of words.now)) whole.name.now whole.least whole.most) }
+    ensures none { result ≡ None → (size : Option ℕ) →
+        ¬ MayHaveNumber (rows_of (found_of words.now)) whole.name.now whole.least whole.most size }
+{
+    if !is_given(words, whole.name) {
+        return Some(None);
+    }
+    Some(Some(number(words, whole)? as u16))
 }
 
 // The number of an option, if it is within its range.
@@ -158,7 +306,21 @@ fn words_fault(alloc: Global, error: &Error) -> WordsFault
             Ok(text) => WordsFault::Help(text),
             Err(_) => WordsFault::Memory,
         },
+        ErrorKind::DisplayVersion => WordsFault::Version,
         ErrorKind::OutOfMemory => WordsFault::Memory,
-        _ => WordsFault::Usage,
+        _ => match error.to_string(alloc) {
+            Ok(text) => WordsFault::Usage(text),
+            Err(_) => WordsFault::Memory,
+        },
+    }
+}
+
+// What is told of words that lack this.
+fn lacking(alloc: Global, lack: &Lack<'_>) -> WordsFault
+    ensures { Lacks ⊤ result }
+{
+    match lack.to_string(alloc) {
+        Ok(text) => WordsFault::Usage(text),
+        Err(_) => WordsFault::Memory,
     }
 }

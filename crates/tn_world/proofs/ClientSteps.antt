@@ -729,14 +729,16 @@ stops_done canon h old piece before after seen now bytes had s read stays runs x
     }
 
 -- A NEW SIZE of the window says nothing of lines
+pub resized-writes : (canon : Canon) (h : History) (width height : ℕ) → SaysItems canon [] (replies h (resized width height))
+resized-writes canon h width height = writes-if canon (tells_size (options h) && not (is_same_size (size h) (width, height))) (size_items (width, height)) (size-writes canon (width, height))
+
 pub resized_done : (canon : Canon) (h : History) (old new : End) (width height : ℕ) (before after : List ℕ) → LeadsTo h old → old.failed ≡ false → Advances old (resized width height) new → ReadsNothing old new → (g : Sends old (resized width height) before after) → ClientSays canon (client_picture old) g.said (client_picture new)
 resized_done canon h old new width height before after s runs goes keeps g = record {
   same =
       ap (λ d. record { decoder = d; core = client_core new }) keeps.decoder
       ∙ ap (λ (c : Client). record { decoder = old.decoder; core = c }) (core_at (next h (resized width height)) new (goes.leads h s) (keeps.failed ∙ runs) ∙ sym (core_at h old s runs));
   writes =
-      subst (λ (xs : List Item). SaysItems canon [] xs) (g.replies h s)
-      (writes-if canon (tells_size (options h) && not (is_same_size (size h) (width, height))) (size_items (width, height)) (size-writes canon (width, height)));
+      subst (λ (xs : List Item). SaysItems canon [] xs) (g.replies h s) (resized-writes canon h width height);
 }
 
 pub resized_stays : (canon : Canon) (h : History) (old new : End) (width height : ℕ) → LeadsTo h old → ClientStays canon old → Advances old (resized width height) new → ClientStays canon new

@@ -16,7 +16,7 @@ use Rattle.tn_messages.proofs.lemmas.Pieces.{brings_none}
 use Rattle.tn_messages.specs.Pieces.{TakesFront}
 use Rattle.tn_nvt.proofs.lemmas.Reading.{reads_none}
 use Rattle.tn_messages.specs.declared.messages.Message.{Message}
-use Rattle.tn_messages.specs.declared.messages.Message.TheVariants.{Piece, HangUp, ReadFailed, Take, Said, Refused, Left}
+use Rattle.tn_messages.specs.declared.messages.Message.TheVariants.{Piece, HangUp, ReadFailed, Take, Said, Refused, Left, Resized}
 use Rattle.tn_wire.specs.Prefixes.{IsRead}
 
 true_false : true ≡ false → ⊥
@@ -72,6 +72,13 @@ acted c from Take new a = turned c from Take new (λ piece e. cc) (ap (λ (r : R
 acted c from (Said job text after) new a = turned c from (Said job text after) new (λ piece e. cc) (ap (λ (r : Run). r.history) a) (ap (λ (r : Run). r.stream) a)
 acted c from Refused new a = turned c from Refused new (λ piece e. cc) (ap (λ (r : Run). r.history) a) (ap (λ (r : Run). r.stream) a)
 acted c from Left new a = turned c from Left new (λ piece e. cc) (ap (λ (r : Run). r.history) a) (ap (λ (r : Run). r.stream) a)
+acted c from (Resized size) new a =
+    let other : (piece : List ℕ) → Resized size ≡ Piece piece → ⊥ = λ piece e. cc in
+    record {
+      types_on = ap (λ (r : Run). keys r.history) a ∙ sym (ap (λ (ks : List ℕ). keys c.history ++ ks) (none_from Keys from (Resized size) other) ∙ append-nil (keys c.history));
+      feeds_on = ap (λ (r : Run). r.stream) a ∙ sym (ap (λ (bs : List ℕ). c.stream ++ bs) (none_from Net from (Resized size) other) ∙ append-nil c.stream);
+      reads_on = λ r. subst (λ (q : Run). IsRead q.stream (items q.history)) (sym a) r;
+    }
 
 handled : (c : Run) (told : Told) (new : Run) → c.progress.over ≡ false → Handles c told new → Takes c told.from told.message new
 handled c told new on h =

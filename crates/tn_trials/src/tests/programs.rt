@@ -5,11 +5,14 @@ ghost use Rattle.std.specs.Io.{ReadsAtMost, WritesAtMost};
 ghost use Rattle.std.specs.Io.KnownBytes.{ReadConsumes, WriteAppends};
 ghost use Rattle.tn_streams.specs.Counting.{told_by};
 
-use std::alloc::Global;
+use std::alloc::{AllocError, Global};
 use std::io::{self, ErrorKind, Read};
 use std::process::Abort;
 use std::test::Fail;
-use tn_cli::{Asked, CliFault, Connecting, Serving, WordsFault, read_words, run_local, run_replay};
+use tn_cli::{
+    Address, Asked, CliFault, Connecting, Escape, Serving, WordsFault, read_words, run_local,
+    run_replay,
+};
 use tn_discipline::Limit;
 use tn_streams::{Drain, Source, Tally};
 
@@ -17,9 +20,9 @@ use tn_streams::{Drain, Source, Tally};
 fn is_told(read: Result<Asked, WordsFault>, wanted: Option<Asked>) -> bool {
     match read {
         Ok(asked) => wanted == Some(asked),
-        Err(WordsFault::Usage) => wanted.is_none(),
+        Err(WordsFault::Usage(_)) => wanted.is_none(),
         Err(WordsFault::Memory) => true,
-        Err(WordsFault::Help(_)) => false,
+        Err(WordsFault::Help(_) | WordsFault::Version) => false,
     }
 }
 
@@ -42,6 +45,7 @@ fn words_ask_for_runs(rt: HostRuntime) {
     let alloc = rt.alloc();
     asks(&rt, alloc, "tn local", Some(Asked::Local));
     asks(&rt, alloc, "tn replay", Some(Asked::Replay));
+    asks(&rt, alloc, "tn decode", Some(Asked::Decode));
     asks(&rt, alloc, "tn world", Some(Asked::World));
 }
 
@@ -57,6 +61,8 @@ fn words_ask_for_a_server(rt: HostRuntime) -> Result<(), Fail> {
         idle: 0,
         local: false,
         verbose: false,
+        to: None,
+        crlf: false,
     });
     asks(&rt, rt.alloc(), "tn serve --port 2323", Some(asked));
     Ok(())
@@ -74,29 +80,70 @@ fn words_ask_for_all_of_a_server(rt: HostRuntime) -> Result<(), Fail> {
         idle: 86_400,
         local: true,
         verbose: true,
+        to: Some(Address {
+            host: String::from_str(rt.alloc(), "::1")?,
+            port: 7,
+        }),
+        crlf: true,
     });
     let line =
         "tn serve --limit=64 --count 1000000 --ticks=1000 --host ::1 --line 4095 --idle 86400 \
-                --local --verbose --port=2323";
+                --local --verbose --port=2323 --to ::1:7 --crlf";
     asks(&rt, rt.alloc(), line, Some(asked));
     Ok(())
 }
 
-fn connecting(width: u16, height: u16) -> Option<Asked> {
-    Some(Asked::Connect(Connecting {
+// A connection of this machine without any option but its port.
+fn connecting(alloc: Global) -> Result<Connecting, AllocError> {
+    Ok(Connecting {
+        host: String::from_str(alloc, "127.0.0.1")?,
         port: 7,
-        width,
-        height,
+        width: None,
+        height: None,
         line_limit: Limit::standard(),
-    }))
+        escape: Escape::Key(29),
+        trace: None,
+    })
 }
 
 #[test]
-fn words_ask_for_a_connection(rt: HostRuntime) {
+fn words_ask_for_a_connection(rt: HostRuntime) -> Result<(), Fail> {
     let alloc = rt.alloc();
-    asks(&rt, alloc, "tn connect --port 7", connecting(80, 24));
-    let wide = "tn connect --port 7 --width 65535 --height 0";
-    asks(&rt, alloc, wide, connecting(65_535, 0));
+    let plain = connecting(alloc)?;
+    asks(
+        &rt,
+        alloc,
+        "tn connect --port 7",
+        Some(Asked::Connect(plain)),
+    );
+    let mut wide = connecting(alloc)?;
+    wide.width = Some(65_535);
+    wide.height = Some(0);
+    wide.escape = Escape::Key(1);
+    let line = "tn connect --port 7 --width 65535 --height 0 --escape ^a";
+    asks(&rt, alloc, line, Some(Asked::Connect(wide)));
+    Ok(())
+}
+
+#[test]
+fn words_ask_for_a_host(rt: HostRuntime) -> Result<(), Fail> {
+    let alloc = rt.alloc();
+    let mut named = connecting(alloc)?;
+    named.host = String::from_str(alloc, "example.org")?;
+    named.port = 23;
+    asks(
+        &rt,
+        alloc,
+        "tn connect example.org",
+        Some(Asked::Connect(named)),
+    );
+    let mut whole = connecting(alloc)?;
+    whole.host = String::from_str(alloc, "::1")?;
+    whole.escape = Escape::None;
+    whole.trace = Some(String::from_str(alloc, "a/b")?);
+    let line = "tn connect --escape none --port 7 ::1 --trace a/b";
+    asks(&rt, alloc, line, Some(Asked::Connect(whole)));
+    Ok(())
 }
 
 /// Lines that ask for no run.
@@ -114,12 +161,25 @@ const REFUSED: &[&str] = &[
     "tn serve --port 7 --count 0",
     "tn serve --port 7 --count 1000001",
     "tn serve --port 7 --ticks 1001",
+    "tn serve --port 7 --to h",
+    "tn serve --port 7 --to :7",
+    "tn serve --port 7 --to h:",
+    "tn serve --port 7 --to h:0",
+    "tn serve --port 7 --to h:65536",
+    "tn serve --port 7 --to h:7x",
     "tn serve --port 7 --line 254",
     "tn serve --port 7 --line 4096",
     "tn serve --port 7 --ticks -1",
     "tn connect",
     "tn connect --port x",
     "tn connect --port 7 --width 65536",
+    "tn connect h --port 0",
+    "tn connect h x",
+    "tn connect h --escape ^`",
+    "tn connect h --escape ^@",
+    "tn connect h --escape ^",
+    "tn connect h --escape None",
+    "tn decode x",
 ];
 
 #[test]
@@ -133,13 +193,48 @@ fn is_help(read: Result<Asked, WordsFault>) -> bool {
     match read {
         Err(WordsFault::Help(text)) => text.as_str().contains("Usage: tn replay"),
         Err(WordsFault::Memory) => true,
-        Err(WordsFault::Usage) | Ok(_) => false,
+        Err(WordsFault::Usage(_) | WordsFault::Version) | Ok(_) => false,
     }
 }
 
 #[test]
 fn words_ask_for_help(rt: HostRuntime) {
     assert!(rt; is_help(read_words(rt.alloc(), &["tn", "replay", "--help"])));
+}
+
+/// Lines that are refused, with what is told of them.
+const TOLD: &[(&str, &str)] = &[
+    ("tn local x", "unexpected argument 'x' found"),
+    ("tn connect --port x", "invalid value 'x' for '--port <P>'"),
+    ("tn connect", "HOST, or --port <P>"),
+    (
+        "tn connect h --escape ^1",
+        "invalid value '^1' for '--escape <C>'",
+    ),
+];
+
+fn tells(read: Result<Asked, WordsFault>, part: &str) -> bool {
+    match read {
+        Err(WordsFault::Memory) => true,
+        Err(fault) => match fault.detail() {
+            Some(detail) => detail.contains(part) && detail.ends_with("try '--help'.\n"),
+            None => false,
+        },
+        Ok(_) => false,
+    }
+}
+
+#[test]
+fn what_is_wrong_is_told(rt: HostRuntime) {
+    for (line, part) in TOLD {
+        assert!(rt; tells(read_line(rt.alloc(), line), part), "{line}");
+    }
+}
+
+#[test]
+fn words_ask_for_the_version(rt: HostRuntime) {
+    let read = read_words(rt.alloc(), &["tn", "--version"]);
+    assert!(rt; matches!(&read, Err(WordsFault::Version | WordsFault::Memory)));
 }
 
 /// Gives zeros for ever, so many at a time.

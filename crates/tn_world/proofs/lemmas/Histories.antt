@@ -164,6 +164,13 @@ types canon h k key t =
     (record { on = t.client.on; characters = t.client.characters; limit = t.client.limit })
     (key-agrees canon (client.keys k) [] (read_all canon (core_all h) (server_items t.there)) c key edit refl t.agrees)
 
+pub resizes : (canon : Canon) (h : server.History) (k : client.History) (width height : ℕ) → TiedHistories canon h k → TiedHistories canon h (client.next k (client.resized width height))
+resizes canon h k width height t =
+    let done : Sent = record { client = client_steps.core_of k; items = [] } in
+    says_more canon h k (client.resized width height) done t.back (client.keys k) t (client_steps.resized-writes canon k width height) refl refl t.told t.calm_back
+    (record { on = t.client.on; characters = t.client.characters; limit = t.client.limit })
+    t.agrees
+
 pub returns : (canon : Canon) (h : server.History) (k : client.History) (x : Item) → IsPrefixOf (client.items k ++ x ∷ []) (server_says.items_said h) → TiedHistories canon h k → TiedHistories canon h (client.next k (client.got x))
 returns canon h k x p t =
     let P = IsCalmToClient canon.settings in

@@ -15,8 +15,8 @@ returns-clause-ran g c =
     let join = c.in-Some-join in
     let returned = join.returned in
     let ended = c.in-Some in
-    let keys_reader = known_reader g.K.Source.remaining g.K.Source.foretold started.keys.promise.reader.value in
-    let net_reader = known_reader g.N.Source.remaining g.N.Source.foretold started.net.promise.reader.value in
+    let keys_reader = known_reader g.K.Source.remaining g.K.Source.foretold g.K.Source.sizes started.keys.promise.reader.value in
+    let net_reader = known_reader g.N.Source.remaining g.N.Source.foretold g.N.Source.sizes started.net.promise.reader.value in
     let writer = known_writing g.W.Drain.contents g.W.Drain.told c.args.writer.now c.run_core.new.writer in
     let screen = known_writing g.S.Drain.contents g.S.Drain.told c.args.screen.now c.run_core.new.screen in
     client_ran c.args.core.now c.run_core.new.core keys_reader net_reader writer screen (view c.args.pass) (view ended.pass) (view returned.net) (view returned.keys) (client_result c.report.result ports)

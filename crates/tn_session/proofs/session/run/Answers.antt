@@ -15,7 +15,7 @@ returns-clause-ran g c =
     let back = c.in-Some-start_back.back in
     let others = queue_of back.promise.tostop back.promise.queue.value.items in
     let facts = job_facts g.J.Job.fresh g.J.Job.reacts g.J.Job.steps in
-    let reader = known_reader g.Rd.Source.remaining g.Rd.Source.foretold in
+    let reader = known_reader g.Rd.Source.remaining g.Rd.Source.foretold g.Rd.Source.sizes in
     let writer = known_writing g.W.Drain.contents g.W.Drain.told c.args.writer.now c.run_beside.new.writer in
     let by_id = subst (λ (id : JobId). IfOk c.run_beside.result (λ r. RunsOn facts (record { first = id; others = others }) (reader net.promise.reader.value) writer c.args.begun.term (session_result r.0 r.1))) c.in-Some-start_desk.ensures.2 c.run_beside.ensures.ran in
     let by_ids = subst (λ (these : BackJobs). IfOk c.run_beside.result (λ r. RunsOn facts (record { first = posts.first; others = these }) (reader net.promise.reader.value) writer c.args.begun.term (session_result r.0 r.1))) c.in-Some-start_back.ensures.1 by_id in

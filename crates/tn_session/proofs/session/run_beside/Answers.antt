@@ -19,7 +19,7 @@ returns-clause-ran g c began words first opened settings table at ew =
     let join = c.in-Some-join in
     let returned = join.returned in
     let ended = c.in-Some in
-    let reader = known_reader g.Rd.Source.remaining g.Rd.Source.foretold started.net.promise.reader.value in
+    let reader = known_reader g.Rd.Source.remaining g.Rd.Source.foretold g.Rd.Source.sizes started.net.promise.reader.value in
     let writer = known_writer g.W.Drain.contents g.W.Drain.told in
     scheduled (job_facts g.J.Job.fresh g.J.Job.reacts g.J.Job.steps) (record { first = started.desk.promise.id; others = queue_of back.tostop back.queue.value.items }) words reader first (writer c.args.writer.now) (writer c.run_term.new.writer) began c.args.term.now c.run_term.new.term (view c.args.passes.mails) (view c.args.passes.hand)
     (record { net = view returned.net; desk = view returned.desk; back = view returned.back; term = view ended.passes.mails; put = view ended.passes.hand; took = view returned.took })

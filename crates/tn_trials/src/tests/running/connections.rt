@@ -6,12 +6,16 @@ use std::alloc::Global;
 use std::io::{Read, Write};
 use std::net::{Ipv4Addr, Net, TcpListener, TcpStream};
 use std::process::Abort;
+use std::sync::Arc;
 use std::test::Fail;
 use std::thread::JoinHandle;
 use std::{io, thread};
 use tn_answerer::Answerers;
 use tn_discipline::Limit;
-use tn_loopback::{Connecting, Host, Serving, SessionOptions, connect, serve_connection, serve_on};
+use tn_loopback::{
+    Connecting, Host, Link, LoopbackFault, Notes, Origin, Serving, SessionOptions, connect,
+    serve_connection, serve_on,
+};
 use tn_program::Answering;
 use tn_roster::{Roster, RosterFault, note};
 use tn_server::Editing;
@@ -78,7 +82,40 @@ fn connecting(port: u16) -> Connecting {
         width: 80,
         height: 24,
         line_limit: Limit::standard(),
+        origin: Origin::Reader,
+        escape: None,
     }
+}
+
+// Runs a client's session over a port of this machine, with no trace.
+fn connect_here<H, K>(
+    rt: H,
+    alloc: Global,
+    port: u16,
+    keys: K,
+    screen: &mut Vec<u8>,
+) -> Result<(), LoopbackFault>
+where
+    H: Host + Net<Listener = TcpListener, Stream = TcpStream>,
+    K: Read + Drop + Send + 'static,
+{
+    let mut causes = Vec::new(alloc);
+    let notes = Notes {
+        trace: None,
+        sizes: None,
+        causes: &mut causes,
+        link: Arc::new(alloc, Link::new())?,
+    };
+    connect(
+        rt,
+        alloc,
+        "127.0.0.1",
+        connecting(port),
+        keys,
+        screen,
+        notes,
+    )?;
+    Ok(())
 }
 
 /// Gives its keys one by one.
@@ -131,7 +168,7 @@ fn a_line_comes_back_over_a_connection(rt: HostRuntime) -> Result<(), Fail> {
     let (server, port) = serve_one(rt, alloc, 0)?;
     let mut screen = Vec::new(alloc);
     let keys = OneByOne { keys: b"a\rexit\r" };
-    let connected = connect(rt, alloc, connecting(port), keys, &mut screen);
+    let connected = connect_here(rt, alloc, port, keys, &mut screen);
     assert!(rt; connected.is_ok());
     assert!(rt; screen.as_slice().ends_with(b"bye\r\n"));
     assert!(rt; server.join(&rt) == Some((Ended::Done, 2)));
@@ -167,7 +204,7 @@ fn a_paste_arrives_whole_over_a_connection(rt: HostRuntime) -> Result<(), Fail> 
         lines,
         ended: false,
     };
-    let connected = connect(rt, alloc, connecting(port), keys, &mut screen);
+    let connected = connect_here(rt, alloc, port, keys, &mut screen);
     assert!(rt; connected.is_ok());
     assert!(rt; screen.as_slice().ends_with(b"bye\r\n"));
     assert!(rt; server.join(&rt) == Some((Ended::Done, 5_001)));

@@ -34,7 +34,7 @@ impl Flags {
 }
 
 // Waits for a flag, and tells where that takes too long.
-fn wait(flag: &AtomicBool, stuck: &AtomicBool) {
+pub(super) fn wait(flag: &AtomicBool, stuck: &AtomicBool) {
     for _turn in 0..MAX_TURNS {
         if flag.load(Ordering::SeqCst) {
             return;

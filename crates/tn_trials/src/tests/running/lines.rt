@@ -14,7 +14,7 @@ use std::{mem, thread};
 use tn_cli::run_local;
 use tn_discipline::{Entry, Limit, Settings, Sig};
 use tn_jobs::{After, Job, Reaction};
-use tn_loopback::{Connecting, Host, connect};
+use tn_loopback::{Connecting, Host, Link, Notes, Origin, connect};
 use tn_plain::chance::Dice;
 use tn_server::Editing;
 use tn_session::{Ended, Finish, Maker, Unwatched, serve_session};
@@ -225,8 +225,25 @@ where
         width: 80,
         height: 24,
         line_limit: Limit::standard(),
+        origin: Origin::Reader,
+        escape: None,
     };
-    let connected = connect(rt, alloc, connecting, typist, &mut Vec::new(alloc));
+    let (mut screen, mut causes) = (Vec::new(alloc), Vec::new(alloc));
+    let notes = Notes {
+        trace: None,
+        sizes: None,
+        causes: &mut causes,
+        link: Arc::new(alloc, Link::new())?,
+    };
+    let connected = connect(
+        rt,
+        alloc,
+        "127.0.0.1",
+        connecting,
+        typist,
+        &mut screen,
+        notes,
+    );
     let taken = server.join(&rt);
     connected?;
     Ok(taken)

@@ -1,8 +1,9 @@
-//! The program as a whole: the line that tells a fault, and the status.
+//! The program as a whole: what tells a fault, and the status.
 
 use std::alloc::{AllocError, Global};
 use std::io::{self, Cursor, ErrorKind, Write};
-use tn_program::run_words;
+use std::sync::Arc;
+use tn_program::{Link, Origin, Seat, run_words};
 
 /// Takes all that is written, or fails.
 #[derive(Drop)]
@@ -31,33 +32,48 @@ fn words_of(alloc: Global, word: &str) -> Result<Vec<String>, AllocError> {
     Ok(words)
 }
 
-// Whether a run ended with this status and told this, or nothing, or else that there was no memory.
+// Whether a run ended with this status and told this, as far as there was memory, or else that there was
+// none.
 fn is_told(ended: u8, errors: &[u8], status: u8, told: &[u8]) -> bool {
     if errors == b"tn: memory\n".as_slice() {
         return ended == 1;
     }
-    ended == status && (errors.is_empty() || errors == told)
+    ended == status && told.starts_with(errors)
 }
+
+/// What is told of a word that is no subcommand.
+const UNKNOWN: &[u8] = b"tn: usage\nerror: unrecognized subcommand 'frobnicate'\n\n\
+    Usage: tn <COMMAND>\n\nFor more information, try '--help'.\n";
 
 /// A word, whether its output can be written, what is told, and the status.
 const WORDS: &[(&str, bool, &[u8], u8)] = &[
-    ("frobnicate", true, b"tn: usage\n", 2),
+    ("frobnicate", true, UNKNOWN, 2),
     ("local", true, b"", 0),
     ("local", false, b"tn: write\n", 1),
     ("--help", false, b"tn: write\n", 1),
+    ("--version", false, b"tn: write\n", 1),
+    ("--version", true, b"", 0),
 ];
 
 #[test]
-fn faults_are_told_in_a_line(rt: HostRuntime) {
+fn faults_are_told(rt: HostRuntime) {
     let alloc = rt.alloc();
     for (word, open, told, status) in WORDS {
         let Ok(words) = words_of(alloc, word) else {
             return;
         };
+        let Ok(link) = Arc::new(alloc, Link::new()) else {
+            return;
+        };
         let mut errors = Vec::new(alloc);
         let mut writer = Paper { open: *open };
-        let keys = Cursor::new(*b"a\n");
-        let ended = run_words(rt, alloc, Ok(words), keys, &mut writer, &mut errors);
+        let seat = Seat {
+            origin: Origin::Reader,
+            reader: Cursor::new(*b"a\n"),
+            sizes: None,
+            link,
+        };
+        let ended = run_words(rt, alloc, Ok(words), seat, &mut writer, &mut errors);
         assert!(rt; is_told(ended, &errors, *status, told));
     }
 }
@@ -76,9 +92,18 @@ fn the_line_of_a_fault_is_told(rt: HostRuntime) {
         let Ok(words) = words_of(alloc, "world") else {
             return;
         };
+        let Ok(link) = Arc::new(alloc, Link::new()) else {
+            return;
+        };
         let mut output = Vec::new(alloc);
         let mut errors = Vec::new(alloc);
-        let ended = run_words(rt, alloc, Ok(words), *script, &mut output, &mut errors);
+        let seat = Seat {
+            origin: Origin::Reader,
+            reader: *script,
+            sizes: None,
+            link,
+        };
+        let ended = run_words(rt, alloc, Ok(words), seat, &mut output, &mut errors);
         assert!(rt; is_told(ended, &errors, *status, told));
     }
 }

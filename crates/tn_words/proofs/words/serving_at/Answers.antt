@@ -46,4 +46,10 @@ returns-clause-asked c = record {
     not_given = λ is. c.get_flag-2.ensures.other (one_text-rows (found_of c.args.words.now) (codes "verbose") ∙ is);
     unknown = λ is. c.get_flag-2.ensures.none (one_text-rows (found_of c.args.words.now) (codes "verbose") ∙ is);
   };
+  to = c.requires.to;
+  crlf = record {
+    given = λ is. c.get_flag-3.ensures.value (one_text-rows (found_of c.args.words.now) (codes "crlf") ∙ is);
+    not_given = λ is. c.get_flag-3.ensures.other (one_text-rows (found_of c.args.words.now) (codes "crlf") ∙ is);
+    unknown = λ is. c.get_flag-3.ensures.none (one_text-rows (found_of c.args.words.now) (codes "crlf") ∙ is);
+  };
 }

@@ -5,7 +5,7 @@ use Rattle.tn_gateway.proofs.showing.Showing.step.Goals as goal
 
 pub returns-in-Ok : goal.returns-in-Ok
 returns-in-Ok g c =
-    let known = known_reader g.R.Source.remaining g.R.Source.foretold in
+    let known = known_reader g.R.Source.remaining g.R.Source.foretold g.R.Source.sizes in
     let buf = c.read_some.new.buf in
     let bytes = c.in_ok-bytes.bytes in
     let long : length buf ≡ bytes.len = omega (arith, c.read_some.auto.buf, c.as_mut_slice.ensures.len) in
@@ -14,10 +14,10 @@ returns-in-Ok g c =
 
 pub returns-in-Err : goal.returns-in-Err
 returns-in-Err g c =
-    let known = known_reader g.R.Source.remaining g.R.Source.foretold in
+    let known = known_reader g.R.Source.remaining g.R.Source.foretold g.R.Source.sizes in
     shows_again c.in-Err.error (known c.args.self.now.reader) (known c.read_some.new.self) c.silent-in-Err.result c.silent-in-Err.ensures c.in-Err.ensures.bytes (c.is_interrupted.ensures.again c.if-is_interrupted.true) c.in-Err.ensures.foretells
 
 pub returns : goal.returns
 returns g c =
-    let known = known_reader g.R.Source.remaining g.R.Source.foretold in
+    let known = known_reader g.R.Source.remaining g.R.Source.foretold g.R.Source.sizes in
     shows_failed c.in-Err.error (known c.args.self.now.reader) (known c.read_some.new.self) c.silent-in-Err-2.result c.silent-in-Err-2.ensures c.in-Err-2.ensures.bytes (c.is_interrupted.ensures.failed c.if-is_interrupted.false) c.in-Err.ensures.foretells

@@ -1,0 +1,193 @@
+//! Standard input as keys: it is waited for, so that a session ends though nobody types, and at a terminal
+//! the user speaks to the client itself behind an escape character.
+
+ghost use Rattle.std.specs.Prelude.{None};
+
+use crate::keys::Typing;
+use libc::net::{POLLIN, poll};
+use libc::types::pollfd;
+use std::io;
+use std::io::{ErrorKind, Print, Read};
+use std::sync::Wait;
+use tn_escape::{Command, Escaping, Typed};
+use tn_streams::{Source, WindowSize};
+
+/// The descriptor of standard input (POSIX, `STDIN_FILENO`).
+const STANDARD_INPUT: i32 = 0;
+
+/// After how many milliseconds without a key it is looked whether the session is over.
+const LOOK: i32 = 200;
+
+/// What the keys of the escape character do, in lines of their own.
+const HELP: &str = "q  closes the connection and leaves\r\n?  shows these keys\r\n\
+    s  shows the state of the session\r\nand the escape character again sends itself\r\n";
+
+// What a wait ends with.
+enum Ready {
+    Size,
+    Key,
+    Over,
+}
+
+/// Keys from standard input, and what its user asks the client itself for. Of what is typed nothing is known
+/// beforehand.
+#[derive(Drop)]
+pub(crate) struct Console<H, K> {
+    rt: H,
+    typing: Typing<H, K>,
+    escaping: Escaping,
+    // The size that was told last, and has not been said.
+    resized: Option<WindowSize>,
+}
+
+impl<H: Copy + Print + Wait, K: Read + Drop> Console<H, K> {
+    pub(crate) fn new(rt: H, typing: Typing<H, K>, escape: Option<u8>) -> Console<H, K> {
+        Console {
+            rt,
+            typing,
+            escaping: Escaping::new(escape),
+            resized: None,
+        }
+    }
+
+    // Waits until a size is told, a key can be read, or the session is over.
+    fn wait(&self) -> Ready {
+        for _ in self.rt.forever() {
+            if self.typing.link.is_closed() {
+                return Ready::Over;
+            }
+            let mut waited = [
+                waits_at(self.typing.sizes.descriptor()),
+                waits_at(STANDARD_INPUT),
+            ];
+            if poll(&mut waited, LOOK) <= 0 {
+                continue;
+            }
+            let [sizes, keys] = waited;
+            if sizes.revents != 0 {
+                return Ready::Size;
+            }
+            if keys.revents != 0 {
+                return Ready::Key;
+            }
+        }
+        Ready::Over
+    }
+
+    // A size is said between two reads.
+    fn take_size(&mut self) {
+        if let Some(size) = self.typing.sizes.read() {
+            self.typing.width = size.width;
+            self.typing.height = size.height;
+            self.resized = Some(size);
+        }
+    }
+
+    // Leaves the keys of the session at the front of the bytes, and does what the others ask for. Returns
+    // how many keys there are.
+    fn split(&mut self, bytes: &mut [u8], count: usize) -> usize {
+        let mut keys = 0;
+        for place in 0..count {
+            let Some(byte) = bytes.get(place) else {
+                break;
+            };
+            match self.escaping.take(*byte) {
+                Typed::Key(key) => {
+                    if let Some(slot) = bytes.get_mut(keys) {
+                        *slot = key;
+                        keys += 1;
+                    }
+                },
+                Typed::Command(command) => self.obey(command),
+                Typed::Nothing => {},
+            }
+        }
+        keys
+    }
+
+    // What is shown begins on a line of its own. A line that can't be written is dropped.
+    fn obey(&self, command: Command) {
+        match command {
+            Command::Close => self.typing.link.leave(),
+            Command::Help => {
+                let _ = print!(self.rt; "\r\n{}", HELP);
+            },
+            Command::Status => self.show_status(),
+            Command::Unknown(_) => {
+                let _ = print!(self.rt;
+                    "\r\nunknown; the escape character and ? show the keys\r\n"
+                );
+            },
+        }
+    }
+
+    fn show_status(&self) {
+        let Typing {
+            link,
+            host,
+            port,
+            width,
+            height,
+            ..
+        } = &self.typing;
+        let editing = place_of(link.edits_here());
+        let echo = place_of(!link.echoes_there());
+        let _ = print!(self.rt;
+            "\r\nconnected to {} port {}\r\nlines are edited {}, echo is made {}\r\nwindow {} by {}\r\n\
+            {} bytes came, {} went\r\n",
+            host,
+            port,
+            editing,
+            echo,
+            width,
+            height,
+            link.came(),
+            link.went()
+        );
+    }
+}
+
+// A descriptor that is waited at.
+fn waits_at(fd: i32) -> pollfd {
+    pollfd {
+        fd,
+        events: POLLIN,
+        revents: 0,
+    }
+}
+
+fn place_of(is_here: bool) -> &'static str {
+    if is_here { "here" } else { "at the other end" }
+}
+
+impl<H: Copy + Print + Wait, K: Read + Drop> Source for Console<H, K> {
+    ghost sizes = { λ _. None };
+
+    fn resized(&mut self) -> Option<WindowSize> {
+        self.resized.take()
+    }
+
+    fn read_some(&mut self, buf: &mut [u8]) -> io::Result<usize> {
+        self.typing.throttle.wait();
+        match self.wait() {
+            Ready::Over => return Ok(0),
+            Ready::Size => {
+                self.take_size();
+                return Err(io::Error::from(ErrorKind::Interrupted));
+            },
+            Ready::Key => {},
+        }
+        let count = self.typing.keys.read(buf)?;
+        if count == 0 {
+            return Ok(0);
+        }
+        let keys = self.split(buf, count).min(count);
+        if self.typing.link.is_left() {
+            return Ok(0);
+        }
+        if keys == 0 {
+            return Err(io::Error::from(ErrorKind::Interrupted));
+        }
+        Ok(keys)
+    }
+}

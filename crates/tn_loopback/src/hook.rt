@@ -1,0 +1,54 @@
+//! A connection that comes to a server, and how the jobs of its session end it.
+
+use crate::attended::Standing;
+use std::alloc::{AllocError, Global};
+use std::net::SocketAddr;
+use std::sync::Arc;
+use std::sync::atomic::Ordering;
+
+/// A connection that is to have a session.
+#[derive(Drop)]
+pub struct Call {
+    /// The session's number, from 0 on. Another session gets it once this one has ended.
+    pub number: usize,
+    /// Who it is with.
+    pub peer: SocketAddr,
+    pub hook: Hook,
+}
+
+/// How a job ends the connection of its session from outside of the session, and learns that it is over. A
+/// job in the background has no other way: its end ends no session.
+#[derive(Drop)]
+pub struct Hook {
+    standing: Arc<Standing, Global>,
+}
+
+impl Hook {
+    pub(crate) fn new(standing: &Arc<Standing, Global>) -> Result<Hook, AllocError> {
+        Ok(Hook {
+            standing: Arc::try_clone(standing)?,
+        })
+    }
+
+    /// One more hook of the same connection.
+    pub fn another(&self) -> Result<Hook, AllocError> {
+        Hook::new(&self.standing)
+    }
+
+    /// Ends the session within half a second, as if its client had hung up: what its jobs have written before is
+    /// sent, the client is told that no more comes, and what it still sends is not read.
+    pub fn hang_up(&self) {
+        self.standing.hung_up.store(true, Ordering::SeqCst);
+    }
+
+    /// From now on the session goes on for some time after its client has ended what it sends, until it is hung
+    /// up: a job may still have to write what that led to.
+    pub fn hold(&self) {
+        self.standing.held.store(true, Ordering::SeqCst);
+    }
+
+    /// Whether nothing more comes from the session's client: it has hung up, or was told that no more comes.
+    pub fn is_over(&self) -> bool {
+        self.standing.is_finished() || self.standing.gone.load(Ordering::SeqCst)
+    }
+}

@@ -1,0 +1,116 @@
+//! What a client's connection brings.
+
+use crate::link::Link;
+use crate::trace::{Direction, Trace};
+use std::alloc::Global;
+use std::io;
+use std::io::{ErrorKind, Read};
+use std::sync::{Arc, Wait};
+use tn_codes::Verb;
+use tn_nvt::{Decoder, Item};
+
+/// The option by which a server echoes (RFC 857), and by which a client edits (RFC 1184).
+const ECHO: u8 = 1;
+
+const LINEMODE: u8 = 34;
+
+/// The subnegotiation of LINEMODE that says who edits, and its bit for editing at the client.
+const MODE: u8 = 1;
+
+const EDIT: u8 = 1;
+
+// Sees from what the server says who edits and who echoes.
+#[derive(Drop)]
+struct Watch {
+    decoder: Decoder,
+    items: Vec<Item>,
+}
+
+impl Watch {
+    // A stream that can't be read, for want of memory, is watched no more.
+    fn see(&mut self, bytes: &[u8], link: &Link) {
+        let _ = self.decoder.feed(bytes, &mut self.items);
+        for item in &self.items {
+            see_item(item, link);
+        }
+        self.items.clear();
+    }
+}
+
+fn see_item(item: &Item, link: &Link) {
+    match item {
+        Item::Neg(Verb::Will, ECHO) => link.note_echo(true),
+        Item::Neg(Verb::Wont, ECHO) => link.note_echo(false),
+        Item::Neg(Verb::DontIt, LINEMODE) => link.note_editing(false),
+        Item::Sub(LINEMODE, params) => {
+            if let [MODE, mask] = params.as_slice() {
+                link.note_editing(mask & EDIT != 0);
+            }
+        },
+        _ => {},
+    }
+}
+
+/// What the peer sends. That no more comes is noted, so that the keys can end too.
+#[derive(Drop)]
+pub(crate) struct Incoming<H, N> {
+    reader: N,
+    link: Arc<Link, Global>,
+    trace: Trace<H>,
+    watch: Option<Watch>,
+}
+
+impl<H, N> Incoming<H, N> {
+    /// Where the session is watched, it is seen who edits and who echoes.
+    pub(crate) fn new(
+        alloc: Global,
+        reader: N,
+        link: Arc<Link, Global>,
+        trace: Trace<H>,
+        is_watched: bool,
+    ) -> Incoming<H, N> {
+        let watch = if is_watched {
+            Some(Watch {
+                decoder: Decoder::new(alloc),
+                items: Vec::new(alloc),
+            })
+        } else {
+            None
+        };
+        Incoming {
+            reader,
+            link,
+            trace,
+            watch,
+        }
+    }
+}
+
+impl<H: Copy + Wait, N: Read> Incoming<H, N> {
+    fn take(&mut self, bytes: &[u8]) {
+        self.link.count_came(bytes.len());
+        self.trace.note(Direction::Came, bytes);
+        if let Some(watch) = &mut self.watch {
+            watch.see(bytes, &self.link);
+        }
+    }
+}
+
+impl<H: Copy + Wait, N: Read> Read for Incoming<H, N> {
+    fn read(&mut self, buf: &mut [u8]) -> io::Result<usize> {
+        let got = self.reader.read(buf);
+        match &got {
+            Ok(0) => self.link.close(),
+            Ok(count) => self.take(&buf[..*count]),
+            Err(error) if error.kind() == ErrorKind::Interrupted => {},
+            Err(_) => {
+                self.link.break_off();
+                // A user who leaves has broken the connection.
+                if self.link.is_left() {
+                    return Ok(0);
+                }
+            },
+        }
+        got
+    }
+}

@@ -1,0 +1,44 @@
+//! Reaching a host.
+
+ghost use Rattle.std.specs.Prelude.{IfErr};
+ghost use Rattle.tn_loopback.specs.Faults.{IsOfNetwork};
+
+use crate::fault::LoopbackFault;
+use std::io::Write;
+use std::net::{Net, TcpListener, TcpStream, ToSocketAddrs};
+
+/// Connects to a host, an address or a name: of its addresses, to the first that takes a connection. Where
+/// none does, `causes` gets a line for each.
+pub(crate) fn reach<H: Net<Listener = TcpListener, Stream = TcpStream>>(
+    rt: &H,
+    host: &str,
+    port: u16,
+    causes: &mut Vec<u8>,
+) -> Result<TcpStream, LoopbackFault>
+    ensures { IfErr result IsOfNetwork }
+{
+    let addresses = match (host, port).to_socket_addrs(rt) {
+        Ok(addresses) => addresses,
+        Err(error) => {
+            let _ = writeln!(causes, "tn: {}: {}", host, error);
+            return Err(LoopbackFault::from(error));
+        },
+    };
+    let mut last = None;
+    for address in addresses {
+        match TcpStream::connect(rt, address) {
+            Ok(stream) => {
+                causes.clear();
+                return Ok(stream);
+            },
+            Err(error) => {
+                let _ = writeln!(causes, "tn: {}: {}", address, error);
+                last = Some(error);
+            },
+        }
+    }
+    match last {
+        Some(error) => Err(LoopbackFault::from(error)),
+        None => Err(LoopbackFault::Network),
+    }
+}

@@ -1,0 +1,37 @@
+//! A screen whose failure ends the connection.
+
+use crate::link::Link;
+use std::alloc::Global;
+use std::io;
+use std::io::{ErrorKind, Write};
+use std::sync::Arc;
+
+/// A screen. Once it takes no more, the connection is of no use, and is ended: else the session would wait
+/// for the other end to close.
+#[derive(Drop)]
+pub struct Screen<S> {
+    /// What is written to.
+    pub writer: S,
+    /// The connection.
+    pub link: Arc<Link, Global>,
+}
+
+impl<S: Write> Write for Screen<S> {
+    ghost contents = { λ screen. S.Write.contents screen.writer };
+
+    fn write(&mut self, buf: &[u8]) -> io::Result<usize> {
+        let wrote = self.writer.write(buf);
+        let fails = match &wrote {
+            Ok(count) => *count == 0 && !buf.is_empty(),
+            Err(error) => error.kind() != ErrorKind::Interrupted,
+        };
+        if fails {
+            self.link.darken();
+        }
+        wrote
+    }
+
+    fn flush(&mut self) -> io::Result<()> {
+        self.writer.flush()
+    }
+}

@@ -1,0 +1,258 @@
+//! `tn serve`: its own job, or a line service that each session is joined to.
+
+ghost use Rattle.std.specs.Prelude.{◌≢◌, Err, IfOk, IsErrOf};
+ghost use Rattle.std.specs.Io.{ReadsAtMost, WritesAtMost};
+ghost use Rattle.tn_loopback.specs.Ends.{ServesAll};
+ghost use Rattle.tn_roster.specs.Held.{IsLimit};
+
+use crate::settings::{Answering, options_of};
+use std::alloc::{AllocError, Global};
+use std::io;
+use std::io::{ErrorKind, Read, Write};
+use std::net::{Net, Shutdown, TcpListener, TcpStream};
+use std::sync::Wait;
+use std::time::Duration;
+use tn_gateway::{Gateway, Gateways, LineEnd};
+use tn_loopback::{Call, Hook, Host, LoopbackFault, Served, Service, Serving, serve};
+use tn_session::{Finish, Maker};
+
+/// How many milliseconds a read or a write waits before it looks whether its session is over.
+const LOOK: u64 = 250;
+
+/// How often a write looks that at least, while the service takes nothing.
+const LOOKS: u32 = 20;
+
+/// What a user is told in place of what the service says.
+const UNREACHED: &[u8] = b"the service cannot be reached\n";
+
+/// What a thread of a session needs of the network: a network names its types, and what it sends to a thread
+/// may rest on no bound that does.
+pub trait Dial {
+    /// Both halves of a connection to a service.
+    fn dial(&self, host: &str, port: u16) -> io::Result<(TcpStream, TcpStream)>;
+}
+
+impl<H: Net<Listener = TcpListener, Stream = TcpStream>> Dial for H {
+    fn dial(&self, host: &str, port: u16) -> io::Result<(TcpStream, TcpStream)> {
+        let stream = TcpStream::connect(self, (host, port))?;
+        stream.set_nodelay(true)?;
+        stream.set_read_timeout(Some(Duration::from_millis(LOOK)))?;
+        stream.set_write_timeout(Some(Duration::from_millis(LOOK)))?;
+        let heard = stream.try_clone()?;
+        Ok((heard, stream))
+    }
+}
+
+/// Serves as was asked for.
+pub(crate) fn serve_asked<H, E>(
+    rt: H,
+    alloc: Global,
+    asked: &tn_words::Serving,
+    errors: &mut E,
+) -> Result<Served, LoopbackFault>
+where
+    H: Dial + Host + Net<Listener = TcpListener, Stream = TcpStream>,
+    E: Write,
+    ensures all { IfOk result (ServesAll asked.now.count) }
+    ensures limit { IsErrOf result LoopbackFault.Limit → ¬ IsLimit asked.now.sessions }
+    ensures no_session { result ≢ Err LoopbackFault.Session }
+{
+    let serving = Serving {
+        sessions: asked.sessions,
+        count: asked.count,
+        options: options_of(asked),
+        verbose: asked.verbose,
+    };
+    let (host, port) = (asked.host.as_str(), asked.port);
+    let Some(to) = &asked.to else {
+        let service = Answering { ticks: asked.ticks };
+        return serve(rt, alloc, host, port, serving, service, errors);
+    };
+    let line_end = if asked.crlf {
+        LineEnd::CrLf
+    } else {
+        LineEnd::Lf
+    };
+    let service = Joining {
+        rt,
+        host: String::from_str(alloc, to.host.as_str())?,
+        port: to.port,
+        line_end,
+    };
+    serve(rt, alloc, host, port, serving, service, errors)
+}
+
+/// Joins each session to the line service at this host and port.
+#[derive(Drop)]
+pub struct Joining<H> {
+    pub rt: H,
+    pub host: String,
+    pub port: u16,
+    pub line_end: LineEnd,
+}
+
+impl<H: Dial + Host> Service for Joining<H> {
+    type Job = Gateway<Heard<H>, Told<H>>;
+
+    type Jobs = Joiner<H>;
+
+    fn session(&mut self, alloc: Global, call: Call) -> Result<Joiner<H>, AllocError> {
+        Ok(Joiner {
+            rt: self.rt,
+            host: String::from_str(alloc, self.host.as_str())?,
+            port: self.port,
+            line_end: self.line_end,
+            hook: Some(call.hook),
+            jobs: None,
+        })
+    }
+}
+
+/// Makes the jobs of one session that is joined to a line service: it connects to it for the first of them.
+#[derive(Drop)]
+pub struct Joiner<H> {
+    rt: H,
+    host: String,
+    port: u16,
+    line_end: LineEnd,
+    hook: Option<Hook>,
+    jobs: Option<Gateways<Heard<H>, Told<H>>>,
+}
+
+impl<H: Copy + Dial + Wait> Joiner<H> {
+    fn join(&self, hook: Hook) -> Result<Gateways<Heard<H>, Told<H>>, AllocError> {
+        let rt = self.rt;
+        let (heard, told) = match rt.dial(self.host.as_str(), self.port) {
+            Ok((heard, told)) => (Some(heard), Some(told)),
+            Err(_) => (None, None),
+        };
+        hook.hold();
+        let writer = Told {
+            rt,
+            stream: told,
+            hook: hook.another()?,
+        };
+        let reader = Heard {
+            rt,
+            stream: heard,
+            words: UNREACHED,
+            hook,
+        };
+        Ok(Gateways::new(reader, writer, self.line_end))
+    }
+}
+
+impl<H: Copy + Dial + Wait> Maker for Joiner<H> {
+    type Job = Gateway<Heard<H>, Told<H>>;
+
+    fn next(&mut self, alloc: Global) -> Result<Option<Gateway<Heard<H>, Told<H>>>, AllocError> {
+        if let Some(hook) = self.hook.take() {
+            self.jobs = Some(self.join(hook)?);
+        }
+        match &mut self.jobs {
+            Some(jobs) => {
+                let next = jobs.next(alloc)?;
+                Ok(next)
+            },
+            None => Ok(None),
+        }
+    }
+}
+
+/// What the service says. Its end hangs up, and where the session is over, it ends.
+#[derive(Drop)]
+pub struct Heard<H> {
+    rt: H,
+    stream: Option<TcpStream>,
+    /// What is read where the service was not reached.
+    words: &'static [u8],
+    hook: Hook,
+}
+
+impl<H: Copy + Wait> Heard<H> {
+    fn hear(&mut self, buf: &mut [u8]) -> io::Result<usize>
+        ensures { ReadsAtMost result buf.new }
+    {
+        let rt = self.rt;
+        let Some(stream) = &mut self.stream else {
+            return self.words.read(buf);
+        };
+        for _ in rt.forever() {
+            let read = stream.read(buf);
+            if !is_timeout(&read) {
+                return read;
+            }
+            if self.hook.is_over() {
+                return Ok(0);
+            }
+        }
+        Ok(0)
+    }
+}
+
+impl<H: Copy + Wait> Read for Heard<H> {
+    fn read(&mut self, buf: &mut [u8]) -> io::Result<usize> {
+        let read = self.hear(buf);
+        if is_last(&read) {
+            self.hook.hang_up();
+        }
+        read
+    }
+}
+
+/// What the service is told. Where the session is over, a service that takes nothing is given up in time.
+#[derive(Drop)]
+pub struct Told<H> {
+    rt: H,
+    stream: Option<TcpStream>,
+    hook: Hook,
+}
+
+impl<H: Copy + Wait> Write for Told<H> {
+    fn write(&mut self, buf: &[u8]) -> io::Result<usize> {
+        let rt = self.rt;
+        let Some(stream) = &mut self.stream else {
+            return Err(io::Error::from(ErrorKind::NotConnected));
+        };
+        let mut looks = 0u32;
+        for _ in rt.forever() {
+            let written = stream.write(buf);
+            if !is_timeout(&written) {
+                return written;
+            }
+            looks = looks.saturating_add(1);
+            if looks >= LOOKS && self.hook.is_over() {
+                break;
+            }
+        }
+        Err(io::Error::from(ErrorKind::BrokenPipe))
+    }
+
+    fn flush(&mut self) -> io::Result<()> {
+        Ok(())
+    }
+}
+
+impl<H: Copy + Wait> Finish for Told<H> {
+    fn finish(&mut self) {
+        if let Some(stream) = &self.stream {
+            let _ = stream.shutdown(Shutdown::Write);
+        }
+    }
+}
+
+// The call waited for its time.
+fn is_timeout(done: &io::Result<usize>) -> bool {
+    match done {
+        Ok(_) => false,
+        Err(error) => error.kind() == ErrorKind::WouldBlock,
+    }
+}
+
+// The service has said all, or its connection is broken.
+fn is_last(read: &io::Result<usize>) -> bool {
+    match read {
+        Ok(count) => *count == 0,
+        Err(error) => error.kind() != ErrorKind::Interrupted,
+    }
+}

@@ -1,0 +1,28 @@
+//! Where a reader's bytes come from, and whom they are for.
+
+ghost use Rattle.tn_loopback.specs.Ends.{foreseen};
+
+use std::alloc::Global;
+use std::fs::File;
+use std::io;
+use std::io::Read;
+use std::sync::Arc;
+use tn_loopback::{Link, Origin};
+
+/// A reader, where its bytes come from, what tells the sizes of the window in which they are typed, and the
+/// connection that they are for, as the screen has it.
+#[derive(Drop)]
+pub struct Seat<R> {
+    pub origin: Origin,
+    pub reader: R,
+    pub sizes: Option<File>,
+    pub link: Arc<Link, Global>,
+}
+
+impl<R: Read> Read for Seat<R> {
+    ghost remaining = { λ seat. (foreseen seat.origin (R.Read.remaining seat.reader)).bytes };
+
+    fn read(&mut self, buf: &mut [u8]) -> io::Result<usize> {
+        self.reader.read(buf)
+    }
+}

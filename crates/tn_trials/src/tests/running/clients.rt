@@ -1,0 +1,106 @@
+//! What a client is told of a connection that is not made, and of one that is of no use any more.
+
+use std::alloc::{AllocError, Global};
+use std::io::{self, Cursor, ErrorKind, Read, Write};
+use std::net::{Ipv4Addr, Net, TcpListener, TcpStream};
+use std::sync::Arc;
+use std::test::Fail;
+use std::thread;
+use std::thread::JoinHandle;
+use tn_discipline::Limit;
+use tn_loopback::{Connecting, Host, Link, LoopbackFault, Notes, Origin, Screen, connect};
+
+/// A screen that takes nothing.
+#[derive(Drop)]
+struct Dead;
+
+impl Write for Dead {
+    fn write(&mut self, _buf: &[u8]) -> io::Result<usize> {
+        Err(io::Error::from(ErrorKind::BrokenPipe))
+    }
+
+    fn flush(&mut self) -> io::Result<()> {
+        Ok(())
+    }
+}
+
+// The fault of a client without keys, or `None`, and what it is told of the causes.
+fn fault_of<H>(
+    rt: H,
+    alloc: Global,
+    port: u16,
+) -> Result<(Option<LoopbackFault>, Vec<u8>), AllocError>
+where
+    H: Host + Net<Listener = TcpListener, Stream = TcpStream>,
+{
+    let connecting = Connecting {
+        port,
+        width: 80,
+        height: 24,
+        line_limit: Limit::standard(),
+        origin: Origin::Reader,
+        escape: None,
+    };
+    let link = Arc::new(alloc, Link::new())?;
+    let mut screen = Screen {
+        writer: Dead,
+        link: Arc::try_clone(&link)?,
+    };
+    let mut causes = Vec::new(alloc);
+    let notes = Notes {
+        trace: None,
+        sizes: None,
+        causes: &mut causes,
+        link,
+    };
+    let keys = Cursor::new(*b"");
+    let ended = connect(rt, alloc, "127.0.0.1", connecting, keys, &mut screen, notes);
+    Ok((ended.err(), causes))
+}
+
+#[test]
+fn a_port_where_nobody_listens_is_told(rt: HostRuntime) -> Result<(), Fail> {
+    let listener = TcpListener::bind(&rt, (Ipv4Addr::LOCALHOST, 0))?;
+    let port = listener.local_addr()?.port();
+    drop(listener);
+    let (fault, causes) = fault_of(rt, rt.alloc(), port)?;
+    assert!(rt; fault == Some(LoopbackFault::Network));
+    assert!(rt; causes.as_slice().starts_with(b"tn: 127.0.0.1:"));
+    Ok(())
+}
+
+// Sends a client some text, and closes no direction before the client has.
+fn send_text<R>(rt: &R, listener: TcpListener) -> Result<JoinHandle<bool>, Fail>
+where
+    R: thread::Threads,
+{
+    let server = thread::spawn(rt, move || -> bool {
+        let Ok((mut stream, _)) = listener.accept() else {
+            return false;
+        };
+        if stream.write_all(b"text\r\n").is_err() {
+            return false;
+        }
+        let mut buf = [0; 64];
+        for _ in 0..1_000 {
+            match stream.read(&mut buf) {
+                Ok(1..) => {},
+                _ => return true,
+            }
+        }
+        false
+    })?;
+    Ok(server)
+}
+
+#[test]
+fn a_dead_screen_ends_a_session(rt: HostRuntime) -> Result<(), Fail> {
+    let listener = TcpListener::bind(&rt, (Ipv4Addr::LOCALHOST, 0))?;
+    let port = listener.local_addr()?.port();
+    let server = send_text(&rt, listener)?;
+    let (fault, causes) = fault_of(rt, rt.alloc(), port)?;
+    assert!(rt; fault == Some(LoopbackFault::Session));
+    assert!(rt; causes.as_slice().starts_with(b"tn: the screen"));
+    assert!(rt; server.join(&rt));
+    Ok(())
+}
