@@ -128,19 +128,12 @@ impl Decoder {
         let (mut place, mut body) = self.begin()?;
         let mut at = 0;
         while at < piece.len() {
-            let rest = &piece[at..];
-            let count = place.run_len(rest);
-            if count > 0 {
-                place.hand_run(&rest[..count], sink)?;
-                place = Place::Outside;
-                at += count;
-            } else {
-                let (here, skipped) = place.escaped(rest);
-                match here.hand_byte(&mut body, rest[skipped], sink) {
-                    Ok(next) => place = next,
-                    Err(fault) => return Err(fault),
-                }
-                at += skipped + 1;
+            match place.hand_some(&mut body, &piece[at..], sink) {
+                Ok((next, count)) => {
+                    place = next;
+                    at += count;
+                },
+                Err(fault) => return Err(fault),
             }
         }
         self.resume(place, body);
