@@ -7,7 +7,7 @@ ghost use Rattle.tn_nvt.specs.declared.places.Place.TheVariants as place;
 ghost use Rattle.tn_nvt.specs.Machine as machine;
 ghost use Rattle.tn_nvt.specs.Machine.{progress, given_items, gathered_of, HasNoRun};
 ghost use Rattle.tn_nvt.specs.Sinks.{TakesEach, IsPlain};
-ghost use Rattle.tn_nvt.specs.Runs.{singles, RefusesEach, HandsSome, StopsFront, WantsMemory, BeginsRun};
+ghost use Rattle.tn_nvt.specs.Runs.{singles, RefusesEach, HandsSome, HandsFront, StopsFront, WantsMemory, BeginsRun};
 
 use crate::bytes::{CR, LF, NUL};
 use crate::decoding::NvtFault;
@@ -18,10 +18,38 @@ use crate::plain::{is_plain, run_len};
 use crate::sinks::{Refused, Sink};
 
 impl Place {
-    /// Hands on what some of the bytes complete, as many at once as this place allows, and tells where
-    /// they lead and how many they are.
+    /// Hands on what all of the bytes complete, and tells where they lead.
+    pub(crate) fn hand_all<S: Sink>(
+        self,
+        body: &mut Body,
+        piece: &[u8],
+        sink: &mut S,
+    ) -> Result<Place, NvtFault>
+        ensures ok { IfOk result (λ next. HandsFront S.takes (progress self body.old) piece.now []
+            sink.old sink.new (progress next body.new)) }
+        ensures refused { IsErrOf result fault.Refused →
+            StopsFront S.takes S.gives_up (progress self body.old) piece.now sink.old sink.new }
+        ensures memory { IsErrOf result fault.Memory →
+            WantsMemory S.takes (progress self body.old) piece.now sink.old sink.new }
+        ensures not_failed { ¬ IsErrOf result fault.Failed }
+    {
+        let mut place = self;
+        let mut at = 0;
+        while at < piece.len() {
+            match place.hand_some(body, &piece[at..], sink) {
+                Ok((next, count)) => {
+                    place = next;
+                    at += count;
+                },
+                Err(fault) => return Err(fault),
+            }
+        }
+        Ok(place)
+    }
+
+    // The same of some of the bytes, as many at once as this place allows; it tells how many, too.
     #[inline(always)]
-    pub(crate) fn hand_some<S: Sink>(
+    fn hand_some<S: Sink>(
         self,
         body: &mut Body,
         rest: &[u8],
