@@ -19,6 +19,12 @@ use std::alloc::{AllocError, Global};
 use std::marker::Model;
 use std::mem;
 
+/// From how many on bytes that join the line as they are are copied, and not typed one after another.
+const LONG_RUN: usize = 16;
+
+/// How many keys are typed one after another before a long run is looked for again.
+const EDITED_KEYS: usize = 64;
+
 /// What a key did to the line.
 #[derive(Debug, PartialEq, Eq, Drop)]
 pub enum Effect {
@@ -169,7 +175,8 @@ impl Line {
         self.keep_front(bytes)
     }
 
-    /// Types keys up to the first that makes an entry, and returns how many were typed. No memory is wanted.
+    /// Types leading keys that make no entry, and returns how many were typed: one at least where the first
+    /// makes none. No memory is wanted.
     pub fn edit_run(&mut self, roles: &Roles, keys: &[u8]) -> usize
         ensures advances { let typed = roles_of roles.now (take result keys.now) in
             Advances self.old typed [] self.new }
@@ -178,10 +185,10 @@ impl Line {
 
         ensures within { result ≤ length keys.now }
         ensures quiet { All (IsQuiet roles.now) (take result keys.now) }
-        ensures next { result < length keys.now →
-            gives_entry (role_of_key roles.now (get_or keys.now result 0)) ≡ true }
+        ensures next { result ≡ 0 → 0 < length keys.now →
+            gives_entry (role_of_key roles.now (get_or keys.now 0 0)) ≡ true }
     {
-        self.edit_parts(roles, keys)
+        self.edit_some(roles, keys)
     }
 
     /// Takes back the last byte, as ERASE does (POSIX.1-2017, XBD 11.1.9): a held one, or else one that
@@ -276,6 +283,24 @@ impl Line {
             Role::Kill => Ok(self.kill()),
             Role::Ordinary(byte) => Ok(self.keep(byte)),
         }
+    }
+
+    // Types leading keys that make no entry: a long run of bytes that join the line as they are, or else
+    // keys one after another.
+    fn edit_some(&mut self, roles: &Roles, keys: &[u8]) -> usize
+        ensures line { let typed = each_role roles.now (take result keys.now) in
+            self.new ≡ line_after_all self.old typed }
+        ensures within { result ≤ length keys.now }
+        ensures quiet { All (IsQuiet roles.now) (take result keys.now) }
+        ensures next { result ≡ 0 → 0 < length keys.now →
+            gives_entry (role_of_key roles.now (get_or keys.now 0 0)) ≡ true }
+    {
+        let count = roles.ordinary_front(keys);
+        if count >= LONG_RUN {
+            let _kept = self.keep_front(&keys[..count]);
+            return count;
+        }
+        self.edit_parts(roles, &keys[..keys.len().min(EDITED_KEYS)])
     }
 
     // Types keys up to the first that makes an entry.

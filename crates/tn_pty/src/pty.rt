@@ -25,12 +25,6 @@ const QUEUE_SYMBOLS: usize = 4096;
 /// How many entries may wait.
 const MAX_WAITING: usize = 1024;
 
-/// From how many bytes on that join the line as they are they are copied, and not typed one after another.
-const LONG_RUN: usize = 16;
-
-/// How many keys are typed one after another at most before a long run is looked for again.
-const EDITED_KEYS: usize = 64;
-
 /// What is shown of a byte that the line has no room for.
 const BELL: u8 = 7;
 
@@ -377,17 +371,12 @@ impl Pair {
             return 0;
         }
         let shows = self.shows(echo);
-        let count = self.roles.ordinary_front(keys);
         if shows {
+            let count = self.roles.ordinary_front(keys);
             self.type_plain(&keys[..count], echo);
             return count;
         }
-        if count >= LONG_RUN {
-            self.type_plain(&keys[..count], echo);
-            return count;
-        }
-        self.line
-            .edit_run(&self.roles, &keys[..keys.len().min(EDITED_KEYS)])
+        self.line.edit_run(&self.roles, keys)
     }
 
     // Whether keys that make no entry are shown.

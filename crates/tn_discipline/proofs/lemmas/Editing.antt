@@ -1,5 +1,5 @@
 -- Keys that edit a line and make no entry, and keys that close it.
-use Rattle.std.proofs.Common.{◌≡◌, ◌<◌, ℕ, suc, ◌+◌, Bool, true, false, All, List, [], ◌∷◌, ◌++◌, length, take, get_or, refl, sym, ap, subst, ◌∙◌, if◌then◌else◌, arith}
+use Rattle.std.proofs.Common.{◌≡◌, ◌<◌, ◌≤◌, ℕ, zero, suc, ◌+◌, Bool, true, false, All, List, [], ◌∷◌, ◌++◌, length, take, get_or, refl, sym, ap, subst, ◌∙◌, if◌then◌else◌, arith}
 use Rattle.std.proofs.lemmas.List.{take_more, map-append}
 use Rattle.tn_discipline.specs.declared.keys.Role.{Role}
 use Rattle.tn_discipline.specs.declared.keys.Role.TheVariants as role
@@ -8,7 +8,8 @@ use Rattle.tn_discipline.specs.declared.termios.Settings.{Settings}
 use Rattle.tn_discipline.specs.Entries.{line_of}
 use Rattle.tn_discipline.specs.Keys.{roles_of, role_of_key, gives_entry}
 use Rattle.tn_discipline.specs.HalfLine.{HalfLine, empty_line, has_held, has_ahead, effect_of, line_after, effect_entries}
-use Rattle.tn_discipline.specs.Runs.{line_after_all, gains_from, each_role}
+use Rattle.tn_discipline.specs.Runs.{line_after_all, gains_from, each_role, ordinary_roles}
+use Rattle.tn_discipline.specs.RolesTable.{IsPlain}
 use Rattle.tn_discipline.specs.Editing.{IsQuiet, closing_byte, IsClosing, with_byte}
 use Rattle.tn_discipline.specs.Advancing.{Advances}
 use Rattle.tn_discipline.proofs.lemmas.Runs.{line_after_all-append, ordinary_gains, keys_advance}
@@ -56,6 +57,31 @@ quiet_gains settings (key ∷ keys) line quiet =
 pub quiet_advance : (settings : Settings) (keys : List ℕ) (old new : HalfLine) → All (IsQuiet settings) keys → new ≡ line_after_all old (each_role settings keys) → Advances old (roles_of settings keys) [] new
 quiet_advance settings keys old new quiet is =
     rw is (subst (λ gain. Advances old (roles_of settings keys) gain (line_after_all old (each_role settings keys))) (quiet_gains settings keys old quiet) (keys_advance settings keys old))
+
+-- keys that join the line as they are make none
+pub plain_quiet : (settings : Settings) (keys : List ℕ) → All (IsPlain settings) keys → All (IsQuiet settings) keys
+plain_quiet settings keys plain = λ k d lt. ap gives_entry (plain k d lt)
+
+-- and are ordinary
+pub plain_each : (settings : Settings) (keys : List ℕ) → All (IsPlain settings) keys → each_role settings keys ≡ ordinary_roles keys
+plain_each settings [] plain = refl
+plain_each settings (key ∷ keys) plain =
+    let first : IsPlain settings key = plain 0 0 (omega arith) in
+    let rest : All (IsPlain settings) keys = λ k d lt. plain (suc k) d (omega (arith, lt)) in
+    ap (λ r. r ∷ each_role settings keys) first ∙ ap (λ rs. role.Ordinary key ∷ rs) (plain_each settings keys rest)
+
+-- keys that are looked at no further than some of them
+pub take_within : (n m : ℕ) (keys : List ℕ) → n ≤ length (take m keys) → take n (take m keys) ≡ take n keys
+take_within zero m keys within = refl
+take_within (suc n) zero keys within = absurd (omega (arith, within))
+take_within (suc n) (suc m) [] within = absurd (omega (arith, within))
+take_within (suc n) (suc m) (key ∷ keys) within = ap (λ ks. key ∷ ks) (take_within n m keys (omega (arith, within)))
+
+-- have the same first key
+pub first_within : (m : ℕ) (keys : List ℕ) → 0 < m → 0 < length keys → (0 < length (take m keys)) × (get_or (take m keys) 0 0 ≡ get_or keys 0 0)
+first_within zero keys some there = absurd (omega (arith, some))
+first_within (suc m) [] some there = absurd (omega (arith, there))
+first_within (suc m) (key ∷ keys) some there = (omega arith, refl)
 
 -- what a key that closes a line gives, and what it leaves
 pub closing_effect : (line : HalfLine) (r : Role) → IsClosing r → effect_of line r ≡ effect.Gives (line_of (with_byte line.held (closing_byte r)))

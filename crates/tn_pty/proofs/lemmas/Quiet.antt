@@ -1,5 +1,5 @@
 -- Typed keys that make no entry, and of which nothing is shown.
-use Rattle.std.proofs.Common.{◌≡◌, ◌≤◌, ℕ, zero, suc, Bool, true, false, ◌&&◌, All, List, [], ◌∷◌, ◌++◌, length, take, refl, ap, ◌∙◌, if◌then◌else◌, arith, append-nil}
+use Rattle.std.proofs.Common.{◌≡◌, ℕ, suc, Bool, true, false, ◌&&◌, All, List, [], ◌∷◌, ◌++◌, length, refl, ap, ◌∙◌, if◌then◌else◌, arith, append-nil}
 use Rattle.tn_discipline.specs.HalfLine.{effect_of, line_after}
 use Rattle.tn_discipline.specs.Keys.{role_of_key, gives_entry}
 use Rattle.tn_discipline.specs.Editing.{IsQuiet}
@@ -63,10 +63,3 @@ accepts_quiet echo old (key ∷ keys) takes quiet = (
   quiet_accepted old (role_of_key old.settings key) takes (quiet_first old key keys quiet),
   accepts_quiet echo (typed_after echo old key) keys takes (quiet_rest old key keys quiet),
 )
-
--- keys that are looked at no further than some of them
-pub take_within : (n m : ℕ) (keys : List ℕ) → n ≤ length (take m keys) → take n (take m keys) ≡ take n keys
-take_within zero m keys within = refl
-take_within (suc n) zero keys within = absurd (omega (arith, within))
-take_within (suc n) (suc m) [] within = absurd (omega (arith, within))
-take_within (suc n) (suc m) (key ∷ keys) within = ap (λ ks. key ∷ ks) (take_within n m keys (omega (arith, within)))
