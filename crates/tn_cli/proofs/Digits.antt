@@ -1,5 +1,5 @@
 -- Bytes in hexadecimal, one after another.
-use Rattle.std.proofs.Common.{◌≡◌, ◌<◌, ℕ, ◌+◌, ◌/◌, ◌%◌, List, [], ◌∷◌, ◌++◌, length, take, get_or, slice_index, refl, sym, ap, ◌∙◌, append_assoc}
+use Rattle.std.proofs.Common.{◌≡◌, ◌<◌, ℕ, ◌+◌, ◌/◌, ◌%◌, List, [], ◌∷◌, ◌++◌, length, take, get_or, slice_index, refl, sym, ap, ◌∙◌, append-nil, append_assoc}
 use Rattle.std.proofs.lemmas.List.{take_more}
 use Rattle.hex.specs.Hex.{encode_with}
 
@@ -11,6 +11,11 @@ encode-append t (x ∷ xs) ys = ap (λ zs. slice_index t (x / 16) ∷ slice_inde
 encode-one : (t : List ℕ) (x : ℕ) → encode_with t (x ∷ []) ≡ slice_index t (x / 16) ∷ slice_index t (x % 16) ∷ []
 unfolding encode_with
 encode-one t x = refl
+
+-- no byte has no digit
+pub digits_none : (t start : List ℕ) → start ≡ start ++ encode_with t []
+unfolding encode_with
+digits_none t start = sym (append-nil start)
 
 -- a step of a loop over bytes
 pub digits_more : (t bytes start before mid after : List ℕ) (i : ℕ) → i < length bytes → before ≡ start ++ encode_with t (take i bytes) → mid ≡ before ++ slice_index t (get_or bytes i 0 / 16) ∷ [] → after ≡ mid ++ slice_index t (get_or bytes i 0 % 16) ∷ [] → after ≡ start ++ encode_with t (take (i + 1) bytes)
