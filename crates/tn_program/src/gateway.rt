@@ -119,7 +119,7 @@ pub struct Joiner<H> {
     jobs: Option<Gateways<Heard<H>, Told<H>>>,
 }
 
-impl<H: Dial + Host> Joiner<H> {
+impl<H: Copy + Dial + Wait> Joiner<H> {
     fn join(&self, hook: Hook) -> Result<Gateways<Heard<H>, Told<H>>, AllocError> {
         let rt = self.rt;
         let (heard, told) = match rt.dial(self.host.as_str(), self.port) {
@@ -142,7 +142,7 @@ impl<H: Dial + Host> Joiner<H> {
     }
 }
 
-impl<H: Dial + Host> Maker for Joiner<H> {
+impl<H: Copy + Dial + Wait> Maker for Joiner<H> {
     type Job = Gateway<Heard<H>, Told<H>>;
 
     fn next(&mut self, alloc: Global) -> Result<Option<Gateway<Heard<H>, Told<H>>>, AllocError> {
