@@ -47,9 +47,9 @@ const PARTS: [&str; 16] = [
 fn any_two_parts_and_a_third_are_read_wherever_they_are_cut(rt: HostRuntime) {
     let alloc = rt.alloc();
     for n in 0..256 {
-        let (first, second) = (PARTS[n % 16], PARTS[n / 16]);
+        let (first, second) = (PARTS[n % 16], PARTS[n / 16 % 16]);
         let mut stream = bytes_of(alloc, first);
-        for part in [second, PARTS[n * 7 % 16]] {
+        for part in [second, PARTS[n / 5 % 16]] {
             let _refused = stream.extend_from_slice(&bytes_of(alloc, part));
         }
         let wanted = read_whole(alloc, &stream);
