@@ -51,7 +51,7 @@ fn is_left_by_runs(rt: &impl Abort, alloc: Global, ahead: u16, keys: &[u8]) {
     }
     let whole = half_behind(rt, alloc, ahead, keys.get(..typed).unwrap_or(&[]));
     assert!(rt; whole.len() == usize::from(line.length()));
-    assert!(rt; whole.ends_with(line.held()));
+    assert!(rt; whole.as_slice().ends_with(line.held()));
     let next = keys.get(typed).copied().unwrap_or(b'\n');
     assert!(rt; roles.role(next).gives_entry());
 }
