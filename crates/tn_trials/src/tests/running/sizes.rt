@@ -1,6 +1,6 @@
 //! A client's window that gets other sizes while keys are typed.
 
-ghost use Rattle.std.specs.Prelude.{Some};
+ghost use Rattle.std.specs.Prelude.{None};
 
 use super::gates::wait;
 use super::sessions::ended;
@@ -70,7 +70,7 @@ struct Window {
 }
 
 impl Source for Window {
-    ghost sizes = { λ window. Some window.sizes };
+    ghost sizes = { λ _. None };
 
     fn resized(&mut self) -> Option<WindowSize> {
         wait(&self.meeting.asked, &self.meeting.stuck);
