@@ -33,11 +33,7 @@ fn is_defined(rt: &impl Abort, alloc: Global, roles: &[Role], held: &[u8]) {
 
 // Keys that are typed in runs, behind bytes that were handed on: what they leave is what the whole list of
 // both says, and the first that makes an entry is left.
-fn is_left_by_runs(rt: &impl Abort, alloc: Global, ahead: u16, keys: &[u8]) {
-    let settings = Settings::standard();
-    let Ok(roles) = Roles::new(alloc, settings) else {
-        return;
-    };
+fn is_left_by_runs(rt: &impl Abort, alloc: Global, roles: &Roles, ahead: u16, keys: &[u8]) {
     let Ok(mut line) = Line::new(alloc, Limit::standard()) else {
         return;
     };
@@ -47,7 +43,7 @@ fn is_left_by_runs(rt: &impl Abort, alloc: Global, ahead: u16, keys: &[u8]) {
     let mut typed: usize = 0;
     for _ in 0..keys.len() {
         let left = keys.get(typed..).unwrap_or(&[]);
-        typed = typed.saturating_add(line.edit_run(&roles, left));
+        typed = typed.saturating_add(line.edit_run(roles, left));
     }
     let whole = half_behind(rt, alloc, ahead, keys.get(..typed).unwrap_or(&[]));
     assert!(rt; whole.len() == usize::from(line.length()));
@@ -74,6 +70,9 @@ fn half_behind(rt: &impl Abort, alloc: Global, ahead: u16, keys: &[u8]) -> Vec<u
 
 #[test]
 fn every_short_list_of_keys_is_edited_as_its_definition_says(rt: HostRuntime) {
+    let Ok(roles) = Roles::new(rt.alloc(), Settings::standard()) else {
+        return;
+    };
     for (length, count) in [(0, 1), (1, 6), (2, 36), (3, 216), (4, 1296), (5, 7776)] {
         for n in 0..count {
             let keys = [
@@ -84,8 +83,8 @@ fn every_short_list_of_keys_is_edited_as_its_definition_says(rt: HostRuntime) {
                 ALPHABET[n / 1296 % 6],
             ];
             is_given(&rt, rt.alloc(), &keys[..length]);
-            is_left_by_runs(&rt, rt.alloc(), 0, &keys[..length]);
-            is_left_by_runs(&rt, rt.alloc(), 2, &keys[..length]);
+            is_left_by_runs(&rt, rt.alloc(), &roles, 0, &keys[..length]);
+            is_left_by_runs(&rt, rt.alloc(), &roles, 2, &keys[..length]);
         }
     }
 }
@@ -93,13 +92,16 @@ fn every_short_list_of_keys_is_edited_as_its_definition_says(rt: HostRuntime) {
 #[test]
 fn a_long_line_is_edited_as_its_definition_says(rt: HostRuntime) {
     let alloc = rt.alloc();
+    let Ok(roles) = Roles::new(alloc, Settings::standard()) else {
+        return;
+    };
     for first in ["252x61", "253x61", "254x61", "255x61", "256x61", "257x61"] {
         for end in ["627f0d", "7f6204", "036364", "15620a"] {
             let mut keys = bytes_of(alloc, first);
             let _refused = keys.extend_from_slice(&bytes_of(alloc, end));
             is_given(&rt, alloc, &keys);
-            is_left_by_runs(&rt, alloc, 0, &keys);
-            is_left_by_runs(&rt, alloc, 3, &keys);
+            is_left_by_runs(&rt, alloc, &roles, 0, &keys);
+            is_left_by_runs(&rt, alloc, &roles, 3, &keys);
         }
     }
 }
