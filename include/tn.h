@@ -49,7 +49,7 @@ enum {
     TN_OTHER_KIND = 5,    /* the handle holds something of another kind */
     TN_NO_LIMIT = 6,      /* a line's limit is 255 to 4,095 bytes */
     TN_TOO_FAR_AHEAD = 7, /* a key would make an entry while 1,024 wait */
-    TN_CLOSED = 8,        /* the terminal is closed to input */
+    TN_CLOSED = 8,        /* the terminal is closed to input; no call closes one before its end has failed */
     TN_NO_FUNCTION = 9,   /* RFC 1184 has no function of this number */
     TN_NOT_SETTABLE = 10, /* the function has no special character */
     TN_RESERVED = 11,     /* 10, 13 and 255 are never special characters */

@@ -1,4 +1,5 @@
-/* echo_server [PORT]: answers each line of each client in capitals. One thread, poll, up to 64 clients.
+/* echo_server [PORT [remote]]: answers each line of each client in capitals. One thread, poll, up to 64 clients.
+ * Lines are edited at the client if it can do that, and here where the second word is given.
  *
  *   cc -Iinclude examples/c/echo_server.c out/libtn.a -o echo_server
  *   ./echo_server 2323 &   then   telnet 127.0.0.1 2323
@@ -29,6 +30,7 @@ struct client {
 };
 
 static struct client clients[MAX_CLIENTS];
+static bool is_local = true;
 
 static void give_up(struct client *c)
 {
@@ -50,7 +52,7 @@ static void welcome(int listener)
             continue;
         memset(c, 0, sizeof *c);
         c->fd = fd;
-        if (tn_server_start(&c->end, &flags, LIMIT) != TN_OK || tn_server_wish(&c->end, true, &sent) != TN_OK)
+        if (tn_server_start(&c->end, &flags, LIMIT) != TN_OK || tn_server_wish(&c->end, is_local, &sent) != TN_OK)
             give_up(c);
         return;
     }
@@ -149,6 +151,7 @@ int main(int argc, char **argv)
     socklen_t length = sizeof at;
     int on = 1, listener = socket(AF_INET, SOCK_STREAM, 0);
     at.sin_port = htons((uint16_t)(argc > 1 ? atoi(argv[1]) : 2323));
+    is_local = argc < 3;
     setsockopt(listener, SOL_SOCKET, SO_REUSEADDR, &on, sizeof on);
     if (bind(listener, (struct sockaddr *)&at, sizeof at) || listen(listener, 16)) {
         perror("echo_server");

@@ -1,4 +1,5 @@
-//! echo_server [PORT]: answers each line of each client in capitals, over `libtn.a`, with no other crate.
+//! echo_server [PORT [remote]]: answers each line of each client in capitals, over `libtn.a`, with no other crate.
+//! Lines are edited at the client if it can do that, and here where the second word is given.
 //!
 //!     rustc --edition 2021 -O -L out -l static=tn examples/rust/echo_server.rs
 
@@ -125,9 +126,10 @@ impl Server {
         }
     }
 
-    fn wish_local(&mut self) -> Result<(), Refused> {
+    /// Wishes for lines that are edited at the client, or here.
+    fn wish(&mut self, is_local: bool) -> Result<(), Refused> {
         let mut sent = false;
-        done(unsafe { raw::tn_server_wish(&mut self.0, true, &mut sent) })
+        done(unsafe { raw::tn_server_wish(&mut self.0, is_local, &mut sent) })
     }
 }
 
@@ -150,9 +152,9 @@ fn run_job(server: &mut Server) -> Result<bool, Refused> {
     Ok(false)
 }
 
-fn serve(mut stream: TcpStream) -> Result<(), Refused> {
+fn serve(mut stream: TcpStream, is_local: bool) -> Result<(), Refused> {
     let mut server = Server::start(255)?;
-    server.wish_local()?;
+    server.wish(is_local)?;
     let mut piece = [0; 4096];
     loop {
         let fed = run_job(&mut server);
@@ -169,11 +171,12 @@ fn serve(mut stream: TcpStream) -> Result<(), Refused> {
 fn main() -> std::io::Result<()> {
     let port = std::env::args().nth(1).and_then(|word| word.parse().ok()).unwrap_or(2323);
     let listener = TcpListener::bind(("127.0.0.1", port))?;
+    let is_local = std::env::args().nth(2).is_none();
     println!("port {}", listener.local_addr()?.port());
     for stream in listener.incoming() {
         let stream = stream?;
         std::thread::spawn(move || {
-            if let Err(refused) = serve(stream) {
+            if let Err(refused) = serve(stream, is_local) {
                 eprintln!("echo_server: refused: {}", refused.0);
             }
         });

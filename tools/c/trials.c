@@ -1,56 +1,12 @@
-/* Trials of tn.h, for tools/check-c. Each allocation goes through here, so that one can be refused and all are counted.
+/* Trials of tn.h, for tools/check-c.
  *
- *   trials worked     openings, answers and entries that were worked out by hand, and wrong uses of a handle
+ *   trials worked     openings, answers and entries that were worked out by hand
  *   trials refused    the same session again and again, with each allocation refused in turn
  *   trials server SEED, trials parts SEED      read a client's stream, and print its entries as `tn replay` does: by a
  *                     server end, and by a decoder with a line; it is cut in pieces as SEED has it
  */
-#include "tn.h"
+#include "trial.h"
 
-#include <stdio.h>
-#include <stdlib.h>
-#include <string.h>
-
-#define SURE(fact) \
-    do { \
-        if (!(fact)) { \
-            fprintf(stderr, "trials: line %d: %s\n", __LINE__, #fact); \
-            exit(3); \
-        } \
-    } while (0)
-
-void *__real_malloc(size_t size);
-void *__real_realloc(void *old, size_t size);
-void __real_free(void *old);
-
-static long live, calls, refused_call;
-
-static bool is_refused(void)
-{
-    return ++calls == refused_call;
-}
-
-void *__wrap_malloc(size_t size)
-{
-    void *made = is_refused() ? NULL : __real_malloc(size);
-    live += made != NULL;
-    return made;
-}
-
-void *__wrap_realloc(void *old, size_t size)
-{
-    void *made = is_refused() ? NULL : __real_realloc(old, size);
-    live += made != NULL && old == NULL;
-    return made;
-}
-
-void __wrap_free(void *old)
-{
-    live -= old != NULL;
-    __real_free(old);
-}
-
-static const tn_flags standard = TN_STANDARD_FLAGS;
 static uint8_t buf[70000];
 
 /* What waits to be sent is exactly this. */

@@ -9,6 +9,7 @@
 #include <string.h>
 
 #define PIECE 4096
+#define PRINTED 960 // telnet_printf sends nothing of a text that has more than 1,023 bytes
 #define SURE(fact) ((fact) ? (void)0 : (fprintf(stderr, "c_library: line %d: %s\n", __LINE__, #fact), exit(3)))
 
 static uint8_t stream[65536], buf[4 * PIECE];
@@ -40,6 +41,7 @@ static struct done send_theirs(void *telnet) {
     for (at = 0; at < sizeof stream; at += PIECE) {
         got = 0;
         telnet_send(telnet, (const char *)stream + at, PIECE);
+        SURE(got >= PIECE);
         all.wholes += (double)got;
     }
     return all;
@@ -49,9 +51,11 @@ static struct done send_theirs(void *telnet) {
 static struct done print_theirs(void *telnet) {
     struct done all = {sizeof stream, 0};
     size_t at;
-    for (at = 0; at < sizeof stream; at += PIECE) {
+    for (at = 0; at < sizeof stream; at += PRINTED) {
+        size_t piece = sizeof stream - at < PRINTED ? sizeof stream - at : PRINTED;
         got = 0;
-        telnet_printf(telnet, "%.*s", PIECE, (const char *)stream + at);
+        telnet_printf(telnet, "%.*s", (int)piece, (const char *)stream + at);
+        SURE(got >= piece);
         all.wholes += (double)got;
     }
     return all;

@@ -4,7 +4,7 @@ use crate::measure::{Bench, Done, Stuck, Workload, repeated};
 use std::alloc::Global;
 use std::io::Write;
 use std::time::Clock;
-use tn_nvt::{Decoder, Item, Refused, Sink};
+use tn_nvt::{Decoder, Item, Params, Refused, Sink};
 
 /// How many bytes a piece has.
 const PIECE: usize = 4_096;
@@ -16,7 +16,7 @@ const LINE: &[u8; 64] = b"the quick brown fox jumps over the lazy dog, and all i
 const MIX: &[u8; 32] =
     b"ab\xff\xffcd\r\0ef\xff\xfb\x01gh\xff\xf1ij\xff\xfa\x1f\0\x50\0\x18\xff\xf0kl\r\n";
 
-/// Counts what it is handed.
+/// Counts what it is handed. A subnegotiation's parameters stay where they are, as libtelnet's do.
 #[derive(Drop)]
 struct Counter {
     wholes: u64,
@@ -33,6 +33,11 @@ impl Sink for Counter {
     }
 
     fn item(&mut self, _item: Item) -> Result<(), Refused> {
+        self.wholes = self.wholes.saturating_add(1);
+        Ok(())
+    }
+
+    fn sub(&mut self, _option: u8, _params: &mut Params) -> Result<(), Refused> {
         self.wholes = self.wholes.saturating_add(1);
         Ok(())
     }

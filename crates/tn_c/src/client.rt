@@ -272,7 +272,8 @@ pub extern "C" fn tn_client_mode(alloc: Global, handle: &mut Handle, mask: &mut 
         (result ≡ number code) × (handle.new.held ≡ handle.old.held)) }
     ensures unwritten { IfSome (client_absence handle.old.held) (λ _. mask.new ≡ mask.old) }
     ensures done { OnClient handle.old.held handle.new.held (λ _ _. result ≡ number code.Done) }
-    ensures value { OnClient handle.old.held handle.new.held (λ before _.
+    ensures value { OnClient handle.old.held handle.new.held (λ before _. mask.new ≡ before.end.mode) }
+    ensures stands { OnClient handle.old.held handle.new.held (λ before _.
         (h : History) → LeadsTo h before.end → mask.new ≡ mode h) }
     ensures same { handle.new.held ≡ handle.old.held }
 {
@@ -293,6 +294,8 @@ pub extern "C" fn tn_client_half(
         (buf.new ≡ buf.old) × (count.new ≡ count.old)) }
     ensures done { OnClient handle.old.held handle.new.held (λ _ _. result ≡ number code.Done) }
     ensures copies { OnClient handle.old.held handle.new.held (λ before _.
+        Copies before.end.line.held buf.old buf.new count.new) }
+    ensures stands { OnClient handle.old.held handle.new.held (λ before _.
         (h : History) → LeadsTo h before.end → Copies (held_bytes h) buf.old buf.new count.new) }
     ensures same { handle.new.held ≡ handle.old.held }
 {
@@ -307,6 +310,8 @@ pub extern "C" fn tn_client_ahead(alloc: Global, handle: &mut Handle, count: &mu
     ensures unwritten { IfSome (client_absence handle.old.held) (λ _. count.new ≡ count.old) }
     ensures done { OnClient handle.old.held handle.new.held (λ _ _. result ≡ number code.Done) }
     ensures value { OnClient handle.old.held handle.new.held (λ before _.
+        count.new ≡ before.end.line.ahead) }
+    ensures stands { OnClient handle.old.held handle.new.held (λ before _.
         (h : History) → LeadsTo h before.end → count.new ≡ ahead h) }
     ensures same { handle.new.held ≡ handle.old.held }
 {
@@ -326,6 +331,10 @@ pub extern "C" fn tn_client_counts(
     ensures unwritten { IfSome (client_absence handle.old.held) (λ _.
         (trapped.new ≡ trapped.old) × (plain.new ≡ plain.old)) }
     ensures done { OnClient handle.old.held handle.new.held (λ _ _. result ≡ number code.Done) }
+    ensures trapped_value { OnClient handle.old.held handle.new.held (λ before _.
+        trapped.new ≡ before.end.trapped) }
+    ensures plain_value { OnClient handle.old.held handle.new.held (λ before _.
+        plain.new ≡ before.end.plain) }
     ensures trapped { OnClient handle.old.held handle.new.held (λ before _.
         (h : History) → LeadsTo h before.end → trapped.new ≡ count_under true h) }
     ensures plain { OnClient handle.old.held handle.new.held (λ before _.
@@ -349,6 +358,9 @@ pub extern "C" fn tn_client_char(
     ensures codes { OnClient handle.old.held handle.new.held (λ _ _.
         (result ≡ number code.Done) ⊎ (result ≡ number code.NoFunction)) }
     ensures value { OnClient handle.old.held handle.new.held (λ before _.
+        (func : Func) → func_code func ≡ function →
+        value.new ≡ char_number (slot before.end.table func)) }
+    ensures stands { OnClient handle.old.held handle.new.held (λ before _.
         (func : Func) → func_code func ≡ function → (h : History) → LeadsTo h before.end →
         value.new ≡ char_number (slot (chars h) func)) }
     ensures no_function { OnClient handle.old.held handle.new.held (λ _ _.
@@ -374,6 +386,8 @@ pub extern "C" fn tn_client_option(
     ensures unwritten { IfSome (client_absence handle.old.held) (λ _. state.new ≡ state.old) }
     ensures done { OnClient handle.old.held handle.new.held (λ _ _. result ≡ number code.Done) }
     ensures value { OnClient handle.old.held handle.new.held (λ before _.
+        state.new ≡ state_number (state_of before.end.options (side_given ours) option)) }
+    ensures stands { OnClient handle.old.held handle.new.held (λ before _.
         (h : History) → LeadsTo h before.end →
         state.new ≡ state_number (state_of (options h) (side_given ours) option)) }
     ensures same { handle.new.held ≡ handle.old.held }

@@ -3,8 +3,8 @@
 ghost use Rattle.std.specs.Prelude.{◌≡◌, ◌≢◌, ◌↔◌, ◌⊎◌, true, None, [], ◌∷◌, IfSome, if◌then◌else◌};
 ghost use Rattle.tn_codes.specs.Codes.{func_code};
 ghost use Rattle.tn_codes.specs.declared.codes.Func.{Func};
-ghost use Rattle.tn_discipline.specs.Advancing.{Advances};
-ghost use Rattle.tn_discipline.specs.Characters.{standard_characters, slot, with_slot, char_fault};
+ghost use Rattle.tn_discipline.specs.Advancing.{Advances, DropsExactly};
+ghost use Rattle.tn_discipline.specs.Characters.{AreAllowed, standard_characters, slot, with_slot, char_fault};
 ghost use Rattle.tn_discipline.specs.HalfLine.{empty_line, line_after, effect_of, effect_entries, GivesText};
 ghost use Rattle.tn_discipline.specs.Keys.{role_of_key, roles_of};
 ghost use Rattle.tn_discipline.specs.Limits.{is_limit};
@@ -68,6 +68,10 @@ pub extern "C" fn tn_line_key(alloc: Global, handle: &mut Handle, key: u8, effec
         let roles = roles_of before.settings (key ∷ []) in
         let done = effect_of before.line (role_of_key before.settings key) in
         result ≡ number code.Done → Advances before.line roles (effect_entries done) after.line) }
+    ensures dropped { OnLine handle.old.held handle.new.held (λ before _.
+        let roles = roles_of before.settings (key ∷ []) in
+        let done = effect_of before.line (role_of_key before.settings key) in
+        result ≡ number code.Done → DropsExactly before.line roles done) }
     ensures line { OnLine handle.old.held handle.new.held (λ before after.
         result ≡ number code.Done → after.line ≡ line_after before.line (role_of_key before.settings key)) }
     ensures effect { OnLine handle.old.held handle.new.held (λ before _.
@@ -162,6 +166,8 @@ pub extern "C" fn tn_line_set_char(
     ensures answer { OnLine handle.old.held handle.new.held (λ before _.
         (func : Func) → func_code func ≡ function →
         result ≡ number (char_answer (char_fault before.settings.chars func (char_given value)))) }
+    ensures allowed { OnLine handle.old.held handle.new.held (λ _ after.
+        result ≡ number code.Done → AreAllowed after.settings.chars) }
     ensures no_function { OnLine handle.old.held handle.new.held (λ _ _.
         (result ≡ number code.NoFunction) ↔ ((func : Func) → func_code func ≢ function)) }
     ensures err { OnLine handle.old.held handle.new.held (λ before after.

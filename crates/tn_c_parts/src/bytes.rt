@@ -18,6 +18,10 @@ pub(crate) fn move_front(bytes: &mut Vec<u8>, buf: &mut [u8]) -> usize
     ensures stay { bytes.new.items ≡ drop result bytes.old.items }
 {
     let count = copy_front(bytes.as_slice(), buf);
+    if count == bytes.len() {
+        bytes.clear();
+        return count;
+    }
     drop(bytes.drain(..count));
     count
 }

@@ -187,7 +187,8 @@ impl HeldClient {
 
     /// Copies the first bytes of the half line that is held here, as many as fit, and says how many.
     pub fn half(&self, buf: &mut [u8], count: &mut usize)
-        ensures { (h : History) → LeadsTo h self.now.end →
+        ensures value { Copies self.now.end.line.held buf.old buf.new count.new }
+        ensures stands { (h : History) → LeadsTo h self.now.end →
             Copies (held_bytes h) buf.old buf.new count.new }
     {
         *count = copy_front(self.end.half(), buf);
@@ -195,6 +196,8 @@ impl HeldClient {
 
     /// Says how long a half line is that the server edits, with its ISIG set and with it clear.
     pub fn counts(&self, trapped: &mut u16, plain: &mut u16)
+        ensures trapped_value { trapped.new ≡ self.now.end.trapped }
+        ensures plain_value { plain.new ≡ self.now.end.plain }
         ensures trapped { (h : History) → LeadsTo h self.now.end → trapped.new ≡ count_under true h }
         ensures plain { (h : History) → LeadsTo h self.now.end → plain.new ≡ count_under false h }
     {
@@ -206,7 +209,9 @@ impl HeldClient {
     /// Gives the number of the special character of the function with this number; 256 where it is disabled.
     pub fn function_char(&self, function: u8, value: &mut u16) -> Code
         ensures codes { (result ≡ code.Done) ⊎ (result ≡ code.NoFunction) }
-        ensures value { (func : Func) → func_code func ≡ function → (h : History) → LeadsTo h self.now.end →
+        ensures value { (func : Func) → func_code func ≡ function →
+            value.new ≡ char_number (slot self.now.end.table func) }
+        ensures stands { (func : Func) → func_code func ≡ function → (h : History) → LeadsTo h self.now.end →
             value.new ≡ char_number (slot (chars h) func) }
         ensures no_function { (result ≡ code.NoFunction) ↔ ((func : Func) → func_code func ≢ function) }
         ensures err { result ≡ code.NoFunction → value.new ≡ value.old }
@@ -216,7 +221,8 @@ impl HeldClient {
 
     /// The number of where an option stands, at our side or at theirs.
     pub fn option(&self, ours: bool, option: u8) -> u32
-        ensures { (h : History) → LeadsTo h self.now.end →
+        ensures value { result ≡ state_number (state_of self.now.end.options (side_given ours) option) }
+        ensures stands { (h : History) → LeadsTo h self.now.end →
             result ≡ state_number (state_of (options h) (side_given ours) option) }
     {
         state_number(self.end.option(side_given(ours), option))

@@ -3,8 +3,8 @@
 ghost use Rattle.std.specs.Prelude.{◌≡◌, ◌≢◌, ◌↔◌, ◌⊎◌, None, [], ◌∷◌, IfOk};
 ghost use Rattle.tn_codes.specs.Codes.{func_code};
 ghost use Rattle.tn_codes.specs.declared.codes.Func.{Func};
-ghost use Rattle.tn_discipline.specs.Advancing.{Advances};
-ghost use Rattle.tn_discipline.specs.Characters.{standard_characters, slot, with_slot, char_fault};
+ghost use Rattle.tn_discipline.specs.Advancing.{Advances, DropsExactly};
+ghost use Rattle.tn_discipline.specs.Characters.{AreAllowed, standard_characters, slot, with_slot, char_fault};
 ghost use Rattle.tn_discipline.specs.HalfLine.{empty_line, line_after, effect_of, effect_entries, GivesText};
 ghost use Rattle.tn_discipline.specs.Keys.{role_of_key, roles_of};
 ghost use Rattle.tn_c_parts.specs.Bytes.{Copies};
@@ -53,6 +53,9 @@ impl HeldLine {
         ensures advances { let roles = roles_of self.old.settings (key ∷ []) in
             let done = effect_of self.old.line (role_of_key self.old.settings key) in
             result ≡ code.Done → Advances self.old.line roles (effect_entries done) self.new.line }
+        ensures dropped { let roles = roles_of self.old.settings (key ∷ []) in
+            let done = effect_of self.old.line (role_of_key self.old.settings key) in
+            result ≡ code.Done → DropsExactly self.old.line roles done }
         ensures line { result ≡ code.Done →
             self.new.line ≡ line_after self.old.line (role_of_key self.old.settings key) }
         ensures effect { result ≡ code.Done →
@@ -104,6 +107,7 @@ impl HeldLine {
             self.new.settings.chars ≡ with_slot self.old.settings.chars func value }
         ensures answer { result ≡ char_answer (char_fault self.old.settings.chars func value) }
         ensures known { result ≢ code.NoFunction }
+        ensures allowed { result ≡ code.Done → AreAllowed self.new.settings.chars }
         ensures err { result ≢ code.Done → self.new.settings ≡ self.old.settings }
         ensures flags { self.new.settings.flags ≡ self.old.settings.flags }
         ensures line { self.new.line ≡ self.old.line }
@@ -123,6 +127,7 @@ impl HeldLine {
             self.new.settings.chars ≡ with_slot self.old.settings.chars func (char_given value) }
         ensures answer { (func : Func) → func_code func ≡ function →
             result ≡ char_answer (char_fault self.old.settings.chars func (char_given value)) }
+        ensures allowed { result ≡ code.Done → AreAllowed self.new.settings.chars }
         ensures no_function { (result ≡ code.NoFunction) ↔ ((func : Func) → func_code func ≢ function) }
         ensures err { result ≢ code.Done → self.new.settings ≡ self.old.settings }
         ensures flags { self.new.settings.flags ≡ self.old.settings.flags }

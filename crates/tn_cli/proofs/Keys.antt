@@ -1,7 +1,7 @@
 -- More keys that are typed at one line.
-use Rattle.std.proofs.Common.{◌≡◌, ℕ, suc, ◌+◌, ◌-◌, All, List, [], ◌∷◌, ◌++◌, length, take, drop, refl, sym, ap, ◌∙◌, subst, arith, append-nil}
+use Rattle.std.proofs.Common.{◌≡◌, ◌<◌, ℕ, ◌+◌, ◌-◌, List, [], ◌∷◌, ◌++◌, length, take, drop, get_or, refl, sym, ap, ◌∙◌, subst, arith, append-nil}
 use Rattle.std.proofs.Math.Seq.{take-add}
-use Rattle.std.proofs.lemmas.List.{take_all, length-drop}
+use Rattle.std.proofs.lemmas.List.{take_all, take_more, length-drop}
 use Rattle.std.proofs.lemmas.Grind.{flat_map-append}
 use Rattle.tn_discipline.specs.Canon.{typed_entries}
 use Rattle.tn_discipline.specs.Entries.{entries_of}
@@ -12,10 +12,6 @@ use Rattle.tn_discipline.specs.declared.half_line.Effect.{Effect}
 use Rattle.tn_discipline.specs.declared.half_line.Effect.TheVariants as effect
 use Rattle.tn_discipline.specs.declared.reads.Entry.{Entry}
 use Rattle.tn_discipline.specs.declared.keys.Role.{Role}
-use Rattle.tn_discipline.specs.declared.keys.Role.TheVariants as role
-use Rattle.tn_discipline.specs.declared.termios.Settings.{Settings}
-use Rattle.tn_discipline.specs.RolesTable.{IsPlain}
-use Rattle.tn_discipline.specs.Runs.{ordinary_roles}
 use Rattle.tn_discipline.proofs.lemmas.KeyRoles.{roles_of-append, roles_of-one}
 use Rattle.tn_cli.specs.Printed.{printed, printed_entry}
 use Rattle.tn_cli.specs.Typing.{Types, standard}
@@ -49,20 +45,15 @@ pub typed_key : (old new : Typing) (key : ℕ) (r : Role) (gain : List Entry) �
 typed_key old new key r gain same is moves shown =
     typed_more old new (key ∷ []) gain same (subst (λ rs. Advances old.line rs gain new.line) (ap roles_from is ∙ roles_of-one old.roles key) moves) shown
 
--- the roles of keys that join the line as they are
-plain_roles : (settings : Settings) (keys : List ℕ) → All (IsPlain settings) keys → roles_of settings keys ≡ ordinary_roles keys
-plain_roles settings [] plain = refl
-plain_roles settings (key ∷ keys) plain =
-    let first : IsPlain settings key = plain 0 0 (omega arith) in
-    roles_of-append settings (key ∷ []) keys
-    ∙ ap (λ rs. rs ++ roles_of settings keys) (sym (roles_of-one settings key) ∙ ap roles_from first)
-    ∙ ap (λ rs. role.Ordinary key ∷ rs) (plain_roles settings keys (λ k d lt. plain (suc k) d (omega (arith, lt))))
+-- keys that give no entry
+pub typed_run : (old new : Typing) (keys : List ℕ) → new.roles ≡ old.roles
+    → Advances old.line (roles_of old.roles keys) [] new.line → new.printed.items ≡ old.printed.items → Types keys old new
+typed_run old new keys same moves shown = typed_more old new keys [] same moves (shown ∙ sym (append-nil old.printed.items))
 
--- keys that join the line as they are
-pub typed_run : (old new : Typing) (keys : List ℕ) → new.roles ≡ old.roles → All (IsPlain old.roles) keys
-    → Advances old.line (ordinary_roles keys) [] new.line → new.printed.items ≡ old.printed.items → Types keys old new
-typed_run old new keys same plain moves shown =
-    typed_more old new keys [] same (subst (λ rs. Advances old.line rs [] new.line) (sym (plain_roles old.roles keys plain)) moves) (shown ∙ sym (append-nil old.printed.items))
+-- some of the keys, and the next one
+pub types_next : (old mid new : Typing) (keys : List ℕ) (i : ℕ) → i < length keys → Types (take i keys) old mid → Types (get_or keys i 0 ∷ []) mid new → Types (take (i + 1) keys) old new
+types_next old mid new keys i within a b =
+    subst (λ xs. Types xs old new) (sym (take_more keys i 0 within)) (types_both old mid new (take i keys) (get_or keys i 0 ∷ []) a b)
 
 -- some more of the keys that are left
 pub types_front : (old mid new : Typing) (keys : List ℕ) (i n : ℕ) → Types (take i keys) old mid → Types (take n (take (length keys - i) (drop i keys))) mid new → Types (take (i + n) keys) old new

@@ -1,4 +1,5 @@
 pub mod Decoding
+pub mod Digits
 pub mod Ends
 pub mod Inputs
 pub mod Items

@@ -74,10 +74,10 @@ fn perform(
         Command::Keys(keys) => type_keys(alloc, world, keys.as_slice()),
         Command::Happen(event) => run(world, slice::from_ref(event)),
         Command::Settle => settle(world),
-        Command::Take => take(alloc, world, out),
+        Command::Take => take(world, out),
         Command::Mark => mark(world, out),
-        Command::Flight => print_flight(alloc, world, out),
-        Command::Shown => print_bytes(alloc, b"shown ", world.shown(), out),
+        Command::Flight => print_flight(world, out),
+        Command::Shown => print_bytes(b"shown ", world.shown(), out),
     }
 }
 
@@ -143,7 +143,7 @@ fn is_flight_empty(world: &World) -> bool
     world.in_flight(ToWhom::Server).is_empty() && world.in_flight(ToWhom::Client).is_empty()
 }
 
-fn take(alloc: Global, world: &mut World, out: &mut Vec<u8>) -> Result<(), Stop>
+fn take(world: &mut World, out: &mut Vec<u8>) -> Result<(), Stop>
     ensures ok { OnOk result (play.Prints (play.TakesOne world.old) out.old.items out.new.items world.new) }
     ensures refused { IsErrOf result Refused →
         play.RefusesEvents world.old (event.Take ∷ []) × (out.new.items ≡ out.old.items) }
@@ -153,7 +153,7 @@ fn take(alloc: Global, world: &mut World, out: &mut Vec<u8>) -> Result<(), Stop>
     run_event(world, Event::Take)?;
     match world.taken().get(before) {
         Some(entry) => {
-            print_entry(alloc, entry, out)?;
+            print_entry(entry, out)?;
             Ok(())
         },
         None => append(out, b"none\n"),
@@ -170,16 +170,16 @@ fn mark(world: &mut World, out: &mut Vec<u8>) -> Result<(), Stop>
     append(out, b"mark false\n")
 }
 
-fn print_flight(alloc: Global, world: &World, out: &mut Vec<u8>) -> Result<(), Stop>
+fn print_flight(world: &World, out: &mut Vec<u8>) -> Result<(), Stop>
     ensures ok { OnOk result (out.new.items ≡ out.old.items ++ play.printed_flight world.now) }
     ensures memory { IfErr result (λ stop. stop ≡ Memory) }
 {
-    print_bytes(alloc, b"to-server ", world.in_flight(ToWhom::Server), out)?;
-    print_bytes(alloc, b"to-client ", world.in_flight(ToWhom::Client), out)
+    print_bytes(b"to-server ", world.in_flight(ToWhom::Server), out)?;
+    print_bytes(b"to-client ", world.in_flight(ToWhom::Client), out)
 }
 
 // Appends a name, and some bytes in hexadecimal or a dash.
-fn print_bytes(alloc: Global, name: &[u8], bytes: &[u8], out: &mut Vec<u8>) -> Result<(), Stop>
+fn print_bytes(name: &[u8], bytes: &[u8], out: &mut Vec<u8>) -> Result<(), Stop>
     ensures ok { OnOk result (out.new.items ≡ out.old.items ++ (name.now ++ play.printed_bytes bytes.now)) }
     ensures memory { IfErr result (λ stop. stop ≡ Memory) }
 {
@@ -187,7 +187,7 @@ fn print_bytes(alloc: Global, name: &[u8], bytes: &[u8], out: &mut Vec<u8>) -> R
     if bytes.is_empty() {
         return append(out, b"-\n");
     }
-    print_digits(alloc, bytes, out)?;
+    print_digits(bytes, out)?;
     Ok(())
 }
 

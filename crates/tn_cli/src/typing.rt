@@ -10,7 +10,6 @@ use tn_discipline::{Effect, Limit, Line, Roles, Settings};
 /// A line with standard settings, and the printed entries that it has given.
 #[derive(Drop)]
 pub(crate) struct Typing {
-    alloc: Global,
     roles: Roles,
     line: Line,
     printed: Vec<u8>,
@@ -21,7 +20,6 @@ impl Typing {
         ensures { IfOk result (λ typing. LeadsTo [] typing) }
     {
         Ok(Typing {
-            alloc,
             roles: Roles::new(alloc, Settings::standard())?,
             line: Line::new(alloc, Limit::standard())?,
             printed: Vec::new(alloc),
@@ -33,7 +31,7 @@ impl Typing {
     {
         let role = self.roles.role(key);
         if let Effect::Gives(entry) = self.line.play(role)? {
-            return print_entry(self.alloc, &entry, &mut self.printed);
+            return print_entry(&entry, &mut self.printed);
         }
         Ok(())
     }
@@ -49,21 +47,19 @@ impl Typing {
         Ok(())
     }
 
-    // Types the leading bytes that join the line as they are, or else the first key; returns how many
-    // were typed.
+    // Types leading keys that make no entry, and then the next key; returns how many were typed.
     fn front(&mut self, keys: &[u8]) -> Result<usize, AllocError>
         requires { 0 < length keys.now }
         ensures some { IfOk result (λ count. 0 < count) }
         ensures within { IfOk result (λ count. count ≤ length keys.now) }
         ensures types { IfOk result (λ count. Types (take count keys.now) self.old self.new) }
     {
-        let count = self.roles.ordinary_front(keys);
-        if count == 0 {
-            self.key(keys[0])?;
-            return Ok(1);
+        let count = self.line.edit_run(&self.roles, keys);
+        if count == keys.len() {
+            return Ok(count);
         }
-        let _kept = self.line.keep_run(&keys[..count]);
-        Ok(count)
+        self.key(keys[count])?;
+        Ok(count + 1)
     }
 
     pub(crate) fn into_printed(self) -> Vec<u8>

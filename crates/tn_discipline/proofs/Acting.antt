@@ -1,5 +1,5 @@
 -- What the calls on a line do, by what each role does.
-use Rattle.std.proofs.Common.{◌≡◌, ◌<◌, ℕ, Result, Ok, Err, IfOk, OnOk, List, [], ◌∷◌, ◌++◌, length, refl, sym, ap, ◌∙◌, arith, append-nil}
+use Rattle.std.proofs.Common.{◌≡◌, ◌<◌, ℕ, Result, Ok, Err, IfOk, OnOk, List, [], ◌∷◌, length, refl, ap, ◌∙◌, arith}
 use Rattle.tn_discipline.specs.declared.keys.Role.{Role}
 use Rattle.tn_discipline.specs.declared.keys.Role.TheVariants as role
 use Rattle.tn_discipline.specs.declared.reads.Entry.TheVariants as entry
@@ -36,12 +36,8 @@ line_of-text [] h = absurd (omega arith)
 line_of-text (byte ∷ bytes) h = refl
 
 -- a key that closes a line with a byte in it gives a text
-pub gives_text : (old : HalfLine) (r : Role) (closing : List ℕ) → effect_of old r ≡ effect.Gives (line_of (old.held ++ closing)) → 0 < length (old.held ++ closing) → GivesText old r
-gives_text old r closing gives some = (old.held ++ closing, gives ∙ ap effect.Gives (line_of-text _ some))
-
-pub gives_eof : (old : HalfLine) → 0 < length (old.held ++ []) → GivesText old role.Eof
-gives_eof old some =
-    gives_text old role.Eof [] (ap (λ bytes. effect.Gives (line_of bytes)) (sym (append-nil old.held))) some
+pub gives_text : (old : HalfLine) (r : Role) (bytes : List ℕ) → effect_of old r ≡ effect.Gives (line_of bytes) → 0 < length bytes → GivesText old r
+gives_text old r bytes gives some = (bytes, gives ∙ ap effect.Gives (line_of-text bytes some))
 
 -- the same of a call that may have been refused
 pub advances_or : {E : Type 0} (r : Result Effect E) (old new : HalfLine) (role : Role) → IfOk r (λ e. e ≡ effect_of old role) → OnOk r (new ≡ line_after old role) → IfOk r (λ e. Advances old (roles_from role) (effect_entries e) new)

@@ -5,3 +5,4 @@ pub mod Reached
 pub mod Forwards
 pub mod Lines
 pub mod Runs
+pub mod Editing

@@ -9,6 +9,7 @@ pub mod Steps
 pub mod HalfLine
 pub mod Runs
 pub mod RolesTable
+pub mod Editing
 pub mod Advancing
 pub mod Canon
 pub mod Echo

@@ -1,19 +1,29 @@
-ghost use Rattle.std.specs.Prelude.{◌≡◌, ◌==◌, ◌<◌, ◌+◌, ◌-◌, [], ◌∷◌, ◌++◌, length, take, min, IfOk, OnOk, OnErr, vec_len, vec_capacity};
-ghost use Rattle.tn_discipline.specs.Keys.{roles_of, role_of_key, literal_role, roles_from};
+ghost use Rattle.std.specs.Prelude.{◌≡◌, ◌==◌, ◌<◌, ◌≤◌, ◌+◌, ◌-◌, true, [], ◌∷◌, ◌++◌, All, length, take, get_or, min, IfOk, OnOk, OnErr, vec_len, vec_capacity};
+ghost use Rattle.tn_discipline.specs.Keys.{roles_of, role_of_key, literal_role, roles_from, gives_entry};
 ghost use Rattle.tn_discipline.specs.Limits.{max_counted};
-ghost use Rattle.tn_discipline.specs.Runs.{line_after_all, ordinary_roles};
+ghost use Rattle.tn_discipline.specs.Runs.{line_after_all, each_role, ordinary_roles};
 ghost use Rattle.tn_discipline.specs.Entries.{line_of};
 ghost use Rattle.tn_discipline.specs.HalfLine.{empty_line, line_length, line_released, line_resumed, effect_of, line_after, line_kept, line_erased, effect_entries, GivesText};
+ghost use Rattle.tn_discipline.specs.Editing.{IsQuiet, IsClosing, with_byte};
 ghost use Rattle.tn_discipline.specs.Advancing.{Advances, DropsExactly, KeepsHalf, LeadsWhereLong};
 ghost use Rattle.tn_discipline.specs.declared.half_line.Effect.TheVariants as effect;
 ghost use Rattle.tn_discipline.specs.declared.keys.Role.TheVariants as role;
 
+use crate::editing::{Parts, edit_front};
 use crate::keys::{Role, role_of, role_of_literal};
 use crate::line_limit::Limit;
 use crate::reads::{Entry, Text};
+use crate::role_table::Roles;
 use crate::termios::Settings;
 use std::alloc::{AllocError, Global};
 use std::marker::Model;
+use std::mem;
+
+/// From how many on bytes that join the line as they are are copied, and not typed one after another.
+const LONG_RUN: usize = 16;
+
+/// How many keys are typed one after another before a long run is looked for again.
+const EDITED_KEYS: usize = 64;
 
 /// What a key did to the line.
 #[derive(Debug, PartialEq, Eq, Drop)]
@@ -165,6 +175,22 @@ impl Line {
         self.keep_front(bytes)
     }
 
+    /// Types leading keys that make no entry, and returns how many were typed: one at least where the first
+    /// makes none. No memory is wanted.
+    pub fn edit_run(&mut self, roles: &Roles, keys: &[u8]) -> usize
+        ensures advances { let typed = roles_of roles.now (take result keys.now) in
+            Advances self.old typed [] self.new }
+        ensures line { let typed = each_role roles.now (take result keys.now) in
+            self.new ≡ line_after_all self.old typed }
+
+        ensures within { result ≤ length keys.now }
+        ensures quiet { All (IsQuiet roles.now) (take result keys.now) }
+        ensures next { result ≡ 0 → 0 < length keys.now →
+            gives_entry (role_of_key roles.now (get_or keys.now 0 0)) ≡ true }
+    {
+        self.edit_some(roles, keys)
+    }
+
     /// Takes back the last byte, as ERASE does (POSIX.1-2017, XBD 11.1.9): a held one, or else one that
     /// was handed on. On an empty line there is `Nothing` to take.
     pub fn erase(&mut self) -> Effect
@@ -251,15 +277,51 @@ impl Line {
     {
         match role {
             Role::Ignored => Ok(Effect::Nothing),
-            Role::Nl => Ok(Effect::Gives(self.close(b"\n")?)),
-            Role::Eol(byte) => Ok(Effect::Gives(self.close(&[byte])?)),
-            Role::Eol2(byte) => Ok(Effect::Gives(self.close(&[byte])?)),
-            Role::Eof => Ok(Effect::Gives(self.close(&[])?)),
+            Role::Nl | Role::Eol(_) | Role::Eol2(_) | Role::Eof => self.close_by(role),
             Role::Signal(sig) => Ok(Effect::Gives(Entry::Signal(sig))),
             Role::Erase => Ok(self.erase()),
             Role::Kill => Ok(self.kill()),
             Role::Ordinary(byte) => Ok(self.keep(byte)),
         }
+    }
+
+    // Types leading keys that make no entry: a long run of bytes that join the line as they are, or else
+    // keys one after another.
+    fn edit_some(&mut self, roles: &Roles, keys: &[u8]) -> usize
+        ensures line { let typed = each_role roles.now (take result keys.now) in
+            self.new ≡ line_after_all self.old typed }
+        ensures within { result ≤ length keys.now }
+        ensures quiet { All (IsQuiet roles.now) (take result keys.now) }
+        ensures next { result ≡ 0 → 0 < length keys.now →
+            gives_entry (role_of_key roles.now (get_or keys.now 0 0)) ≡ true }
+    {
+        let count = roles.ordinary_front(keys);
+        if count >= LONG_RUN {
+            let _kept = self.keep_front(&keys[..count]);
+            return count;
+        }
+        self.edit_parts(roles, &keys[..keys.len().min(EDITED_KEYS)])
+    }
+
+    // Types keys up to the first that makes an entry.
+    fn edit_parts(&mut self, roles: &Roles, keys: &[u8]) -> usize
+        ensures line { let typed = each_role roles.now (take result keys.now) in
+            self.new ≡ line_after_all self.old typed }
+        ensures within { result ≤ length keys.now }
+        ensures quiet { All (IsQuiet roles.now) (take result keys.now) }
+        ensures next { result < length keys.now →
+            gives_entry (role_of_key roles.now (get_or keys.now result 0)) ≡ true }
+    {
+        let alloc = *self.held.allocator();
+        let parts = Parts {
+            ahead: self.ahead,
+            limit: self.limit.bytes(),
+            held: mem::replace(&mut self.held, Vec::new(alloc)),
+        };
+        let (parts, count) = edit_front(parts, roles, keys);
+        self.ahead = parts.ahead;
+        self.held = parts.held;
+        count
     }
 
     fn keep(&mut self, byte: u8) -> Effect
@@ -302,25 +364,46 @@ impl Line {
         Effect::ErasedAhead
     }
 
-    // Closes the line with these bytes.
-    fn close(&mut self, closing: &[u8]) -> Result<Entry, AllocError>
-        requires { length closing.now < 2 }
-        ensures gives { IfOk result (λ entry. entry ≡ line_of (self.old.held ++ closing.now)) }
-        ensures line { OnOk result (self.new ≡ empty_line self.old.limit) }
-
-        ensures only_a_text { OnErr result (0 < length (self.old.held ++ closing.now)) }
+    // Closes the line by a key of this role.
+    fn close_by(&mut self, role: Role) -> Result<Effect, AllocError>
+        requires { IsClosing role }
+        ensures effect { IfOk result (λ effect. effect ≡ effect_of self.old role) }
+        ensures line { OnOk result (self.new ≡ line_after self.old role) }
+        ensures only_a_text { OnErr result (GivesText self.old role) }
         ensures err { OnErr result (self.new ≡ self.old) }
     {
-        if self.held.is_empty() && closing.is_empty() {
+        Ok(Effect::Gives(self.close(role.closing())?))
+    }
+
+    // Closes the line with this byte, or with none.
+    fn close(&mut self, closing: Option<u8>) -> Result<Entry, AllocError>
+        ensures gives { IfOk result (λ entry. entry ≡ line_of (with_byte self.old.held closing)) }
+        ensures line { OnOk result (self.new ≡ empty_line self.old.limit) }
+
+        ensures only_a_text { OnErr result (0 < length (with_byte self.old.held closing)) }
+        ensures err { OnErr result (self.new ≡ self.old) }
+    {
+        if self.held.is_empty() && closing.is_none() {
             self.ahead = 0;
             return Ok(Entry::Eof);
         }
-        let alloc = *self.held.allocator();
-        let mut text = Vec::with_capacity(alloc, self.held.len() + closing.len())?;
-        text.extend_from_slice(self.held.as_slice())?;
-        text.extend_from_slice(closing)?;
+        let text = self.closed_text(closing)?;
         self.held.clear();
         self.ahead = 0;
         Ok(Entry::Text(Text::from(text)))
+    }
+
+    // The bytes that are held, and this one behind them.
+    fn closed_text(&self, closing: Option<u8>) -> Result<Vec<u8>, AllocError>
+        ensures { IfOk result (λ text. text.items ≡ with_byte self.now.held closing) }
+    {
+        let alloc = *self.held.allocator();
+        let length = self.held.len() + usize::from(closing.is_some());
+        let mut text = Vec::with_capacity(alloc, length)?;
+        text.extend_from_slice(self.held.as_slice())?;
+        if let Some(byte) = closing {
+            text.push_reserved(byte);
+        }
+        Ok(text)
     }
 }

@@ -1,4 +1,5 @@
 ghost use Rattle.std.specs.Prelude.{◌≡◌};
+ghost use Rattle.tn_discipline.specs.Editing.{closing_byte};
 ghost use Rattle.tn_discipline.specs.Keys.{mapped_key, role_of_mapped, signal_of, role_of_key, literal_role, gives_entry};
 
 use crate::characters::Chars;
@@ -37,6 +38,17 @@ impl Role {
             self,
             Role::Nl | Role::Eol(_) | Role::Eol2(_) | Role::Eof | Role::Signal(_)
         )
+    }
+
+    /// The byte that a key of this role closes a line with, if it closes it with one.
+    pub(crate) fn closing(self) -> Option<u8>
+        ensures { result ≡ closing_byte self }
+    {
+        match self {
+            Role::Nl => Some(b'\n'),
+            Role::Eol(byte) | Role::Eol2(byte) => Some(byte),
+            _ => None,
+        }
     }
 }
 

@@ -23,6 +23,7 @@ pub use termios::{Flags, Settings};
 
 mod characters;
 mod echo;
+mod editing;
 mod half_line;
 mod keys;
 pub mod laws;

@@ -1,6 +1,6 @@
 -- A list cut at an index: the rest of a piece, a prefix of that, and its first byte.
-use Rattle.std.proofs.Common.{◌≡◌, ℕ, suc, ◌-◌, ◌+◌, ◌≤◌, All, List, ◌++◌, take, drop, get_or, length, sym, ap, ◌∙◌, arith, ◌∷◌, ◌<◌, length-drop, length-take-le, take-append-drop, drop-drop, drop-cons}
-use Rattle.std.proofs.lemmas.List.{take_all, get_or-drop}
+use Rattle.std.proofs.Common.{◌≡◌, ℕ, ◌-◌, ◌+◌, ◌≤◌, All, List, [], ◌++◌, take, drop, get_or, length, refl, sym, ◌∙◌, arith, ◌∷◌, ◌<◌, length-drop, length-take-le, take-append-drop, drop-drop}
+use Rattle.std.proofs.lemmas.List.{take_all}
 use Rattle.std.proofs.Math.Seq.{take-add}
 use Rattle.tn_nvt.specs.Sinks.{IsPlain, IsRun}
 
@@ -28,19 +28,21 @@ within_is xs i n low high =
 pub parts_is : (xs : List ℕ) (i n : ℕ) → drop i xs ≡ take n (rest_of xs i) ++ drop n (rest_of xs i)
 parts_is xs i n = sym (rest_is xs i) ∙ sym (take-append-drop n (rest_of xs i))
 
-pub first_of : (xs : List ℕ) (i : ℕ) → i < length xs → drop i xs ≡ get_or xs i 0 ∷ drop (i + 1) xs
-first_of xs i lt =
-    let next : suc i ≡ i + 1 = omega arith in
-    drop-cons xs i 0 lt ∙ ap (λ (k : ℕ). get_or xs i 0 ∷ drop k xs) next
+pub split_is : (xs : List ℕ) (i : ℕ) → take i xs ++ rest_of xs i ≡ xs
+split_is xs i = rw (rest_is xs i) (take-append-drop i xs)
 
 pub run_is : (rest : List ℕ) (n : ℕ) → 0 < n → n ≤ length rest → All IsPlain (take n rest) → IsRun (take n rest)
 run_is rest n some within plain = record { some = omega (arith, length-take-le n rest within); plain = plain }
 
--- a byte of the rest is one of the piece
-pub byte_is : (xs : List ℕ) (i k : ℕ) → get_or (rest_of xs i) k 0 ≡ get_or xs (i + k) 0
-byte_is xs i k = rw (rest_is xs i) (get_or-drop i xs k 0)
+none_below : 0 < 0 → ⊥
+none_below h = omega arith
 
-pub index_is : (xs : List ℕ) (i k : ℕ) → i < length xs → k < length (rest_of xs i) → i + k < length xs
-index_is xs i k lt within =
-    let h = rw (rest_is xs i) at within in
-    omega (arith, length-drop i xs)
+-- the first byte
+pub one_front : (xs : List ℕ) → 0 < length xs → take 1 xs ≡ get_or xs 0 0 ∷ []
+one_front [] some = absurd (none_below some)
+one_front (x ∷ xs) some = refl
+
+-- and the others
+pub first_and : (xs : List ℕ) → 0 < length xs → xs ≡ get_or xs 0 0 ∷ drop 1 xs
+first_and [] some = absurd (none_below some)
+first_and (x ∷ xs) some = refl

@@ -155,3 +155,7 @@ still next given.Newline old new outside same = ap (progress next) (same (λ e. 
 still next (given.Cmd command) old new outside same = ap (progress next) (same (λ e. cc))
 still next (given.Neg verb option) old new outside same = ap (progress next) (same (λ e. cc))
 still next given.Sub old new outside same = rw (outside refl) refl
+
+-- the same place leaves the same known
+pub same_state : (here stood : Place) (body : Body) → here ≡ stood → state_of_place (progress here body) ≡ state_of_place (progress stood body)
+same_state here stood body is = ap (λ place. state_of_place (progress place body)) is

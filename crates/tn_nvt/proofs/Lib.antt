@@ -1,5 +1,6 @@
 pub mod Cuts
 pub mod Doubling
+pub mod Escaping
 pub mod Exists
 pub mod Feeding
 pub mod Front

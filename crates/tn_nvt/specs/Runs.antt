@@ -1,22 +1,43 @@
--- What is handed on between two bytes of the decoder.
-use Rattle.std.specs.Prelude.{◌≡◌, ℕ, List, [], ◌∷◌, ◌++◌, map}
+-- What is handed on of the next bytes, at once.
+use Rattle.std.specs.Prelude.{◌≡◌, ◌≢◌, ◌<◌, ◌≤◌, ℕ, List, [], ◌∷◌, ◌++◌, map, take, drop, length, get_or, All}
 use Rattle.tn_nvt.specs.declared.items.Item.{Item}
-use Rattle.tn_nvt.specs.declared.items.Item.TheVariants.{Byte}
-use Rattle.tn_nvt.specs.declared.places.Place.{Place}
-use Rattle.tn_nvt.specs.declared.places.Place.TheVariants as place
-use Rattle.tn_nvt.specs.Machine.{Progress, StepAdvances}
-use Rattle.tn_nvt.specs.Sinks.{AreSpecial, TakesEach}
-use Rattle.tn_nvt.specs.Spelling.{cr}
+use Rattle.tn_nvt.specs.Machine.{Gathered, Progress, Outside, Inside, StepAdvances, KeepsByte}
+use Rattle.tn_nvt.specs.Sinks.{IsPlain, EndsRun, AreSpecial, Part, bytes_of, calls_of, all_of, AreLongest, TakesEach}
+use Rattle.tn_nvt.specs.Spelling.{nul, lf, iac}
 
--- the item that a plain byte completes before it is one itself
-abbrev pub pending : Place → List Item
-pending place.Outside = []
-pending place.AfterCr = Byte cr ∷ []
-pending place.AfterIac = []
-pending (place.AfterVerb verb) = []
-pending place.Inside = []
-pending place.InsideIac = []
-pending place.Failed = []
+-- the bytes begin with a run of this length, and no longer one
+pub record HasRun (bytes : List ℕ) (count : ℕ) : Type 0 where
+  pub some : 0 < count
+  pub within : count ≤ length bytes
+  pub plain : All IsPlain (take count bytes)
+  pub ends : EndsRun (drop count bytes)
+
+-- a run begins with this byte after a CR
+abbrev pub BeginsRun : ℕ → Type 0
+BeginsRun byte = (byte ≢ lf) × (byte ≢ nul) × IsPlain byte
+
+-- outside of a subnegotiation, so many bytes at the front complete these items and lead on
+pub record Escapes (bytes : List ℕ) (count : ℕ) (items : List Item) (next : Progress) : Type 0 where
+  pub some : 0 < count
+  pub within : count ≤ length bytes
+  pub special : AreSpecial items
+  pub advances : StepAdvances Outside (take count bytes) items next
+
+-- so many bytes at the front are kept, up to an IAC
+pub record KeepsFront (old : Gathered) (bytes : List ℕ) (count : ℕ) (new : Gathered) : Type 0 where
+  pub within : count ≤ length bytes
+  pub ends : count < length bytes → get_or bytes count 0 ≡ iac
+  pub advances : StepAdvances (Inside old) (take count bytes) [] (Inside new)
+
+-- or one of them needed memory
+pub record LacksMemory (old : Gathered) (bytes : List ℕ) : Type 0 where
+  pub front : List ℕ
+  pub byte : ℕ
+  pub back : List ℕ
+  pub whole : bytes ≡ front ++ byte ∷ back
+  pub middle : Progress
+  pub advances : StepAdvances (Inside old) front [] middle
+  pub wanted : KeepsByte middle byte
 
 -- a call for each item
 abbrev pub singles : List Item → List (List Item)
@@ -33,19 +54,42 @@ pub record RefusesEach {S : Type 0} (takes gives_up : S → List Item → S → 
   pub taken : TakesEach takes old done middle
   pub given_up : gives_up middle left new
 
--- the sink took what this byte completes, item by item
-pub record HandsByte {S : Type 0} (takes : S → List Item → S → Type 0) (here : Progress) (byte : ℕ)
-    (before after : S) (next : Progress) : Type 0 where
-  pub items : List Item
-  pub special : AreSpecial items
-  pub taken : TakesEach takes before (singles items) after
-  pub advances : StepAdvances here (byte ∷ []) items next
+-- the sink took what the first bytes complete, before these last ones
+pub record HandsFront {S : Type 0} (takes : S → List Item → S → Type 0) (here : Progress)
+    (front last : List ℕ) (before after : S) (next : Progress) : Type 0 where
+  pub parts : List Part
+  pub bytes : front ≡ bytes_of parts
+  pub longest : AreLongest parts last
+  pub taken : TakesEach takes before (calls_of parts) after
+  pub advances : StepAdvances here front (all_of (calls_of parts)) next
 
--- it refused one of them
-pub record HandsPart {S : Type 0} (takes gives_up : S → List Item → S → Type 0) (here : Progress)
-    (byte : ℕ) (before after : S) : Type 0 where
-  pub items : List Item
-  pub special : AreSpecial items
+-- so many of the bytes, and at least one
+pub record HandsSome {S : Type 0} (takes : S → List Item → S → Type 0) (here : Progress)
+    (bytes : List ℕ) (count : ℕ) (before after : S) (next : Progress) : Type 0 where
+  pub some : 0 < count
+  pub within : count ≤ length bytes
+  pub handed : HandsFront takes here (take count bytes) (drop count bytes) before after next
+
+-- the sink refused a call for a prefix of the bytes
+pub record StopsFront {S : Type 0} (takes gives_up : S → List Item → S → Type 0) (here : Progress)
+    (bytes : List ℕ) (before after : S) : Type 0 where
+  pub parts : List Part
+  pub back : List ℕ
+  pub whole : bytes ≡ bytes_of parts ++ back
+  pub longest : AreLongest parts back
+  pub refused : RefusesEach takes gives_up before (calls_of parts) after
   pub next : Progress
-  pub refused : RefusesEach takes gives_up before (singles items) after
-  pub advances : StepAdvances here (byte ∷ []) items next
+  pub advances : StepAdvances here (bytes_of parts) (all_of (calls_of parts)) next
+
+-- it took what a prefix of the bytes completes, and the byte after that needed memory
+pub record WantsMemory {S : Type 0} (takes : S → List Item → S → Type 0) (here : Progress)
+    (bytes : List ℕ) (before after : S) : Type 0 where
+  pub parts : List Part
+  pub byte : ℕ
+  pub back : List ℕ
+  pub whole : bytes ≡ bytes_of parts ++ byte ∷ back
+  pub longest : AreLongest parts (byte ∷ back)
+  pub taken : TakesEach takes before (calls_of parts) after
+  pub middle : Progress
+  pub advances : StepAdvances here (bytes_of parts) (all_of (calls_of parts)) middle
+  pub wanted : KeepsByte middle byte

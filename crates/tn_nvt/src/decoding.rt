@@ -1,11 +1,12 @@
 //! Reads a stream that comes in pieces.
 
-ghost use Rattle.std.specs.Prelude.{◌≡◌, ◌↔◌, ◌-◌, [], vec_len, vec_capacity};
+ghost use Rattle.std.specs.Prelude.{◌≡◌, ◌≢◌, ◌↔◌, ◌-◌, [], vec_len, vec_capacity};
 ghost use Rattle.std.specs.Prelude.{IsOk, IfOk, OnOk, IfErr, OnErr, IsErrOf};
 ghost use Rattle.tn_nvt.specs.Machine.{state_of_place, progress};
 ghost use Rattle.tn_nvt.specs.Sinks.{FeedsTo, StopsAtSink, StopsForMemory};
 ghost use Rattle.tn_nvt.specs.Feeding.{failed, LeadsTo, Feeds, StopsWithin, IsLetGo};
 ghost use Rattle.tn_nvt.specs.declared.decoding.NvtFault.TheVariants.{Memory};
+ghost use Rattle.tn_nvt.specs.declared.places.Place.TheVariants as here;
 
 use crate::items::Item;
 use crate::places::{Body, Place};
@@ -47,7 +48,6 @@ impl From<Refused> for NvtFault {
 /// Reads a stream, and keeps what came of an item that is not complete yet.
 #[derive(Drop)]
 pub struct Decoder {
-    alloc: Global,
     place: Place,
     body: Body,
 }
@@ -68,7 +68,6 @@ impl Decoder {
         ensures { LeadsTo [] [] result }
     {
         Decoder {
-            alloc,
             place: Place::Outside,
             body: Body::new(alloc),
         }
@@ -94,13 +93,13 @@ impl Decoder {
         ensures failed_stays { IsErrOf result NvtFault.Failed → self.new ≡ failed }
         ensures failed_appends { IsErrOf result NvtFault.Failed → out.new.items ≡ out.old.items }
     {
-        let (mut place, mut body) = self.begin()?;
+        let mut place = begin(&mut self.place)?;
         for byte in piece {
-            let (next, given) = place.step(&mut body, *byte)?;
-            given.append_to(&mut body, out)?;
+            let (next, given) = place.step(&mut self.body, *byte)?;
+            given.append_to(&mut self.body, out)?;
             place = next;
         }
-        self.resume(place, body);
+        self.place = place;
         Ok(())
     }
 
@@ -125,47 +124,28 @@ impl Decoder {
         ensures failed { IsErrOf result NvtFault.Failed ↔ (self.old ≡ failed) }
         ensures failed_hands { IsErrOf result NvtFault.Failed → sink.new ≡ sink.old }
     {
-        let (mut place, mut body) = self.begin()?;
-        let mut at = 0;
-        while at < piece.len() {
-            let rest = &piece[at..];
-            let count = place.run_len(rest);
-            if count > 0 {
-                place.hand_run(&rest[..count], sink)?;
-                place = Place::Outside;
-                at += count;
-            } else {
-                let (here, skipped) = place.escaped(rest);
-                match here.hand_byte(&mut body, rest[skipped], sink) {
-                    Ok(next) => place = next,
-                    Err(fault) => return Err(fault),
-                }
-                at += skipped + 1;
-            }
+        let place = begin(&mut self.place)?;
+        match place.hand_all(&mut self.body, piece, sink) {
+            Ok(next) => {
+                self.place = next;
+                Ok(())
+            },
+            Err(fault) => Err(fault),
         }
-        self.resume(place, body);
-        Ok(())
     }
+}
 
-    // Hands out what has come of the next segment. Until that is put back the decoder has failed.
-    fn begin(&mut self) -> Result<(Place, Body), NvtFault>
-        ensures ok { IfOk result (λ parts. state_of_place (progress parts.0 parts.1) ≡ self.old) }
-        ensures fault { IfErr result (λ fault. fault ≡ NvtFault.Failed) }
-        ensures failed { IsErrOf result NvtFault.Failed ↔ (self.old ≡ failed) }
-        ensures fails { self.new ≡ failed }
-    {
-        let place = mem::replace(&mut self.place, Place::Failed);
-        if matches!(place, Place::Failed) {
-            return Err(NvtFault::Failed);
-        }
-        let body = mem::replace(&mut self.body, Body::new(self.alloc));
-        Ok((place, body))
+// Where the decoder stands. Until that is put back it has failed.
+fn begin(place: &mut Place) -> Result<Place, NvtFault>
+    ensures ok { IfOk result (λ stood. stood ≡ place.old) }
+    ensures stands { IfOk result (λ stood. stood ≢ here.Failed) }
+    ensures fault { IfErr result (λ fault. fault ≡ NvtFault.Failed) }
+    ensures failed { IfErr result (λ _. place.old ≡ here.Failed) }
+    ensures fails { place.new ≡ here.Failed }
+{
+    let here = mem::replace(place, Place::Failed);
+    if matches!(here, Place::Failed) {
+        return Err(NvtFault::Failed);
     }
-
-    fn resume(&mut self, place: Place, body: Body)
-        ensures { self.new ≡ state_of_place (progress place body) }
-    {
-        self.place = place;
-        self.body = body;
-    }
+    Ok(here)
 }

@@ -1,128 +1,216 @@
-//! What is handed to a sink between two bytes.
+//! What is handed to a sink of the bytes that come next.
 
-ghost use Rattle.std.specs.Prelude.{◌≡◌, ◌≢◌, ◌≤◌, ◌<◌, ◌↔◌, [], ◌∷◌, ◌++◌, length, take, drop, map, All};
-ghost use Rattle.std.specs.Prelude.{IfOk, OnOk, OnErr, IsErrOf, slice_index};
+ghost use Rattle.std.specs.Prelude.{◌≡◌, ◌≢◌, ◌<◌, [], length, IfOk, OnOk, OnErr, IsErrOf, IsTrue, slice_index};
 ghost use Rattle.tn_nvt.specs.declared.decoding.NvtFault.TheVariants as fault;
-ghost use Rattle.tn_nvt.specs.declared.items.Item.TheVariants.{Byte};
-ghost use Rattle.tn_nvt.specs.declared.places.Body.{Body as Held};
 ghost use Rattle.tn_nvt.specs.declared.places.Given.TheVariants as given;
 ghost use Rattle.tn_nvt.specs.declared.places.Place.TheVariants as place;
 ghost use Rattle.tn_nvt.specs.Machine as machine;
-ghost use Rattle.tn_nvt.specs.Machine.{StepAdvances, KeepsByte, progress, given_items, HasNoRun};
-ghost use Rattle.tn_nvt.specs.Sinks.{IsPlain, IsRun, EndsRun, AreSpecial, TakesEach};
-ghost use Rattle.tn_nvt.specs.Runs.{pending, singles, RefusesEach, HandsByte, HandsPart};
+ghost use Rattle.tn_nvt.specs.Machine.{progress, given_items, gathered_of, HasNoRun};
+ghost use Rattle.tn_nvt.specs.Sinks.{TakesEach, IsPlain};
+ghost use Rattle.tn_nvt.specs.Runs.{singles, RefusesEach, HandsSome, HandsFront, StopsFront, WantsMemory, BeginsRun};
 
-use crate::bytes::{CR, IAC, LF, NUL};
+use crate::bytes::{CR, LF, NUL};
 use crate::decoding::NvtFault;
+use crate::escapes::escape;
 use crate::items::Item;
-use crate::places::{Body, Came, Given, Place};
+use crate::places::{Body, Came, Given, Place, after_cr};
+use crate::plain::{is_plain, run_len};
 use crate::sinks::{Refused, Sink};
-use memchr::memchr2;
 
-// How many leading bytes are neither CR nor IAC.
-fn plain_front(bytes: &[u8]) -> usize
-    ensures within { result ≤ length bytes.now }
-    ensures plain { All IsPlain (take result bytes.now) }
-    ensures ends { EndsRun (drop result bytes.now) }
-{
-    match memchr2(CR, IAC, bytes) {
-        Some(count) => count,
-        None => bytes.len(),
+impl Place {
+    /// Hands on what all of the bytes complete, and tells where they lead.
+    pub(crate) fn hand_all<S: Sink>(
+        self,
+        body: &mut Body,
+        piece: &[u8],
+        sink: &mut S,
+    ) -> Result<Place, NvtFault>
+        ensures ok { IfOk result (λ next. HandsFront S.takes (progress self body.old) piece.now []
+            sink.old sink.new (progress next body.new)) }
+        ensures refused { IsErrOf result fault.Refused →
+            StopsFront S.takes S.gives_up (progress self body.old) piece.now sink.old sink.new }
+        ensures memory { IsErrOf result fault.Memory →
+            WantsMemory S.takes (progress self body.old) piece.now sink.old sink.new }
+        ensures not_failed { ¬ IsErrOf result fault.Failed }
+    {
+        let mut place = self;
+        let mut at = 0;
+        while at < piece.len() {
+            match place.hand_some(body, &piece[at..], sink) {
+                Ok((next, count)) => {
+                    place = next;
+                    at += count;
+                },
+                Err(fault) => return Err(fault),
+            }
+        }
+        Ok(place)
+    }
+
+    // The same of some of the bytes, as many at once as this place allows; it tells how many, too.
+    #[inline(always)]
+    fn hand_some<S: Sink>(
+        self,
+        body: &mut Body,
+        rest: &[u8],
+        sink: &mut S,
+    ) -> Result<(Place, usize), NvtFault>
+        requires { 0 < length rest.now }
+        ensures ok { IfOk result (λ r. HandsSome S.takes (progress self body.old) rest.now r.1
+            sink.old sink.new (progress r.0 body.new)) }
+        ensures refused { IsErrOf result fault.Refused →
+            StopsFront S.takes S.gives_up (progress self body.old) rest.now sink.old sink.new }
+        ensures memory { IsErrOf result fault.Memory →
+            WantsMemory S.takes (progress self body.old) rest.now sink.old sink.new }
+        ensures not_failed { ¬ IsErrOf result fault.Failed }
+    {
+        match self {
+            Place::Outside => Ok(hand_outside(body, rest, sink)?),
+            Place::AfterCr => Ok(hand_after_cr(body, rest, sink)?),
+            Place::Inside => hand_inside(body, rest, sink),
+            Place::AfterIac | Place::AfterVerb(_) | Place::InsideIac | Place::Failed => {
+                self.hand_byte(body, rest, sink)
+            },
+        }
+    }
+
+    // The same of one byte that no run begins with.
+    #[inline(always)]
+    fn hand_byte<S: Sink>(
+        self,
+        body: &mut Body,
+        rest: &[u8],
+        sink: &mut S,
+    ) -> Result<(Place, usize), NvtFault>
+        requires some { 0 < length rest.now }
+        requires none { HasNoRun self (slice_index rest.now 0) }
+        ensures ok { IfOk result (λ r. HandsSome S.takes (progress self body.old) rest.now r.1
+            sink.old sink.new (progress r.0 body.new)) }
+        ensures refused { IsErrOf result fault.Refused →
+            StopsFront S.takes S.gives_up (progress self body.old) rest.now sink.old sink.new }
+        ensures memory { IsErrOf result fault.Memory →
+            WantsMemory S.takes (progress self body.old) rest.now sink.old sink.new }
+        ensures not_failed { ¬ IsErrOf result fault.Failed }
+    {
+        let (next, given) = self.step(body, rest[0])?;
+        given.hand_to(body, sink)?;
+        Ok((next, 1))
     }
 }
 
-impl Place {
-    /// How many leading bytes are a run here.
-    pub(crate) fn run_len(self, rest: &[u8]) -> usize
-        requires { 0 < length rest.now }
-        ensures within { result ≤ length rest.now }
-        ensures plain { All IsPlain (take result rest.now) }
-        ensures ends { 0 < result → EndsRun (drop result rest.now) }
-        ensures advances { 0 < result → (body : Held) → StepAdvances (progress self body)
-            (take result rest.now) (pending self ++ map Byte (take result rest.now)) machine.Outside }
-        ensures none { result ≡ 0 → HasNoRun self (slice_index rest.now 0) }
-    {
-        let first = rest[0];
-        match self {
-            Place::Outside => {
-                if first == CR || first == IAC {
-                    return 0;
-                }
-                plain_front(rest)
-            },
-            Place::AfterCr => {
-                if first == LF || first == NUL {
-                    return 0;
-                }
-                plain_front(rest)
-            },
-            _ => 0,
+// Outside of a subnegotiation: runs and escapes, one after another, until an escape leads elsewhere.
+#[inline(always)]
+fn hand_outside<S: Sink>(
+    body: &mut Body,
+    rest: &[u8],
+    sink: &mut S,
+) -> Result<(Place, usize), Refused>
+    requires { 0 < length rest.now }
+    ensures ok { IfOk result (λ r. HandsSome S.takes machine.Outside rest.now r.1 sink.old sink.new
+        (progress r.0 body.new)) }
+    ensures refused { OnErr result
+        (StopsFront S.takes S.gives_up machine.Outside rest.now sink.old sink.new) }
+{
+    let mut at = 0;
+    while at < rest.len() {
+        let here = &rest[at..];
+        if is_plain(here[0]) {
+            let count = run_len(here);
+            sink.run(&here[..count])?;
+            at += count;
+        } else {
+            let (next, count) = hand_escape(body, here, sink)?;
+            at += count;
+            let Place::Outside = next else {
+                return Ok((next, at));
+            };
         }
     }
+    Ok((Place::Outside, at))
+}
 
-    /// Hands on a run, after the item that it completes.
-    pub(crate) fn hand_run<S: Sink>(self, run: &[u8], sink: &mut S) -> Result<(), Refused>
-        requires { IsRun run.now }
-        ensures ok { OnOk result (TakesEach S.takes sink.old
-            (singles (pending self) ++ map Byte run.now ∷ []) sink.new) }
-        ensures err { OnErr result (RefusesEach S.takes S.gives_up sink.old
-            (singles (pending self) ++ map Byte run.now ∷ []) sink.new) }
-    {
-        if matches!(self, Place::AfterCr) {
-            sink.item(Item::Byte(CR))?;
-        }
-        sink.run(run)
+#[inline(always)]
+fn hand_escape<S: Sink>(
+    body: &mut Body,
+    here: &[u8],
+    sink: &mut S,
+) -> Result<(Place, usize), Refused>
+    requires some { 0 < length here.now }
+    requires none { HasNoRun place.Outside (slice_index here.now 0) }
+    ensures ok { IfOk result (λ r. HandsSome S.takes machine.Outside here.now r.1 sink.old sink.new
+        (progress r.0 body.new)) }
+    ensures refused { OnErr result
+        (StopsFront S.takes S.gives_up machine.Outside here.now sink.old sink.new) }
+{
+    let (next, given, count) = escape(body, here);
+    given.hand_to(body, sink)?;
+    Ok((next, count))
+}
+
+// Neither LF nor NUL, and plain.
+fn begins_run(byte: u8) -> bool
+    ensures yes { IsTrue result → BeginsRun byte }
+    ensures no { ¬ IsTrue result → HasNoRun place.AfterCr byte }
+{
+    byte != LF && byte != NUL && is_plain(byte)
+}
+
+// After a CR: a run, the CR before it, or what one byte completes.
+fn hand_after_cr<S: Sink>(
+    body: &mut Body,
+    rest: &[u8],
+    sink: &mut S,
+) -> Result<(Place, usize), Refused>
+    requires { 0 < length rest.now }
+    ensures ok { IfOk result (λ r. HandsSome S.takes machine.AfterCr rest.now r.1 sink.old sink.new
+        (progress r.0 body.new)) }
+    ensures refused { OnErr result
+        (StopsFront S.takes S.gives_up machine.AfterCr rest.now sink.old sink.new) }
+{
+    if begins_run(rest[0]) {
+        let count = run_len(rest);
+        sink.item(Item::Byte(CR))?;
+        sink.run(&rest[..count])?;
+        return Ok((Place::Outside, count));
     }
+    let (next, given) = after_cr(rest[0]);
+    given.hand_to(body, sink)?;
+    Ok((next, 1))
+}
 
-    /// Where the escape that begins the rest leads, and its length, where the byte after it has come:
-    /// that is IAC, or a CR before LF or NUL. Else the place itself, and 0.
-    pub(crate) fn escaped(self, rest: &[u8]) -> (Place, usize)
-        requires some { 0 < length rest.now }
-        requires none { HasNoRun self (slice_index rest.now 0) }
-        ensures within { result.1 < length rest.now }
-        ensures none { HasNoRun result.0 (slice_index rest.now result.1) }
-        ensures advances { (body : Held) → StepAdvances (progress self body) (take result.1 rest.now) []
-            (progress result.0 body) }
-    {
-        let Place::Outside = self else {
-            return (self, 0);
-        };
-        if rest.len() < 2 {
-            return (self, 0);
-        }
-        if rest[0] == IAC {
-            return (Place::AfterIac, 1);
-        }
-        if rest[1] == LF || rest[1] == NUL {
-            return (Place::AfterCr, 1);
-        }
-        (self, 0)
+// Inside of a subnegotiation: all up to an IAC, and then what the byte after the IAC says.
+#[inline(always)]
+fn hand_inside<S: Sink>(
+    body: &mut Body,
+    rest: &[u8],
+    sink: &mut S,
+) -> Result<(Place, usize), NvtFault>
+    requires { 0 < length rest.now }
+    ensures ok { IfOk result (λ r. HandsSome S.takes (machine.Inside (gathered_of body.old)) rest.now
+        r.1 sink.old sink.new (progress r.0 body.new)) }
+    ensures refused { IsErrOf result fault.Refused → StopsFront S.takes S.gives_up
+        (machine.Inside (gathered_of body.old)) rest.now sink.old sink.new }
+    ensures memory { IsErrOf result fault.Memory → WantsMemory S.takes
+        (machine.Inside (gathered_of body.old)) rest.now sink.old sink.new }
+    ensures not_failed { ¬ IsErrOf result fault.Failed }
+{
+    let count = body.keep_front(rest)?;
+    if count == rest.len() {
+        return Ok((Place::Inside, count));
     }
-
-    /// Takes one byte that no run begins with.
-    pub(crate) fn hand_byte<S: Sink>(
-        self,
-        body: &mut Body,
-        byte: u8,
-        sink: &mut S,
-    ) -> Result<Place, NvtFault>
-        requires { HasNoRun self byte }
-        ensures ok { IfOk result (λ next. HandsByte S.takes (progress self body.old) byte
-            sink.old sink.new (progress next body.new)) }
-        ensures refused { IsErrOf result fault.Refused → HandsPart S.takes S.gives_up
-            (progress self body.old) byte sink.old sink.new }
-        ensures memory { IsErrOf result fault.Memory → KeepsByte (progress self body.old) byte }
-        ensures memory_hands { IsErrOf result fault.Memory → sink.new ≡ sink.old }
-        ensures not_failed { ¬ IsErrOf result fault.Failed }
-    {
-        let (next, given) = self.step(body, byte)?;
-        given.hand_to(body, sink)?;
-        Ok(next)
+    let after = count + 1;
+    if after == rest.len() {
+        return Ok((Place::InsideIac, after));
+    }
+    match Place::InsideIac.hand_byte(body, &rest[after..], sink) {
+        Ok((next, more)) => Ok((next, after + more)),
+        Err(fault) => Err(fault),
     }
 }
 
 impl Given {
     /// Hands on the items one by one.
+    #[inline(always)]
     fn hand_to<S: Sink>(self, body: &mut Body, sink: &mut S) -> Result<(), Refused>
         ensures ok { OnOk result (TakesEach S.takes sink.old (singles (given_items self body.old)) sink.new) }
         ensures err { OnErr result (RefusesEach S.takes S.gives_up sink.old

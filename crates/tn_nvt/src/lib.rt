@@ -20,10 +20,12 @@ pub use writing::{put_byte, put_cmd, put_neg, put_newline, put_sub};
 
 mod bytes;
 mod decoding;
+mod escapes;
 mod handing;
 mod items;
 pub mod laws;
 mod parameters;
 mod places;
+mod plain;
 mod sinks;
 mod writing;

@@ -8,6 +8,7 @@ ghost use Rattle.tn_nvt.specs.Machine as machine;
 ghost use Rattle.tn_nvt.specs.declared.places.Body.{Body as Held};
 ghost use Rattle.tn_nvt.specs.Machine.{StepAdvances, Lengthens, IsKept, KeepsByte};
 ghost use Rattle.tn_nvt.specs.Machine.{gathered_of, progress, given_items, HasNoRun};
+ghost use Rattle.tn_nvt.specs.Runs.{KeepsFront, LacksMemory};
 ghost use Rattle.tn_nvt.specs.Sinks.{AreSpecial};
 
 use crate::bytes::{CR, IAC, LF, NUL, SB, SE};
@@ -73,6 +74,7 @@ impl Body {
     }
 
     // One more byte has come.
+    #[inline(always)]
     fn keep(&mut self, byte: u8) -> Result<(), AllocError>
         ensures ok { OnOk result (Lengthens (gathered_of self.old) byte (gathered_of self.new)) }
         ensures err { OnErr result (IsKept (gathered_of self.old)) }
@@ -93,10 +95,30 @@ impl Body {
             Came::Overlong => Ok(()),
         }
     }
+
+    /// Keeps the leading bytes up to an IAC, and tells how many they are.
+    #[inline(always)]
+    pub(crate) fn keep_front(&mut self, bytes: &[u8]) -> Result<usize, AllocError>
+        ensures ok { IfOk result (λ count. KeepsFront (gathered_of self.old) bytes.now count
+            (gathered_of self.new)) }
+        ensures err { OnErr result (LacksMemory (gathered_of self.old) bytes.now) }
+    {
+        let mut at = 0;
+        while at < bytes.len() {
+            let byte = bytes[at];
+            if byte == IAC {
+                return Ok(at);
+            }
+            self.keep(byte)?;
+            at += 1;
+        }
+        Ok(at)
+    }
 }
 
 impl Place {
     /// Where one more byte leads, and what it completes. It takes memory for a parameter alone.
+    #[inline(always)]
     pub(crate) fn step(self, body: &mut Body, byte: u8) -> Result<(Place, Given), AllocError>
         ensures ok { IfOk result (λ r. StepAdvances (progress self body.old) (byte ∷ [])
             (given_items r.1 body.new) (progress r.0 body.new)) }
@@ -131,7 +153,7 @@ fn outside(byte: u8) -> (Place, Given)
     }
 }
 
-fn after_cr(byte: u8) -> (Place, Given)
+pub(crate) fn after_cr(byte: u8) -> (Place, Given)
     ensures advances { (body : Held) → StepAdvances machine.AfterCr (byte ∷ [])
         (given_items result.1 body) (progress result.0 body) }
     ensures special { (body : Held) →
@@ -147,7 +169,8 @@ fn after_cr(byte: u8) -> (Place, Given)
     }
 }
 
-fn after_iac(body: &mut Body, byte: u8) -> (Place, Given)
+#[inline(always)]
+pub(crate) fn after_iac(body: &mut Body, byte: u8) -> (Place, Given)
     ensures advances { StepAdvances machine.AfterIac (byte ∷ [])
         (given_items result.1 body.new) (progress result.0 body.new) }
     ensures special { AreSpecial (given_items result.1 body.new) }
@@ -183,6 +206,7 @@ fn inside(body: &mut Body, byte: u8) -> Result<(Place, Given), AllocError>
     Ok((Place::Inside, Given::Nothing))
 }
 
+#[inline(always)]
 fn inside_iac(body: &mut Body, byte: u8) -> Result<(Place, Given), AllocError>
     ensures ok { IfOk result (λ r. StepAdvances (machine.InsideIac (gathered_of body.old)) (byte ∷ [])
         (given_items r.1 body.new) (progress r.0 body.new)) }

@@ -1,4 +1,4 @@
-ghost use Rattle.std.specs.Prelude.{◌≡◌, ◌+◌, ◌-◌, ◌<◌, ◌≤◌, true, None, get_or, All, [], ◌++◌, ◌∷◌, length, map, take, drop, min, IfOk, IfErr, IfNone, IfSome, OnOk, OnErr, slice_get, option_copied, count_by, is_some, vec_len, vec_capacity};
+ghost use Rattle.std.specs.Prelude.{◌≡◌, ◌&&◌, ◌+◌, ◌-◌, ◌<◌, ◌≤◌, true, None, get_or, All, [], ◌++◌, ◌∷◌, length, map, take, drop, min, IfOk, IfErr, IfNone, IfSome, OnOk, OnErr, slice_get, option_copied, count_by, is_some, vec_len, vec_capacity};
 ghost use Rattle.tn_discipline.specs.Keys.{roles_of, role_of_key, literal_role, roles_from};
 ghost use Rattle.tn_discipline.specs.HalfLine.{effect_of, line_after, effect_entries, GivesText};
 ghost use Rattle.tn_discipline.specs.Advancing.{Advances};
@@ -125,7 +125,7 @@ impl Pair {
                 let shown = echo_of_role(&effect, role, &self.roles.settings().flags);
                 self.keep(effect);
                 if echo {
-                    self.show(&shown);
+                    self.show_echo(shown);
                 }
                 Ok(())
             },
@@ -342,26 +342,48 @@ impl Pair {
         Ok(())
     }
 
-    // Types the leading bytes that join the line as they are, or else the first key; returns how many
-    // were typed.
+    // Types leading keys that make no entry, and then the next key; returns how many were typed.
     fn type_front(&mut self, keys: &[u8], echo: bool) -> Result<usize, PtyFault>
         requires { 0 < length keys.now }
         ensures some { IfOk result (λ count. 0 < count) }
         ensures within { IfOk result (λ count. count ≤ length keys.now) }
         ensures pair { IfOk result (λ count. self.new ≡ typed_after_all echo self.old (take count keys.now)) }
         ensures accepted { IfOk result (λ count. AcceptsAll echo self.old (take count keys.now)) }
-        ensures refused { IfErr result (λ fault.
-            Refuses self.old (role_of_key self.old.settings (get_or keys.now 0 0)) fault self.new) }
+        ensures refused { IfErr result (λ fault. StopsWithinKeys echo self.old keys.now fault self.new) }
     {
-        let count = self.roles.ordinary_front(keys);
-        if count == 0 || self.closed {
-            return match self.raw_key(keys[0], echo) {
-                Ok(()) => Ok(1),
-                Err(fault) => Err(fault),
-            };
+        let count = self.type_quiet(keys, echo);
+        if count == keys.len() {
+            return Ok(count);
         }
-        self.type_plain(&keys[..count], echo);
-        Ok(count)
+        match self.raw_key(keys[count], echo) {
+            Ok(()) => Ok(count + 1),
+            Err(fault) => Err(fault),
+        }
+    }
+
+    // Types some of the leading keys that make no entry, and returns how many; none where the pair is closed.
+    fn type_quiet(&mut self, keys: &[u8], echo: bool) -> usize
+        ensures within { result ≤ length keys.now }
+        ensures pair { self.new ≡ typed_after_all echo self.old (take result keys.now) }
+        ensures accepted { AcceptsAll echo self.old (take result keys.now) }
+    {
+        if self.closed {
+            return 0;
+        }
+        let shows = self.shows(echo);
+        if shows {
+            let count = self.roles.ordinary_front(keys);
+            self.type_plain(&keys[..count], echo);
+            return count;
+        }
+        self.line.edit_run(&self.roles, keys)
+    }
+
+    // Whether keys that make no entry are shown.
+    fn shows(&self, echo: bool) -> bool
+        ensures { result ≡ (echo && self.now.settings.flags.echo) }
+    {
+        echo && self.roles.settings().flags.echo
     }
 
     // Types bytes that join the line as they are: as many as fit are held, and shown as they are, and each
@@ -426,6 +448,19 @@ impl Pair {
     {
         if count_present(symbols) <= QUEUE_SYMBOLS - self.queue.len() {
             put_present(&mut self.queue, symbols);
+        }
+    }
+
+    // The same of the echo of a key, which most often is one symbol.
+    fn show_echo(&mut self, shown: [Option<Symbol>; 3])
+        ensures { self.new ≡ record self.old { queue = queue_with self.old.queue (symbols_in shown) } }
+    {
+        match (shown[0], shown[1], shown[2]) {
+            (Some(symbol), None, None) => {
+                let _room = self.queue.try_push_back(symbol);
+            },
+            (None, None, None) => {},
+            _ => self.show(&shown),
         }
     }
 

@@ -1,7 +1,7 @@
 -- Typed keys, one after another.
 use Rattle.std.proofs.Common.{◌≡◌, ◌<◌, ◌≤◌, ℕ, suc, ◌+◌, ◌-◌, min, nat_le, Bool, true, false, ◌&&◌, All, List, [], ◌∷◌, ◌++◌, length, map, take, drop, get_or, Result, Ok, Err, OnOk, refl, sym, ap, subst, ◌∙◌, if◌then◌else◌, arith, append-nil, append_assoc, length-append, length-take}
 use Rattle.std.proofs.Math.Seq.{take-add}
-use Rattle.std.proofs.lemmas.List.{take-append-drop, take_all, drop_more, length-drop}
+use Rattle.std.proofs.lemmas.List.{take-append-drop, take_all, take_more, drop_more, length-drop}
 use Rattle.std.proofs.lemmas.List.Elements.{All-take, All-drop}
 use Rattle.tn_discipline.specs.HalfLine.{HalfLine, line_length, is_full, effect_of, line_after}
 use Rattle.tn_discipline.specs.Keys.{roles_of, role_of_key}
@@ -84,21 +84,53 @@ module _ (echo : Bool) (old mid new : Terminal) (keys : List ℕ) (i : ℕ) (bef
       let there : AcceptsAll echo (typed_after_all echo old (take i keys)) (take n (drop i keys)) = subst (λ (t : Terminal). AcceptsAll echo t (take n (drop i keys))) before front in
       subst (AcceptsAll echo old) (sym (take-add i n keys)) (accepts-append echo old (take i keys) (take n (drop i keys)) accepted there)
 
-  -- and the first of those that are left was refused
-  pub stops_at : (fault : PtyFault) → i < length keys → Refuses mid (role_of_key mid.settings (get_or (take (length keys - i) (drop i keys)) 0 0)) fault new → StopsWithinKeys echo old keys fault new
-  stops_at fault within refuses =
+  -- and then a key of those that are left was refused
+  pub stops_more : (fault : PtyFault) → StopsWithinKeys echo mid (take (length keys - i) (drop i keys)) fault new → StopsWithinKeys echo old keys fault new
+  stops_more fault stops =
       let there = typed_after_all echo old (take i keys) in
-      let key : get_or (take (length keys - i) (drop i keys)) 0 0 ≡ get_or keys i 0 = ap (λ xs. get_or xs 0 0) (left_of i keys ∙ drop_more keys i 0 within) in
-      let r : role_of_key mid.settings (get_or (take (length keys - i) (drop i keys)) 0 0) ≡ role_of_key old.settings (get_or keys i 0) =
-      ap (λ k. role_of_key mid.settings k) key
-      ∙ ap (λ s. role_of_key s (get_or keys i 0)) (ap (λ (t : Terminal). t.settings) before ∙ typed-settings echo old (take i keys)) in
+      let settings : mid.settings ≡ old.settings = ap (λ (t : Terminal). t.settings) before ∙ typed-settings echo old (take i keys) in
+      let rest : drop i keys ≡ stops.done ++ stops.key ∷ stops.left = sym (left_of i keys) ∙ stops.whole in
+      record {
+        done = take i keys ++ stops.done;
+        key = stops.key;
+        left = stops.left;
+        whole =
+            sym (take-append-drop i keys) ∙ ap (λ xs. take i keys ++ xs) rest
+            ∙ sym (append_assoc (take i keys) stops.done (stops.key ∷ stops.left));
+        accepted = accepts-append echo old (take i keys) stops.done accepted (subst (λ (t : Terminal). AcceptsAll echo t stops.done) before stops.accepted);
+        refused =
+            subst (λ (t : Terminal). Refuses t (role_of_key old.settings stops.key) fault new)
+            (ap (λ (t : Terminal). typed_after_all echo t stops.done) before ∙ sym (typed-append echo old (take i keys) stops.done))
+            (subst (λ s. Refuses (typed_after_all echo mid stops.done) (role_of_key s stops.key) fault new) settings stops.refused);
+      }
+
+  -- the next key is typed too
+  pub typed_next : i < length keys → new ≡ typed_after echo mid (get_or keys i 0) → new ≡ typed_after_all echo old (take (i + 1) keys)
+  typed_next within is =
+      let key = get_or keys i 0 in
+      is
+      ∙ ap (λ (t : Terminal). typed_after echo t key) before
+      ∙ sym (typed-append echo old (take i keys) (key ∷ []))
+      ∙ ap (typed_after_all echo old) (sym (take_more keys i 0 within))
+
+  pub accepts_next : i < length keys → Accepts mid (role_of_key mid.settings (get_or keys i 0)) → AcceptsAll echo old (take (i + 1) keys)
+  accepts_next within accepts =
+      let key = get_or keys i 0 in
+      let there : Accepts (typed_after_all echo old (take i keys)) (role_of_key (typed_after_all echo old (take i keys)).settings key) = subst (λ (t : Terminal). Accepts t (role_of_key t.settings key)) before accepts in
+      subst (AcceptsAll echo old) (sym (take_more keys i 0 within)) (accepts-append echo old (take i keys) (key ∷ []) accepted (there, tt))
+
+  -- or it was refused
+  pub stops_at : (fault : PtyFault) → i < length keys → Refuses mid (role_of_key mid.settings (get_or keys i 0)) fault new → StopsWithinKeys echo old keys fault new
+  stops_at fault within refuses =
+      let key = get_or keys i 0 in
+      let settings : mid.settings ≡ old.settings = ap (λ (t : Terminal). t.settings) before ∙ typed-settings echo old (take i keys) in
       record {
         done = take i keys;
-        key = get_or keys i 0;
+        key = key;
         left = drop (i + 1) keys;
         whole = sym (take-append-drop i keys) ∙ ap (λ xs. take i keys ++ xs) (drop_more keys i 0 within);
         accepted = accepted;
-        refused = subst (λ (t : Terminal). Refuses t (role_of_key old.settings (get_or keys i 0)) fault new) before (subst (λ x. Refuses mid x fault new) r refuses);
+        refused = subst (λ (t : Terminal). Refuses t (role_of_key old.settings key) fault new) before (subst (λ s. Refuses mid (role_of_key s key) fault new) settings refuses);
       }
 
 -- keys that join the line as they are
@@ -134,7 +166,7 @@ none_by true queue = append-nil queue
 none_by false queue = refl
 
 -- nothing shown leaves the queue as it is
-queue_still : (queue : List Symbol) → queue_with queue [] ≡ queue
+pub queue_still : (queue : List Symbol) → queue_with queue [] ≡ queue
 queue_still queue = none_by (nat_le (length queue + 0) queue_symbols) queue
 
 -- the byte that is shown
@@ -148,7 +180,7 @@ shown_one true false full byte queue = queue_still queue
 shown_one false true full byte queue = queue_still queue
 shown_one false false full byte queue = queue_still queue
 
-same_parts : (old : Terminal) (l m : HalfLine) (e f : List Entry) (q r : List Symbol) → l ≡ m → e ≡ f → q ≡ r
+pub same_parts : (old : Terminal) (l m : HalfLine) (e f : List Entry) (q r : List Symbol) → l ≡ m → e ≡ f → q ≡ r
     → let left : Terminal = record old { line = l; entries = e; queue = q } in let right : Terminal = record old { line = m; entries = f; queue = r } in left ≡ right
 same_parts old l m e f q r x y z = rw (x, y, z)
 

@@ -82,6 +82,17 @@ pub(crate) fn reads(rt: &impl Abort, alloc: Global, stream: &[u8], wanted: &[Ite
     }
 }
 
+/// The same into a sink, byte by byte.
+pub(crate) fn reads_apart(rt: &impl Abort, alloc: Global, stream: &[u8], wanted: &[Item]) {
+    let mut decoder = Decoder::new(alloc);
+    let mut log = Log::new(alloc, usize::MAX);
+    let mut fed = Ok(());
+    for piece in stream.chunks(1) {
+        fed = fed.and(decoder.feed_to(piece, &mut log));
+    }
+    assert!(rt; fed.is_err() || log.items.as_slice() == wanted);
+}
+
 #[test]
 fn streams_are_read_wherever_they_are_cut(rt: HostRuntime) -> Result<(), AllocError> {
     let alloc = rt.alloc();
@@ -128,6 +139,12 @@ fn a_run_is_as_long_as_can_be(rt: HostRuntime) {
         ("610a62ffff630d64", 4, &[3, 0, 1, 0, 1]),
         ("610a62ffff630d64", 7, &[3, 0, 1, 0, 1]),
         ("6162ff056364fff6", 0, &[2, 2, 0]),
+        (
+            "616263ffff61626364ffff6162636465ffff",
+            0,
+            &[3, 0, 4, 0, 5, 0],
+        ),
+        ("6162636465fffb0161626364650d0061", 3, &[3, 2, 0, 5, 0, 1]),
     ] {
         let stream = bytes_of(alloc, stream);
         let (first, second) = stream.split_at(stream.len().min(at));

@@ -16,3 +16,8 @@ pub returns-in-Line-clause-err : goal.returns-in-Line-clause-err
 returns-in-Line-clause-err c =
     let was = c.in-Some.ensures.value ∙ ap Some (sym c.deref_mut.ensures.value ∙ c.in-Line.is) in
     rw was (rw c.put.ensures (λ not. c.set_function-code.ensures.err (λ done. not (c.number-in-Line.ensures.value ∙ ap code_number done))))
+
+pub returns-in-Line-clause-allowed : goal.returns-in-Line-clause-allowed
+returns-in-Line-clause-allowed c =
+    let was = c.in-Some.ensures.value ∙ ap Some (sym c.deref_mut.ensures.value ∙ c.in-Line.is) in
+    rw was (rw c.put.ensures (λ is. c.set_function-code.ensures.allowed (c.number-in-Line.ensures.tells _ is)))

@@ -1,6 +1,6 @@
 use Rattle.std.proofs.Common.{◌-◌, length, drop, arith}
 use Rattle.std.proofs.lemmas.List.{length-drop, length-take}
-use Rattle.tn_pty.proofs.lemmas.Typed.{typed_more, accepts_more, stops_at}
+use Rattle.tn_pty.proofs.lemmas.Typed.{typed_more, accepts_more, stops_more}
 use Rattle.tn_pty.proofs.pty.Pair.type_each.Goals as goal
 
 pub loop-typed-preserved : goal.loop-typed-preserved
@@ -18,4 +18,4 @@ loop-typed-preserved c =
 pub returns-in-Err-clause-refused : goal.returns-in-Err-clause-refused
 returns-in-Err-clause-refused c =
     let before = c.loop-typed.invariant in
-    stops_at c.args.echo c.args.self.now c.loop-typed.self c.type_front.new.self c.args.keys.now c.loop-typed.typed before.pair before.accepted c.in-Err.fault c.loop-typed-test.true c.in-Err.ensures.refused
+    stops_more c.args.echo c.args.self.now c.loop-typed.self c.type_front.new.self c.args.keys.now c.loop-typed.typed before.pair before.accepted c.in-Err.fault c.in-Err.ensures.refused

@@ -1,0 +1,71 @@
+//! Where a run of plain bytes ends.
+
+ghost use Rattle.std.specs.Prelude.{◌≡◌, ◌≤◌, ◌<◌, ◌↔◌, length, take, drop, All, IsTrue, IfSome, slice_index};
+ghost use Rattle.tn_nvt.specs.Sinks.{IsPlain, EndsRun};
+ghost use Rattle.tn_nvt.specs.Runs.{HasRun};
+
+use crate::bytes::{CR, IAC};
+use memchr::memchr2;
+
+// How many bytes of a run are looked at one by one, which is faster than a search where a run is short.
+const NEAR: usize = 4;
+
+#[inline(always)]
+pub(crate) fn is_plain(byte: u8) -> bool
+    ensures { IsTrue result ↔ IsPlain byte }
+{
+    byte != CR && byte != IAC
+}
+
+/// How long the run is that begins with the first byte.
+#[inline(always)]
+pub(crate) fn run_len(bytes: &[u8]) -> usize
+    requires some { 0 < length bytes.now }
+    requires plain { IsPlain (slice_index bytes.now 0) }
+    ensures { HasRun bytes.now result }
+{
+    match near_len(bytes) {
+        Some(count) => count,
+        None => far_len(bytes),
+    }
+}
+
+// The same where it ends at one of the first few bytes.
+#[inline(always)]
+fn near_len(bytes: &[u8]) -> Option<usize>
+    requires some { 0 < length bytes.now }
+    requires plain { IsPlain (slice_index bytes.now 0) }
+    ensures { IfSome result (λ count. HasRun bytes.now count) }
+{
+    let near = bytes.len().min(NEAR);
+    let mut at = 1;
+    while at < near {
+        if !is_plain(bytes[at]) {
+            return Some(at);
+        }
+        at += 1;
+    }
+    None
+}
+
+// The same wherever it ends.
+#[inline(never)]
+fn far_len(bytes: &[u8]) -> usize
+    requires some { 0 < length bytes.now }
+    requires plain { IsPlain (slice_index bytes.now 0) }
+    ensures { HasRun bytes.now result }
+{
+    plain_len(bytes)
+}
+
+// How many leading bytes are plain.
+fn plain_len(bytes: &[u8]) -> usize
+    ensures within { result ≤ length bytes.now }
+    ensures plain { All IsPlain (take result bytes.now) }
+    ensures ends { EndsRun (drop result bytes.now) }
+{
+    match memchr2(CR, IAC, bytes) {
+        Some(count) => count,
+        None => bytes.len(),
+    }
+}

@@ -1,0 +1,47 @@
+/* What the trials of tn.h share. Each allocation goes through here, so that one can be refused and all are counted. */
+#include "tn.h"
+
+#include <stdio.h>
+#include <stdlib.h>
+#include <string.h>
+
+#define SURE(...) \
+    do { \
+        if (!(__VA_ARGS__)) { \
+            fprintf(stderr, "%s: line %d: %s\n", __FILE__, __LINE__, #__VA_ARGS__); \
+            exit(3); \
+        } \
+    } while (0)
+
+void *__real_malloc(size_t size);
+void *__real_realloc(void *old, size_t size);
+void __real_free(void *old);
+
+static long live, calls, refused_call;
+
+static bool is_refused(void)
+{
+    return ++calls == refused_call;
+}
+
+void *__wrap_malloc(size_t size)
+{
+    void *made = is_refused() ? NULL : __real_malloc(size);
+    live += made != NULL;
+    return made;
+}
+
+void *__wrap_realloc(void *old, size_t size)
+{
+    void *made = is_refused() ? NULL : __real_realloc(old, size);
+    live += made != NULL && old == NULL;
+    return made;
+}
+
+void __wrap_free(void *old)
+{
+    live -= old != NULL;
+    __real_free(old);
+}
+
+static const tn_flags standard = TN_STANDARD_FLAGS;
