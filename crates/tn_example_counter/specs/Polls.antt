@@ -8,7 +8,8 @@ use Rattle.tn_jobs.specs.declared.verdicts.After.TheVariants.{Stay, Done}
 
 abbrev pub told : ℕ → ℕ → ℕ → After → Reaction
 told ayes noes all after = record {
-  text = decimal ayes ++ (codes " yes, " ++ (decimal noes ++ (codes " no, " ++ (decimal all ++ codes " in all\n"))));
+  text = decimal ayes ++ (codes " yes, "
+      ++ (decimal noes ++ (codes " no, " ++ (decimal all ++ codes " in all\n"))));
   after = after;
 }
 

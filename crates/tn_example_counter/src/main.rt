@@ -1,6 +1,6 @@
-//! State over sessions: a poll, in which each line `yes` is a vote for it and each other line one against. Each
-//! answer tells how it stands by all sessions. This run serves two connections, to clients in this program,
-//! which vote in turn, and prints what each was told.
+//! State over sessions: a poll, in which each line `yes` is a vote for it and each other line one against.
+//! Each answer tells how it stands by all sessions. This run serves two connections, to clients in this
+//! program, which vote in turn, and prints what each was told.
 #![tactic(auto)]
 
 ghost use Rattle.std.specs.Prelude.{◌≡◌, ◌+◌, IfOk};

@@ -1,5 +1,5 @@
-//! A job of one's own at a port: it quotes what each client types. This run serves one connection, to a client in
-//! this program, which sends what comes on standard input and prints what it was sent.
+//! A job of one's own at a port: it quotes what each client types. This run serves one connection, to a
+//! client in this program, which sends what comes on standard input and prints what it was sent.
 #![tactic(auto)]
 
 ghost use Rattle.std.specs.Prelude.{◌≡◌, IfOk};

@@ -16,8 +16,8 @@ abbrev pub window_of : Connecting → Window
 window_of connecting =
     record { width = connecting.width; height = connecting.height; limit = connecting.line_limit }
 
--- What is known beforehand of the keys of a reader with these bytes: the bytes, and that no size of a window is
--- told; or nothing where they are waited for.
+-- What is known beforehand of the keys of a reader with these bytes: the bytes, and that no size of a window
+-- is told; or nothing where they are waited for.
 abbrev pub foreseen : Origin → Option (List ℕ) → KnownReader
 foreseen Reader bytes = record { bytes = bytes; failures = None; sizes = Some [] }
 foreseen Input bytes = record { bytes = None; failures = None; sizes = None }

@@ -35,14 +35,14 @@ impl Hook {
         Hook::new(&self.standing)
     }
 
-    /// Ends the session within half a second, as if its client had hung up: what its jobs have written before is
-    /// sent, the client is told that no more comes, and what it still sends is not read.
+    /// Ends the session within half a second, as if its client had hung up: what its jobs have written before
+    /// is sent, the client is told that no more comes, and what it still sends is not read.
     pub fn hang_up(&self) {
         self.standing.hung_up.store(true, Ordering::SeqCst);
     }
 
-    /// From now on the session goes on for some time after its client has ended what it sends, until it is hung
-    /// up: a job may still have to write what that led to.
+    /// From now on the session goes on for two seconds at most after its client has ended what it sends, until
+    /// it is hung up: a job may still have to write what that led to.
     pub fn hold(&self) {
         self.standing.held.store(true, Ordering::SeqCst);
     }

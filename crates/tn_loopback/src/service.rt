@@ -14,8 +14,8 @@ pub trait Service {
 
     type Jobs: Maker<Job = Self::Job> + Drop + Send + 'static;
 
-    /// What makes the jobs of the session of this connection. Out of memory, the connection is closed and counts
-    /// as a session that ended in a fault.
+    /// What makes the jobs of the session of this connection. Out of memory, the connection is closed and
+    /// counts as a session that ended in a fault.
     fn session(&mut self, alloc: Global, call: Call) -> Result<Self::Jobs, AllocError>;
 
     /// The session with this number has ended so, and its threads are joined; or none of its threads could be

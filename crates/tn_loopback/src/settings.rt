@@ -104,8 +104,8 @@ pub struct Connecting {
 pub struct Notes<'a> {
     /// Gets a line for each item that comes and goes.
     pub trace: Option<File>,
-    /// Tells each new size of the window, where standard input is waited for: width and height, five characters
-    /// each, a space between them and a line feed behind them.
+    /// Tells each new size of the window, where standard input is waited for: width and height, five
+    /// characters each, a space between them and a line feed behind them.
     pub sizes: Option<File>,
     /// Gets the causes of a fault, a line each.
     pub causes: &'a mut Vec<u8>,

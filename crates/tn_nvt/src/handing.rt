@@ -1,13 +1,15 @@
 //! What is handed to a sink of the bytes that come next.
 
-ghost use Rattle.std.specs.Prelude.{◌≡◌, ◌≢◌, ◌<◌, [], length, IfOk, OnOk, OnErr, IsErrOf, IsTrue, slice_index};
+ghost use Rattle.std.specs.Prelude.{◌≡◌, ◌≢◌, ◌<◌, [], length, slice_index};
+ghost use Rattle.std.specs.Prelude.{IfOk, OnOk, OnErr, IsErrOf, IsTrue};
 ghost use Rattle.tn_nvt.specs.declared.decoding.NvtFault.TheVariants as fault;
 ghost use Rattle.tn_nvt.specs.declared.places.Given.TheVariants as given;
 ghost use Rattle.tn_nvt.specs.declared.places.Place.TheVariants as place;
 ghost use Rattle.tn_nvt.specs.Machine as machine;
 ghost use Rattle.tn_nvt.specs.Machine.{progress, given_items, gathered_of, HasNoRun};
 ghost use Rattle.tn_nvt.specs.Sinks.{TakesEach, IsPlain};
-ghost use Rattle.tn_nvt.specs.Runs.{singles, RefusesEach, HandsSome, HandsFront, StopsFront, WantsMemory, BeginsRun};
+ghost use Rattle.tn_nvt.specs.Runs.{singles, BeginsRun, RefusesEach};
+ghost use Rattle.tn_nvt.specs.Runs.{HandsFront, HandsSome, StopsFront, WantsMemory};
 
 use crate::bytes::{CR, LF, NUL};
 use crate::decoding::NvtFault;

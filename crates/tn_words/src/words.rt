@@ -83,8 +83,8 @@ enum Lack<'a> {
          A to Z, [, \\, ], ^ and _\n\nFor more information, try '--help'.\n")]
     Escape(&'a str),
     /// The text writes no address.
-    #[error("error: invalid value '{0}' for '--to <HOST:PORT>': it is no host with a port of 1 to 65535 behind \
-         a colon\n\nFor more information, try '--help'.\n")]
+    #[error("error: invalid value '{0}' for '--to <HOST:PORT>': it is no host with a port of 1 to 65535 \
+         behind a colon\n\nFor more information, try '--help'.\n")]
     Address(&'a str),
     /// `clap` takes no such words.
     #[error("error: a value is missing or out of its range\n\nFor more information, try '--help'.\n")]
