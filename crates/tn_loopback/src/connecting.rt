@@ -5,19 +5,11 @@ ghost use Rattle.tn_loopback.specs.Ends.{EndsWhole, RunsClient, foreseen, window
 ghost use Rattle.tn_loopback.specs.Faults.{IsOfNetwork};
 ghost use Rattle.tn_streams.specs.Known.{known_reader};
 
-use crate::connection::Connection;
-use crate::console::Console;
 use crate::fault::LoopbackFault;
 use crate::finished::ends_whole;
 use crate::host::Host;
-use crate::incoming::Incoming;
-use crate::keys::{Keys, Typing};
-use crate::link::Link;
-use crate::outgoing::{Outgoing, Sending, Throttle, queue_for};
 use crate::reaching::reach;
 use crate::settings::{Connecting, Notes, Origin};
-use crate::sizes::Sizes;
-use crate::trace::Trace;
 use std::alloc::Global;
 use std::fs::File;
 use std::io::{Read, Write};
@@ -25,6 +17,10 @@ use std::net::{Net, TcpListener, TcpStream};
 use std::sync::Arc;
 use std::{io, thread};
 use tn_session::{ClientPorts, Ended, Finish, Report, SessionFault, Unwatched, client_session};
+use tn_sockets::{
+    Connection, Console, Incoming, Keys, Link, Outgoing, Sending, Sizes, Throttle, Trace, Typing,
+    queue_for,
+};
 use tn_streams::Source;
 
 // A connection's two directions, of which the second is sent by a thread of its own.

@@ -1,10 +1,9 @@
 //! A connection that comes to a server, and how the jobs of its session end it.
 
-use crate::attended::Standing;
 use std::alloc::{AllocError, Global};
 use std::net::SocketAddr;
 use std::sync::Arc;
-use std::sync::atomic::Ordering;
+use tn_sockets::Standing;
 
 /// A connection that is to have a session.
 #[derive(Drop)]
@@ -38,17 +37,17 @@ impl Hook {
     /// Ends the session within half a second, as if its client had hung up: what its jobs have written before
     /// is sent, the client is told that no more comes, and what it still sends is not read.
     pub fn hang_up(&self) {
-        self.standing.hung_up.store(true, Ordering::SeqCst);
+        self.standing.hang_up();
     }
 
     /// From now on the session goes on for two seconds at most after its client has ended what it sends, until
     /// it is hung up: a job may still have to write what that led to.
     pub fn hold(&self) {
-        self.standing.held.store(true, Ordering::SeqCst);
+        self.standing.hold();
     }
 
     /// Whether nothing more comes from the session's client: it has hung up, or was told that no more comes.
     pub fn is_over(&self) -> bool {
-        self.standing.is_finished() || self.standing.gone.load(Ordering::SeqCst)
+        self.standing.is_over()
     }
 }

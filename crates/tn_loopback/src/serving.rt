@@ -5,7 +5,6 @@ ghost use Rattle.tn_loopback.specs.Ends.{ServesAll};
 ghost use Rattle.tn_roster.specs.Held.{IsLimit};
 
 use crate::acceptor::Acceptor;
-use crate::attended::Standing;
 use crate::events::Event;
 use crate::fault::LoopbackFault;
 use crate::finished::Finished;
@@ -25,6 +24,7 @@ use std::net::{Net, Shutdown, SocketAddr, TcpListener, TcpStream};
 use std::thread;
 use std::thread::JoinHandle;
 use tn_roster::{Roster, note};
+use tn_sockets::Standing;
 
 /// How many events wait at most for the loop.
 const EVENTS: usize = 16;

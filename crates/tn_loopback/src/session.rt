@@ -1,7 +1,5 @@
 //! One session of a server over a connection.
 
-use crate::attended::{Attended, Standing};
-use crate::connection::Connection;
 use crate::events::Event;
 use crate::finished::Finished;
 use crate::host::Host;
@@ -11,11 +9,11 @@ use std::alloc::Global;
 use std::io::Read;
 use std::net::TcpStream;
 use std::sync::Arc;
-use std::sync::atomic::Ordering;
 use std::thread;
 use std::thread::JoinHandle;
 use tn_discipline::Settings;
 use tn_session::{Maker, Report, SessionFault, Unwatched, serve_session};
+use tn_sockets::{Attended, Connection, Standing};
 
 /// A session that is to run over a connection that was accepted.
 #[derive(Drop)]
@@ -61,7 +59,7 @@ where
         match Arc::try_clone(&self.standing) {
             Ok(standing) => {
                 let report = self.converse();
-                let idle = standing.idle.load(Ordering::SeqCst);
+                let idle = standing.is_idle();
                 Finished { report, idle }
             },
             Err(_) => Finished {
@@ -110,7 +108,7 @@ where
             jobs,
             gate,
         )?;
-        if standing.hung_up.load(Ordering::SeqCst) {
+        if standing.is_hung_up() {
             linger(rt, writer.into_stream(), standing);
         }
         Ok(report)

@@ -3,12 +3,12 @@
 ghost use Rattle.std.specs.Prelude.{◌≡◌, false};
 ghost use Rattle.tn_discipline.specs.Limits.{standard_limit};
 
-use crate::link::Link;
 use std::alloc::Global;
 use std::fs::File;
 use std::sync::Arc;
 use tn_discipline::Limit;
 use tn_server::Editing;
+use tn_sockets::Link;
 
 /// What is the same of all sessions of a server.
 #[derive(Clone, Copy, Debug, PartialEq, Eq)]

@@ -14,7 +14,7 @@ use crate::channels::{
 use crate::client_loop::run_core;
 use crate::mail::{Mail, Sender};
 use crate::net::ReaderPart;
-use crate::parties::{ClientPorts, Finish, Gate, Place, Report};
+use crate::parties::{ClientPorts, Gate, Place, Report};
 use crate::session::MAILS;
 use crate::sharing::{Shared, share};
 use crate::threads::{ClientReturned, ClientStarted, start_reader};
@@ -26,7 +26,7 @@ use std::thread::Threads;
 use tn_client_core::{Core, Progress};
 use tn_discipline::Limit;
 use tn_messages::SessionFault;
-use tn_streams::{Drain, Source};
+use tn_streams::{Drain, Finish, Source};
 
 // The core's ends of the mailbox.
 #[derive(Drop)]

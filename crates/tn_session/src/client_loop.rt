@@ -10,14 +10,13 @@ ghost use Rattle.tn_streams.specs.Known.{known_writing};
 use crate::channels::{Handles, MailPass, MailReceiver};
 use crate::closing::{Standing, close};
 use crate::mail::{Mail, Sender};
-use crate::parties::Finish;
 use crate::term::leaves;
 use crate::writing::write_out;
 use std::alloc::Global;
 use std::sync::Wait;
 use std::sync::atomic::AtomicBool;
 use tn_client_core::{Core, Mark, Origin, Progress, Told};
-use tn_streams::Drain;
+use tn_streams::{Drain, Finish};
 
 /// How many threads send mails.
 const SENDERS: u64 = 2;

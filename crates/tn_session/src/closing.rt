@@ -3,8 +3,8 @@
 ghost use Rattle.std.specs.Prelude.{◌≡◌};
 ghost use Rattle.std.specs.Io.KnownBytes.{Keeps};
 
-use crate::parties::Finish;
 use std::sync::atomic::{AtomicBool, Ordering};
+use tn_streams::Finish;
 
 /// How far an end has come.
 #[derive(Clone, Copy)]

@@ -6,9 +6,10 @@ pub use channels::{AllRoles, Knows, MailPass, MailReceiver, MailSender, View};
 pub use client::client_session;
 pub use entries::{EntryPass, EntryReceiver, EntrySender, Hand, InTurn};
 pub use mail::{Mail, Sender};
-pub use parties::{ClientPorts, Finish, Gate, Maker, Place, Ports, Report, Unwatched};
+pub use parties::{ClientPorts, Gate, Maker, Place, Ports, Report, Unwatched};
 pub use session::serve_session;
 pub use tn_messages::{Ended, Message, SessionFault};
+pub use tn_streams::Finish;
 
 mod back;
 mod channels;

@@ -1,7 +1,6 @@
 //! Who takes part in a session, and what it gives back.
 
 ghost use Rattle.std.specs.Prelude.{◌≡◌, ℕ, Option, None, IfOk, IfSome};
-ghost use Rattle.std.specs.Io.KnownBytes.{Keeps};
 ghost use Rattle.tn_session.specs.Makers.{MakesJob};
 
 use crate::channels::MailPass;
@@ -9,7 +8,6 @@ use crate::entries::EntryPass;
 use std::alloc::{AllocError, Global};
 use tn_jobs::{Job, JobId};
 use tn_messages::Ended;
-use tn_streams::Drain;
 
 /// Who makes the jobs of a session: the first is the foreground job, and up to fifteen more run in the
 /// background.
@@ -54,19 +52,6 @@ pub struct Unwatched;
 
 impl Gate for Unwatched {
     fn at(&self, _place: Place) {}
-}
-
-/// A writer that is told when no more comes from this end. Nothing is said of what that does, but that no
-/// call of the writer is counted for it.
-pub trait Finish: Drain {
-    fn finish(&mut self)
-        ensures contents { Keeps (Self.contents self.old) (Self.contents self.new) }
-        ensures told { Self.told self.new ≡ Self.told self.old };
-}
-
-/// A list of what was written, which keeps it.
-impl Finish for Vec<u8> {
-    fn finish(&mut self) {}
 }
 
 /// What a session tells at its end; a client's has no entries and no stops. A count that has reached the

@@ -21,7 +21,7 @@ use crate::joining::settle;
 use crate::mail::{Mail, Sender};
 use crate::making::{Made, make_jobs};
 use crate::net::ReaderPart;
-use crate::parties::{Finish, Gate, Maker, Place, Ports, Report};
+use crate::parties::{Gate, Maker, Place, Ports, Report};
 use crate::sharing::{Shared, share};
 use crate::term::{Ends, Passes, run_term};
 use crate::threads::{Started, Watch, start_back, start_desk, start_reader};
@@ -35,7 +35,7 @@ use tn_discipline::{Entry, Limit, Settings};
 use tn_jobs::{Job, JobId};
 use tn_messages::SessionFault;
 use tn_server::Editing;
-use tn_streams::Source;
+use tn_streams::{Finish, Source};
 use tn_term::laws::{all_goes_before_a_hang_up, faults_have_causes, pieces_are_heard};
 use tn_term::{Progress, Term};
 

@@ -16,13 +16,14 @@ use crate::closing::{Standing, close};
 use crate::credit::{CreditPass, CreditSender, give_credit, is_piece};
 use crate::entries::{EntryPass, EntrySender, Puts};
 use crate::mail::Mail;
-use crate::parties::{Finish, Gate, Place};
+use crate::parties::{Gate, Place};
 use crate::threads::Watch;
 use crate::writing::write_out;
 use std::sync::Wait;
 use tn_discipline::Entry;
 use tn_jobs::JobId;
 use tn_messages::Message;
+use tn_streams::Finish;
 use tn_term::{Mark, Outcome, Progress, Put, Term};
 
 /// How many threads send mails.

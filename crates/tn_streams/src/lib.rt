@@ -82,6 +82,19 @@ pub trait Drain {
         ensures tells { TellsCall (CountsWrite buf.now result) (told self.old) (told self.new) };
 }
 
+/// A writer that is told when no more comes from this end. Nothing is said of what that does, but that no
+/// call of the writer is counted for it.
+pub trait Finish: Drain {
+    fn finish(&mut self)
+        ensures contents { Keeps (Self.contents self.old) (Self.contents self.new) }
+        ensures told { Self.told self.new ≡ Self.told self.old };
+}
+
+/// A list of what was written, which keeps it.
+impl Finish for Vec<u8> {
+    fn finish(&mut self) {}
+}
+
 impl<R: Read> Source for R {
     ghost remaining = { R.Read.remaining };
 

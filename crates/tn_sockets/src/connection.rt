@@ -10,8 +10,7 @@ use std::io::Write;
 use std::net::{Shutdown, TcpStream};
 use std::os::fd::AsRawFd;
 use std::sync::Arc;
-use std::sync::atomic::Ordering;
-use tn_session::Finish;
+use tn_streams::Finish;
 
 /// After how many seconds without a byte the first keepalive probe is sent, how many seconds lie between two
 /// probes, and after how many unanswered ones the connection is broken.
@@ -23,7 +22,7 @@ const KEEPALIVE_COUNT: u8 = 4;
 
 /// The writing side of a connection. Finishing it shuts it down, so that the peer reads its end.
 #[derive(Drop)]
-pub(crate) struct Connection {
+pub struct Connection {
     stream: TcpStream,
     standing: Option<Arc<Standing, Global>>,
 }
@@ -32,7 +31,7 @@ impl Connection {
     /// Both sides of a connection, the reading one first. What is written is sent at once: a session
     /// writes its echo and its job's text separately, and the second would otherwise wait until the first
     /// is acknowledged. TCP keepalive finds a peer whose machine is gone.
-    pub(crate) fn split(stream: TcpStream) -> io::Result<(TcpStream, Connection)> {
+    pub fn split(stream: TcpStream) -> io::Result<(TcpStream, Connection)> {
         stream.set_nodelay(true)?;
         keep_alive(&stream);
         let reader = stream.try_clone()?;
@@ -41,12 +40,13 @@ impl Connection {
     }
 
     /// The same, of which the reading side has to know when it is finished.
-    pub(crate) fn with_standing(self, standing: Arc<Standing, Global>) -> Connection {
+    pub fn with_standing(self, standing: Arc<Standing, Global>) -> Connection {
         let standing = Some(standing);
         Connection { standing, ..self }
     }
 
-    pub(crate) fn into_stream(self) -> TcpStream {
+    /// The connection itself, which is not finished.
+    pub fn into_stream(self) -> TcpStream {
         let Connection { stream, .. } = self;
         stream
     }
@@ -83,7 +83,7 @@ impl Write for Connection {
 impl Finish for Connection {
     fn finish(&mut self) {
         if let Some(standing) = &self.standing {
-            standing.finished.store(true, Ordering::SeqCst);
+            standing.finish();
         }
         let _ = self.stream.shutdown(Shutdown::Write);
     }

@@ -15,12 +15,13 @@ const NO_DESCRIPTOR: i32 = -1;
 /// A pipe that tells each new size: width and height, five characters each, a space between them and a line
 /// feed behind them. Where there is none, no sizes are told.
 #[derive(Drop)]
-pub(crate) struct Sizes {
+pub struct Sizes {
     pipe: Option<File>,
 }
 
 impl Sizes {
-    pub(crate) fn new(pipe: Option<File>) -> Sizes {
+    /// The sizes that this pipe tells.
+    pub fn new(pipe: Option<File>) -> Sizes {
         Sizes { pipe }
     }
 

@@ -13,25 +13,28 @@ use std::sync::{Arc, Wait};
 /// Where keys come from: their reader, what holds them back, the connection that they are for, and the window
 /// in which they are typed.
 #[derive(Drop)]
-pub(crate) struct Typing<H, K> {
-    pub(crate) keys: K,
-    pub(crate) throttle: Throttle<H>,
-    pub(crate) link: Arc<Link, Global>,
-    pub(crate) host: String,
-    pub(crate) port: u16,
-    pub(crate) width: u16,
-    pub(crate) height: u16,
-    pub(crate) sizes: Sizes,
+pub struct Typing<H, K> {
+    pub keys: K,
+    pub throttle: Throttle<H>,
+    pub link: Arc<Link, Global>,
+    /// The host and the port that the user asked for, as the state of the session is shown by them.
+    pub host: String,
+    pub port: u16,
+    /// The size of the window, in characters and lines.
+    pub width: u16,
+    pub height: u16,
+    pub sizes: Sizes,
 }
 
 /// The bytes of a reader as keys, which are read only while few of those before them wait to be sent.
 #[derive(Drop)]
-pub(crate) struct Keys<H, K> {
+pub struct Keys<H, K> {
     typing: Typing<H, K>,
 }
 
 impl<H, K> Keys<H, K> {
-    pub(crate) fn new(typing: Typing<H, K>) -> Keys<H, K>
+    /// The keys that come from there.
+    pub fn new(typing: Typing<H, K>) -> Keys<H, K>
         ensures { result.typing ≡ typing }
     {
         Keys { typing }

@@ -8,7 +8,7 @@ use std::io;
 use std::io::{ErrorKind, Write};
 use std::sync::atomic::{AtomicUsize, Ordering};
 use std::sync::{Arc, Wait};
-use tn_session::Finish;
+use tn_streams::Finish;
 
 /// How many writes of a session wait at most. A piece of keys makes one write, and at most 66 pieces are on
 /// their way once no more keys are read, so that keys alone never fill it.
@@ -48,7 +48,7 @@ impl Waiting {
 
 /// What a session writes: it waits for the thread that sends it.
 #[derive(Drop)]
-pub(crate) struct Outgoing<H> {
+pub struct Outgoing<H> {
     rt: H,
     alloc: Global,
     pieces: Option<Sender<Vec<u8>, Global>>,
@@ -58,7 +58,7 @@ pub(crate) struct Outgoing<H> {
 
 /// Sends what waits.
 #[derive(Drop)]
-pub(crate) struct Sending<H, W> {
+pub struct Sending<H, W> {
     rt: H,
     writer: W,
     pieces: Receiver<Vec<u8>, Global>,
@@ -69,14 +69,14 @@ pub(crate) struct Sending<H, W> {
 
 /// Lets keys be read once little waits.
 #[derive(Drop)]
-pub(crate) struct Throttle<H> {
+pub struct Throttle<H> {
     rt: H,
     waiting: Arc<Waiting, Global>,
     sent: Receiver<(), Global>,
 }
 
 /// The three sides of what goes out by this writer over this link.
-pub(crate) fn queue_for<H: Copy, W>(
+pub fn queue_for<H: Copy, W>(
     rt: H,
     alloc: Global,
     writer: W,
@@ -118,7 +118,7 @@ where
 
 impl<H> Outgoing<H> {
     /// How many bytes wait to be sent.
-    pub(crate) fn waiting(&self) -> usize {
+    pub fn waiting(&self) -> usize {
         self.waiting.bytes()
     }
 }
@@ -152,7 +152,7 @@ impl<H: Copy + Wait> Finish for Outgoing<H> {
 impl<H: Copy + Wait, W: Drop + Finish + Write> Sending<H, W> {
     /// Sends all until no more comes, and finishes the writer. Where a write fails the link is ended, since
     /// the other end hears no more. Once the user has left, what still comes is discarded.
-    pub(crate) fn run(self) -> io::Result<()> {
+    pub fn run(self) -> io::Result<()> {
         let Sending {
             rt,
             mut writer,
@@ -181,7 +181,7 @@ impl<H: Copy + Wait, W: Drop + Finish + Write> Sending<H, W> {
 
 impl<H: Wait> Throttle<H> {
     /// Waits as long as more waits than the marks, and somebody sends it.
-    pub(crate) fn wait(&self) {
+    pub fn wait(&self) {
         for _ in self.rt.forever() {
             if self.waiting.is_little() || self.sent.recv(&self.rt).is_err() {
                 return;

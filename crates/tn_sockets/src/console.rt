@@ -32,7 +32,7 @@ enum Ready {
 /// Keys from standard input, and what its user asks the client itself for. Of what is typed nothing is known
 /// beforehand.
 #[derive(Drop)]
-pub(crate) struct Console<H, K> {
+pub struct Console<H, K> {
     rt: H,
     typing: Typing<H, K>,
     escaping: Escaping,
@@ -41,7 +41,9 @@ pub(crate) struct Console<H, K> {
 }
 
 impl<H: Copy + Print + Wait, K: Read + Drop> Console<H, K> {
-    pub(crate) fn new(rt: H, typing: Typing<H, K>, escape: Option<u8>) -> Console<H, K> {
+    /// Keys that come from there, which is standard input. With an escape character its user speaks to the
+    /// client itself.
+    pub fn new(rt: H, typing: Typing<H, K>, escape: Option<u8>) -> Console<H, K> {
         Console {
             rt,
             typing,

@@ -40,7 +40,7 @@ impl Link {
     }
 
     /// Connects it. One that was connected before stays as it is.
-    pub(crate) fn attach<R: Wait>(&self, rt: &R, stream: TcpStream) {
+    pub fn attach<R: Wait>(&self, rt: &R, stream: TcpStream) {
         let _ = self.stream.set(rt, stream);
     }
 
@@ -57,7 +57,8 @@ impl Link {
         self.hang_up();
     }
 
-    pub(crate) fn is_dark(&self) -> bool {
+    /// Whether the screen takes no more.
+    pub fn is_dark(&self) -> bool {
         self.dark.load(Ordering::SeqCst)
     }
 
@@ -67,7 +68,8 @@ impl Link {
         self.hang_up();
     }
 
-    pub(crate) fn is_left(&self) -> bool {
+    /// Whether the user has left.
+    pub fn is_left(&self) -> bool {
         self.left.load(Ordering::SeqCst)
     }
 
@@ -77,7 +79,8 @@ impl Link {
         self.close();
     }
 
-    pub(crate) fn is_broken(&self) -> bool {
+    /// Whether reading from it failed.
+    pub fn is_broken(&self) -> bool {
         self.broken.load(Ordering::SeqCst)
     }
 

@@ -81,13 +81,14 @@ impl Sides {
 /// Notes what passes, if a trace is wanted. Data that follow one another in one direction are joined, and
 /// are written once something else comes, or passes the other way.
 #[derive(Drop)]
-pub(crate) struct Trace<H> {
+pub struct Trace<H> {
     rt: H,
     sides: Option<Arc<Mutex<Sides>, Global>>,
 }
 
 impl<H: Copy + Wait> Trace<H> {
-    pub(crate) fn new(rt: H, alloc: Global, file: Option<File>) -> Result<Trace<H>, AllocError> {
+    /// A trace into this file, or none.
+    pub fn new(rt: H, alloc: Global, file: Option<File>) -> Result<Trace<H>, AllocError> {
         let Some(file) = file else {
             return Ok(Trace { rt, sides: None });
         };
@@ -104,7 +105,8 @@ impl<H: Copy + Wait> Trace<H> {
         })
     }
 
-    pub(crate) fn try_clone(&self) -> Result<Trace<H>, AllocError> {
+    /// The same trace, for one more part of the connection.
+    pub fn try_clone(&self) -> Result<Trace<H>, AllocError> {
         let sides = match &self.sides {
             Some(sides) => Some(Arc::try_clone(sides)?),
             None => None,
@@ -123,7 +125,7 @@ impl<H: Copy + Wait> Trace<H> {
     }
 
     /// Writes the data that are still to be written. False where the trace is not whole.
-    pub(crate) fn end(&self) -> bool {
+    pub fn end(&self) -> bool {
         let Some(sides) = &self.sides else {
             return true;
         };

@@ -23,21 +23,22 @@ const HOLD: u64 = 50;
 
 /// What the two sides of a server's connection and its session know of each other.
 #[derive(Drop)]
-pub(crate) struct Standing {
+pub struct Standing {
     /// The peer was told that no more comes.
-    pub(crate) finished: AtomicBool,
+    finished: AtomicBool,
     /// The peer sent nothing for too long.
-    pub(crate) idle: AtomicBool,
+    idle: AtomicBool,
     /// A job of the session wants it to end as by a hang-up.
-    pub(crate) hung_up: AtomicBool,
+    hung_up: AtomicBool,
     /// A job of the session still has to write once nothing more comes from the peer.
-    pub(crate) held: AtomicBool,
+    held: AtomicBool,
     /// Nothing more comes from the peer.
-    pub(crate) gone: AtomicBool,
+    gone: AtomicBool,
 }
 
 impl Standing {
-    pub(crate) fn new(alloc: Global) -> Result<Arc<Standing, Global>, AllocError> {
+    /// The peer was told nothing yet, and everything is still to come from it.
+    pub fn new(alloc: Global) -> Result<Arc<Standing, Global>, AllocError> {
         let standing = Standing {
             finished: AtomicBool::new(false),
             idle: AtomicBool::new(false),
@@ -48,27 +49,55 @@ impl Standing {
         Ok(Arc::new(alloc, standing)?)
     }
 
-    pub(crate) fn is_finished(&self) -> bool {
+    /// Ends the session as by a hang-up, within half a second.
+    pub fn hang_up(&self) {
+        self.hung_up.store(true, Ordering::SeqCst);
+    }
+
+    /// Whether the session is to end, or ended, by `hang_up`.
+    pub fn is_hung_up(&self) -> bool {
+        self.hung_up.load(Ordering::SeqCst)
+    }
+
+    /// Lets the session go on for two seconds at most once nothing more comes from the peer.
+    pub fn hold(&self) {
+        self.held.store(true, Ordering::SeqCst);
+    }
+
+    /// Whether the peer sent nothing for too long.
+    pub fn is_idle(&self) -> bool {
+        self.idle.load(Ordering::SeqCst)
+    }
+
+    /// Whether nothing more comes from the peer: it has hung up, or was told that no more comes.
+    pub fn is_over(&self) -> bool {
+        self.is_finished() || self.gone.load(Ordering::SeqCst)
+    }
+
+    /// The peer was told that no more comes.
+    pub(crate) fn finish(&self) {
+        self.finished.store(true, Ordering::SeqCst);
+    }
+
+    fn is_finished(&self) -> bool {
         self.finished.load(Ordering::SeqCst)
     }
 
     // Whether the session is to end as by a hang-up, and the peer has not been told yet that no more comes.
     fn is_to_end(&self) -> bool {
-        self.hung_up.load(Ordering::SeqCst) && !self.is_finished()
+        self.is_hung_up() && !self.is_finished()
     }
 
     // Whether the session is to go on although nothing more comes from the peer.
     fn is_held(&self) -> bool {
-        self.held.load(Ordering::SeqCst)
-            && !self.hung_up.load(Ordering::SeqCst)
-            && !self.is_finished()
+        self.held.load(Ordering::SeqCst) && !self.is_hung_up() && !self.is_finished()
     }
 }
 
 /// What a client sends. It ends, as by a hang-up, where the client sends nothing for too long, where a job of
 /// the session wants that, and where the client does not close in time after it was told that no more comes.
 #[derive(Drop)]
-pub(crate) struct Attended<H> {
+pub struct Attended<H> {
     rt: H,
     stream: TcpStream,
     standing: Arc<Standing, Global>,
@@ -79,7 +108,9 @@ pub(crate) struct Attended<H> {
 }
 
 impl<H: Clock + Copy> Attended<H> {
-    pub(crate) fn new(
+    /// The reading side of a connection, whose peer may send nothing for `idle` seconds, or for ever where
+    /// that is 0.
+    pub fn new(
         rt: H,
         stream: TcpStream,
         standing: Arc<Standing, Global>,

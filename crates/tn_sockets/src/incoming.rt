@@ -53,7 +53,7 @@ fn see_item(item: &Item, link: &Link) {
 
 /// What the peer sends. That no more comes is noted, so that the keys can end too.
 #[derive(Drop)]
-pub(crate) struct Incoming<H, N> {
+pub struct Incoming<H, N> {
     reader: N,
     link: Arc<Link, Global>,
     trace: Trace<H>,
@@ -62,7 +62,7 @@ pub(crate) struct Incoming<H, N> {
 
 impl<H, N> Incoming<H, N> {
     /// Where the session is watched, it is seen who edits and who echoes.
-    pub(crate) fn new(
+    pub fn new(
         alloc: Global,
         reader: N,
         link: Arc<Link, Global>,
