@@ -1,7 +1,6 @@
 //! Lines typed over connections on this machine, beside one local terminal: what the foreground job takes
 //! is what `run_local` prints for the same keys.
 
-use super::sessions::reaction;
 use std::alloc::{AllocError, Global};
 use std::io::{self, Cursor, Read, Write};
 use std::net::{Ipv4Addr, Net, Shutdown, TcpListener, TcpStream};
@@ -12,7 +11,7 @@ use std::thread::Threads;
 use std::time::{Clock, Duration};
 use std::{mem, thread};
 use tn_cli::run_local;
-use tn_discipline::{Entry, Limit, Settings, Sig};
+use tn_discipline::{Entry, Limit, Settings, Sig, Text};
 use tn_jobs::{After, Job, Reaction};
 use tn_loopback::{Connecting, Host, Link, Notes, Origin, connect};
 use tn_plain::chance::Dice;
@@ -74,6 +73,12 @@ struct Recorder<R> {
     taken: Arc<Mutex<String>, Global>,
 }
 
+// Nothing is said of an entry.
+fn silence(alloc: Global, after: After) -> Reaction {
+    let text = Text::from(Vec::new(alloc));
+    Reaction { text, after }
+}
+
 impl<R: Wait + Drop> Job for Recorder<R> {
     ghost use Rattle.std.specs.Prelude.{⊤};
 
@@ -85,11 +90,11 @@ impl<R: Wait + Drop> Job for Recorder<R> {
 
     fn entry(&mut self, alloc: Global, entry: Entry) -> Result<Reaction, AllocError> {
         write_down(&mut self.taken.lock(&self.rt), &entry)?;
-        reaction(alloc, b"", After::Stay)
+        Ok(silence(alloc, After::Stay))
     }
 
     fn step(&mut self, alloc: Global) -> Result<Reaction, AllocError> {
-        reaction(alloc, b"", After::Done)
+        Ok(silence(alloc, After::Done))
     }
 }
 

@@ -1,0 +1,7 @@
+//! The trials.
+
+mod clients;
+mod connections;
+mod gateways;
+mod lines;
+mod programs;
