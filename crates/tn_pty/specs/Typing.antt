@@ -43,28 +43,28 @@ terminal_after old r symbols =
       queue = queue_with old.queue symbols;
     }
 
--- the role of a byte that comes to the master so: of a key, or of a byte of a line that was edited before
+-- the role of a byte, by how it comes to the master: as a key, or as a byte of a line that was edited before
 abbrev pub role_of_input : Input → Settings → ℕ → Role
 role_of_input (Keys echo) settings = role_of_key settings
 role_of_input Edited settings = literal_role settings.chars
 
--- what is shown of such a byte at this line: nothing of one that was edited
+-- what is shown of a byte that comes at this line: nothing of an edited one
 abbrev pub input_symbols : Input → Settings → ℕ → HalfLine → List Symbol
 input_symbols (Keys echo) settings key line = echo_symbols echo settings key line
 input_symbols Edited settings byte line = []
 
--- the terminal after such a byte
+-- the terminal after a byte
 abbrev pub after_byte : Input → Terminal → ℕ → Terminal
 after_byte input old byte =
     let shown = input_symbols input old.settings byte old.line in
     terminal_after old (role_of_input input old.settings byte) shown
 
--- the terminal after such bytes, one after another
+-- the terminal after bytes, one after another
 abbrev pub after_all : Input → Terminal → List ℕ → Terminal
 after_all input old [] = old
 after_all input old (byte ∷ bytes) = after_all input (after_byte input old byte) bytes
 
--- the entries that such bytes give, one after another
+-- the entries that bytes give, one after another
 abbrev pub input_gains : Input → Terminal → List ℕ → List Entry
 input_gains input old bytes = gains_from old.line (map (role_of_input input old.settings) bytes)
 

@@ -55,10 +55,13 @@ pub enum PtyFault {
     Closed,
 }
 
-/// How bytes come to the master: as keys, shown or not, or as bytes of a line that was edited before.
-#[derive(Clone, Copy)]
-enum Input {
+/// How bytes come to the master: the contracts of `Pair::type_run` and `Pair::edited_run` say by it what both
+/// have in common.
+#[derive(Clone, Copy, Debug, PartialEq, Eq)]
+pub enum Input {
+    /// As keys, and whether they are shown.
     Keys(bool),
+    /// As bytes of a line that was edited before.
     Edited,
 }
 
@@ -352,7 +355,7 @@ impl Pair {
         self.roles.set(settings);
     }
 
-    // Takes the bytes, a prefix of them at a time. Each caller has its own copy, which knows the input.
+    // Takes the bytes, a prefix of them at a time. It is inlined, so that each caller's copy knows the input.
     #[inline(always)]
     fn take_each(&mut self, bytes: &[u8], input: Input) -> Result<(), PtyFault>
         ensures pair { OnOk result (self.new ≡ after_all input self.old bytes.now) }
@@ -418,7 +421,7 @@ impl Pair {
         }
     }
 
-    // Puts the leading edited bytes into the line that join it, and returns how many they are; none where the
+    // Takes the leading bytes of an edited line that join it, and returns how many they are; none where the
     // pair is closed.
     fn keep_edited(&mut self, bytes: &[u8]) -> usize
         ensures within { result ≤ length bytes.now }
