@@ -1,3 +1,4 @@
 pub mod Fronts
 pub mod Typed
 pub mod Quiet
+pub mod Joining

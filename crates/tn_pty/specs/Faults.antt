@@ -1,10 +1,11 @@
 -- Why a terminal refuses a key or a command.
-use Rattle.std.specs.Prelude.{◌≡◌, ◌<◌, ℕ, Bool, true, false, List, [], ◌∷◌, ◌++◌, length}
+use Rattle.std.specs.Prelude.{◌≡◌, ◌<◌, ℕ, true, false, List, [], ◌∷◌, ◌++◌, length}
 use Rattle.tn_discipline.specs.HalfLine.{GivesText}
-use Rattle.tn_discipline.specs.Keys.{gives_entry, role_of_key}
+use Rattle.tn_discipline.specs.Keys.{gives_entry}
 use Rattle.tn_discipline.specs.declared.keys.Role.{Role}
 use Rattle.tn_pty.specs.Terminal.{Terminal, max_waiting, shut_terminal}
-use Rattle.tn_pty.specs.Typing.{typed_after, typed_after_all}
+use Rattle.tn_pty.specs.Typing.{role_of_input, after_byte, after_all}
+use Rattle.tn_pty.specs.declared.pty.Input.{Input}
 use Rattle.tn_pty.specs.declared.pty.PtyFault.{PtyFault}
 use Rattle.tn_pty.specs.declared.pty.PtyFault.TheVariants.{Closed, TooFarAhead, Memory}
 
@@ -22,18 +23,18 @@ Refuses old r TooFarAhead new =
     × (new ≡ shut_terminal old)
 Refuses old r Memory new = Accepts old r × GivesText old.line r × (new ≡ shut_terminal old)
 
--- each of these typed keys is accepted at the terminal that those before it leave
-abbrev pub AcceptsAll : Bool → Terminal → List ℕ → Type 0
-AcceptsAll echo old [] = Unit {0}
-AcceptsAll echo old (key ∷ keys) =
-    Accepts old (role_of_key old.settings key) × AcceptsAll echo (typed_after echo old key) keys
+-- each of these bytes is accepted at the terminal that those before it leave
+abbrev pub AcceptsAll : Input → Terminal → List ℕ → Type 0
+AcceptsAll input old [] = Unit {0}
+AcceptsAll input old (byte ∷ bytes) =
+    Accepts old (role_of_input input old.settings byte) × AcceptsAll input (after_byte input old byte) bytes
 
--- Keys were typed until one was refused: some of them were accepted, and then the next was refused.
-pub record StopsWithinKeys (echo : Bool) (old : Terminal) (keys : List ℕ) (fault : PtyFault)
+-- Bytes came until one was refused: some of them were accepted, and then the next was refused.
+pub record StopsWithin (input : Input) (old : Terminal) (bytes : List ℕ) (fault : PtyFault)
     (new : Terminal) : Type 0 where
   pub done : List ℕ
-  pub key : ℕ
+  pub byte : ℕ
   pub left : List ℕ
-  pub whole : keys ≡ done ++ key ∷ left
-  pub accepted : AcceptsAll echo old done
-  pub refused : Refuses (typed_after_all echo old done) (role_of_key old.settings key) fault new
+  pub whole : bytes ≡ done ++ byte ∷ left
+  pub accepted : AcceptsAll input old done
+  pub refused : Refuses (after_all input old done) (role_of_input input old.settings byte) fault new

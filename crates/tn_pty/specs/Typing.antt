@@ -1,10 +1,11 @@
 -- What keys and commands do to a terminal.
-use Rattle.std.specs.Prelude.{ℕ, Bool, Option, Some, None, List, [], ◌∷◌, ◌++◌, if◌then◌else◌}
+use Rattle.std.specs.Prelude.{◌≡◌, ℕ, Bool, Option, Some, None, List, [], ◌∷◌, ◌++◌, map, if◌then◌else◌}
 use Rattle.tn_codes.specs.declared.codes.Command.{Command}
 use Rattle.tn_codes.specs.declared.codes.Command.TheVariants as command
 use Rattle.tn_discipline.specs.HalfLine.{HalfLine, effect_of, line_after, effect_entries}
-use Rattle.tn_discipline.specs.Keys.{role_of_key}
-use Rattle.tn_discipline.specs.Runs.{each_role, gains_from}
+use Rattle.tn_discipline.specs.Characters.{Characters}
+use Rattle.tn_discipline.specs.Keys.{role_of_key, literal_role}
+use Rattle.tn_discipline.specs.Runs.{gains_from}
 use Rattle.tn_discipline.specs.Echo.{echo_at}
 use Rattle.tn_discipline.specs.declared.termios.Settings.{Settings}
 use Rattle.tn_discipline.specs.declared.reads.Sig.TheVariants.{Int, Quit, Tstp}
@@ -14,6 +15,8 @@ use Rattle.tn_discipline.specs.declared.keys.Role.TheVariants as role
 use Rattle.tn_discipline.specs.declared.echo.Symbol.{Symbol}
 use Rattle.tn_discipline.specs.declared.echo.Symbol.TheVariants.{Byte, Newline}
 use Rattle.tn_pty.specs.Terminal.{Terminal, queue_with}
+use Rattle.tn_pty.specs.declared.pty.Input.{Input}
+use Rattle.tn_pty.specs.declared.pty.Input.TheVariants.{Keys, Edited}
 
 -- the entries that a key of this role gives at this line
 abbrev pub gain_of : HalfLine → Role → List Entry
@@ -40,19 +43,34 @@ terminal_after old r symbols =
       queue = queue_with old.queue symbols;
     }
 
--- the terminal after a typed key
-abbrev pub typed_after : Bool → Terminal → ℕ → Terminal
-typed_after echo old key =
-    terminal_after old (role_of_key old.settings key) (echo_symbols echo old.settings key old.line)
+-- the role of a byte, by how it comes to the master: as a key, or as a byte of a line that was edited before
+abbrev pub role_of_input : Input → Settings → ℕ → Role
+role_of_input (Keys echo) settings = role_of_key settings
+role_of_input Edited settings = literal_role settings.chars
 
--- the terminal after typed keys, one after another
-abbrev pub typed_after_all : Bool → Terminal → List ℕ → Terminal
-typed_after_all echo old [] = old
-typed_after_all echo old (key ∷ keys) = typed_after_all echo (typed_after echo old key) keys
+-- what is shown of a byte that comes at this line: nothing of an edited one
+abbrev pub input_symbols : Input → Settings → ℕ → HalfLine → List Symbol
+input_symbols (Keys echo) settings key line = echo_symbols echo settings key line
+input_symbols Edited settings byte line = []
 
--- the entries that typed keys give, one after another
-abbrev pub typed_gains : Terminal → List ℕ → List Entry
-typed_gains old keys = gains_from old.line (each_role old.settings keys)
+-- the terminal after a byte
+abbrev pub after_byte : Input → Terminal → ℕ → Terminal
+after_byte input old byte =
+    let shown = input_symbols input old.settings byte old.line in
+    terminal_after old (role_of_input input old.settings byte) shown
+
+-- the terminal after bytes, one after another
+abbrev pub after_all : Input → Terminal → List ℕ → Terminal
+after_all input old [] = old
+after_all input old (byte ∷ bytes) = after_all input (after_byte input old byte) bytes
+
+-- the entries that bytes give, one after another
+abbrev pub input_gains : Input → Terminal → List ℕ → List Entry
+input_gains input old bytes = gains_from old.line (map (role_of_input input old.settings) bytes)
+
+-- a byte of an edited line that joins it
+abbrev pub JoinsEdited : Characters → ℕ → Type 0
+JoinsEdited chars byte = literal_role chars byte ≡ role.Ordinary byte
 
 -- RFC 854 and RFC 1184, section 2: the key that a command stands for. BRK is an interrupt here; commands that
 -- stand for none change no line

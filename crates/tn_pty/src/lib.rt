@@ -13,6 +13,6 @@
 //! blocks.
 #![tactic(auto)]
 
-pub use pty::{Pair, PtyFault};
+pub use pty::{Input, Pair, PtyFault};
 
 mod pty;

@@ -5,15 +5,17 @@ ghost use Rattle.tn_discipline.specs.Advancing.{Advances};
 ghost use Rattle.tn_discipline.specs.RolesTable.{IsPlain};
 ghost use Rattle.tn_discipline.specs.declared.echo.Symbol.TheVariants.{Byte};
 ghost use Rattle.tn_pty.specs.Terminal.{new_terminal, queue_with, queue_with_each, output_symbols, output_symbol, fitting_count, shut_terminal, first_signal, queue_symbols, max_waiting};
-ghost use Rattle.tn_pty.specs.Typing.{gain_of, symbols_in, echo_symbols, terminal_after, typed_after_all, typed_gains, command_role, command_shows, IsCommandRole};
-ghost use Rattle.tn_pty.specs.Faults.{Accepts, Refuses, AcceptsAll, StopsWithinKeys};
+ghost use Rattle.tn_pty.specs.Typing.{gain_of, symbols_in, echo_symbols, terminal_after, role_of_input, after_byte, after_all, input_gains, JoinsEdited, command_role, command_shows, IsCommandRole};
+ghost use Rattle.tn_pty.specs.Faults.{Accepts, Refuses, AcceptsAll, StopsWithin};
+ghost use Rattle.tn_pty.specs.declared.pty.Input.TheVariants.{Keys, Edited};
 ghost use Rattle.circular_buffer.specs.Buffer.{buffer};
 
 use circular_buffer::HeapCircularBuffer;
+use memchr::memchr3;
 use std::alloc::{AllocError, Global};
 use std::marker::Model;
 use thiserror::Error;
-use tn_codes::Command;
+use tn_codes::{Command, Func};
 use tn_discipline::{
     Chars, Effect, Entry, Flags, Limit, Line, Role, Roles, Settings, Sig, Symbol, echo_of_role,
     role_of_literal,
@@ -51,6 +53,16 @@ pub enum PtyFault {
     /// The pair was closed before the key came.
     #[error("the pair is closed to input")]
     Closed,
+}
+
+/// How bytes come to the master: the contracts of `Pair::type_run` and `Pair::edited_run` say by it what both
+/// have in common.
+#[derive(Clone, Copy, Debug, PartialEq, Eq)]
+pub enum Input {
+    /// As keys, and whether they are shown.
+    Keys(bool),
+    /// As bytes of a line that was edited before.
+    Edited,
 }
 
 /// A terminal between a master and a slave. The master types keys, edited bytes and commands, and
@@ -138,14 +150,15 @@ impl Pair {
     /// one that was refused were typed, and the pair is closed.
     pub fn type_run(&mut self, keys: &[u8], echo: bool) -> Result<(), PtyFault>
         // Whatever keys led to this half line, the entries gain what these keys add.
-        ensures advances { let gain = typed_gains self.old keys.now in
+        ensures advances { let gain = input_gains (Keys echo) self.old keys.now in
             OnOk result (Advances self.old.line (roles_of self.old.settings keys.now) gain self.new.line) }
-        ensures entries { OnOk result (self.new.entries ≡ self.old.entries ++ typed_gains self.old keys.now) }
-        ensures pair { OnOk result (self.new ≡ typed_after_all echo self.old keys.now) }
-        ensures accepted { OnOk result (AcceptsAll echo self.old keys.now) }
-        ensures refused { IfErr result (λ fault. StopsWithinKeys echo self.old keys.now fault self.new) }
+        ensures entries { let gain = input_gains (Keys echo) self.old keys.now in
+            OnOk result (self.new.entries ≡ self.old.entries ++ gain) }
+        ensures pair { OnOk result (self.new ≡ after_all (Keys echo) self.old keys.now) }
+        ensures accepted { OnOk result (AcceptsAll (Keys echo) self.old keys.now) }
+        ensures refused { IfErr result (λ fault. StopsWithin (Keys echo) self.old keys.now fault self.new) }
     {
-        self.type_each(keys, echo)
+        self.take_each(keys, Input::Keys(echo))
     }
 
     /// The master types a byte of a line that was edited before it came. Nothing is shown.
@@ -169,6 +182,22 @@ impl Pair {
             },
             Err(_) => Err(self.close(PtyFault::Memory)),
         }
+    }
+
+    /// The master types bytes of lines that were edited before they came, one after another: each as
+    /// `edited_byte` does it, and bytes that join the line in runs. After any fault the bytes before the one
+    /// that was refused were typed, and the pair is closed.
+    pub fn edited_run(&mut self, bytes: &[u8]) -> Result<(), PtyFault>
+        // Whatever keys led to this half line, the entries gain what these bytes add.
+        ensures advances { let roles = map (literal_role self.old.settings.chars) bytes.now in
+            OnOk result (Advances self.old.line roles (input_gains Edited self.old bytes.now) self.new.line) }
+        ensures entries { let gain = input_gains Edited self.old bytes.now in
+            OnOk result (self.new.entries ≡ self.old.entries ++ gain) }
+        ensures pair { OnOk result (self.new ≡ after_all Edited self.old bytes.now) }
+        ensures accepted { OnOk result (AcceptsAll Edited self.old bytes.now) }
+        ensures refused { IfErr result (λ fault. StopsWithin Edited self.old bytes.now fault self.new) }
+    {
+        self.take_each(bytes, Input::Edited)
     }
 
     /// The master gives a command. AYT is answered where the answer fits whole into the queue, and
@@ -326,46 +355,93 @@ impl Pair {
         self.roles.set(settings);
     }
 
-    // Types the keys, a prefix of them at a time.
-    fn type_each(&mut self, keys: &[u8], echo: bool) -> Result<(), PtyFault>
-        ensures pair { OnOk result (self.new ≡ typed_after_all echo self.old keys.now) }
-        ensures accepted { OnOk result (AcceptsAll echo self.old keys.now) }
-        ensures refused { IfErr result (λ fault. StopsWithinKeys echo self.old keys.now fault self.new) }
+    // Takes the bytes, a prefix of them at a time. It is inlined, so that each caller's copy knows the input.
+    #[inline(always)]
+    fn take_each(&mut self, bytes: &[u8], input: Input) -> Result<(), PtyFault>
+        ensures pair { OnOk result (self.new ≡ after_all input self.old bytes.now) }
+        ensures accepted { OnOk result (AcceptsAll input self.old bytes.now) }
+        ensures refused { IfErr result (λ fault. StopsWithin input self.old bytes.now fault self.new) }
     {
-        let mut typed = 0;
-        while typed < keys.len() {
-            match self.type_front(&keys[typed..], echo) {
-                Ok(count) => typed += count,
+        let mut taken = 0;
+        while taken < bytes.len() {
+            match self.take_front(&bytes[taken..], input) {
+                Ok(count) => taken += count,
                 Err(fault) => return Err(fault),
             }
         }
         Ok(())
     }
 
-    // Types leading keys that make no entry, and then the next key; returns how many were typed.
-    fn type_front(&mut self, keys: &[u8], echo: bool) -> Result<usize, PtyFault>
-        requires { 0 < length keys.now }
+    // Takes leading bytes that make no entry, and then the next byte; returns how many were taken.
+    #[inline(always)]
+    fn take_front(&mut self, bytes: &[u8], input: Input) -> Result<usize, PtyFault>
+        requires { 0 < length bytes.now }
         ensures some { IfOk result (λ count. 0 < count) }
-        ensures within { IfOk result (λ count. count ≤ length keys.now) }
-        ensures pair { IfOk result (λ count. self.new ≡ typed_after_all echo self.old (take count keys.now)) }
-        ensures accepted { IfOk result (λ count. AcceptsAll echo self.old (take count keys.now)) }
-        ensures refused { IfErr result (λ fault. StopsWithinKeys echo self.old keys.now fault self.new) }
+        ensures within { IfOk result (λ count. count ≤ length bytes.now) }
+        ensures pair { IfOk result (λ count. self.new ≡ after_all input self.old (take count bytes.now)) }
+        ensures accepted { IfOk result (λ count. AcceptsAll input self.old (take count bytes.now)) }
+        ensures refused { IfErr result (λ fault. StopsWithin input self.old bytes.now fault self.new) }
     {
-        let count = self.type_quiet(keys, echo);
-        if count == keys.len() {
+        let count = self.take_quiet(bytes, input);
+        if count == bytes.len() {
             return Ok(count);
         }
-        match self.raw_key(keys[count], echo) {
+        match self.take_one(bytes[count], input) {
             Ok(()) => Ok(count + 1),
             Err(fault) => Err(fault),
         }
     }
 
-    // Types some of the leading keys that make no entry, and returns how many; none where the pair is closed.
+    // Takes some of the leading bytes that make no entry, and returns how many; none where the pair is
+    // closed.
+    #[inline(always)]
+    fn take_quiet(&mut self, bytes: &[u8], input: Input) -> usize
+        ensures within { result ≤ length bytes.now }
+        ensures pair { self.new ≡ after_all input self.old (take result bytes.now) }
+        ensures accepted { AcceptsAll input self.old (take result bytes.now) }
+    {
+        match input {
+            Input::Keys(echo) => self.type_quiet(bytes, echo),
+            Input::Edited => self.keep_edited(bytes),
+        }
+    }
+
+    // Takes one byte.
+    #[inline(always)]
+    fn take_one(&mut self, byte: u8, input: Input) -> Result<(), PtyFault>
+        ensures pair { OnOk result (self.new ≡ after_byte input self.old byte) }
+        ensures accepted { let role = role_of_input input self.old.settings byte in
+            OnOk result (Accepts self.old role) }
+        ensures refused { let role = role_of_input input self.old.settings byte in
+            IfErr result (λ fault. Refuses self.old role fault self.new) }
+    {
+        match input {
+            Input::Keys(echo) => self.raw_key(byte, echo),
+            Input::Edited => self.edited_byte(byte),
+        }
+    }
+
+    // Takes the leading bytes of an edited line that join it, and returns how many they are; none where the
+    // pair is closed.
+    fn keep_edited(&mut self, bytes: &[u8]) -> usize
+        ensures within { result ≤ length bytes.now }
+        ensures pair { self.new ≡ after_all Edited self.old (take result bytes.now) }
+        ensures accepted { AcceptsAll Edited self.old (take result bytes.now) }
+    {
+        if self.closed {
+            return 0;
+        }
+        let count = joining_front(&self.roles.settings().chars, bytes);
+        let _kept = self.line.keep_run(&bytes[..count]);
+        count
+    }
+
+    // Types some of the leading keys that make no entry, and returns how many; none where the pair is
+    // closed.
     fn type_quiet(&mut self, keys: &[u8], echo: bool) -> usize
         ensures within { result ≤ length keys.now }
-        ensures pair { self.new ≡ typed_after_all echo self.old (take result keys.now) }
-        ensures accepted { AcceptsAll echo self.old (take result keys.now) }
+        ensures pair { self.new ≡ after_all (Keys echo) self.old (take result keys.now) }
+        ensures accepted { AcceptsAll (Keys echo) self.old (take result keys.now) }
     {
         if self.closed {
             return 0;
@@ -390,7 +466,7 @@ impl Pair {
     // other one as a bell.
     fn type_plain(&mut self, keys: &[u8], echo: bool)
         requires { All (IsPlain self.old.settings) keys.now }
-        ensures { self.new ≡ typed_after_all echo self.old keys.now }
+        ensures { self.new ≡ after_all (Keys echo) self.old keys.now }
     {
         let kept = self.line.keep_run(keys);
         if echo && self.roles.settings().flags.echo {
@@ -487,6 +563,21 @@ fn role_of_command(command: Command) -> Role
         Command::Ec => Role::Erase,
         Command::El => Role::Kill,
         _ => Role::Ignored,
+    }
+}
+
+// How many leading bytes of an edited line join it. The byte after them closes it, or there is none.
+fn joining_front(chars: &Chars, bytes: &[u8]) -> usize
+    ensures within { result ≤ length bytes.now }
+    ensures joins { All (JoinsEdited chars.now) (take result bytes.now) }
+    ensures next { result < length bytes.now → JoinsEdited chars.now (get_or bytes.now result 0) → ⊥ }
+{
+    // In the place of a character that is disabled, a line feed is looked for twice.
+    let eol = chars.get(Func::Forw1).unwrap_or(b'\n');
+    let eol2 = chars.get(Func::Forw2).unwrap_or(b'\n');
+    match memchr3(b'\n', eol, eol2, bytes) {
+        Some(count) => count,
+        None => bytes.len(),
     }
 }
 

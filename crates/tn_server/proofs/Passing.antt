@@ -1,6 +1,5 @@
 -- Some items one after another, and refusals.
-use Rattle.std.proofs.Common.{◌≡◌, inl, inr, ℕ, ◌+◌, ◌<◌, List, [], ◌∷◌, ◌++◌, length, map, take, drop, get_or, true, Err, IsErrOf, refl, sym, ap, ◌∙◌, subst, append-nil}
-use Rattle.std.proofs.lemmas.List.{take_more, drop_more, take-append-drop, map-append}
+use Rattle.std.proofs.Common.{◌≡◌, inl, inr, ℕ, List, [], ◌∷◌, ◌++◌, true, Err, IsErrOf, refl, sym, ap, ◌∙◌, subst, append-nil}
 use Rattle.tn_discipline.specs.declared.keys.Role.{Role}
 use Rattle.tn_nvt.specs.Feeding.{DecoderState}
 use Rattle.tn_nvt.specs.declared.items.Item.{Item}
@@ -108,26 +107,6 @@ goes_byte old new byte is = goes_typed old new (Byte byte) (λ _. refl) (λ _. r
 
 pub refuses_byte : (old new : End) (byte : ℕ) (f : PtyFault) → IsShut old new → IsKeyCause old.terminal (role_of_typed old byte) f → (before : List ℕ) → RefusesItem old (Byte byte) (Pty f) before before new
 refuses_byte old new byte f shut' cause before = refuses_shut old new (Byte byte) (Pty f) shut' (λ h s. typed_cause h old (Byte byte) (role_of_typed old byte) f refl cause s) before
-
--- the bytes that were taken, and one more
-taken_next : (bytes : List ℕ) (i d : ℕ) → i < length bytes → map Byte (take (i + 1) bytes) ≡ map Byte (take i bytes) ++ Byte (get_or bytes i d) ∷ []
-taken_next bytes i d lt = ap (map Byte) (take_more bytes i d lt) ∙ map-append Byte (take i bytes) (get_or bytes i d ∷ [])
-
-pub bytes_next : (old mid new : End) (bytes : List ℕ) (i d : ℕ) → i < length bytes → ((before : List ℕ) → AdvancesAll old (map Byte (take i bytes)) before before mid) → new ≡ end_after_byte mid (get_or bytes i d) → (before : List ℕ) → AdvancesAll old (map Byte (take (i + 1) bytes)) before before new
-bytes_next old mid new bytes i d lt g is before =
-    rw (taken_next bytes i d lt) (gets_both old mid new (map Byte (take i bytes)) (Byte (get_or bytes i d) ∷ []) before before before (g before) (gets_one mid new (Byte (get_or bytes i d)) before before (goes_byte mid new (get_or bytes i d) is before)))
-
--- one of the bytes was refused
-pub bytes_stop : (old mid new : End) (bytes : List ℕ) (i d : ℕ) (f : PtyFault) → i < length bytes → ((before : List ℕ) → AdvancesAll old (map Byte (take i bytes)) before before mid) → IsShut mid new → IsKeyCause mid.terminal (role_of_typed mid (get_or bytes i d)) f → (before : List ℕ) → StopsWithinItems old (map Byte bytes) (Pty f) before before new
-bytes_stop old mid new bytes i d f lt g shut' cause before =
-    let rest = drop (i + 1) bytes in
-    let parts : bytes ≡ take i bytes ++ get_or bytes i d ∷ rest = sym (take-append-drop i bytes) ∙ ap (λ (xs : List ℕ). take i bytes ++ xs) (drop_more bytes i d lt) in
-    stops_at old mid new (map Byte bytes) (map Byte (take i bytes)) (map Byte rest) (Byte (get_or bytes i d)) (Pty f) before before before
-    (ap (map Byte) parts ∙ map-append Byte (take i bytes) (get_or bytes i d ∷ rest)) (g before) (refuses_byte mid new (get_or bytes i d) f shut' cause before)
-
-pub shut_keeps : (old new : End) → IsShut old new → new.failed ≡ old.failed
-shut_keeps old new (inl same) = ap (λ (e : End). e.failed) same
-shut_keeps old new (inr closed) = ap (λ (e : End). e.failed) closed
 
 -- a terminal that was shut was so from the beginning
 pub shut_then : (old mid : End) (r : Role) (f : PtyFault) → mid.terminal.closed ≡ old.terminal.closed → IsKeyCause mid.terminal r f → IsErrOf {T = Unit {0}} (Err f) Closed → old.terminal.closed ≡ true

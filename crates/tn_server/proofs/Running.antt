@@ -1,16 +1,18 @@
--- Bytes of data that are typed in runs.
-use Rattle.std.proofs.Common.{◌≡◌, inl, inr, ℕ, Bool, true, false, Result, Ok, Err, OnOk, IfErr, IsErrOf, List, [], ◌∷◌, map, sym, ap, ◌∙◌, subst}
+-- Bytes of data that come in runs.
+use Rattle.std.proofs.Common.{◌≡◌, inl, inr, ℕ, Bool, true, false, Result, Ok, Err, OnOk, IfErr, IsErrOf, List, [], ◌∷◌, map, refl, sym, ap, ◌∙◌, subst, if◌then◌else◌}
 use Rattle.std.proofs.lemmas.List.{map-append}
-use Rattle.tn_discipline.specs.Keys.{role_of_key}
+use Rattle.tn_discipline.specs.declared.termios.Settings.{Settings}
 use Rattle.tn_discipline.specs.declared.keys.Role.{Role}
 use Rattle.tn_linemode.specs.Modes.{edits}
 use Rattle.tn_nvt.specs.declared.items.Item.TheVariants.{Byte}
 use Rattle.tn_pty.specs.Terminal.{Terminal}
-use Rattle.tn_pty.specs.Typing.{terminal_after, typed_after, typed_after_all}
-use Rattle.tn_pty.specs.Faults.{Refuses, StopsWithinKeys}
+use Rattle.tn_pty.specs.Typing.{terminal_after, role_of_input, after_byte, after_all}
+use Rattle.tn_pty.specs.Faults.{Refuses, StopsWithin}
+use Rattle.tn_pty.specs.declared.pty.Input.{Input}
+use Rattle.tn_pty.specs.declared.pty.Input.TheVariants.{Keys, Edited}
 use Rattle.tn_pty.specs.declared.pty.PtyFault.{PtyFault}
 use Rattle.tn_pty.specs.declared.pty.PtyFault.TheVariants as pty
-use Rattle.tn_pty.proofs.lemmas.Typed.{typed-settings, typed-closed}
+use Rattle.tn_pty.proofs.lemmas.Typed.{input-settings, input-closed}
 use Rattle.tn_server.specs.Lines.{role_of_byte}
 use Rattle.tn_server.specs.Screen.{byte_shows}
 use Rattle.tn_server.specs.Terms.{echoes}
@@ -19,22 +21,32 @@ use Rattle.tn_server.specs.Steps.{IsShut, IsKeyCause, role_of_typed, end_after_b
 use Rattle.tn_server.specs.declared.faults.ServerFault.TheVariants.{Pty}
 use Rattle.tn_server.proofs.Passing.{gets_none, gets_one, gets_both, goes_byte, refuses_byte, stops_at, shut_then}
 
--- the end after these keys
-abbrev pub end_typed : End → List ℕ → End
-end_typed old keys = record old { terminal = typed_after_all (echoes old.terms.options) old.terminal keys }
+-- how bytes of data come to the terminal of an end
+abbrev pub input_of : Bool → Bool → Input
+input_of edit echo = if edit then Edited else Keys echo
 
--- a byte is a key where the client doesn't edit
-typed_next : (old : End) (byte : ℕ) → edits old.modes.current ≡ false → end_after_byte old byte ≡ record old { terminal = typed_after (echoes old.terms.options) old.terminal byte }
-typed_next old byte plain =
-    let t = old.terminal in
-    ap (λ (edit : Bool). record old { terminal = terminal_after t (role_of_byte t.settings edit byte) (byte_shows t.settings edit (echoes old.terms.options) t.line byte) }) plain
+abbrev pub input_at : End → Input
+input_at old = input_of (edits old.modes.current) (echoes old.terms.options)
 
-pub run_goes : (bytes : List ℕ) (old : End) → edits old.modes.current ≡ false → (before : List ℕ) → AdvancesAll old (map Byte bytes) before before (end_typed old bytes)
-run_goes [] old plain before = gets_none old before
-run_goes (b ∷ bytes) old plain before =
-    let mid : End = record old { terminal = typed_after (echoes old.terms.options) old.terminal b } in
-    gets_both old mid (end_typed mid bytes) (Byte b ∷ []) (map Byte bytes) before before before
-    (gets_one old mid (Byte b) before before (goes_byte old mid b (sym (typed_next old b plain)) before)) (run_goes bytes mid plain before)
+role_by_mode : (edit echo : Bool) (s : Settings) (byte : ℕ) → role_of_byte s edit byte ≡ role_of_input (input_of edit echo) s byte
+role_by_mode true echo s byte = refl
+role_by_mode false echo s byte = refl
+
+byte_by_mode : (edit echo : Bool) (t : Terminal) (byte : ℕ) → terminal_after t (role_of_byte t.settings edit byte) (byte_shows t.settings edit echo t.line byte) ≡ after_byte (input_of edit echo) t byte
+byte_by_mode true echo t byte = refl
+byte_by_mode false echo t byte = refl
+
+-- the end after these bytes
+abbrev end_after_run : End → List ℕ → End
+end_after_run old bytes = record old { terminal = after_all (input_at old) old.terminal bytes }
+
+run_goes : (bytes : List ℕ) (old : End) (before : List ℕ) → AdvancesAll old (map Byte bytes) before before (end_after_run old bytes)
+run_goes [] old before = gets_none old before
+run_goes (b ∷ bytes) old before =
+    let mid : End = record old { terminal = after_byte (input_at old) old.terminal b } in
+    let one : mid ≡ end_after_byte old b = sym (ap (λ (t : Terminal). record old { terminal = t }) (byte_by_mode (edits old.modes.current) (echoes old.terms.options) old.terminal b)) in
+    gets_both old mid (end_after_run mid bytes) (Byte b ∷ []) (map Byte bytes) before before before
+    (gets_one old mid (Byte b) before before (goes_byte old mid b one before)) (run_goes bytes mid before)
 
 refused_shut : (mid new : End) (r : Role) (f : PtyFault) → Refuses mid.terminal r f new.terminal → new ≡ record mid { terminal = new.terminal } → IsShut mid new
 refused_shut mid new r pty.Closed x same = inl (same ∙ ap (λ (t : Terminal). record mid { terminal = t }) x.1)
@@ -46,37 +58,38 @@ refused_cause t new r pty.Closed x = x.0
 refused_cause t new r pty.TooFarAhead x = (x.1, x.2)
 refused_cause t new r pty.Memory x = x.1
 
--- the role of the key that was refused
-role_there : (old : End) (done : List ℕ) (key : ℕ) → edits old.modes.current ≡ false → role_of_typed (end_typed old done) key ≡ role_of_key old.terminal.settings key
-role_there old done key plain =
-    ap (λ (edit : Bool). role_of_byte (end_typed old done).terminal.settings edit key) plain
-    ∙ ap (λ s. role_of_key s key) (typed-settings (echoes old.terms.options) old.terminal done)
+-- the role of the byte that was refused
+role_there : (old : End) (done : List ℕ) (byte : ℕ) → role_of_typed (end_after_run old done) byte ≡ role_of_input (input_at old) old.terminal.settings byte
+role_there old done byte =
+    role_by_mode (edits old.modes.current) (echoes old.terms.options) (end_after_run old done).terminal.settings byte
+    ∙ ap (λ s. role_of_input (input_at old) s byte) (input-settings (input_at old) old.terminal done)
 
-module _ (old new : End) (bytes : List ℕ) (plain : edits old.modes.current ≡ false) (same : new ≡ record old { terminal = new.terminal }) where
-  pub run_done : {T E : Type 0} (r : Result T E) → OnOk r (new.terminal ≡ typed_after_all (echoes old.terms.options) old.terminal bytes) → OnOk r ((before : List ℕ) → AdvancesAll old (map Byte bytes) before before new)
+module _ (old new : End) (bytes : List ℕ) (input : Input) (is_input : input ≡ input_at old) (same : new ≡ record old { terminal = new.terminal }) where
+  pub run_done : {T E : Type 0} (r : Result T E) → OnOk r (new.terminal ≡ after_all input old.terminal bytes) → OnOk r ((before : List ℕ) → AdvancesAll old (map Byte bytes) before before new)
   run_done (Ok x) is =
-      λ before. subst (λ (e : End). AdvancesAll old (map Byte bytes) before before e) (sym (same ∙ ap (λ (t : Terminal). record old { terminal = t }) is)) (run_goes bytes old plain before)
+      let whole : new ≡ end_after_run old bytes = same ∙ ap (λ (t : Terminal). record old { terminal = t }) (is ∙ ap (λ i. after_all i old.terminal bytes) is_input) in
+      λ before. subst (λ (e : End). AdvancesAll old (map Byte bytes) before before e) (sym whole) (run_goes bytes old before)
   run_done (Err e) is = tt
 
-  stops : (f : PtyFault) → StopsWithinKeys (echoes old.terms.options) old.terminal bytes f new.terminal → (before : List ℕ) → StopsWithinItems old (map Byte bytes) (Pty f) before before new
+  stops : (f : PtyFault) → StopsWithin (input_at old) old.terminal bytes f new.terminal → (before : List ℕ) → StopsWithinItems old (map Byte bytes) (Pty f) before before new
   stops f s before =
-      let mid = end_typed old s.done in
-      let r = role_of_key old.terminal.settings s.key in
-      let cause : IsKeyCause mid.terminal (role_of_typed mid s.key) f = subst (λ x. IsKeyCause mid.terminal x f) (sym (role_there old s.done s.key plain)) (refused_cause mid.terminal new.terminal r f s.refused) in
-      stops_at old mid new (map Byte bytes) (map Byte s.done) (map Byte s.left) (Byte s.key) (Pty f) before before before
-      (ap (map Byte) s.whole ∙ map-append Byte s.done (s.key ∷ s.left)) (run_goes s.done old plain before)
-      (refuses_byte mid new s.key f (refused_shut mid new r f s.refused same) cause before)
+      let mid = end_after_run old s.done in
+      let r = role_of_input (input_at old) old.terminal.settings s.byte in
+      let cause : IsKeyCause mid.terminal (role_of_typed mid s.byte) f = subst (λ x. IsKeyCause mid.terminal x f) (sym (role_there old s.done s.byte)) (refused_cause mid.terminal new.terminal r f s.refused) in
+      stops_at old mid new (map Byte bytes) (map Byte s.done) (map Byte s.left) (Byte s.byte) (Pty f) before before before
+      (ap (map Byte) s.whole ∙ map-append Byte s.done (s.byte ∷ s.left)) (run_goes s.done old before)
+      (refuses_byte mid new s.byte f (refused_shut mid new r f s.refused same) cause before)
 
-  pub run_stops : {T : Type 0} (r : Result T PtyFault) → IfErr r (λ fault. StopsWithinKeys (echoes old.terms.options) old.terminal bytes fault new.terminal) → IfErr r (λ fault. (before : List ℕ) → StopsWithinItems old (map Byte bytes) (Pty fault) before before new)
+  pub run_stops : {T : Type 0} (r : Result T PtyFault) → IfErr r (λ fault. StopsWithin input old.terminal bytes fault new.terminal) → IfErr r (λ fault. (before : List ℕ) → StopsWithinItems old (map Byte bytes) (Pty fault) before before new)
   run_stops (Ok x) s = tt
-  run_stops (Err f) s = λ before. stops f s before
+  run_stops (Err f) s = λ before. stops f (subst (λ i. StopsWithin i old.terminal bytes f new.terminal) is_input s) before
 
-  was_shut : (f : PtyFault) → StopsWithinKeys (echoes old.terms.options) old.terminal bytes f new.terminal → IsErrOf {T = Unit {0}} (Err f) pty.Closed → old.terminal.closed ≡ true
+  was_shut : (f : PtyFault) → StopsWithin input old.terminal bytes f new.terminal → IsErrOf {T = Unit {0}} (Err f) pty.Closed → old.terminal.closed ≡ true
   was_shut f s is =
-      let mid = end_typed old s.done in
-      let r = role_of_key old.terminal.settings s.key in
-      shut_then old mid r f (typed-closed (echoes old.terms.options) old.terminal s.done) (refused_cause mid.terminal new.terminal r f s.refused) is
+      let mid : End = record old { terminal = after_all input old.terminal s.done } in
+      let r = role_of_input input old.terminal.settings s.byte in
+      shut_then old mid r f (input-closed input old.terminal s.done) (refused_cause mid.terminal new.terminal r f s.refused) is
 
-  pub run_shut : (r : Result (Unit {0}) PtyFault) → IfErr r (λ fault. StopsWithinKeys (echoes old.terms.options) old.terminal bytes fault new.terminal) → IsErrOf r pty.Closed → old.terminal.closed ≡ true
+  pub run_shut : (r : Result (Unit {0}) PtyFault) → IfErr r (λ fault. StopsWithin input old.terminal bytes fault new.terminal) → IsErrOf r pty.Closed → old.terminal.closed ≡ true
   run_shut (Ok x) s is = cc
   run_shut (Err f) s is = was_shut f s is

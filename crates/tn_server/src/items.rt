@@ -40,26 +40,10 @@ impl ServerEnd {
     {
         let mode = self.terms.modes.current();
         if mode.edit() {
-            return self.edited_bytes(bytes);
+            return self.pair.edited_run(bytes);
         }
         let echo = self.terms.echoes();
         self.pair.type_run(bytes, echo)
-    }
-
-    // Bytes of lines that the client edited, one after another.
-    fn edited_bytes(&mut self, bytes: &[u8]) -> Result<(), PtyFault>
-        ensures ok { OnOk result
-            ((before : List ℕ) → AdvancesAll self.old (map item.Byte bytes.now) before before self.new) }
-        ensures err { IfErr result (λ fault. (before : List ℕ) →
-            StopsWithinItems self.old
-            (map item.Byte bytes.now) (ServerFault.Pty fault) before before self.new) }
-        ensures failed { self.new.failed ≡ self.old.failed }
-        ensures shut { IsErrOf result PtyFault.Closed → self.old.terminal.closed ≡ true }
-    {
-        for byte in bytes {
-            self.byte(*byte)?;
-        }
-        Ok(())
     }
 
     /// Takes one item.

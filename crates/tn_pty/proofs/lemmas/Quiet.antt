@@ -1,19 +1,22 @@
--- Typed keys that make no entry, and of which nothing is shown.
-use Rattle.std.proofs.Common.{◌≡◌, ℕ, suc, Bool, true, false, ◌&&◌, All, List, [], ◌∷◌, ◌++◌, length, refl, ap, ◌∙◌, if◌then◌else◌, arith, append-nil}
-use Rattle.tn_discipline.specs.HalfLine.{effect_of, line_after}
-use Rattle.tn_discipline.specs.Keys.{role_of_key, gives_entry}
-use Rattle.tn_discipline.specs.Editing.{IsQuiet}
-use Rattle.tn_discipline.specs.Runs.{line_after_all, each_role}
+-- Bytes that come to the master and make no entry, and of which nothing is shown.
+use Rattle.std.proofs.Common.{◌≡◌, ℕ, suc, Bool, true, false, ◌&&◌, All, List, [], ◌∷◌, ◌++◌, map, refl, sym, ap, ◌∙◌, if◌then◌else◌, arith, append-nil}
+use Rattle.tn_discipline.specs.Characters.{Characters}
+use Rattle.tn_discipline.specs.HalfLine.{HalfLine, effect_of, line_after}
+use Rattle.tn_discipline.specs.Keys.{role_of_key, literal_role, gives_entry}
+use Rattle.tn_discipline.specs.Runs.{line_after_all, ordinary_roles}
 use Rattle.tn_discipline.specs.Echo.{echo_at, one_shown, ordinary_shown, is_erased, wiping_symbols, no_echo}
 use Rattle.tn_discipline.specs.declared.termios.Flags.{Flags}
+use Rattle.tn_discipline.specs.declared.termios.Settings.{Settings}
 use Rattle.tn_discipline.specs.declared.keys.Role.{Role}
 use Rattle.tn_discipline.specs.declared.keys.Role.TheVariants as role
 use Rattle.tn_discipline.specs.declared.half_line.Effect.{Effect}
 use Rattle.tn_discipline.specs.declared.echo.Symbol.TheVariants.{Newline}
 use Rattle.tn_discipline.proofs.lemmas.Editing.{quiet_gain}
 use Rattle.tn_pty.specs.Terminal.{Terminal, queue_with}
-use Rattle.tn_pty.specs.Typing.{gain_of, symbols_in, typed_after, typed_after_all}
-use Rattle.tn_pty.specs.Faults.{Accepts, AcceptsAll}
+use Rattle.tn_pty.specs.Typing.{gain_of, symbols_in, role_of_input, input_symbols, after_byte, after_all, JoinsEdited}
+use Rattle.tn_pty.specs.Faults.{AcceptsAll}
+use Rattle.tn_pty.specs.declared.pty.Input.{Input}
+use Rattle.tn_pty.specs.declared.pty.Input.TheVariants.{Keys, Edited}
 use Rattle.tn_pty.proofs.lemmas.Typed.{queue_still, same_parts}
 
 -- without ECHO nothing is shown of a key that makes no entry
@@ -28,38 +31,67 @@ hidden_by flags (role.Eol2 byte) e off quiet = cc
 hidden_by flags role.Eof e off quiet = cc
 hidden_by flags (role.Signal sig) e off quiet = cc
 
-hidden : (echo : Bool) (flags : Flags) (r : Role) (e : Effect) → (echo && flags.echo) ≡ false → gives_entry r ≡ false → (if echo then symbols_in (echo_at flags r e) else []) ≡ []
-hidden true flags r e off quiet = hidden_by flags r e off quiet
-hidden false flags r e off quiet = refl
+hidden_key : (echo : Bool) (flags : Flags) (r : Role) (e : Effect) → (echo && flags.echo) ≡ false → gives_entry r ≡ false → (if echo then symbols_in (echo_at flags r e) else []) ≡ []
+hidden_key true flags r e off quiet = hidden_by flags r e off quiet
+hidden_key false flags r e off quiet = refl
 
-quiet_first : (old : Terminal) (key : ℕ) (keys : List ℕ) → All (IsQuiet old.settings) (key ∷ keys) → IsQuiet old.settings key
-quiet_first old key keys quiet = quiet 0 0 (omega arith)
+-- nothing is shown of bytes that make no entry
+abbrev pub Hides : Input → Settings → Type 0
+Hides (Keys echo) settings = (echo && settings.flags.echo) ≡ false
+Hides Edited settings = Unit {0}
 
-quiet_rest : (old : Terminal) (key : ℕ) (keys : List ℕ) → All (IsQuiet old.settings) (key ∷ keys) → All (IsQuiet old.settings) keys
-quiet_rest old key keys quiet = λ k d lt. quiet (suc k) d (omega (arith, lt))
+-- bytes that make no entry
+abbrev pub AreQuiet : Input → Settings → List ℕ → Type 0
+AreQuiet input settings bytes = All (λ byte. gives_entry (role_of_input input settings byte) ≡ false) bytes
 
-hidden_one : (echo : Bool) (old : Terminal) (key : ℕ) → (echo && old.settings.flags.echo) ≡ false → IsQuiet old.settings key → typed_after echo old key ≡ record old { line = line_after old.line (role_of_key old.settings key) }
-hidden_one echo old key off quiet =
-    let r = role_of_key old.settings key in
-    same_parts old (line_after old.line r) (line_after old.line r) (old.entries ++ gain_of old.line r) old.entries _ old.queue refl
-    (ap (λ gain. old.entries ++ gain) (quiet_gain old.line r quiet) ∙ append-nil old.entries)
-    (ap (queue_with old.queue) (hidden echo old.settings.flags r (effect_of old.line r) off quiet) ∙ queue_still old.queue)
+hidden : (input : Input) (settings : Settings) (byte : ℕ) (line : HalfLine) → Hides input settings → gives_entry (role_of_input input settings byte) ≡ false → input_symbols input settings byte line ≡ []
+hidden (Keys echo) settings key line off quiet = let r = role_of_key settings key in hidden_key echo settings.flags r (effect_of line r) off quiet
+hidden Edited settings byte line off quiet = refl
 
--- such keys change the line alone
-pub typed_hidden : (echo : Bool) (keys : List ℕ) (old : Terminal) → (echo && old.settings.flags.echo) ≡ false → All (IsQuiet old.settings) keys → typed_after_all echo old keys ≡ record old { line = line_after_all old.line (each_role old.settings keys) }
-typed_hidden echo [] old off quiet = refl
-typed_hidden echo (key ∷ keys) old off quiet =
-    let mid : Terminal = record old { line = line_after old.line (role_of_key old.settings key) } in
-    ap (λ (t : Terminal). typed_after_all echo t keys) (hidden_one echo old key off (quiet_first old key keys quiet))
-    ∙ typed_hidden echo keys mid off (quiet_rest old key keys quiet)
+module _ (input : Input) where
+  quiet_first : (settings : Settings) (byte : ℕ) (bytes : List ℕ) → AreQuiet input settings (byte ∷ bytes) → gives_entry (role_of_input input settings byte) ≡ false
+  quiet_first settings byte bytes quiet = quiet 0 0 (omega arith)
 
-quiet_accepted : (old : Terminal) (r : Role) → old.closed ≡ false → gives_entry r ≡ false → Accepts old r
-quiet_accepted old r takes quiet = record { opened = takes; room = λ gives. cc }
+  quiet_rest : (settings : Settings) (byte : ℕ) (bytes : List ℕ) → AreQuiet input settings (byte ∷ bytes) → AreQuiet input settings bytes
+  quiet_rest settings byte bytes quiet = λ k d lt. quiet (suc k) d (omega (arith, lt))
 
--- and each of them is accepted
-pub accepts_quiet : (echo : Bool) (old : Terminal) (keys : List ℕ) → old.closed ≡ false → All (IsQuiet old.settings) keys → AcceptsAll echo old keys
-accepts_quiet echo old [] takes quiet = tt
-accepts_quiet echo old (key ∷ keys) takes quiet = (
-  quiet_accepted old (role_of_key old.settings key) takes (quiet_first old key keys quiet),
-  accepts_quiet echo (typed_after echo old key) keys takes (quiet_rest old key keys quiet),
-)
+  hidden_one : (old : Terminal) (byte : ℕ) → Hides input old.settings → gives_entry (role_of_input input old.settings byte) ≡ false → after_byte input old byte ≡ record old { line = line_after old.line (role_of_input input old.settings byte) }
+  hidden_one old byte off quiet =
+      let r = role_of_input input old.settings byte in
+      same_parts old (line_after old.line r) (line_after old.line r) (old.entries ++ gain_of old.line r) old.entries _ old.queue refl
+      (ap (λ gain. old.entries ++ gain) (quiet_gain old.line r quiet) ∙ append-nil old.entries)
+      (ap (queue_with old.queue) (hidden input old.settings byte old.line off quiet) ∙ queue_still old.queue)
+
+  -- such bytes change the line alone
+  pub after_hidden : (bytes : List ℕ) (old : Terminal) → Hides input old.settings → AreQuiet input old.settings bytes → after_all input old bytes ≡ record old { line = line_after_all old.line (map (role_of_input input old.settings) bytes) }
+  after_hidden [] old off quiet = refl
+  after_hidden (byte ∷ bytes) old off quiet =
+      let mid : Terminal = record old { line = line_after old.line (role_of_input input old.settings byte) } in
+      ap (λ (t : Terminal). after_all input t bytes) (hidden_one old byte off (quiet_first old.settings byte bytes quiet))
+      ∙ after_hidden bytes mid off (quiet_rest old.settings byte bytes quiet)
+
+  -- and each of them is accepted
+  pub accepts_quiet : (old : Terminal) (bytes : List ℕ) → old.closed ≡ false → AreQuiet input old.settings bytes → AcceptsAll input old bytes
+  accepts_quiet old [] takes quiet = tt
+  accepts_quiet old (byte ∷ bytes) takes quiet = (
+    record { opened = takes; room = λ gives. let is = quiet_first old.settings byte bytes quiet in cc },
+    accepts_quiet (after_byte input old byte) bytes takes (quiet_rest old.settings byte bytes quiet),
+  )
+
+-- edited bytes that join the line are ordinary, and make no entry
+joining_roles : (chars : Characters) (bytes : List ℕ) → All (JoinsEdited chars) bytes → map (literal_role chars) bytes ≡ ordinary_roles bytes
+joining_roles chars [] joins = refl
+joining_roles chars (byte ∷ bytes) joins =
+    let first : JoinsEdited chars byte = joins 0 0 (omega arith) in
+    let rest : All (JoinsEdited chars) bytes = λ k d lt. joins (suc k) d (omega (arith, lt)) in
+    ap (λ r. r ∷ map (literal_role chars) bytes) first ∙ ap (λ rs. role.Ordinary byte ∷ rs) (joining_roles chars bytes rest)
+
+pub joining_quiet : (settings : Settings) (bytes : List ℕ) → All (JoinsEdited settings.chars) bytes → AreQuiet Edited settings bytes
+joining_quiet settings bytes joins = λ k d lt. ap gives_entry (joins k d lt)
+
+-- a line that keeps as many of them as fit
+pub after_joining : (old : Terminal) (bytes : List ℕ) (line : HalfLine) → All (JoinsEdited old.settings.chars) bytes → line ≡ line_after_all old.line (ordinary_roles bytes) → let new : Terminal = record old { line = line } in new ≡ after_all Edited old bytes
+after_joining old bytes line joins is =
+    same_parts old line _ old.entries old.entries old.queue old.queue
+    (is ∙ ap (line_after_all old.line) (sym (joining_roles old.settings.chars bytes joins))) refl refl
+    ∙ sym (after_hidden Edited bytes old tt (joining_quiet old.settings bytes joins))

@@ -4,7 +4,8 @@ use Rattle.tn_discipline.specs.declared.termios.Settings.{Settings}
 use Rattle.tn_discipline.specs.declared.echo.Symbol.{Symbol}
 use Rattle.tn_discipline.specs.declared.echo.Symbol.TheVariants.{Byte}
 use Rattle.tn_pty.specs.Terminal.{Terminal, queue_with_each}
-use Rattle.tn_pty.specs.Typing.{typed_after_all}
+use Rattle.tn_pty.specs.Typing.{after_all}
+use Rattle.tn_pty.specs.declared.pty.Input.TheVariants.{Keys}
 use Rattle.tn_pty.proofs.lemmas.Typed.{ArePlain, left_of, typed_shown}
 use Rattle.tn_pty.proofs.pty.Pair.type_plain.Goals as goal
 use Rattle.tn_pty.proofs.pty.Pair.type_plain.Goals.{else-echo-via-then-echo+else-settings, else-echo-via-else-echo}
@@ -25,7 +26,7 @@ returns-then-settings c =
     ∙ ap (λ bytes. queue_with_each c.put_echoes.new.queue.items (map (λ b. Byte 7) bytes)) rest
     ∙ ap (λ (q : Buffer Symbol). queue_with_each q.items (map (λ b. Byte 7) (drop kept.result keys))) c.put_echoes.ensures in
     typed_shown echo true keys view kept.result kept.new.self c.put_bells.new.queue.items plain kept.ensures.count kept.ensures.within kept.ensures.line shown queue
-    ∙ ap (λ (t : Terminal). typed_after_all echo t keys) c.self.view_is
+    ∙ ap (λ (t : Terminal). after_all (Keys echo) t keys) c.self.view_is
 
 pub returns-else-echo : goal.returns-else-echo
 returns-else-echo c =
@@ -41,10 +42,10 @@ returns-else-echo c =
           let shown : (echo && p.roles.flags.echo) ≡ false = ap (λ (b : Bool). b && p.roles.flags.echo) w.if-echo.true ∙ flag in
           w.self-is
           ∙ typed_shown echo false keys view kept.result kept.new.self p.queue.items plain kept.ensures.count kept.ensures.within kept.ensures.line shown refl
-          ∙ ap (λ (t : Terminal). typed_after_all echo t keys) c.self.view_is
+          ∙ ap (λ (t : Terminal). after_all (Keys echo) t keys) c.self.view_is
       | else-echo-via-else-echo w ↦
           let shown : (echo && p.roles.flags.echo) ≡ false = ap (λ (b : Bool). b && p.roles.flags.echo) w.if-echo.false in
           w.self-is
           ∙ typed_shown echo false keys view kept.result kept.new.self p.queue.items plain kept.ensures.count kept.ensures.within kept.ensures.line shown refl
-          ∙ ap (λ (t : Terminal). typed_after_all echo t keys) c.self.view_is
+          ∙ ap (λ (t : Terminal). after_all (Keys echo) t keys) c.self.view_is
     ]

@@ -2,10 +2,11 @@ use Rattle.std.proofs.Common.{◌≡◌, ◌&&◌, false, All, take, refl, sym, 
 use Rattle.tn_discipline.specs.Editing.{IsQuiet}
 use Rattle.tn_discipline.specs.Runs.{line_after_all, each_role}
 use Rattle.tn_pty.specs.Terminal.{Terminal}
-use Rattle.tn_pty.specs.Typing.{typed_after_all}
+use Rattle.tn_pty.specs.Typing.{after_all}
 use Rattle.tn_pty.specs.Faults.{AcceptsAll}
+use Rattle.tn_pty.specs.declared.pty.Input.TheVariants.{Keys}
 use Rattle.tn_pty.proofs.lemmas.Typed.{accepts_plain, same_parts}
-use Rattle.tn_pty.proofs.lemmas.Quiet.{typed_hidden, accepts_quiet}
+use Rattle.tn_pty.proofs.lemmas.Quiet.{after_hidden, accepts_quiet}
 use Rattle.tn_pty.proofs.pty.Pair.type_quiet.Goals as goal
 
 pub returns-then-shows-clause-accepted : goal.returns-then-shows-clause-accepted
@@ -13,7 +14,7 @@ returns-then-shows-clause-accepted c =
     let p = c.self.inside in
     let keys = take c.ordinary_front-count.result c.args.keys.now in
     let view : Terminal = record { settings = p.roles; line = p.line; entries = p.entries.items; queue = p.queue.items; width = p.width; height = p.height; closed = p.closed } in
-    subst (λ (t : Terminal). AcceptsAll c.args.echo t keys) c.self.view_is (accepts_plain c.args.echo view keys c.if-self.false c.ordinary_front-count.ensures.plain)
+    subst (λ (t : Terminal). AcceptsAll (Keys c.args.echo) t keys) c.self.view_is (accepts_plain c.args.echo view keys c.if-self.false c.ordinary_front-count.ensures.plain)
 
 pub returns-clause-pair : goal.returns-clause-pair
 returns-clause-pair c =
@@ -26,8 +27,8 @@ returns-clause-pair c =
     let quiet : All (IsQuiet view.settings) typed = c.edit_run.ensures.quiet in
     same_parts view c.edit_run.new.self (line_after_all p.line (each_role p.roles typed)) view.entries view.entries view.queue view.queue
     c.edit_run.ensures.line refl refl
-    ∙ sym (typed_hidden echo typed view off quiet)
-    ∙ ap (λ (t : Terminal). typed_after_all echo t typed) c.self.view_is
+    ∙ sym (after_hidden (Keys echo) typed view off quiet)
+    ∙ ap (λ (t : Terminal). after_all (Keys echo) t typed) c.self.view_is
 
 pub returns-clause-accepted : goal.returns-clause-accepted
 returns-clause-accepted c =
@@ -36,4 +37,4 @@ returns-clause-accepted c =
     let typed = take n c.args.keys.now in
     let view : Terminal = record { settings = p.roles; line = p.line; entries = p.entries.items; queue = p.queue.items; width = p.width; height = p.height; closed = p.closed } in
     let quiet : All (IsQuiet view.settings) typed = c.edit_run.ensures.quiet in
-    subst (λ (t : Terminal). AcceptsAll c.args.echo t typed) c.self.view_is (accepts_quiet c.args.echo view typed c.if-self.false quiet)
+    subst (λ (t : Terminal). AcceptsAll (Keys c.args.echo) t typed) c.self.view_is (accepts_quiet (Keys c.args.echo) view typed c.if-self.false quiet)
