@@ -181,7 +181,8 @@ tn_code tn_server_start(tn_handle *handle, const tn_flags *flags, uint16_t limit
 
 /* Takes a piece of what comes from the client, cut anywhere; the replies wait to be read. TN_FAILED: it had failed
  * before, and all is as it was. TN_CLOSED, TN_TOO_FAR_AHEAD, TN_MEMORY: what came before the refusal was done, its
- * replies wait, and the end has failed: read what waits, and close the connection. */
+ * replies wait, and the end has failed: read what waits, and close the connection. A piece of at most 512 bytes is not
+ * too far ahead where at most 511 entries wait: feed no more at once, and take the entries after each. */
 tn_code tn_server_feed(tn_handle *handle, const uint8_t *bytes, size_t length);
 
 /* How many bytes wait to be sent. */

@@ -19,6 +19,7 @@
 
 #define MAX_CLIENTS 64
 #define LIMIT 255
+#define PIECE 512 /* so that no paste makes more entries than may wait */
 
 struct client {
     int fd; /* -1 where the place is free */
@@ -139,7 +140,7 @@ static bool has_output(struct client *c)
 /* False where the connection is over, or the end has failed and all that it said was sent. */
 static bool serve(struct client *c, short events)
 {
-    uint8_t piece[4096];
+    uint8_t piece[PIECE];
     if (events & (POLLIN | POLLHUP | POLLERR)) {
         ssize_t n = recv(c->fd, piece, sizeof piece, MSG_DONTWAIT);
         if (is_passing(n))

@@ -155,7 +155,8 @@ fn run_job(server: &mut Server) -> Result<bool, Refused> {
 fn serve(mut stream: TcpStream, is_local: bool) -> Result<(), Refused> {
     let mut server = Server::start(255)?;
     server.wish(is_local)?;
-    let mut piece = [0; 4096];
+    // So that no paste makes more entries than may wait.
+    let mut piece = [0; 512];
     let mut fed = Ok(());
     loop {
         let has_ended = run_job(&mut server);
