@@ -7,14 +7,17 @@
  *   - A handle begins as TN_HANDLE. It may be moved, never copied: of two copies only one is used, ever.
  *     Nothing but these calls reads or writes what is in it. tn_end gives its memory back, and it may be started anew.
  *   - One call at a time uses a handle, on the thread that started it. Different handles know nothing of one another.
- *   - No pointer is null, even for no bytes. Each leads to so many initialized objects of its type, and no two
- *     pointers of one call lead to the same memory. None is kept: what it leads to is the caller's after the call.
- *   - Memory comes from malloc and realloc and goes back by free.
+ *   - No pointer is null, even for no bytes. Each leads to as many objects of its type as the call names. They are
+ *     initialized, also where the call only writes them: a count begins as 0, a buffer as { 0 }. No two pointers of one
+ *     call lead to the same memory. No pointer is kept: after the call what it leads to is the caller's again.
+ *   - Memory comes from malloc and realloc and goes back by free, all three of one allocator.
+ *   - No call is made from a signal handler, nor in the child of a fork of a process with threads.
  *
  * Each call but tn_end answers a code. Where it is not TN_OK, nothing that a pointer leads to was written, and the
  * handle holds what it held, except after the three calls of _feed: there see what is said.
  *   TN_NOT_STARTED  the handle holds nothing     TN_OTHER_KIND  it holds another of the four
- * are answered by each call of a kind and are not said again below.
+ * are answered by each call but the four of _start, and are not said again below. What else a call answers stands at
+ * it; of several codes that fit, the first one there is answered.
  */
 #ifndef TN_H
 #define TN_H
@@ -49,7 +52,7 @@ enum {
     TN_OTHER_KIND = 5,    /* the handle holds something of another kind */
     TN_NO_LIMIT = 6,      /* a line's limit is 255 to 4,095 bytes */
     TN_TOO_FAR_AHEAD = 7, /* a key would make an entry while 1,024 wait */
-    TN_CLOSED = 8,        /* the terminal is closed to input; no call closes one before its end has failed */
+    TN_CLOSED = 8,        /* the terminal takes no input; it is closed only as its end fails, which TN_FAILED tells */
     TN_NO_FUNCTION = 9,   /* RFC 1184 has no function of this number */
     TN_NOT_SETTABLE = 10, /* the function has no special character */
     TN_RESERVED = 11,     /* 10, 13 and 255 are never special characters */
@@ -60,10 +63,10 @@ enum {
 
 /* What a read of a terminal gives, and what a key does. */
 enum {
-    TN_NONE = 0,
+    TN_NONE = 0, /* no entry waits; of a key: it was ignored, or there was nothing to erase */
     TN_TEXT = 1, /* a line with its closing byte, or without one where EOF ended it */
     TN_EOF = 2,  /* EOF where nothing was typed */
-    TN_INT = 3,
+    TN_INT = 3,  /* the three signals */
     TN_QUIT = 4,
     TN_TSTP = 5,
     TN_KEPT = 6,         /* the byte joined the half line */
@@ -121,10 +124,11 @@ tn_code tn_line_start(tn_handle *handle, const tn_flags *flags, uint16_t limit);
 /* Types a key; *effect is TN_NONE to TN_DROPPED. TN_MEMORY: nothing was typed (only a key that gives a text). */
 tn_code tn_line_key(tn_handle *handle, uint8_t key, uint32_t *effect);
 
-/* Copies the first bytes of the text that the last key gave, as many as fit; *count is how many. */
+/* Copies the first bytes of the text that the last key gave, as many as fit; *count is how many, and 0 where it gave
+ * none. A text has at most limit bytes. */
 tn_code tn_line_text(tn_handle *handle, uint8_t *buf, size_t size, size_t *count);
 
-/* The same of the half line. */
+/* The same of the half line, which has fewer than limit bytes. */
 tn_code tn_line_half(tn_handle *handle, uint8_t *buf, size_t size, size_t *count);
 
 /* Goes on under these flags; the half line stays. */
@@ -157,14 +161,15 @@ enum {
 /* A decoder that has read nothing. TN_STARTED, TN_MEMORY. */
 tn_code tn_decoder_start(tn_handle *handle);
 
-/* Reads a piece, cut anywhere; the items that it completes wait to be taken. TN_MEMORY: those before the refusal
- * wait, and the decoder has failed. TN_FAILED: it had failed before. */
+/* Reads a piece, cut anywhere; the items that it completes wait to be taken. TN_FAILED: the decoder had failed before,
+ * and all is as it was. TN_MEMORY: the items before the refusal wait, and the decoder has failed. */
 tn_code tn_decoder_feed(tn_handle *handle, const uint8_t *bytes, size_t length);
 
 /* Takes the first item that waits; TN_NO_ITEM where none does. */
 tn_code tn_decoder_take(tn_handle *handle, tn_item *item);
 
-/* Copies the first parameters of the item that was taken last, as many as fit; *count is how many. */
+/* Copies the first parameters of the item that was taken last, as many as fit; *count is how many, and 0 where that is
+ * no subnegotiation. */
 tn_code tn_decoder_parameters(tn_handle *handle, uint8_t *buf, size_t size, size_t *count);
 
 /* ---- A server end, with the terminal behind it ---- */
@@ -175,28 +180,30 @@ tn_code tn_decoder_parameters(tn_handle *handle, uint8_t *buf, size_t size, size
 tn_code tn_server_start(tn_handle *handle, const tn_flags *flags, uint16_t limit);
 
 /* Takes a piece of what comes from the client, cut anywhere; the replies wait to be read. TN_FAILED: it had failed
- * before, and all is as it was. TN_MEMORY, TN_TOO_FAR_AHEAD, TN_CLOSED: what came before the refusal was done, its
- * replies wait, and the end has failed: read what waits, and close the connection. */
+ * before, and all is as it was. TN_CLOSED, TN_TOO_FAR_AHEAD, TN_MEMORY: what came before the refusal was done, its
+ * replies wait, and the end has failed: read what waits, and close the connection. A piece of at most 512 bytes is not
+ * too far ahead where at most 511 entries wait: feed no more at once, and take the entries after each. */
 tn_code tn_server_feed(tn_handle *handle, const uint8_t *bytes, size_t length);
 
 /* How many bytes wait to be sent. */
 tn_code tn_server_pending(tn_handle *handle, size_t *count);
 
-/* Moves the first bytes that wait to be sent to buf, as many as fit; *count is how many. */
+/* Moves to buf the first of the bytes that wait to be sent, as many as fit; *count is how many. The others wait on. */
 tn_code tn_server_read(tn_handle *handle, uint8_t *buf, size_t size, size_t *count);
 
 /* Takes the first entry; *kind is TN_NONE to TN_TSTP. Where none waits a GA may be due to be sent (RFC 858):
  * TN_MEMORY is answered for it alone. */
 tn_code tn_server_take(tn_handle *handle, uint32_t *kind);
 
-/* Copies the first bytes of the text that was taken last, as many as fit; *count is how many. */
+/* Copies the first bytes of the text of the entry that was taken last, as many as fit; *count is how many, and 0 where
+ * that was no text, or none waited. A text has at most limit bytes. */
 tn_code tn_server_text(tn_handle *handle, uint8_t *buf, size_t size, size_t *count);
 
 /* Writes output to the terminal's screen, which has room for 4,096 symbols; *count says how many bytes found room. */
 tn_code tn_server_write(tn_handle *handle, const uint8_t *bytes, size_t length, size_t *count);
 
-/* Spells the first symbols of the screen, at most max, to be sent; *count is how many symbols. Echo comes by this
- * too, so pull after each feed. TN_MEMORY. */
+/* Spells the first symbols of the screen, at most max, to be sent; *count is how many symbols, each of one byte or two.
+ * Echo comes by this too, so pull after each feed. TN_MEMORY. */
 tn_code tn_server_pull(tn_handle *handle, size_t max, size_t *count);
 
 /* Wishes for lines that are edited at the client (RFC 1184), or here; *sent says whether a MODE waits to be sent
@@ -220,7 +227,8 @@ tn_code tn_server_clear_mask(tn_handle *handle);
 /* The kind of an entry that waits, by its place from 0 on; TN_NONE behind the last. */
 tn_code tn_server_waiting(tn_handle *handle, size_t index, uint32_t *kind);
 
-/* Copies the first bytes of the text of an entry that waits, as many as fit; *count is how many. The entry stays. */
+/* Copies the first bytes of the text of an entry that waits, as many as fit; *count is how many, and 0 where none is at
+ * that place, or it is no text. The entry stays. */
 tn_code tn_server_waiting_text(tn_handle *handle, size_t index, uint8_t *buf, size_t size, size_t *count);
 
 /* The first signal among the entries that wait, or TN_NONE. */
@@ -258,11 +266,11 @@ tn_code tn_client_key(tn_handle *handle, uint8_t key);
  * failed before, and all is as it was. TN_MEMORY: what came before the refusal was done, and the end has failed. */
 tn_code tn_client_feed(tn_handle *handle, const uint8_t *bytes, size_t length);
 
-/* How many bytes wait to be sent, and moves the first of them to buf, as many as fit. */
+/* How many bytes wait to be sent; and moves to buf the first of them, as many as fit, *count of them. */
 tn_code tn_client_pending(tn_handle *handle, size_t *count);
 tn_code tn_client_read(tn_handle *handle, uint8_t *buf, size_t size, size_t *count);
 
-/* How many bytes wait to be shown, and moves the first of them to buf, as many as fit. */
+/* How many bytes wait to be shown; and moves to buf the first of them, as many as fit, *count of them. */
 tn_code tn_client_shown(tn_handle *handle, size_t *count);
 tn_code tn_client_screen(tn_handle *handle, uint8_t *buf, size_t size, size_t *count);
 
@@ -276,13 +284,13 @@ tn_code tn_client_propose(tn_handle *handle, uint8_t function, uint16_t value);
 /* The mode in force. */
 tn_code tn_client_mode(tn_handle *handle, uint8_t *mode);
 
-/* Copies the first bytes of the half line that are held here; *count is how many. */
+/* Copies the first bytes of the half line that are held here, as many as fit; *count is how many. */
 tn_code tn_client_half(tn_handle *handle, uint8_t *buf, size_t size, size_t *count);
 
 /* How many bytes of the half line were sent before those. */
 tn_code tn_client_ahead(tn_handle *handle, uint16_t *count);
 
-/* How long a half line is that the server edits, with its ISIG set and with it clear. */
+/* How long a half line is that the server edits, with its ISIG set and with it clear; 0 where it is edited here. */
 tn_code tn_client_counts(tn_handle *handle, uint16_t *trapped, uint16_t *plain);
 
 /* As of a server. */

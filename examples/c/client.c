@@ -2,10 +2,13 @@
  *
  *   cc -Iinclude examples/c/client.c out/libtn.a -o client
  *
- * Where standard input is no terminal, its bytes are typed as they come, and its end is that of the session.
+ * Where standard input is no terminal, its bytes are typed as they come. After its end the client shows what the server
+ * says until that closes the connection.
  */
+#define _GNU_SOURCE /* ppoll */
 #include "tn.h"
 
+#include <errno.h>
 #include <netdb.h>
 #include <poll.h>
 #include <signal.h>
@@ -92,15 +95,13 @@ static bool write_all(int fd, const uint8_t *bytes, size_t length)
 /* Sends what waits, and shows what waits. */
 static bool hand_on(tn_handle *end, int fd)
 {
-    uint8_t buf[4096];
-    size_t count;
+    uint8_t buf[4096] = { 0 };
+    size_t count = 0;
     do {
-        count = 0;
         if (tn_client_read(end, buf, sizeof buf, &count) != TN_OK || !write_all(fd, buf, count))
             return false;
     } while (count > 0);
     do {
-        count = 0;
         if (tn_client_screen(end, buf, sizeof buf, &count) != TN_OK || !write_all(STDOUT_FILENO, buf, count))
             return false;
     } while (count > 0);
@@ -124,7 +125,8 @@ static bool resize(tn_handle *end)
     return tn_client_resize(end, width, height) == TN_OK;
 }
 
-static void run(tn_handle *end, int fd)
+/* A change of the window's size is heard of while the client waits, and at no other time: so none is missed. */
+static void run(tn_handle *end, int fd, const sigset_t *waiting)
 {
     bool has_keys = true;
     for (;;) {
@@ -136,8 +138,11 @@ static void run(tn_handle *end, int fd)
             return;
         if (!hand_on(end, fd))
             return;
-        if (poll(polled, 2, -1) < 0)
-            continue; /* a new size */
+        if (ppoll(polled, 2, NULL, waiting) < 0) {
+            if (errno == EINTR)
+                continue; /* a new size */
+            return;
+        }
         if (polled[0].revents) {
             n = read(fd, piece, sizeof piece);
             if (n <= 0)
@@ -161,23 +166,27 @@ int main(int argc, char **argv)
 {
     tn_handle end = TN_HANDLE;
     struct sigaction resized;
+    sigset_t winch, waiting;
     uint16_t width, height;
     int fd;
     if (argc != 3 || (fd = connect_to(argv[1], argv[2])) < 0) {
         fprintf(stderr, "client: no connection (client HOST PORT)\n");
         return 1;
     }
+    memset(&resized, 0, sizeof resized);
+    resized.sa_handler = on_resize;
+    sigaction(SIGWINCH, &resized, NULL);
+    sigemptyset(&winch);
+    sigaddset(&winch, SIGWINCH);
+    sigprocmask(SIG_BLOCK, &winch, &waiting);
+    signal(SIGPIPE, SIG_IGN);
     window(&width, &height);
     if (tn_client_start(&end, width, height, LIMIT) != TN_OK) {
         fprintf(stderr, "client: out of memory\n");
         return 1;
     }
-    memset(&resized, 0, sizeof resized);
-    resized.sa_handler = on_resize;
-    sigaction(SIGWINCH, &resized, NULL);
-    signal(SIGPIPE, SIG_IGN);
     set_raw();
-    run(&end, fd);
+    run(&end, fd, &waiting);
     tn_end(&end);
     close(fd);
     return 0;

@@ -8,6 +8,7 @@
 
 #include <arpa/inet.h>
 #include <ctype.h>
+#include <errno.h>
 #include <netinet/in.h>
 #include <poll.h>
 #include <stdio.h>
@@ -18,6 +19,7 @@
 
 #define MAX_CLIENTS 64
 #define LIMIT 255
+#define PIECE 512 /* so that no paste makes more entries than may wait */
 
 struct client {
     int fd; /* -1 where the place is free */
@@ -47,7 +49,7 @@ static void welcome(int listener)
         return;
     for (int i = 0; i < MAX_CLIENTS; i++) {
         struct client *c = &clients[i];
-        bool sent;
+        bool sent = false;
         if (c->fd >= 0)
             continue;
         memset(c, 0, sizeof *c);
@@ -104,6 +106,12 @@ static bool run_job(struct client *c)
     }
 }
 
+/* Whether a call did nothing this time, and is to be made again. */
+static bool is_passing(ssize_t done)
+{
+    return done < 0 && (errno == EAGAIN || errno == EINTR);
+}
+
 /* Sends what waits, as much as the socket takes. False where the connection is over. */
 static bool send_some(struct client *c)
 {
@@ -114,6 +122,8 @@ static bool send_some(struct client *c)
     }
     if (c->from < c->to) {
         ssize_t n = send(c->fd, c->out + c->from, c->to - c->from, MSG_NOSIGNAL | MSG_DONTWAIT);
+        if (is_passing(n))
+            return true;
         if (n <= 0)
             return false;
         c->from += (size_t)n;
@@ -130,9 +140,11 @@ static bool has_output(struct client *c)
 /* False where the connection is over, or the end has failed and all that it said was sent. */
 static bool serve(struct client *c, short events)
 {
-    uint8_t piece[4096];
+    uint8_t piece[PIECE];
     if (events & (POLLIN | POLLHUP | POLLERR)) {
         ssize_t n = recv(c->fd, piece, sizeof piece, MSG_DONTWAIT);
+        if (is_passing(n))
+            return true;
         if (n <= 0)
             return false;
         if (tn_server_feed(&c->end, piece, (size_t)n) != TN_OK)
@@ -170,8 +182,12 @@ int main(int argc, char **argv)
             /* a client that does not read what it made us send is not read either */
             polled[i + 1].events = c->fd >= 0 && has_output(c) ? POLLOUT : POLLIN;
         }
-        if (poll(polled, MAX_CLIENTS + 1, -1) < 0)
+        if (poll(polled, MAX_CLIENTS + 1, -1) < 0) {
+            if (errno == EINTR)
+                continue; /* the program was stopped, and goes on */
+            perror("echo_server");
             return 1;
+        }
         for (int i = 0; i < MAX_CLIENTS; i++)
             if (clients[i].fd >= 0 && polled[i + 1].revents && !serve(&clients[i], polled[i + 1].revents))
                 give_up(&clients[i]);

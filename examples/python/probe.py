@@ -76,6 +76,8 @@ def line_of(item, parameters):
 
 
 def main():
+    if len(sys.argv) != 3:
+        sys.exit("probe.py HOST PORT")
     host, port = sys.argv[1], int(sys.argv[2])
     decoder = Decoder(ctypes.CDLL(os.environ.get("LIBTN", "libtn.so")))
     stop = time.monotonic() + 2
@@ -84,7 +86,7 @@ def main():
             connection.settimeout(left)
             try:
                 piece = connection.recv(4096)
-            except TimeoutError:
+            except socket.timeout:
                 break
             if not piece:
                 break

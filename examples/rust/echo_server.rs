@@ -1,7 +1,7 @@
 //! echo_server [PORT [remote]]: answers each line of each client in capitals, over `libtn.a`, with no other crate.
 //! Lines are edited at the client if it can do that, and here where the second word is given.
 //!
-//!     rustc --edition 2021 -O -L out -l static=tn examples/rust/echo_server.rs
+//!     rustc --edition 2021 -O -L out -l static=tn examples/rust/echo_server.rs -o echo_server
 
 use std::ffi::c_void;
 use std::io::{Read, Write};
@@ -31,7 +31,7 @@ mod raw {
         pub onlcr: bool,
     }
 
-    unsafe extern "C" {
+    extern "C" {
         pub fn tn_server_start(handle: *mut Handle, flags: *const Flags, limit: u16) -> u32;
         pub fn tn_server_feed(handle: *mut Handle, bytes: *const u8, length: usize) -> u32;
         pub fn tn_server_read(handle: *mut Handle, buf: *mut u8, size: usize, count: *mut usize) -> u32;
@@ -155,16 +155,21 @@ fn run_job(server: &mut Server) -> Result<bool, Refused> {
 fn serve(mut stream: TcpStream, is_local: bool) -> Result<(), Refused> {
     let mut server = Server::start(255)?;
     server.wish(is_local)?;
-    let mut piece = [0; 4096];
+    // So that no paste makes more entries than may wait.
+    let mut piece = [0; 512];
+    let mut fed = Ok(());
     loop {
-        let fed = run_job(&mut server);
-        if stream.write_all(&server.pending()?).is_err() || fed? {
+        let has_ended = run_job(&mut server);
+        // What waits is sent where a feed was refused, too.
+        let is_sent = stream.write_all(&server.pending()?).is_ok();
+        fed?;
+        if has_ended? || !is_sent {
             return Ok(());
         }
-        match stream.read(&mut piece) {
-            Ok(n) if n > 0 => server.feed(&piece[..n])?,
+        fed = match stream.read(&mut piece) {
+            Ok(n) if n > 0 => server.feed(&piece[..n]),
             _ => return Ok(()),
-        }
+        };
     }
 }
 

@@ -222,7 +222,7 @@ static void session(void)
     uint32_t kind = 0;
     size_t count = 0;
     bool sent = false;
-    tn_item item;
+    tn_item item = { 0, 0, 0, 0 };
     may(tn_server_start(&server, &standard, 255));
     may(tn_client_start(&client, 80, 24, 255));
     deliver(&server, &client);

@@ -139,7 +139,7 @@ static tn_handle holding(int kind)
 /* The handle holds what holding gave it. */
 static void is_as_it_was(tn_handle *h, int kind)
 {
-    uint8_t buf[8];
+    uint8_t buf[8] = { 0 };
     size_t count = 0, shown = 0;
     tn_item item = { 0, 0, 0, 0 };
     switch (kind) {
@@ -178,7 +178,7 @@ static void refuses_others(tn_handle h, int kind)
         }
     }
     for (size_t i = 0; i < COUNT(starts) && kind != NOTHING; i++)
-        SURE(starts[i].start(&h, 255) == TN_STARTED && starts[i].start(&h, 1) != TN_OK);
+        SURE(starts[i].start(&h, 255) == TN_STARTED && starts[i].start(&h, 1) == TN_STARTED);
     is_as_it_was(&h, kind);
     tn_end(&h);
 }

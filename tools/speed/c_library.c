@@ -75,7 +75,7 @@ static struct done client_shows(void *client) {
 
 static struct done decoder_gives(void *decoder) {
     struct done all = {sizeof stream, 0};
-    tn_item item;
+    tn_item item = {0, 0, 0, 0};
     size_t at;
     for (at = 0; at < sizeof stream; at += PIECE) {
         SURE(tn_decoder_feed(decoder, stream + at, PIECE) == TN_OK);
@@ -100,7 +100,7 @@ static struct done server_sends(void *server) {
 static struct done server_takes(void *server) {
     struct done all = {sizeof stream, 0};
     size_t at, count = 0;
-    uint32_t kind;
+    uint32_t kind = TN_NONE;
     for (at = 0; at < sizeof stream; at += PIECE) {
         SURE(tn_server_feed(server, stream + at, PIECE) == TN_OK);
         while (tn_server_take(server, &kind) == TN_OK && kind != TN_NONE) {
@@ -148,7 +148,7 @@ static void editing(const char *name, bool local) {
     static const char answers[] = "\xff\xfb\x22\xff\xfb\x1f\xff\xfa\x1f\0\x50\0\x18\xff\xf0\xff\xfd\x03\xff\xfb\x03\xff\xfd\x01";
     static const char edits[] = "\xff\xfa\x22\x01\x07\xff\xf0\xff\xfe\x01";
     tn_handle server = started(true);
-    bool sent;
+    bool sent = false;
     SURE(tn_server_feed(&server, (const uint8_t *)answers, sizeof answers - 1) == TN_OK);
     if (local) {
         SURE(tn_server_wish(&server, true, &sent) == TN_OK && sent);

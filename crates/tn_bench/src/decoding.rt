@@ -13,7 +13,7 @@ const PIECE: usize = 4_096;
 const LINE: &[u8; 64] = b"the quick brown fox jumps over the lazy dog, and all is as was\r\n";
 
 /// A byte 255, a return, a word, a command, a size and some text.
-const MIX: &[u8; 32] =
+pub(crate) const MIX: &[u8; 32] =
     b"ab\xff\xffcd\r\0ef\xff\xfb\x01gh\xff\xf1ij\xff\xfa\x1f\0\x50\0\x18\xff\xf0kl\r\n";
 
 /// Counts what it is handed. A subnegotiation's parameters stay where they are, as libtelnet's do.

@@ -1,5 +1,6 @@
 //! Streams into the server end and into the client end.
 
+use crate::decoding::MIX;
 use crate::measure::{Bench, Done, Stuck, Workload, repeated};
 use std::alloc::Global;
 use std::io::Write;
@@ -17,6 +18,9 @@ const EDITED: &[u8; 64] = b"the quick brown fox jumps over the lazy dog, and all
 /// The same, as the keys of a client that does not edit.
 pub(crate) const KEYS: &[u8; 64] =
     b"the quick brown fox jumps over the lazy dog, and all is as was\r\0";
+
+/// A line of a job's output.
+const OUTPUT: &[u8; 64] = b"the quick brown fox jumps over the lazy dog, and all is as was.\n";
 
 /// What a client answers to the opening words: LINEMODE, its size, both SUPPRESS-GO-AHEAD, ECHO.
 const ANSWERS: &[u8; 24] =
@@ -57,6 +61,72 @@ impl Workload for Showing {
             });
             self.screen.clear();
             self.out.clear();
+        }
+        Ok(done)
+    }
+}
+
+/// A client is fed what a server writes, and what it has to send and to show is read to a buffer, as a caller of
+/// the library for C reads it.
+#[derive(Drop)]
+struct Reading {
+    end: ClientEnd,
+    stream: Vec<u8>,
+    out: Vec<u8>,
+    screen: Vec<u8>,
+    buf: Vec<u8>,
+}
+
+// Copies the bytes to the front of the buffer, as many as fit, and returns how many.
+fn copy_front(bytes: &[u8], buf: &mut [u8]) -> usize {
+    let count = bytes.len().min(buf.len());
+    buf[..count].copy_from_slice(&bytes[..count]);
+    count
+}
+
+// Copies the bytes to the front of the buffer, as many as fit, and gives them up.
+fn read_out(bytes: &mut Vec<u8>, buf: &mut [u8]) -> u64 {
+    let count = copy_front(bytes.as_slice(), buf);
+    bytes.clear();
+    count as u64
+}
+
+impl Workload for Reading {
+    fn once(&mut self) -> Result<Done, Stuck> {
+        let mut done = Done::nothing();
+        for piece in self.stream.as_slice().chunks(PIECE) {
+            self.end.feed(piece, &mut self.out, &mut self.screen)?;
+            read_out(&mut self.out, self.buf.as_mut_slice());
+            let shown = read_out(&mut self.screen, self.buf.as_mut_slice());
+            done = done.and(Done {
+                bytes: piece.len() as u64,
+                wholes: shown,
+            });
+        }
+        Ok(done)
+    }
+}
+
+/// A server's job writes output, and what is to be sent of it is read to a buffer.
+#[derive(Drop)]
+struct Sending {
+    end: ServerEnd,
+    stream: Vec<u8>,
+    out: Vec<u8>,
+    buf: Vec<u8>,
+}
+
+impl Workload for Sending {
+    fn once(&mut self) -> Result<Done, Stuck> {
+        let mut done = Done::nothing();
+        for piece in self.stream.as_slice().chunks(PIECE) {
+            let written = self.end.write(piece);
+            self.end.pull(PIECE, &mut self.out)?;
+            let sent = read_out(&mut self.out, self.buf.as_mut_slice());
+            done = done.and(Done {
+                bytes: written as u64,
+                wholes: sent,
+            });
         }
         Ok(done)
     }
@@ -124,6 +194,19 @@ pub(crate) fn make_server(
     Ok(Serving { end, stream, out })
 }
 
+// A client whose server writes these bytes so many times over.
+fn make_client(alloc: Global, bytes: &[u8], times: u32) -> Result<Showing, Stuck> {
+    let end = ClientEnd::start(alloc, 80, 24, Limit::standard())?;
+    let stream = repeated(alloc, bytes, times)?;
+    let (out, screen) = (Vec::new(alloc), Vec::new(alloc));
+    Ok(Showing {
+        end,
+        stream,
+        out,
+        screen,
+    })
+}
+
 fn show<H: Clock, W: Write>(
     alloc: Global,
     bench: &mut Bench<'_, H, W>,
@@ -131,14 +214,50 @@ fn show<H: Clock, W: Write>(
     bytes: &[u8],
     times: u32,
 ) -> Result<(), Stuck> {
-    let end = ClientEnd::start(alloc, 80, 24, Limit::standard())?;
-    let stream = repeated(alloc, bytes, times)?;
-    let (out, screen) = (Vec::new(alloc), Vec::new(alloc));
-    let mut load = Showing {
+    let mut load = make_client(alloc, bytes, times)?;
+    bench.tell(name, &mut load)
+}
+
+fn show_and_read<H: Clock, W: Write>(
+    alloc: Global,
+    bench: &mut Bench<'_, H, W>,
+    name: &str,
+    bytes: &[u8],
+    times: u32,
+) -> Result<(), Stuck> {
+    let Showing {
         end,
         stream,
         out,
         screen,
+    } = make_client(alloc, bytes, times)?;
+    let mut load = Reading {
+        end,
+        stream,
+        out,
+        screen,
+        buf: Vec::from_elem(alloc, 0u8, 4 * PIECE)?,
+    };
+    bench.tell(name, &mut load)
+}
+
+fn send<H: Clock, W: Write>(
+    alloc: Global,
+    bench: &mut Bench<'_, H, W>,
+    name: &str,
+    bytes: &[u8],
+    times: u32,
+) -> Result<(), Stuck> {
+    let stream = repeated(alloc, bytes, times)?;
+    let mut out = Vec::new(alloc);
+    let end = ServerEnd::start(alloc, Settings::standard(), Limit::standard(), &mut out)?;
+    out.clear();
+    let buf = Vec::from_elem(alloc, 0u8, 4 * PIECE)?;
+    let mut load = Sending {
+        end,
+        stream,
+        out,
+        buf,
     };
     bench.tell(name, &mut load)
 }
@@ -154,6 +273,23 @@ fn serve<H: Clock, W: Write>(
     bench.tell(name, &mut load)
 }
 
+// What the library for C does by one call after another, with no C between.
+fn read_to_buffers<H: Clock, W: Write>(
+    alloc: Global,
+    bench: &mut Bench<'_, H, W>,
+) -> Result<(), Stuck> {
+    let shown = "a client shows plain text, read to a buffer";
+    show_and_read(alloc, bench, shown, b"x", 65_536)?;
+    let shown = "a client shows lines of 64, read to a buffer";
+    show_and_read(alloc, bench, shown, EDITED, 1_024)?;
+    let shown = "a client shows a mix of escapes, read to a buffer";
+    show_and_read(alloc, bench, shown, MIX, 2_048)?;
+    let sent = "a server sends plain text, read to a buffer";
+    send(alloc, bench, sent, b"x", 65_536)?;
+    let sent = "a server sends lines of 64, read to a buffer";
+    send(alloc, bench, sent, OUTPUT, 1_024)
+}
+
 pub(crate) fn run<H: Clock, W: Write>(
     alloc: Global,
     bench: &mut Bench<'_, H, W>,
@@ -161,11 +297,7 @@ pub(crate) fn run<H: Clock, W: Write>(
     show(alloc, bench, "a client shows plain text", b"x", 65_536)?;
     show(alloc, bench, "a client shows lines of 64", EDITED, 1_024)?;
     serve(alloc, bench, "a server edits keys", KEYS, Editing::Remote)?;
-    serve(
-        alloc,
-        bench,
-        "a server takes edited lines",
-        EDITED,
-        Editing::Local,
-    )
+    let taken = "a server takes edited lines";
+    serve(alloc, bench, taken, EDITED, Editing::Local)?;
+    read_to_buffers(alloc, bench)
 }
