@@ -6,6 +6,7 @@ use std::process::Abort;
 use tn_plain::page::{Stage, unlike};
 
 mod beside_clients;
+mod beside_edited;
 mod beside_lines;
 mod beside_pairs;
 mod beside_payloads;

@@ -93,16 +93,24 @@ impl Master {
     fn type_all(&mut self, words: Words<'_>, page: &mut Page) {
         let mut ended = Ok(());
         for _ in 0..number_of(words.second).max(1) {
-            if words.verb == "run" {
-                ended = ended.and(self.pair.type_run(&words.bytes(self.alloc), true));
-                continue;
-            }
-            for key in &words.bytes(self.alloc) {
-                ended = ended.and(self.type_one(words.verb, *key));
-            }
+            ended = ended.and(self.type_bytes(words.verb, &words.bytes(self.alloc)));
         }
         if let Err(fault) = ended {
             page.say(&fault);
+        }
+    }
+
+    fn type_bytes(&mut self, verb: &str, bytes: &[u8]) -> Result<(), PtyFault> {
+        match verb {
+            "run" => self.pair.type_run(bytes, true),
+            "edited-run" => self.pair.edited_run(bytes),
+            _ => {
+                let mut ended = Ok(());
+                for key in bytes {
+                    ended = ended.and(self.type_one(verb, *key));
+                }
+                ended
+            },
         }
     }
 
@@ -137,6 +145,12 @@ const SCRIPTS: &[(&str, &str)] = &[
          take-lines; take; take-lines; run 61",
         "text 61620a; int; none; half 64; 8 - - nl - - - - -; half 64253x65.; 300; TooFarAhead; 0; \
          text 0a; 1022; Closed",
+    ),
+    // Edited bytes come in runs, and a pair that is closed keeps none of them.
+    (
+        "close-at forw1 3b; edited-run 61033b7f0a62; take; take; half; queued; edited-run 0a 1023; \
+         edited-run 630a64650a66; half; waiting 1022; waiting 1023; edited-run 67; edited-run; half",
+        "text 61033b; text 7f0a; half 62; 0; TooFarAhead; half 6465; text 0a; text 630a; Closed; half 6465",
     ),
     // Commands act whatever is typed.
     (
