@@ -154,8 +154,10 @@ static void run(tn_handle *end, int fd, const sigset_t *waiting)
         }
         if (polled[1].revents) {
             n = read(STDIN_FILENO, piece, sizeof piece);
-            if (n > 0 && !type_keys(end, piece, (size_t)n))
+            if (n > 0 && !type_keys(end, piece, (size_t)n)) {
+                hand_on(end, fd); /* what was typed before the escape */
                 return;
+            }
             if (n <= 0)
                 has_keys = false; /* what the server says is still shown */
         }

@@ -66,8 +66,8 @@ impl Workload for Showing {
     }
 }
 
-/// A client is fed what a server writes, and what it has to send and to show is read to a buffer, as a caller of
-/// the library for C reads it.
+/// A client is fed what a server writes, and what it has to send and to show is read to a buffer, as a caller
+/// of the library for C reads it.
 #[derive(Drop)]
 struct Reading {
     end: ClientEnd,
