@@ -195,7 +195,7 @@ static void worked_client(void)
     tn_end(&client);
 }
 
-/* Both ends joined, and a line that is edited at the client; each code is TN_OK, or of a refusal of memory. */
+/* Each code is TN_OK, or of a refusal of memory. */
 static bool may(tn_code code)
 {
     SURE(code == TN_OK || code == TN_MEMORY || code == TN_FAILED || code == TN_NOT_STARTED || code == TN_NOT_ON);
@@ -216,6 +216,51 @@ static void deliver(tn_handle *server, tn_handle *client)
     }
 }
 
+/* Both ends joined: a line is edited at the client, a special character is agreed on, and then the server edits. */
+static void worked_pair(void)
+{
+    tn_handle server = TN_HANDLE, client = TN_HANDLE;
+    uint32_t kind = 77, state = 77;
+    uint16_t value = 77, trapped = 77, plain = 77, width = 77, height = 77;
+    uint8_t mode = 77;
+    size_t count = 77;
+    bool sent = false;
+    SURE(tn_server_start(&server, &standard, 255) == TN_OK && tn_client_start(&client, 80, 24, 255) == TN_OK);
+    deliver(&server, &client);
+    SURE(tn_server_wish(&server, true, &sent) == TN_OK && sent);
+    deliver(&server, &client);
+    SURE(tn_client_mode(&client, &mode) == TN_OK && mode == (TN_MODE_EDIT | TN_MODE_TRAPSIG));
+    SURE(tn_server_mode(&server, &mode) == TN_OK && mode == (TN_MODE_EDIT | TN_MODE_TRAPSIG));
+    SURE(tn_client_option(&client, true, 34, &state) == TN_OK && state == TN_OPTION_YES);
+    SURE(tn_client_option(&client, false, 24, &state) == TN_OK && state == TN_OPTION_NO);
+    SURE(tn_server_size(&server, &width, &height) == TN_OK && width == 80 && height == 24);
+    SURE(tn_client_key(&client, 'a') == TN_OK && tn_client_key(&client, 'b') == TN_OK);
+    CLIENT_SAYS(&client, "", "ab");
+    SURE(tn_client_half(&client, buf, sizeof buf, &count) == TN_OK && count == 2 && memcmp(buf, "ab", 2) == 0);
+    SURE(tn_client_counts(&client, &trapped, &plain) == TN_OK && trapped == 0 && plain == 0);
+    SURE(tn_client_char(&client, TN_CHAR_KILL, &value) == TN_OK && value == 21);
+    SURE(tn_client_propose(&client, TN_CHAR_KILL, 24) == TN_OK);
+    deliver(&server, &client);
+    SURE(tn_client_char(&client, TN_CHAR_KILL, &value) == TN_OK && value == 24);
+    SURE(tn_server_char(&server, TN_CHAR_KILL, &value) == TN_OK && value == 24);
+    SURE(tn_client_key(&client, 24) == TN_OK && tn_client_key(&client, 'c') == TN_OK && tn_client_key(&client, 13) == TN_OK);
+    deliver(&server, &client);
+    SURE(tn_server_take(&server, &kind) == TN_OK && kind == TN_TEXT);
+    SURE(tn_server_text(&server, buf, sizeof buf, &count) == TN_OK && count == 2 && memcmp(buf, "c\n", 2) == 0);
+    SURE(tn_server_take(&server, &kind) == TN_OK && kind == TN_NONE);
+    SURE(tn_server_text(&server, buf, sizeof buf, &count) == TN_OK && count == 0);
+    SURE(tn_server_wish(&server, false, &sent) == TN_OK && sent);
+    deliver(&server, &client);
+    SURE(tn_client_mode(&client, &mode) == TN_OK && mode == 0);
+    SURE(tn_client_key(&client, 'd') == TN_OK);
+    deliver(&server, &client);
+    SURE(tn_server_half(&server, buf, sizeof buf, &count) == TN_OK && count == 1 && buf[0] == 'd');
+    SURE(tn_client_counts(&client, &trapped, &plain) == TN_OK && trapped == 1 && plain == 1);
+    tn_end(&server);
+    tn_end(&client);
+}
+
+/* A session of both ends, with a line that is edited at the client, and a line and a decoder beside it. */
 static void session(void)
 {
     tn_handle server = TN_HANDLE, client = TN_HANDLE, line = TN_HANDLE, decoder = TN_HANDLE;
@@ -340,6 +385,7 @@ int main(int argc, char **argv)
         worked_decoder();
         worked_server();
         worked_client();
+        worked_pair();
     } else if (strcmp(word, "refused") == 0) {
         refuse_each();
     } else if (strcmp(word, "server") == 0) {

@@ -1,11 +1,11 @@
 //! The calls of a line: keys to entries.
 
-ghost use Rattle.std.specs.Prelude.{◌≡◌, ◌≢◌, ◌↔◌, ◌⊎◌, true, None, [], ◌∷◌, IfSome, if◌then◌else◌};
+ghost use Rattle.std.specs.Prelude.{◌≡◌, ◌≢◌, ◌↔◌, ◌⊎◌, ◌<◌, true, None, [], ◌∷◌, IfSome, if◌then◌else◌};
 ghost use Rattle.tn_codes.specs.Codes.{func_code};
 ghost use Rattle.tn_codes.specs.declared.codes.Func.{Func};
 ghost use Rattle.tn_discipline.specs.Advancing.{Advances, DropsExactly};
 ghost use Rattle.tn_discipline.specs.Characters.{AreAllowed, standard_characters, slot, with_slot, char_fault};
-ghost use Rattle.tn_discipline.specs.HalfLine.{empty_line, line_after, effect_of, effect_entries, GivesText};
+ghost use Rattle.tn_discipline.specs.HalfLine.{empty_line, line_length, line_after, effect_of, effect_entries, GivesText};
 ghost use Rattle.tn_discipline.specs.Keys.{role_of_key, roles_of};
 ghost use Rattle.tn_discipline.specs.Limits.{is_limit};
 ghost use Rattle.tn_c_parts.specs.Bytes.{Copies};
@@ -127,6 +127,8 @@ pub extern "C" fn tn_line_half(
     ensures done { OnLine handle.old.held handle.new.held (λ _ _. result ≡ number code.Done) }
     ensures copies { OnLine handle.old.held handle.new.held (λ before _.
         Copies before.line.held buf.old buf.new count.new) }
+    ensures within { OnLine handle.old.held handle.new.held (λ before _.
+        line_length before.line < before.line.limit) }
     ensures same { handle.new.held ≡ handle.old.held }
 {
     call_held!(handle, alloc, Line, line => { line.half(buf, count); Code::Done })

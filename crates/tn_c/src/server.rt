@@ -1,6 +1,6 @@
 //! The calls of a server end.
 
-ghost use Rattle.std.specs.Prelude.{◌≡◌, ◌≢◌, ◌↔◌, ◌⊎◌, ◌*◌, ◌<◌, ℕ, List, true, false, Some, None, [], ◌∷◌, length, min, drop, IfSome, if◌then◌else◌, MatchOption, slice_get, option_map};
+ghost use Rattle.std.specs.Prelude.{◌≡◌, ◌≢◌, ◌↔◌, ◌⊎◌, ◌*◌, ◌<◌, ℕ, List, true, false, Some, None, [], ◌∷◌, length, min, drop, IfSome, if◌then◌else◌, MatchOption, slice_get};
 ghost use Rattle.tn_c_parts.specs.Codes.{code_number as number};
 ghost use Rattle.tn_discipline.specs.Limits.{is_limit};
 ghost use Rattle.tn_discipline.specs.Characters.{standard_characters};
@@ -17,7 +17,7 @@ ghost use Rattle.tn_option.specs.Options.{state_of};
 ghost use Rattle.tn_pty.specs.Terminal.{fitting_count, first_signal};
 ghost use Rattle.tn_server.specs.Calls.{LeadsTo, Advances, ReadsNothing, Feeds, StopsWithin, LacksRoomFor, call_fault, char_fault_at, mask_fault};
 ghost use Rattle.tn_server.specs.Events.{History, begun, next, took, wrote, pulled, wished, char_set, echo_set, mask_set};
-ghost use Rattle.tn_server.specs.Faults.{IsOfItem, SaysSomething};
+ghost use Rattle.tn_server.specs.Faults.{SaysSomething};
 ghost use Rattle.tn_server.specs.Lines.{half, waiting};
 ghost use Rattle.tn_server.specs.Replies.{opening};
 ghost use Rattle.tn_server.specs.Screen.{queue, size};

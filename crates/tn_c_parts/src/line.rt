@@ -1,11 +1,11 @@
 //! A line that is typed, and the entry that its last key gave.
 
-ghost use Rattle.std.specs.Prelude.{◌≡◌, ◌≢◌, ◌↔◌, ◌⊎◌, None, [], ◌∷◌, IfOk};
+ghost use Rattle.std.specs.Prelude.{◌≡◌, ◌≢◌, ◌↔◌, ◌⊎◌, ◌<◌, None, [], ◌∷◌, IfOk};
 ghost use Rattle.tn_codes.specs.Codes.{func_code};
 ghost use Rattle.tn_codes.specs.declared.codes.Func.{Func};
 ghost use Rattle.tn_discipline.specs.Advancing.{Advances, DropsExactly};
 ghost use Rattle.tn_discipline.specs.Characters.{AreAllowed, standard_characters, slot, with_slot, char_fault};
-ghost use Rattle.tn_discipline.specs.HalfLine.{empty_line, line_after, effect_of, effect_entries, GivesText};
+ghost use Rattle.tn_discipline.specs.HalfLine.{empty_line, line_length, line_after, effect_of, effect_entries, GivesText};
 ghost use Rattle.tn_discipline.specs.Keys.{role_of_key, roles_of};
 ghost use Rattle.tn_c_parts.specs.Bytes.{Copies};
 ghost use Rattle.tn_c_parts.specs.Entries.{effect_number, entry_given, text_of};
@@ -87,7 +87,8 @@ impl HeldLine {
 
     /// Copies the first bytes of the half line, as many as fit, and says how many.
     pub fn half(&self, buf: &mut [u8], count: &mut usize)
-        ensures { Copies self.now.line.held buf.old buf.new count.new }
+        ensures copies { Copies self.now.line.held buf.old buf.new count.new }
+        ensures within { line_length self.now.line < self.now.line.limit }
     {
         *count = copy_front(self.line.held(), buf);
     }

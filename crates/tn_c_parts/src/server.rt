@@ -1,6 +1,6 @@
 //! A server end, what it has to send, and the entry that was taken last.
 
-ghost use Rattle.std.specs.Prelude.{◌≡◌, ◌≢◌, ◌↔◌, ◌⊎◌, ◌*◌, ◌<◌, ℕ, List, true, false, Some, None, [], ◌∷◌, length, min, drop, IfOk, IfErr, MatchOption, slice_get, option_map};
+ghost use Rattle.std.specs.Prelude.{◌≡◌, ◌≢◌, ◌↔◌, ◌⊎◌, ◌*◌, ◌<◌, ℕ, List, true, false, Some, None, [], ◌∷◌, length, min, drop, IfOk, IfErr, MatchOption, slice_get};
 ghost use Rattle.tn_codes.specs.Codes.{func_code};
 ghost use Rattle.tn_codes.specs.Masks.{filled_octets};
 ghost use Rattle.tn_codes.specs.declared.codes.Func.{Func};
@@ -13,11 +13,11 @@ ghost use Rattle.tn_option.specs.Options.{state_of};
 ghost use Rattle.tn_pty.specs.Terminal.{fitting_count, first_signal};
 ghost use Rattle.tn_server.specs.Calls.{LeadsTo, Advances, ReadsNothing, Feeds, StopsWithin, LacksRoomFor, call_fault, char_fault_at, mask_fault};
 ghost use Rattle.tn_server.specs.Events.{History, begun, next, took, wrote, pulled, wished, char_set, echo_set, mask_set};
-ghost use Rattle.tn_server.specs.Faults.{IsOfItem, SaysSomething};
+ghost use Rattle.tn_server.specs.Faults.{SaysSomething};
 ghost use Rattle.tn_server.specs.Lines.{half, waiting};
 ghost use Rattle.tn_server.specs.Replies.{opening};
 ghost use Rattle.tn_server.specs.Screen.{queue, size};
-ghost use Rattle.tn_server.specs.Terms.{mode, asked_mask, chars, options, sends_mode};
+ghost use Rattle.tn_server.specs.Terms.{chars, options, sends_mode};
 ghost use Rattle.tn_server.specs.declared.faults.ServerFault.{ServerFault};
 ghost use Rattle.tn_server.specs.declared.faults.ServerFault.TheVariants as fault;
 ghost use Rattle.tn_c_parts.specs.Bytes.{Copies};
