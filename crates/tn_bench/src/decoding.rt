@@ -16,7 +16,8 @@ const LINE: &[u8; 64] = b"the quick brown fox jumps over the lazy dog, and all i
 pub(crate) const MIX: &[u8; 32] =
     b"ab\xff\xffcd\r\0ef\xff\xfb\x01gh\xff\xf1ij\xff\xfa\x1f\0\x50\0\x18\xff\xf0kl\r\n";
 
-/// Counts what it is handed. A subnegotiation's parameters stay where they are, as libtelnet's do.
+/// Counts what it is handed, and wraps, since a sum that does not costs four instructions a call in place of
+/// one. A subnegotiation's parameters stay where they are, as libtelnet's do.
 #[derive(Drop)]
 struct Counter {
     wholes: u64,
@@ -28,17 +29,17 @@ impl Sink for Counter {
     ghost gives_up = { λ _ _ _. Unit {0} };
 
     fn run(&mut self, _bytes: &[u8]) -> Result<(), Refused> {
-        self.wholes = self.wholes.saturating_add(1);
+        self.wholes = self.wholes.wrapping_add(1);
         Ok(())
     }
 
     fn item(&mut self, _item: Item) -> Result<(), Refused> {
-        self.wholes = self.wholes.saturating_add(1);
+        self.wholes = self.wholes.wrapping_add(1);
         Ok(())
     }
 
     fn sub(&mut self, _option: u8, _params: &mut Params) -> Result<(), Refused> {
-        self.wholes = self.wholes.saturating_add(1);
+        self.wholes = self.wholes.wrapping_add(1);
         Ok(())
     }
 }
