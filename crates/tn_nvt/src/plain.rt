@@ -30,16 +30,18 @@ pub(crate) fn run_len(bytes: &[u8]) -> usize
     }
 }
 
-// The same where it ends at one of the first few bytes.
+// The same where it ends at one of the first few bytes, and there are as many, so that none is counted.
 #[inline(always)]
 fn near_len(bytes: &[u8]) -> Option<usize>
     requires some { 0 < length bytes.now }
     requires plain { IsPlain (slice_index bytes.now 0) }
     ensures { IfSome result (λ count. HasRun bytes.now count) }
 {
-    let near = bytes.len().min(NEAR);
+    if bytes.len() < NEAR {
+        return None;
+    }
     let mut at = 1;
-    while at < near {
+    while at < NEAR {
         if !is_plain(bytes[at]) {
             return Some(at);
         }
