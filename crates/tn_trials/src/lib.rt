@@ -1,7 +1,7 @@
 //! Trials of both ends together, of running sessions over memory and of the program's runs: scripts with what
-//! comes of them, under a sentence as their name, and worlds of chance beside one local terminal. Nothing here
-//! is part of the program, and nothing of it is proved but that it is safe and, where it has no thread, that it
-//! ends.
+//! comes of them, under a sentence as their name, and worlds of chance beside one local terminal. Nothing
+//! here is part of the program, and nothing of it is proved but that it is safe and, where it has no thread,
+//! that it ends.
 #![tactic(auto)]
 
 #[cfg(test)]
