@@ -1,11 +1,15 @@
 //! Types keys at one line, and prints the entries that they give.
 
-ghost use Rattle.std.specs.Prelude.{◌≡◌, ◌<◌, ◌≤◌, ℕ, List, [], ◌∷◌, length, take, IfOk, OnOk};
+ghost use Rattle.std.specs.Prelude.{◌≡◌, ◌<◌, ◌≤◌, ℕ, List, [], ◌∷◌, ◌++◌, length, take, IfOk, OnOk};
+ghost use Rattle.tn_discipline.specs.declared.reads.Entry.TheVariants.{Text};
+ghost use Rattle.tn_discipline.specs.Editing.{closing_byte};
+ghost use Rattle.tn_discipline.specs.HalfLine.{empty_line};
+ghost use Rattle.tn_cli.specs.Printed.{printed_entry};
 ghost use Rattle.tn_cli.specs.Typing.{LeadsTo, Types, local_output};
 
-use crate::printed::print_entry;
+use crate::printed::{print_entry, print_text};
 use std::alloc::{AllocError, Global};
-use tn_discipline::{Effect, Limit, Line, Roles, Settings};
+use tn_discipline::{Effect, Limit, Line, Role, Roles, Settings};
 
 /// A line with standard settings, and the printed entries that it has given.
 #[derive(Drop)]
@@ -30,9 +34,26 @@ impl Typing {
         ensures { OnOk result (Types (key ∷ []) self.old self.new) }
     {
         let role = self.roles.role(key);
+        if let Some(byte) = closing(role) {
+            return self.close(byte);
+        }
         if let Effect::Gives(entry) = self.line.play(role)? {
             return print_entry(&entry, &mut self.printed);
         }
+        Ok(())
+    }
+
+    // Prints the line with this byte behind it, and empties it. No text is made of it in between.
+    fn close(&mut self, byte: u8) -> Result<(), AllocError>
+        ensures printed { let text = self.old.line.held ++ byte ∷ [] in
+            OnOk result (self.new.printed.items ≡ self.old.printed.items ++ printed_entry (Text text)) }
+        ensures line { OnOk result (self.new.line ≡ empty_line self.old.line.limit) }
+        ensures roles { self.new.roles ≡ self.old.roles }
+    {
+        // Nothing is done here; the proof that the line is short begins with what every limit is.
+        let _limit = self.line.limit().bytes();
+        print_text(self.line.held(), byte, &mut self.printed)?;
+        let _killed = self.line.kill();
         Ok(())
     }
 
@@ -66,5 +87,16 @@ impl Typing {
         ensures { (keys : List ℕ) → LeadsTo keys self → result.items ≡ local_output keys }
     {
         self.printed
+    }
+}
+
+// The byte that a key of this role closes a line with, if it closes it with one.
+fn closing(role: Role) -> Option<u8>
+    ensures { result ≡ closing_byte role }
+{
+    match role {
+        Role::Nl => Some(b'\n'),
+        Role::Eol(byte) | Role::Eol2(byte) => Some(byte),
+        _ => None,
     }
 }
