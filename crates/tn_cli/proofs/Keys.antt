@@ -1,5 +1,5 @@
 -- More keys that are typed at one line.
-use Rattle.std.proofs.Common.{◌≡◌, ◌<◌, ℕ, ◌+◌, ◌-◌, Some, Result, Ok, Err, OnOk, List, [], ◌∷◌, ◌++◌, length, take, drop, get_or, refl, sym, ap, ◌∙◌, subst, arith, append-nil}
+use Rattle.std.proofs.Common.{◌≡◌, ◌<◌, ℕ, ◌+◌, ◌-◌, Some, Result, Ok, Err, OnOk, All, List, [], ◌∷◌, ◌++◌, length, take, drop, get_or, refl, sym, ap, ◌∙◌, subst, arith, append-nil}
 use Rattle.std.proofs.Math.Seq.{take-add}
 use Rattle.std.proofs.lemmas.List.{take_all, take_more, length-drop}
 use Rattle.std.proofs.lemmas.Grind.{flat_map-append}
@@ -8,6 +8,9 @@ use Rattle.tn_discipline.specs.Entries.{entries_of, line_of}
 use Rattle.tn_discipline.specs.Editing.{closing_byte, IsClosing, with_byte}
 use Rattle.tn_discipline.specs.Keys.{roles_of, role_of_key, roles_from}
 use Rattle.tn_discipline.specs.Advancing.{Advances}
+use Rattle.tn_discipline.specs.Runs.{line_after_all, ordinary_roles}
+use Rattle.tn_discipline.specs.RolesTable.{IsPlain}
+use Rattle.tn_discipline.specs.declared.termios.Settings.{Settings}
 use Rattle.tn_discipline.specs.HalfLine.{HalfLine, empty_line, effect_of, line_after, effect_entries}
 use Rattle.tn_discipline.specs.declared.half_line.Effect.{Effect}
 use Rattle.tn_discipline.specs.declared.half_line.Effect.TheVariants as effect
@@ -15,7 +18,7 @@ use Rattle.tn_discipline.specs.declared.reads.Entry.{Entry}
 use Rattle.tn_discipline.specs.declared.reads.Entry.TheVariants as entry
 use Rattle.tn_discipline.specs.declared.keys.Role.{Role}
 use Rattle.tn_discipline.specs.declared.keys.Role.TheVariants as role
-use Rattle.tn_discipline.proofs.lemmas.Editing.{closing_effect, closing_leaves}
+use Rattle.tn_discipline.proofs.lemmas.Editing.{closing_effect, closing_leaves, plain_each, plain_quiet, quiet_advance}
 use Rattle.tn_discipline.proofs.lemmas.KeyRoles.{roles_of-append, roles_of-one}
 use Rattle.tn_discipline.proofs.lemmas.Lines.{advances}
 use Rattle.tn_cli.specs.Printed.{printed, printed_entry}
@@ -92,6 +95,11 @@ on_ok_both (Err e) a b both = tt
 pub typed_run : (old new : Typing) (keys : List ℕ) → new.roles ≡ old.roles
     → Advances old.line (roles_of old.roles keys) [] new.line → new.printed.items ≡ old.printed.items → Types keys old new
 typed_run old new keys same moves shown = typed_more old new keys [] same moves (shown ∙ sym (append-nil old.printed.items))
+
+-- keys that join the line as they are
+pub plain_advance : (settings : Settings) (keys : List ℕ) (old new : HalfLine) → All (IsPlain settings) keys → new ≡ line_after_all old (ordinary_roles keys) → Advances old (roles_of settings keys) [] new
+plain_advance settings keys old new plain is =
+    quiet_advance settings keys old new (plain_quiet settings keys plain) (is ∙ ap (line_after_all old) (sym (plain_each settings keys plain)))
 
 -- some of the keys, and the next one
 pub types_next : (old mid new : Typing) (keys : List ℕ) (i : ℕ) → i < length keys → Types (take i keys) old mid → Types (get_or keys i 0 ∷ []) mid new → Types (take (i + 1) keys) old new

@@ -11,6 +11,9 @@ use crate::printed::{print_entry, print_text};
 use std::alloc::{AllocError, Global};
 use tn_discipline::{Effect, Limit, Line, Role, Roles, Settings};
 
+/// Of fewer bytes than this that join the line as they are, each is typed by itself.
+const FEW_BYTES: usize = 4;
+
 /// A line with standard settings, and the printed entries that it has given.
 #[derive(Drop)]
 pub(crate) struct Typing {
@@ -75,12 +78,26 @@ impl Typing {
         ensures within { IfOk result (λ count. count ≤ length keys.now) }
         ensures types { IfOk result (λ count. Types (take count keys.now) self.old self.new) }
     {
-        let count = self.line.edit_run(&self.roles, keys);
+        let count = self.edit(keys);
         if count == keys.len() {
             return Ok(count);
         }
         self.key(keys[count])?;
         Ok(count + 1)
+    }
+
+    // Types leading keys that make no entry, and returns how many were typed: bytes that join the line as they
+    // are go at once, where they are some more than a few.
+    fn edit(&mut self, keys: &[u8]) -> usize
+        ensures within { result ≤ length keys.now }
+        ensures types { Types (take result keys.now) self.old self.new }
+    {
+        let count = self.roles.ordinary_front(keys);
+        if count < FEW_BYTES {
+            return self.line.edit_run(&self.roles, keys);
+        }
+        let _kept = self.line.keep_run(&keys[..count]);
+        count
     }
 
     pub(crate) fn into_printed(self) -> Vec<u8>
