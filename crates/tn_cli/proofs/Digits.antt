@@ -1,5 +1,5 @@
 -- Bytes in hexadecimal, one after another.
-use Rattle.std.proofs.Common.{◌≡◌, ◌<◌, ℕ, ◌+◌, ◌/◌, ◌%◌, List, [], ◌∷◌, ◌++◌, length, take, get_or, slice_index, refl, sym, ap, ◌∙◌, append-nil, append_assoc}
+use Rattle.std.proofs.Common.{◌≡◌, ◌<◌, ℕ, ◌+◌, ◌/◌, ◌%◌, List, [], ◌∷◌, ◌++◌, codes, Result, Ok, Err, IsOk, is_ok, if◌then◌else◌, length, take, get_or, slice_index, refl, sym, ap, ◌∙◌, append-nil, append_assoc}
 use Rattle.std.proofs.lemmas.List.{take_more}
 use Rattle.hex.specs.Hex.{encode_with}
 
@@ -11,6 +11,30 @@ encode-append t (x ∷ xs) ys = ap (λ zs. slice_index t (x / 16) ∷ slice_inde
 encode-one : (t : List ℕ) (x : ℕ) → encode_with t (x ∷ []) ≡ slice_index t (x / 16) ∷ slice_index t (x % 16) ∷ []
 unfolding encode_with
 encode-one t x = refl
+
+-- a digit that was put behind
+pub digit_put : (before after : List ℕ) (digit is : ℕ) → after ≡ before ++ digit ∷ [] → digit ≡ is → after ≡ before ++ is ∷ []
+digit_put before after digit is put same = put ∙ ap (λ d. before ++ d ∷ []) same
+
+-- what stands where a call went well
+pub where_ok : {E : Type 0} (r : Result (Unit {0}) E) (x there other : List ℕ) → IsOk r → x ≡ (if is_ok r then there else other) → x ≡ there
+where_ok (Ok u) x there other ok is = is
+where_ok (Err e) x there other ok is = cc
+
+-- the line of a text, digit by digit
+pub text_line : (t bytes start begun middle high low whole : List ℕ) (x : ℕ) → begun ≡ start ++ codes "text " → middle ≡ begun ++ encode_with t bytes → high ≡ middle ++ slice_index t (x / 16) ∷ [] → low ≡ high ++ slice_index t (x % 16) ∷ [] → whole ≡ low ++ codes "\n" → whole ≡ start ++ (codes "text " ++ (encode_with t (bytes ++ x ∷ []) ++ codes "\n"))
+text_line t bytes start begun middle high low whole x a b c d e =
+    let h = slice_index t (x / 16) in
+    let l = slice_index t (x % 16) in
+    let ds = encode_with t bytes in
+    let all : encode_with t (bytes ++ x ∷ []) ≡ ds ++ h ∷ l ∷ [] = encode-append t bytes (x ∷ []) ∙ ap (λ zs. ds ++ zs) (encode-one t x) in
+    e
+    ∙ ap (λ zs. zs ++ codes "\n") (d ∙ ap (λ zs. zs ++ l ∷ []) c ∙ append_assoc middle (h ∷ []) (l ∷ []))
+    ∙ append_assoc middle (h ∷ l ∷ []) (codes "\n")
+    ∙ ap (λ zs. zs ++ h ∷ l ∷ codes "\n") (b ∙ ap (λ zs. zs ++ ds) a ∙ append_assoc start (codes "text ") ds)
+    ∙ append_assoc start (codes "text " ++ ds) (h ∷ l ∷ codes "\n")
+    ∙ ap (λ zs. start ++ zs) (append_assoc (codes "text ") ds (h ∷ l ∷ codes "\n"))
+    ∙ ap (λ zs. start ++ (codes "text " ++ zs)) (sym (append_assoc ds (h ∷ l ∷ []) (codes "\n")) ∙ ap (λ zs. zs ++ codes "\n") (sym all))
 
 -- no byte has no digit
 pub digits_none : (t start : List ℕ) → start ≡ start ++ encode_with t []

@@ -6,5 +6,6 @@ pub mod Items
 pub mod Keys
 pub mod Numbers
 pub mod Outputs
+pub mod Pairs
 pub mod Played
 pub mod Writing

@@ -1,14 +1,26 @@
 //! Prints entries as lines of text.
 
-ghost use Rattle.std.specs.Prelude.{◌≡◌, ◌+◌, ◌*◌, ◌≤◌, ◌++◌, ◌∷◌, OnOk, codes, length, vec_len, vec_capacity};
-ghost use Rattle.hex.specs.Hex.{encode_lower};
+ghost use Rattle.std.specs.Prelude.{◌≡◌, ◌+◌, ◌*◌, ◌/◌, ◌%◌, ◌<◌, ◌≤◌, ◌++◌, [], ◌∷◌, OnOk, codes, length, slice_index, vec_len, vec_capacity};
+ghost use Rattle.hex.specs.Hex.{encode_lower, lower_digits};
+ghost use Rattle.tn_discipline.specs.declared.reads.Entry.TheVariants.{Text};
 ghost use Rattle.tn_cli.specs.Printed.{printed_entry, signal_line};
 
 use std::alloc::AllocError;
 use std::mem;
 use tn_discipline::{Entry, Sig};
 
-const DIGITS: [u8; 16] = *b"0123456789abcdef";
+/// The two digits of each byte, one byte after another.
+const PAIRS: [u8; 512] = *b"000102030405060708090a0b0c0d0e0f101112131415161718191a1b1c1d1e1f\
+    202122232425262728292a2b2c2d2e2f303132333435363738393a3b3c3d3e3f\
+    404142434445464748494a4b4c4d4e4f505152535455565758595a5b5c5d5e5f\
+    606162636465666768696a6b6c6d6e6f707172737475767778797a7b7c7d7e7f\
+    808182838485868788898a8b8c8d8e8f909192939495969798999a9b9c9d9e9f\
+    a0a1a2a3a4a5a6a7a8a9aaabacadaeafb0b1b2b3b4b5b6b7b8b9babbbcbdbebf\
+    c0c1c2c3c4c5c6c7c8c9cacbcccdcecfd0d1d2d3d4d5d6d7d8d9dadbdcdddedf\
+    e0e1e2e3e4e5e6e7e8e9eaebecedeeeff0f1f2f3f4f5f6f7f8f9fafbfcfdfeff";
+
+/// How many bytes the line of a text has beside the digits of all but its last byte.
+const TEXT_BYTES: usize = 8;
 
 /// Appends the line of an entry, with its line feed.
 pub(crate) fn print_entry(entry: &Entry, out: &mut Vec<u8>) -> Result<(), AllocError>
@@ -22,6 +34,33 @@ pub(crate) fn print_entry(entry: &Entry, out: &mut Vec<u8>) -> Result<(), AllocE
         Entry::Eof => out.extend_from_slice(b"eof\n"),
         Entry::Signal(sig) => out.extend_from_slice(line_of_signal(*sig)),
     }
+}
+
+/// Appends the line of a text that is these bytes and one more behind them.
+pub(crate) fn print_text(bytes: &[u8], last: u8, out: &mut Vec<u8>) -> Result<(), AllocError>
+    requires short { length bytes.now < 65536 }
+    ensures { OnOk result (out.new.items ≡ out.old.items ++ printed_entry (Text (bytes.now ++ last ∷ []))) }
+{
+    out.reserve(2 * bytes.len() + TEXT_BYTES)?;
+    let alloc = *out.allocator();
+    let whole = mem::replace(out, Vec::new(alloc));
+    *out = with_text(whole, bytes, last);
+    Ok(())
+}
+
+// The same where there is room, of a vector that is owned.
+fn with_text(out: Vec<u8>, bytes: &[u8], last: u8) -> Vec<u8>
+    requires { vec_len out + (2 * length bytes.now + 8) ≤ vec_capacity out }
+    ensures { result.items ≡ out.items ++ printed_entry (Text (bytes.now ++ last ∷ [])) }
+{
+    let mut out = out;
+    let _room = out.extend_from_slice(b"text ");
+    let mut out = with_digits(out, bytes);
+    let (high, low) = pair(last);
+    out.push_reserved(high);
+    out.push_reserved(low);
+    out.push_reserved(b'\n');
+    out
 }
 
 /// Appends bytes in hexadecimal, and a line feed.
@@ -55,10 +94,20 @@ fn with_digits(out: Vec<u8>, bytes: &[u8]) -> Vec<u8>
 {
     let mut out = out;
     for byte in bytes {
-        out.push_reserved(DIGITS[(*byte / 16) as usize]);
-        out.push_reserved(DIGITS[(*byte % 16) as usize]);
+        let (high, low) = pair(*byte);
+        out.push_reserved(high);
+        out.push_reserved(low);
     }
     out
+}
+
+// The two digits of a byte. They are read before either is written, so that both can go at once.
+fn pair(byte: u8) -> (u8, u8)
+    ensures high { result.0 ≡ slice_index lower_digits (byte / 16) }
+    ensures low { result.1 ≡ slice_index lower_digits (byte % 16) }
+{
+    let at = 2 * byte as usize;
+    (PAIRS[at], PAIRS[at + 1])
 }
 
 fn line_of_signal(sig: Sig) -> &'static [u8]

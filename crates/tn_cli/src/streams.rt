@@ -16,7 +16,7 @@ const MAX_BYTES: usize = 1_048_576;
 const MAX_READS: u32 = 2_097_152;
 
 /// How many bytes one read asks for.
-const PIECE_BYTES: usize = 4_096;
+const PIECE_BYTES: usize = 32_768;
 
 /// Reads to the end of the input. An input that is too long is reported as such even when out of memory.
 pub(crate) fn read_whole<R: Source>(alloc: Global, reader: &mut R) -> Result<Vec<u8>, CliFault>

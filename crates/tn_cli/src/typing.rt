@@ -1,11 +1,20 @@
 //! Types keys at one line, and prints the entries that they give.
 
-ghost use Rattle.std.specs.Prelude.{◌≡◌, ◌<◌, ◌≤◌, ℕ, List, [], ◌∷◌, length, take, IfOk, OnOk};
+ghost use Rattle.std.specs.Prelude.{◌≡◌, ◌<◌, ◌≤◌, ℕ, List, [], ◌∷◌, ◌++◌, length, take, get_or, All, Some, IfSome, IfOk, OnOk};
+ghost use Rattle.tn_discipline.specs.declared.reads.Entry.TheVariants.{Text};
+ghost use Rattle.tn_discipline.specs.Editing.{closing_byte};
+ghost use Rattle.tn_discipline.specs.HalfLine.{empty_line, line_length};
+ghost use Rattle.tn_discipline.specs.Keys.{role_of_key};
+ghost use Rattle.tn_discipline.specs.RolesTable.{IsPlain};
+ghost use Rattle.tn_cli.specs.Printed.{printed_entry};
 ghost use Rattle.tn_cli.specs.Typing.{LeadsTo, Types, local_output};
 
-use crate::printed::print_entry;
+use crate::printed::{print_entry, print_text};
 use std::alloc::{AllocError, Global};
-use tn_discipline::{Effect, Limit, Line, Roles, Settings};
+use tn_discipline::{Effect, Limit, Line, Role, Roles, Settings};
+
+/// Of fewer bytes than this that join the line as they are, each is typed by itself.
+const FEW_BYTES: usize = 4;
 
 /// A line with standard settings, and the printed entries that it has given.
 #[derive(Drop)]
@@ -30,9 +39,26 @@ impl Typing {
         ensures { OnOk result (Types (key ∷ []) self.old self.new) }
     {
         let role = self.roles.role(key);
+        if let Some(byte) = closing(role) {
+            return self.close(byte);
+        }
         if let Effect::Gives(entry) = self.line.play(role)? {
             return print_entry(&entry, &mut self.printed);
         }
+        Ok(())
+    }
+
+    // Prints the line with this byte behind it, and empties it. No text is made of it in between.
+    fn close(&mut self, byte: u8) -> Result<(), AllocError>
+        ensures printed { let text = self.old.line.held ++ byte ∷ [] in
+            OnOk result (self.new.printed.items ≡ self.old.printed.items ++ printed_entry (Text text)) }
+        ensures line { OnOk result (self.new.line ≡ empty_line self.old.line.limit) }
+        ensures roles { self.new.roles ≡ self.old.roles }
+    {
+        // Nothing is done here; the proof that the line is short begins with what every limit is.
+        let _limit = self.line.limit().bytes();
+        print_text(self.line.held(), byte, &mut self.printed)?;
+        let _killed = self.line.kill();
         Ok(())
     }
 
@@ -54,7 +80,12 @@ impl Typing {
         ensures within { IfOk result (λ count. count ≤ length keys.now) }
         ensures types { IfOk result (λ count. Types (take count keys.now) self.old self.new) }
     {
-        let count = self.line.edit_run(&self.roles, keys);
+        let plain = self.roles.ordinary_front(keys);
+        if let Some(byte) = self.closing_at(keys, plain) {
+            print_text(&keys[..plain], byte, &mut self.printed)?;
+            return Ok(plain + 1);
+        }
+        let count = self.edit(keys, plain);
         if count == keys.len() {
             return Ok(count);
         }
@@ -62,9 +93,51 @@ impl Typing {
         Ok(count + 1)
     }
 
+    // The byte that closes a whole line of so many keys, if the next key does, and nothing was typed before them.
+    fn closing_at(&self, keys: &[u8], plain: usize) -> Option<u8>
+        ensures within { IfSome result (λ byte. plain < length keys.now) }
+        ensures empty { IfSome result (λ byte. line_length self.now.line ≡ 0) }
+        ensures fits { IfSome result (λ byte. plain < self.now.line.limit) }
+        ensures short { IfSome result (λ byte. plain < 65536) }
+        ensures closes { let role = role_of_key self.now.roles (get_or keys.now plain 0) in
+            IfSome result (λ byte. closing_byte role ≡ Some byte) }
+    {
+        let limit = usize::from(self.line.limit().bytes());
+        if plain >= keys.len() || plain >= limit || self.line.length() > 0 {
+            return None;
+        }
+        closing(self.roles.role(keys[plain]))
+    }
+
+    // Types leading keys that make no entry, and returns how many were typed. The first of them, so many, join
+    // the line as they are: they go at once, where they are more than a few.
+    fn edit(&mut self, keys: &[u8], plain: usize) -> usize
+        requires within { plain ≤ length keys.now }
+        requires plain { All (IsPlain self.old.roles) (take plain keys.now) }
+        ensures within { result ≤ length keys.now }
+        ensures types { Types (take result keys.now) self.old self.new }
+    {
+        if plain < FEW_BYTES {
+            return self.line.edit_run(&self.roles, keys);
+        }
+        let _kept = self.line.keep_run(&keys[..plain]);
+        plain
+    }
+
     pub(crate) fn into_printed(self) -> Vec<u8>
         ensures { (keys : List ℕ) → LeadsTo keys self → result.items ≡ local_output keys }
     {
         self.printed
+    }
+}
+
+// The byte that a key of this role closes a line with, if it closes it with one.
+fn closing(role: Role) -> Option<u8>
+    ensures { result ≡ closing_byte role }
+{
+    match role {
+        Role::Nl => Some(b'\n'),
+        Role::Eol(byte) | Role::Eol2(byte) => Some(byte),
+        _ => None,
     }
 }
