@@ -1,17 +1,17 @@
 -- More keys that are typed at one line.
-use Rattle.std.proofs.Common.{◌≡◌, ◌<◌, ℕ, ◌+◌, ◌-◌, Some, Result, Ok, Err, OnOk, All, List, [], ◌∷◌, ◌++◌, length, take, drop, get_or, refl, sym, ap, ap₂, ◌∙◌, subst, arith, append-nil}
+use Rattle.std.proofs.Common.{◌≡◌, ◌<◌, ℕ, ◌+◌, ◌-◌, Some, Result, Ok, Err, OnOk, All, List, [], ◌∷◌, ◌++◌, length, take, drop, get_or, refl, sym, ap, ◌∙◌, subst, arith, append-nil}
 use Rattle.std.proofs.Math.Seq.{take-add}
-use Rattle.std.proofs.lemmas.List.{take_all, take_more, length-drop, length-take}
+use Rattle.std.proofs.lemmas.List.{take_all, take_more, length-drop}
 use Rattle.std.proofs.lemmas.Grind.{flat_map-append}
 use Rattle.tn_discipline.specs.Canon.{typed_entries}
 use Rattle.tn_discipline.specs.Entries.{entries_of, line_of}
-use Rattle.tn_discipline.specs.Editing.{closing_byte, IsClosing, with_byte, line_at}
+use Rattle.tn_discipline.specs.Editing.{closing_byte, IsClosing, with_byte}
 use Rattle.tn_discipline.specs.Keys.{roles_of, role_of_key, roles_from}
 use Rattle.tn_discipline.specs.Advancing.{Advances}
 use Rattle.tn_discipline.specs.Runs.{line_after_all, ordinary_roles}
 use Rattle.tn_discipline.specs.RolesTable.{IsPlain}
 use Rattle.tn_discipline.specs.declared.termios.Settings.{Settings}
-use Rattle.tn_discipline.specs.HalfLine.{HalfLine, empty_line, line_length, effect_of, line_after, effect_entries}
+use Rattle.tn_discipline.specs.HalfLine.{HalfLine, empty_line, effect_of, line_after, effect_entries}
 use Rattle.tn_discipline.specs.declared.half_line.Effect.{Effect}
 use Rattle.tn_discipline.specs.declared.half_line.Effect.TheVariants as effect
 use Rattle.tn_discipline.specs.declared.reads.Entry.{Entry}
@@ -21,7 +21,6 @@ use Rattle.tn_discipline.specs.declared.keys.Role.TheVariants as role
 use Rattle.tn_discipline.proofs.lemmas.Editing.{closing_effect, closing_leaves, plain_each, plain_quiet, quiet_advance}
 use Rattle.tn_discipline.proofs.lemmas.KeyRoles.{roles_of-append, roles_of-one}
 use Rattle.tn_discipline.proofs.lemmas.Lines.{advances}
-use Rattle.tn_discipline.proofs.lemmas.Runs.{all_kept}
 use Rattle.tn_cli.specs.Printed.{printed, printed_entry}
 use Rattle.tn_cli.specs.Typing.{Types, standard}
 use Rattle.tn_cli.specs.declared.typing.Typing.{Typing}
@@ -106,32 +105,6 @@ plain_advance settings keys old new plain is =
 pub types_next : (old mid new : Typing) (keys : List ℕ) (i : ℕ) → i < length keys → Types (take i keys) old mid → Types (get_or keys i 0 ∷ []) mid new → Types (take (i + 1) keys) old new
 types_next old mid new keys i within a b =
     subst (λ xs. Types xs old new) (sym (take_more keys i 0 within)) (types_both old mid new (take i keys) (get_or keys i 0 ∷ []) a b)
-
-none_of : (xs : List ℕ) → length xs ≡ 0 → xs ≡ []
-none_of [] h = refl
-none_of (x ∷ xs) h = absurd (omega (arith, h))
-
-empty_is : (line : HalfLine) → line_length line ≡ 0 → line ≡ empty_line line.limit
-empty_is line none = ap₂ (λ (held : List ℕ) (ahead : ℕ). line_at held ahead line.limit) (none_of line.held (omega (arith, none))) (omega (arith, none))
-
--- a whole line of keys that join it as they are, and the key that closes it
-pub typed_whole : (old new : Typing) (keys : List ℕ) (n byte : ℕ) → n < length keys → All (IsPlain old.roles) (take n keys) → line_length old.line ≡ 0 → n < old.line.limit
-    → closing_byte (role_of_key old.roles (get_or keys n 0)) ≡ Some byte → new.roles ≡ old.roles → new.line ≡ old.line
-    → new.printed.items ≡ old.printed.items ++ printed_entry (entry.Text (take n keys ++ byte ∷ [])) → Types (take (n + 1) keys) old new
-typed_whole old new keys n byte within plain none fits closes same stays shown =
-    let line = old.line in
-    let key = get_or keys n 0 in
-    let bytes = take n keys in
-    let empty = empty_is line none in
-    let held : line.held ++ bytes ≡ bytes = ap (λ (l : HalfLine). l.held ++ bytes) empty in
-    let filled : HalfLine = record line { held = line.held ++ bytes } in
-    let mid : Typing = record old { line = filled } in
-    let kept : filled ≡ line_after_all line (ordinary_roles bytes) = sym (all_kept bytes line (omega (arith, none, fits, length-take n keys))) in
-    let first : Types bytes old mid = typed_run old mid bytes refl (plain_advance old.roles bytes line filled plain kept) refl in
-    let last : Types (key ∷ []) mid new =
-    typed_close mid new key (role_of_key old.roles key) byte same refl closes (stays ∙ empty)
-    (shown ∙ ap (λ bs. old.printed.items ++ printed_entry (entry.Text (bs ++ byte ∷ []))) (sym held)) in
-    types_next old mid new keys n within first last
 
 -- some more of the keys that are left
 pub types_front : (old mid new : Typing) (keys : List ℕ) (i n : ℕ) → Types (take i keys) old mid → Types (take n (take (length keys - i) (drop i keys))) mid new → Types (take (i + n) keys) old new

@@ -1,11 +1,9 @@
 //! Types keys at one line, and prints the entries that they give.
 
-ghost use Rattle.std.specs.Prelude.{◌≡◌, ◌<◌, ◌≤◌, ℕ, List, [], ◌∷◌, ◌++◌, length, take, get_or, All, Some, IfSome, IfOk, OnOk};
+ghost use Rattle.std.specs.Prelude.{◌≡◌, ◌<◌, ◌≤◌, ℕ, List, [], ◌∷◌, ◌++◌, length, take, IfOk, OnOk};
 ghost use Rattle.tn_discipline.specs.declared.reads.Entry.TheVariants.{Text};
 ghost use Rattle.tn_discipline.specs.Editing.{closing_byte};
-ghost use Rattle.tn_discipline.specs.HalfLine.{empty_line, line_length};
-ghost use Rattle.tn_discipline.specs.Keys.{role_of_key};
-ghost use Rattle.tn_discipline.specs.RolesTable.{IsPlain};
+ghost use Rattle.tn_discipline.specs.HalfLine.{empty_line};
 ghost use Rattle.tn_cli.specs.Printed.{printed_entry};
 ghost use Rattle.tn_cli.specs.Typing.{LeadsTo, Types, local_output};
 
@@ -80,12 +78,7 @@ impl Typing {
         ensures within { IfOk result (λ count. count ≤ length keys.now) }
         ensures types { IfOk result (λ count. Types (take count keys.now) self.old self.new) }
     {
-        let plain = self.roles.ordinary_front(keys);
-        if let Some(byte) = self.closing_at(keys, plain) {
-            print_text(&keys[..plain], byte, &mut self.printed)?;
-            return Ok(plain + 1);
-        }
-        let count = self.edit(keys, plain);
+        let count = self.edit(keys);
         if count == keys.len() {
             return Ok(count);
         }
@@ -93,35 +86,18 @@ impl Typing {
         Ok(count + 1)
     }
 
-    // The byte that closes a whole line of so many keys, if the next key does, and nothing was typed before them.
-    fn closing_at(&self, keys: &[u8], plain: usize) -> Option<u8>
-        ensures within { IfSome result (λ byte. plain < length keys.now) }
-        ensures empty { IfSome result (λ byte. line_length self.now.line ≡ 0) }
-        ensures fits { IfSome result (λ byte. plain < self.now.line.limit) }
-        ensures short { IfSome result (λ byte. plain < 65536) }
-        ensures closes { let role = role_of_key self.now.roles (get_or keys.now plain 0) in
-            IfSome result (λ byte. closing_byte role ≡ Some byte) }
-    {
-        let limit = usize::from(self.line.limit().bytes());
-        if plain >= keys.len() || plain >= limit || self.line.length() > 0 {
-            return None;
-        }
-        closing(self.roles.role(keys[plain]))
-    }
-
-    // Types leading keys that make no entry, and returns how many were typed. The first of them, so many, join
-    // the line as they are: they go at once, where they are more than a few.
-    fn edit(&mut self, keys: &[u8], plain: usize) -> usize
-        requires within { plain ≤ length keys.now }
-        requires plain { All (IsPlain self.old.roles) (take plain keys.now) }
+    // Types leading keys that make no entry, and returns how many were typed: bytes that join the line as they
+    // are go at once, where they are some more than a few.
+    fn edit(&mut self, keys: &[u8]) -> usize
         ensures within { result ≤ length keys.now }
         ensures types { Types (take result keys.now) self.old self.new }
     {
-        if plain < FEW_BYTES {
+        let count = self.roles.ordinary_front(keys);
+        if count < FEW_BYTES {
             return self.line.edit_run(&self.roles, keys);
         }
-        let _kept = self.line.keep_run(&keys[..plain]);
-        plain
+        let _kept = self.line.keep_run(&keys[..count]);
+        count
     }
 
     pub(crate) fn into_printed(self) -> Vec<u8>
