@@ -1,7 +1,6 @@
 //! The trials.
 
 mod agreement;
-mod beside_prints;
 mod beside_terminals;
 mod decoding;
 mod forward;
