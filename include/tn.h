@@ -4,20 +4,20 @@
  * or a client end. No call opens a socket, reads a file, starts a thread or waits: bytes go in, bytes come out.
  *
  * What the caller keeps to:
- *   - A handle begins as TN_HANDLE. It may be moved, never copied: of two copies only one is used, ever.
- *     Nothing but these calls reads or writes what is in it. tn_end gives its memory back, and it may be started anew.
- *   - One call at a time uses a handle, on the thread that started it. Different handles know nothing of one another.
- *   - No pointer is null, even for no bytes. Each leads to as many objects of its type as the call names. They are
+ *   - A handle begins as TN_HANDLE. It may be moved, never copied: of two copies only one is ever used again.
+ *     Only these calls read or write what is in it. tn_end frees its memory, and it may be started anew.
+ *   - One call at a time uses a handle, on the thread that started it. Different handles are independent.
+ *   - No pointer is null, even for no bytes. Each points to as many objects of its type as the call names. They are
  *     initialized, also where the call only writes them: a count begins as 0, a buffer as { 0 }. No two pointers of one
- *     call lead to the same memory. No pointer is kept: after the call what it leads to is the caller's again.
- *   - Memory comes from malloc and realloc and goes back by free, all three of one allocator.
+ *     call point to the same memory. No pointer is kept: after the call what it points to is the caller's again.
+ *   - Memory comes from malloc and realloc and is freed by free, all three of one allocator.
  *   - No call is made from a signal handler, nor in the child of a fork of a process with threads.
  *
- * Each call but tn_end answers a code. Where it is not TN_OK, nothing that a pointer leads to was written, and the
- * handle holds what it held, except after the three calls of _feed: there see what is said.
+ * Each call but tn_end returns a code. Where it is not TN_OK, nothing was written through the pointers, and the handle
+ * holds what it held, except after the three calls of _feed, whose comments say what they leave.
  *   TN_NOT_STARTED  the handle holds nothing     TN_OTHER_KIND  it holds another of the four
- * are answered by each call but the four of _start, and are not said again below. What else a call answers stands at
- * it; of several codes that fit, the first one there is answered.
+ * are returned by every call but the four of _start and tn_end, and are not named again below. The other codes of a call
+ * stand at it; of several that fit, it returns the first one there.
  */
 #ifndef TN_H
 #define TN_H
