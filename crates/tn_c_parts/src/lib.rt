@@ -2,7 +2,7 @@
 //! waits to be read from it, so that a caller with no `Vec` of its own can use it.
 //!
 //! ```
-//! let mut server = HeldServer::start(alloc, Flags::from(&flags), Limit::standard())?;
+//! let mut server = HeldServer::start(alloc, flags.flags(), Limit::standard())?;
 //! server.feed(b"ls\r\0"); // Code::Done; the replies wait to be read
 //! server.read(&mut buf, &mut count); // the first of them, as many as fit
 //! ```

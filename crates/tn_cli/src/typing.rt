@@ -86,8 +86,8 @@ impl Typing {
         Ok(count + 1)
     }
 
-    // Types leading keys that make no entry, and returns how many were typed. Bytes that join the line as they
-    // are go at once, unless they are few.
+    // Types leading keys that make no entry, and returns how many were typed. Bytes that join the line as
+    // they are go at once, unless they are few.
     fn edit(&mut self, keys: &[u8]) -> usize
         ensures within { result ≤ length keys.now }
         ensures types { Types (take result keys.now) self.old self.new }

@@ -7,10 +7,10 @@
 //! ```
 //!
 //! ```text
-//! Piece, ReadFailed, Left from the keys -------+
-//! Piece, HangUp, ReadFailed from the network --+--> Core --> bytes to the network
-//! Refused from each thread --------------------+     |
-//!                                                    +-----> bytes to the screen
+//! Piece, Resized, Left from the keys ------+
+//! Piece, Left from the network ------------+--> Core --> bytes to the network
+//! HangUp, ReadFailed, Refused from each ---+     |
+//!                                                +-----> bytes to the screen
 //! ```
 //!
 //! Once no more keys come it sends nothing more, and still shows what comes. It has no handle and never

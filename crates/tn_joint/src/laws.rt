@@ -15,7 +15,8 @@ pub fn prefixes_lead_on()
     ensures { LawOfPrefixes }
 {}
 
-/// The premises can be met: a line that is typed at one end is carried to the other, and is an entry there.
+/// What `lines_are_local` asks of two runs can be met: a line that is typed at one end is carried to the
+/// other, and is an entry there.
 pub fn a_line_is_carried()
     ensures { (editing : Editing) (jobs : Jobs) (width height : ℕ) → CarriesALine editing jobs width height }
 {}

@@ -48,7 +48,7 @@ impl ClientTable {
 
     /// Takes a list of triples from the server, and appends the answers to it. Memory is wanted where
     /// the vector has no room for the answers, and so never for none; after a refusal nothing has
-    /// changed. A function beyond the eighteen of RFC 1184 is answered as unsupported, but at the
+    /// changed. A function that is given no character here is answered as unsupported, but at the
     /// level NOSUPPORT, which asks for no answer.
     #[tactic(auto, unfolding(crate::specs::Exchange::client_after, crate::specs::Exchange::client_answers))]
     pub fn got(&mut self, triples: &[Triple], answers: &mut Vec<Triple>) -> Result<(), AllocError>

@@ -68,8 +68,8 @@ impl ServerTable {
 
     /// Takes a list of triples from the client, and appends the answers to it. Returns whether the
     /// whole table is to be sent after them. Memory is wanted where the vector has no room for the
-    /// answers, and so never for none; after a refusal nothing has changed. A function beyond the
-    /// eighteen of RFC 1184 is answered as unsupported, but at the level NOSUPPORT, which asks for
+    /// answers, and so never for none; after a refusal nothing has changed. A function that is
+    /// given no character here is answered as unsupported, but at the level NOSUPPORT, which asks for
     /// no answer.
     #[tactic(auto, unfolding(crate::specs::Exchange::server_after, crate::specs::Exchange::server_answers))]
     pub fn got(&mut self, triples: &[Triple], answers: &mut Vec<Triple>) -> Result<bool, AllocError>

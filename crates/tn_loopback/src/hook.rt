@@ -40,8 +40,8 @@ impl Hook {
         self.standing.hang_up();
     }
 
-    /// From now on the session goes on for two seconds at most after its client has ended what it sends, until
-    /// it is hung up: a job may still have to write what that led to.
+    /// From now on the session goes on for two seconds at most after its client has ended what it sends,
+    /// until it is hung up: a job may still have to write what that led to.
     pub fn hold(&self) {
         self.standing.hold();
     }

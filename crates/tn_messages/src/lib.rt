@@ -2,7 +2,7 @@
 //!
 //! ```
 //! let piece = Message::Piece(Text::from(bytes)); // bytes from the network, or keys
-//! let ended = Ended::HangUp.or(Ended::Fault(SessionFault::Read)); // the first end counts
+//! let ended = Ended::Done.or(Ended::Fault(SessionFault::Read)); // Done: the first that came counts
 //! ```
 //!
 //! The terminal (`tn_term`) and the core of a client (`tn_client_core`) stand side by side on this crate:

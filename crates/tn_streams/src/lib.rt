@@ -7,8 +7,8 @@
 //! ```
 //!
 //! ```text
-//! Read ----> Source ----> a session's reader threads
-//! Write ---> Drain -----> a session's writer threads
+//! Read ----> Source ----> the threads of a session that read
+//! Write ---> Drain -----> the threads of a session that write
 //!               |
 //!               +-------> in contracts: what they gave or hold, and how many calls failed or will
 //! ```

@@ -144,7 +144,7 @@ fn local_command<'a>(alloc: Global) -> Command<'a>
         "Reads keys from standard input, as they are typed at one terminal with standard settings, \
          and prints the entries that its foreground job would read, one a line: `text` and the \
          bytes of a line in hexadecimal, `eof`, `signal int`, `signal quit` or `signal tstp`. \
-         Keys after the last closing key give nothing.",
+         A line that no key has closed is not printed.",
         "Example:\n  printf 'ab\\177c\\r' | tn local\n  text 61630a",
     )
 }
@@ -204,7 +204,7 @@ fn world_command<'a>(alloc: Global) -> Command<'a>
              mark: prints whether all is at rest\n\
              flight: prints the bytes in flight\n\
              shown: prints the server's text on the client's screen\n\
-             server-stops, client-stops: this end is gone",
+             server-stops, client-stops: this end takes and says no more; `take` goes on",
         "Example:\n  printf 'settle\\nkey 610d\\nsettle\\ntake\\n' | tn world\n  text 610a",
     )
 }

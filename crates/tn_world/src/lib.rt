@@ -3,7 +3,7 @@
 //!
 //! ```
 //! let mut world = World::open(alloc, Settings::standard(), 80, 24, Limit::standard())?;
-//! world.run(&[Event::ToClient(99), Event::ToServer(99)])?;
+//! world.settle()?; // all that is in flight arrives, until nothing is in flight
 //! if world.mark() {
 //!     world.run(&[Event::Key(0x61), Event::Key(0x0d), Event::ToServer(3), Event::Take])?;
 //!     world.taken(); // [Entry::Text("a\n")]
