@@ -29,10 +29,17 @@ struct Wires<H> {
     incoming: Incoming<H, TcpStream>,
     outgoing: Outgoing<H>,
     sending: Sending<H, Connection>,
-    throttle: Throttle<H>,
 }
 
-// Lays out a connection's two directions.
+// A session that is over, how its sending ended, and how many bytes were not sent.
+#[derive(Drop)]
+struct Talked {
+    ended: Result<(Report, ClientPorts), SessionFault>,
+    sent: io::Result<()>,
+    unsent: usize,
+}
+
+// Lays out a connection's two directions. Keys are read as the throttle lets them.
 fn wire<H: Host>(
     rt: H,
     alloc: Global,
@@ -40,7 +47,7 @@ fn wire<H: Host>(
     link: &Arc<Link, Global>,
     trace: &Trace<H>,
     origin: Origin,
-) -> Result<Wires<H>, LoopbackFault>
+) -> Result<(Wires<H>, Throttle<H>), LoopbackFault>
     ensures { IfErr result IsOfNetwork }
 {
     let (reader, writer) = Connection::split(stream)?;
@@ -50,12 +57,12 @@ fn wire<H: Host>(
     let is_watched = origin == Origin::Terminal;
     let read = Arc::try_clone(link)?;
     let incoming = Incoming::new(alloc, reader, read, trace.try_clone()?, is_watched);
-    Ok(Wires {
+    let wires = Wires {
         incoming,
         outgoing,
         sending,
-        throttle,
-    })
+    };
+    Ok((wires, throttle))
 }
 
 // Runs a session over a connection's two directions, with these keys and this screen.
@@ -113,6 +120,48 @@ fn talk_from<H: Host, K: Read + Drop + Send + 'static, S: Write>(
     }
 }
 
+// Runs a session over a connection's two directions, of which a thread of its own sends the second.
+fn talk_and_send<H: Host, K: Read + Drop + Send + 'static, S: Write>(
+    rt: H,
+    alloc: Global,
+    wires: Wires<H>,
+    typing: Typing<H, K>,
+    screen: &mut S,
+    connecting: Connecting,
+) -> Result<Talked, LoopbackFault>
+    ensures ran { IfOk result (λ talked. IfOk talked.ended (λ r.
+        RunsClient (window_of connecting) (foreseen connecting.origin (K.remaining typing.keys))
+        (S.contents screen.old) (S.contents screen.new) r.0 r.1)) }
+    ensures unshown { OnErr result (S.contents screen.new ≡ S.contents screen.old) }
+    ensures fault { IfErr result IsOfNetwork }
+{
+    let Wires {
+        incoming,
+        mut outgoing,
+        sending,
+    } = wires;
+    let Ok(sending) = thread::spawn(&rt, move || -> io::Result<()> { sending.run() }) else {
+        return Err(LoopbackFault::Memory);
+    };
+    let ended = talk_from(
+        rt,
+        alloc,
+        incoming,
+        &mut outgoing,
+        typing,
+        screen,
+        connecting,
+    );
+    outgoing.finish();
+    let sent = sending.join(&rt);
+    let unsent = outgoing.waiting();
+    Ok(Talked {
+        ended,
+        sent,
+        unsent,
+    })
+}
+
 /// Connects to a host, an address or a name, and runs a client's session over the connection, with these
 /// keys and this screen, until the server has closed or the user leaves. A session that ends without a fault
 /// gives its report, and the ports in which contracts see what was sent and handled. Of a fault the causes
@@ -146,13 +195,7 @@ pub fn connect<
     } = notes;
     let stream = reach(&rt, host, connecting.port, causes)?;
     let trace = Trace::new(rt, alloc, trace)?;
-    let wires = wire(rt, alloc, stream, &link, &trace, connecting.origin)?;
-    let Wires {
-        incoming,
-        mut outgoing,
-        sending,
-        throttle,
-    } = wires;
+    let (wires, throttle) = wire(rt, alloc, stream, &link, &trace, connecting.origin)?;
     let typing = Typing {
         keys,
         throttle,
@@ -163,29 +206,31 @@ pub fn connect<
         height: connecting.height,
         sizes: Sizes::new(sizes),
     };
-    let Ok(sending) = thread::spawn(&rt, move || -> io::Result<()> { sending.run() }) else {
-        return Err(LoopbackFault::Memory);
-    };
-    let ended = talk_from(
-        rt,
-        alloc,
-        incoming,
-        &mut outgoing,
-        typing,
-        screen,
-        connecting,
-    );
-    outgoing.finish();
-    let sent = sending.join(&rt);
-    if let Some(fault) = fault_of(&ended) {
-        note_fault(causes, fault, &link);
-    }
-    note_unsent(causes, &sent, outgoing.waiting());
+    let talked = talk_and_send(rt, alloc, wires, typing, screen, connecting)?;
+    note_talked(causes, &talked, &link);
     if !trace.end() {
         let _ = writeln!(causes, "tn: the trace is not whole");
     }
+    result_of(talked, link.is_left())
+}
+
+// Notes why a session ended in a fault, if it did, and what was not sent.
+fn note_talked(causes: &mut Vec<u8>, talked: &Talked, link: &Link) {
+    if let Some(fault) = fault_of(&talked.ended) {
+        note_fault(causes, fault, link);
+    }
+    note_unsent(causes, &talked.sent, talked.unsent);
+}
+
+// The result of a session that is over. Where its sending failed it is a fault, unless its user has left.
+fn result_of(talked: Talked, is_left: bool) -> Result<(Report, ClientPorts), LoopbackFault>
+    ensures ran { IfOk result (λ r. talked.ended ≡ Ok r) }
+    ensures whole { IfOk result (λ r. EndsWhole r.0) }
+    ensures fault { IfErr result (λ fault. fault ≡ LoopbackFault.Session) }
+{
+    let Talked { ended, sent, .. } = talked;
     let ended = if_whole(ended)?;
-    if sent.is_err() && !link.is_left() {
+    if sent.is_err() && !is_left {
         return Err(LoopbackFault::Session);
     }
     Ok(ended)
