@@ -1,5 +1,5 @@
--- An example that meets every premise of the law and has an entry: one line, typed at the client and heard at
--- the server.
+-- An example that meets every premise of `LawOfRuns` and has an entry: one line, typed at the client and heard
+-- at the server.
 use Rattle.std.specs.Prelude.{◌≡◌, ℕ, true, [], ◌∷◌}
 use Rattle.tn_client_core.specs.Marks as core
 use Rattle.tn_client_core.specs.Run as core_run

@@ -1,6 +1,7 @@
 //! The trials.
 
 mod agreement;
+mod beside_prints;
 mod beside_terminals;
 mod decoding;
 mod forward;

@@ -204,7 +204,7 @@ fn world_command<'a>(alloc: Global) -> Command<'a>
              mark: prints whether all is at rest\n\
              flight: prints the bytes in flight\n\
              shown: prints the server's text on the client's screen\n\
-             server-stops, client-stops: this end takes and says no more; `take` goes on",
+             server-stops, client-stops: this end reads and sends nothing more; `take` still works",
         "Example:\n  printf 'settle\\nkey 610d\\nsettle\\ntake\\n' | tn world\n  text 610a",
     )
 }
