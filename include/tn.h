@@ -144,7 +144,7 @@ tn_code tn_line_char(tn_handle *handle, uint8_t function, uint16_t *value);
 
 typedef struct tn_item {
     uint32_t kind;  /* TN_NO_ITEM .. TN_SUBNEGOTIATION */
-    uint8_t code;   /* of TN_BYTE, TN_COMMAND (236 to 249) and TN_WORD (251 WILL to 254 DONT) */
+    uint8_t code;   /* of TN_BYTE, TN_COMMAND (236 to 249, never 240) and TN_WORD (251 WILL to 254 DONT) */
     uint8_t option; /* of TN_WORD and TN_SUBNEGOTIATION */
     size_t length;  /* of TN_SUBNEGOTIATION: how many parameters, at most 512 */
 } tn_item;

@@ -25,6 +25,8 @@
 
 static struct termios before;
 static volatile sig_atomic_t is_resized;
+static uint8_t out[4096]; /* read out of the end, and not sent yet: from..to */
+static size_t from, to;
 
 static void on_resize(int signal)
 {
@@ -80,30 +82,38 @@ static int connect_to(const char *host, const char *port)
     return fd;
 }
 
-static bool write_all(int fd, const uint8_t *bytes, size_t length)
+/* Sends what waits, as much as the socket takes. */
+static bool send_some(tn_handle *end, int fd)
 {
-    while (length > 0) {
-        ssize_t n = write(fd, bytes, length);
-        if (n <= 0)
-            return false;
-        bytes += n;
-        length -= (size_t)n;
+    for (;;) {
+        if (from == to) {
+            from = to = 0;
+            if (tn_client_read(end, out, sizeof out, &to) != TN_OK)
+                return false;
+            if (to == 0)
+                return true;
+        }
+        ssize_t n = send(fd, out + from, to - from, MSG_DONTWAIT);
+        if (n < 0)
+            return errno == EAGAIN || errno == EINTR;
+        from += (size_t)n;
     }
-    return true;
 }
 
-/* Sends what waits, and shows what waits. */
-static bool hand_on(tn_handle *end, int fd)
+/* Shows what waits, all of it. */
+static bool show(tn_handle *end)
 {
     uint8_t buf[4096] = { 0 };
     size_t count = 0;
     do {
-        if (tn_client_read(end, buf, sizeof buf, &count) != TN_OK || !write_all(fd, buf, count))
+        if (tn_client_screen(end, buf, sizeof buf, &count) != TN_OK)
             return false;
-    } while (count > 0);
-    do {
-        if (tn_client_screen(end, buf, sizeof buf, &count) != TN_OK || !write_all(STDOUT_FILENO, buf, count))
-            return false;
+        for (size_t at = 0; at < count;) {
+            ssize_t n = write(STDOUT_FILENO, buf + at, count - at);
+            if (n <= 0)
+                return false;
+            at += (size_t)n;
+        }
     } while (count > 0);
     return true;
 }
@@ -125,43 +135,37 @@ static bool resize(tn_handle *end)
     return tn_client_resize(end, width, height) == TN_OK;
 }
 
-/* A change of the window's size is heard of while the client waits, and at no other time: so none is missed. */
+/* A change of the window's size is heard of while the client waits, and at no other time: so none is missed. No key is read
+ * while what was typed waits to be sent, and what the server says is always read: so neither waits for the other. */
 static void run(tn_handle *end, int fd, const sigset_t *waiting)
 {
     bool has_keys = true;
-    for (;;) {
+    while ((!is_resized || resize(end)) && send_some(end, fd) && show(end)) {
         uint8_t piece[4096];
         ssize_t n;
-        struct pollfd polled[2] = { { .fd = fd, .events = POLLIN },
-                                    { .fd = has_keys ? STDIN_FILENO : -1, .events = POLLIN } };
-        if (is_resized && !resize(end))
-            return;
-        if (!hand_on(end, fd))
-            return;
+        struct pollfd polled[2] = { { .fd = fd, .events = from < to ? POLLIN | POLLOUT : POLLIN },
+                                    { .fd = has_keys && from == to ? STDIN_FILENO : -1, .events = POLLIN } };
         if (ppoll(polled, 2, NULL, waiting) < 0) {
             if (errno == EINTR)
                 continue; /* a new size */
             return;
         }
-        if (polled[0].revents) {
+        if (polled[0].revents & ~POLLOUT) {
             n = read(fd, piece, sizeof piece);
-            if (n <= 0)
-                return;
-            if (tn_client_feed(end, piece, (size_t)n) != TN_OK) {
-                hand_on(end, fd);
-                return;
-            }
+            if (n <= 0 || tn_client_feed(end, piece, (size_t)n) != TN_OK)
+                break;
         }
         if (polled[1].revents) {
             n = read(STDIN_FILENO, piece, sizeof piece);
-            if (n > 0 && !type_keys(end, piece, (size_t)n)) {
-                hand_on(end, fd); /* what was typed before the escape */
-                return;
-            }
+            if (n > 0 && !type_keys(end, piece, (size_t)n))
+                break;
             if (n <= 0)
                 has_keys = false; /* what the server says is still shown */
         }
     }
+    /* What was typed before the escape, and said before the end. */
+    send_some(end, fd);
+    show(end);
 }
 
 int main(int argc, char **argv)

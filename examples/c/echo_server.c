@@ -122,10 +122,8 @@ static bool send_some(struct client *c)
     }
     if (c->from < c->to) {
         ssize_t n = send(c->fd, c->out + c->from, c->to - c->from, MSG_NOSIGNAL | MSG_DONTWAIT);
-        if (is_passing(n))
-            return true;
         if (n <= 0)
-            return false;
+            return is_passing(n);
         c->from += (size_t)n;
     }
     return true;
@@ -137,24 +135,25 @@ static bool has_output(struct client *c)
     return c->from < c->to || (tn_server_pending(&c->end, &count) == TN_OK && count > 0);
 }
 
-/* False where the connection is over, or the end has failed and all that it said was sent. */
+/* False where the connection is over. Once the job has ended or the end has failed, and all that it said was sent, the
+ * client is told so, and what still comes is dropped: to close at once could cost it what is on its way. */
 static bool serve(struct client *c, short events)
 {
     uint8_t piece[PIECE];
     if (events & (POLLIN | POLLHUP | POLLERR)) {
         ssize_t n = recv(c->fd, piece, sizeof piece, MSG_DONTWAIT);
-        if (is_passing(n))
-            return true;
         if (n <= 0)
-            return false;
-        if (tn_server_feed(&c->end, piece, (size_t)n) != TN_OK)
+            return is_passing(n);
+        if (!c->is_done && tn_server_feed(&c->end, piece, (size_t)n) != TN_OK)
             c->is_done = true;
     }
     if (!run_job(c))
         return false;
     if ((events & POLLOUT) && !send_some(c))
         return false;
-    return !(c->is_done && !has_output(c));
+    if (c->is_done && !has_output(c))
+        shutdown(c->fd, SHUT_WR);
+    return true;
 }
 
 int main(int argc, char **argv)

@@ -86,7 +86,7 @@ def main():
             connection.settimeout(left)
             try:
                 piece = connection.recv(4096)
-            except socket.timeout:
+            except OSError:  # nothing came in time, or the server is gone
                 break
             if not piece:
                 break

@@ -5,7 +5,7 @@
 
 use std::ffi::c_void;
 use std::io::{Read, Write};
-use std::net::{TcpListener, TcpStream};
+use std::net::{Shutdown, TcpListener, TcpStream};
 
 /// What C sees: `tn.h`.
 mod raw {
@@ -152,7 +152,7 @@ fn run_job(server: &mut Server) -> Result<bool, Refused> {
     Ok(false)
 }
 
-fn serve(mut stream: TcpStream, is_local: bool) -> Result<(), Refused> {
+fn serve(stream: &mut TcpStream, is_local: bool) -> Result<(), Refused> {
     let mut server = Server::start(255)?;
     server.wish(is_local)?;
     // So that no paste makes more entries than may wait.
@@ -179,11 +179,14 @@ fn main() -> std::io::Result<()> {
     let is_local = std::env::args().nth(2).is_none();
     println!("port {}", listener.local_addr()?.port());
     for stream in listener.incoming() {
-        let stream = stream?;
+        let Ok(mut stream) = stream else { continue }; // a client that had gone before
         std::thread::spawn(move || {
-            if let Err(refused) = serve(stream, is_local) {
+            if let Err(refused) = serve(&mut stream, is_local) {
                 eprintln!("echo_server: refused: {}", refused.0);
             }
+            // What still comes is dropped: to close at once could cost the client what is on its way.
+            let _ = stream.shutdown(Shutdown::Write);
+            while stream.read(&mut [0; 512]).is_ok_and(|n| n > 0) {}
         });
     }
     Ok(())

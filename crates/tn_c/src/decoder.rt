@@ -1,6 +1,6 @@
 //! The calls of a decoder: a stream to items.
 
-ghost use Rattle.std.specs.Prelude.{◌≡◌, ◌≢◌, ◌↔◌, ◌⊎◌, ℕ, None, [], ◌∷◌, IfSome, MatchOption};
+ghost use Rattle.std.specs.Prelude.{◌≡◌, ◌≢◌, ◌↔◌, ◌⊎◌, None, [], ◌∷◌, IfSome, MatchOption};
 ghost use Rattle.tn_nvt.specs.Feeding.{failed, LeadsTo, Feeds, StopsWithin, IsLetGo};
 ghost use Rattle.tn_c_parts.specs.Bytes.{Copies};
 ghost use Rattle.tn_c_parts.specs.Codes.{code_number as number};
@@ -46,8 +46,8 @@ pub extern "C" fn tn_decoder_feed(alloc: Global, handle: &mut Handle, bytes: &[u
         result ≡ number code.Done →
         Feeds before.decoder bytes.now before.waiting after.waiting after.decoder) }
     ensures memory { OnDecoder handle.old.held handle.new.held (λ before after.
-        result ≡ number code.Memory → (room : ℕ) ×
-        StopsWithin before.decoder bytes.now before.waiting after.waiting room) }
+        result ≡ number code.Memory →
+        StopsWithin before.decoder bytes.now before.waiting after.waiting after.room) }
     ensures memory_fails { OnDecoder handle.old.held handle.new.held (λ _ after.
         result ≡ number code.Memory → after.decoder ≡ failed) }
     ensures lets_go { OnDecoder handle.old.held handle.new.held (λ before _.

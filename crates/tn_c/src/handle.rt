@@ -15,9 +15,9 @@ use tn_c_parts::Code;
 /// One word that C has: null where nothing is held, and else the address of a box of what is held. In C it is
 /// `tn_handle`, which begins as `{0}`.
 ///
-/// A handle is never dropped while it holds something: what is held is taken out of it as a box.
+/// It has no `Drop`, so that code that lets one go does not compile: what is held is taken out of it as a box,
+/// and a handle that is left over is taken apart.
 #[repr(C)]
-#[derive(Drop)]
 pub struct Handle {
     at: *mut (),
     alloc: Global,
@@ -74,12 +74,14 @@ impl Handle {
         }
     }
 
-    /// Puts a box in.
+    /// Puts a box in, and gives up what was held, if anything.
     pub(crate) fn put(&mut self, boxed: Box<Held>)
-        requires { self.old.held ≡ None }
         ensures { self.new.held ≡ Some boxed.value }
     {
-        *self = Handle::of_unboxed(Unboxed::of_box(boxed));
+        match mem::replace(self, Handle::of_unboxed(Unboxed::of_box(boxed))).into_unboxed() {
+            Some(unboxed) => drop(unboxed.into_box()),
+            None => {},
+        }
     }
 
     /// Whether something is held.
@@ -96,12 +98,11 @@ impl Handle {
         }
     }
 
-    /// Holds this from now on, in a box of its own.
+    /// Holds this from now on, in a box of its own, and gives up what was held, if anything.
     pub(crate) fn hold(&mut self, alloc: Global, held: Held) -> Code
-        requires { self.old.held ≡ None }
         ensures codes { (result ≡ Done) ⊎ (result ≡ Memory) }
         ensures ok { result ≡ Done → self.new.held ≡ Some held }
-        ensures err { result ≡ Memory → self.new.held ≡ None }
+        ensures err { result ≡ Memory → self.new.held ≡ self.old.held }
     {
         match Box::new(alloc, held) {
             Ok(boxed) => {

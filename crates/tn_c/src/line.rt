@@ -169,7 +169,7 @@ pub extern "C" fn tn_line_set_char(
         (func : Func) → func_code func ≡ function →
         result ≡ number (char_answer (char_fault before.settings.chars func (char_given value)))) }
     ensures allowed { OnLine handle.old.held handle.new.held (λ _ after.
-        result ≡ number code.Done → AreAllowed after.settings.chars) }
+        result ≢ number code.NoFunction → AreAllowed after.settings.chars) }
     ensures no_function { OnLine handle.old.held handle.new.held (λ _ _.
         (result ≡ number code.NoFunction) ↔ ((func : Func) → func_code func ≢ function)) }
     ensures err { OnLine handle.old.held handle.new.held (λ before after.
@@ -198,6 +198,8 @@ pub extern "C" fn tn_line_char(
     ensures value { OnLine handle.old.held handle.new.held (λ before _.
         (func : Func) → func_code func ≡ function →
         value.new ≡ char_number (slot before.settings.chars func)) }
+    ensures allowed { OnLine handle.old.held handle.new.held (λ before _.
+        result ≡ number code.Done → AreAllowed before.settings.chars) }
     ensures no_function { OnLine handle.old.held handle.new.held (λ _ _.
         (result ≡ number code.NoFunction) ↔ ((func : Func) → func_code func ≢ function)) }
     ensures err { OnLine handle.old.held handle.new.held (λ _ _.

@@ -1,6 +1,6 @@
 //! A decoder, and the items that wait to be taken.
 
-ghost use Rattle.std.specs.Prelude.{◌≡◌, ◌↔◌, ◌⊎◌, ◌-◌, ℕ, None, [], ◌∷◌, reverse, vec_len, vec_capacity, MatchOption};
+ghost use Rattle.std.specs.Prelude.{◌≡◌, ◌↔◌, ◌⊎◌, ◌-◌, None, [], ◌∷◌, reverse, vec_len, vec_capacity, MatchOption};
 ghost use Rattle.tn_nvt.specs.Feeding.{failed, LeadsTo, Feeds, StopsWithin, IsLetGo};
 ghost use Rattle.tn_c_parts.specs.Bytes.{Copies};
 ghost use Rattle.tn_c_parts.specs.Items.{item_seen, parameters_of};
@@ -67,7 +67,7 @@ pub struct HeldDecoder {
 }
 
 impl Model for HeldDecoder {
-    ghost use Rattle.std.specs.Prelude.{reverse};
+    ghost use Rattle.std.specs.Prelude.{◌-◌, reverse, vec_len, vec_capacity};
     ghost use Rattle.tn_c_parts.specs.Items.{ReadStream};
 
     ghost Value = { ReadStream };
@@ -75,6 +75,7 @@ impl Model for HeldDecoder {
     ghost view = { λ held. record {
       decoder = held.decoder;
       waiting = reverse held.later_first.items;
+      room = vec_capacity held.later_first - vec_len held.later_first;
       item = held.item;
     } };
 }
@@ -98,8 +99,8 @@ impl HeldDecoder {
         ensures codes { (result ≡ code.Done) ⊎ ((result ≡ code.Memory) ⊎ (result ≡ code.Failed)) }
         ensures ok { result ≡ code.Done →
             Feeds self.old.decoder piece.now self.old.waiting self.new.waiting self.new.decoder }
-        ensures memory { result ≡ code.Memory → (room : ℕ) ×
-            StopsWithin self.old.decoder piece.now self.old.waiting self.new.waiting room }
+        ensures memory { result ≡ code.Memory →
+            StopsWithin self.old.decoder piece.now self.old.waiting self.new.waiting self.new.room }
         ensures memory_fails { result ≡ code.Memory → self.new.decoder ≡ failed }
         ensures lets_go { IsLetGo self.old.decoder piece.now → result ≡ code.Done }
         ensures failed { (result ≡ code.Failed) ↔ (self.old.decoder ≡ failed) }

@@ -108,7 +108,7 @@ impl HeldLine {
             self.new.settings.chars ≡ with_slot self.old.settings.chars func value }
         ensures answer { result ≡ char_answer (char_fault self.old.settings.chars func value) }
         ensures known { result ≢ code.NoFunction }
-        ensures allowed { result ≡ code.Done → AreAllowed self.new.settings.chars }
+        ensures allowed { AreAllowed self.new.settings.chars }
         ensures err { result ≢ code.Done → self.new.settings ≡ self.old.settings }
         ensures flags { self.new.settings.flags ≡ self.old.settings.flags }
         ensures line { self.new.line ≡ self.old.line }
@@ -128,7 +128,7 @@ impl HeldLine {
             self.new.settings.chars ≡ with_slot self.old.settings.chars func (char_given value) }
         ensures answer { (func : Func) → func_code func ≡ function →
             result ≡ char_answer (char_fault self.old.settings.chars func (char_given value)) }
-        ensures allowed { result ≡ code.Done → AreAllowed self.new.settings.chars }
+        ensures allowed { result ≢ code.NoFunction → AreAllowed self.new.settings.chars }
         ensures no_function { (result ≡ code.NoFunction) ↔ ((func : Func) → func_code func ≢ function) }
         ensures err { result ≢ code.Done → self.new.settings ≡ self.old.settings }
         ensures flags { self.new.settings.flags ≡ self.old.settings.flags }
@@ -146,6 +146,7 @@ impl HeldLine {
         ensures codes { (result ≡ code.Done) ⊎ (result ≡ code.NoFunction) }
         ensures value { (func : Func) → func_code func ≡ function →
             value.new ≡ char_number (slot self.now.settings.chars func) }
+        ensures allowed { result ≡ code.Done → AreAllowed self.now.settings.chars }
         ensures no_function { (result ≡ code.NoFunction) ↔ ((func : Func) → func_code func ≢ function) }
         ensures err { result ≡ code.NoFunction → value.new ≡ value.old }
     {

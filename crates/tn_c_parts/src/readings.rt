@@ -3,7 +3,7 @@
 ghost use Rattle.std.specs.Prelude.{◌≡◌, ◌≢◌, ◌↔◌, ◌⊎◌};
 ghost use Rattle.tn_codes.specs.Codes.{func_code};
 ghost use Rattle.tn_codes.specs.declared.codes.Func.{Func};
-ghost use Rattle.tn_discipline.specs.Characters.{slot};
+ghost use Rattle.tn_discipline.specs.Characters.{AreAllowed, slot};
 ghost use Rattle.tn_c_parts.specs.Readings.{char_number, char_given, editing_given, side_given, state_number};
 ghost use Rattle.tn_c_parts.specs.declared.codes.Code.TheVariants as code;
 
@@ -42,6 +42,7 @@ pub(crate) fn give_char(chars: &Chars, function: u8, value: &mut u16) -> Code
     ensures codes { (result ≡ code.Done) ⊎ (result ≡ code.NoFunction) }
     ensures value { (func : Func) → func_code func ≡ function →
         value.new ≡ char_number (slot chars.now func) }
+    ensures allowed { result ≡ code.Done → AreAllowed chars.now }
     ensures no_function { (result ≡ code.NoFunction) ↔ ((func : Func) → func_code func ≢ function) }
     ensures err { result ≡ code.NoFunction → value.new ≡ value.old }
 {

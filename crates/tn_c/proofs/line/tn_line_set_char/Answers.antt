@@ -20,4 +20,4 @@ returns-in-Line-clause-err c =
 pub returns-in-Line-clause-allowed : goal.returns-in-Line-clause-allowed
 returns-in-Line-clause-allowed c =
     let was = c.in-Some.ensures.value ∙ ap Some (sym c.deref_mut.ensures.value ∙ c.in-Line.is) in
-    rw was (rw c.put.ensures (λ is. c.set_function-code.ensures.allowed (c.number-in-Line.ensures.tells _ is)))
+    rw was (rw c.put.ensures (λ not. c.set_function-code.ensures.allowed (λ none. not (c.number-in-Line.ensures.value ∙ ap code_number none))))
