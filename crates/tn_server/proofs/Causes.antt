@@ -1,5 +1,5 @@
 -- Why an item was refused, said of the history.
-use Rattle.std.proofs.Common.{◌≡◌, ◌≢◌, inl, inr, ℕ, List, [], length, refl, sym, ap, ◌∙◌, subst}
+use Rattle.std.proofs.Common.{◌≡◌, ◌≢◌, ◌<◌, inl, inr, ℕ, List, [], length, refl, sym, ap, ◌∙◌, subst}
 use Rattle.tn_codes.specs.declared.codes.Verb.{Verb}
 use Rattle.tn_discipline.specs.HalfLine.{HalfLine, GivesText}
 use Rattle.tn_discipline.specs.Keys.{gives_entry}
@@ -8,6 +8,7 @@ use Rattle.tn_linemode.specs.Modes.{edits}
 use Rattle.tn_nvt.specs.declared.items.Item.{Item}
 use Rattle.tn_nvt.specs.declared.items.Item.TheVariants.{Neg, Sub}
 use Rattle.tn_option.specs.Options.{Options}
+use Rattle.tn_pty.specs.Terminal.{max_waiting}
 use Rattle.tn_pty.specs.declared.pty.PtyFault.{PtyFault}
 use Rattle.tn_pty.specs.declared.pty.PtyFault.TheVariants as pty
 use Rattle.tn_server.specs.Events.{Event, History, got}
@@ -30,9 +31,11 @@ typed_cause h old item r pty.TooFarAhead is x s = (
   ap gives_entry (sym (role_is h old item s) ∙ is) ∙ x.0,
   ap length (waits_are h old s) ∙ x.1,
 )
-typed_cause h old item r pty.Memory is x s =
-    subst (λ (l : HalfLine). GivesText l (role_of_item h item)) (line_is h old s)
-    (subst (λ (q : Role). GivesText old.terminal.line q) (sym is ∙ role_is h old item s) x)
+typed_cause h old item r pty.Memory is x s = (
+  subst (λ (l : HalfLine). GivesText l (role_of_item h item)) (line_is h old s)
+      (subst (λ (q : Role). GivesText old.terminal.line q) (sym is ∙ role_is h old item s) x.0),
+  subst (λ (n : ℕ). n < max_waiting) (sym (ap length (waits_are h old s))) x.1,
+)
 
 -- where the replies are these, and these are not none
 pub says_some : (h : History) (e : Event) (said : List Item) → replies h e ≡ said → said ≢ [] → SaysSomething h e

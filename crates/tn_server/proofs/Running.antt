@@ -1,8 +1,13 @@
 -- Bytes of data that come in runs.
 use Rattle.std.proofs.Common.{◌≡◌, inl, inr, ℕ, Bool, true, false, Result, Ok, Err, OnOk, IfErr, IsErrOf, List, [], ◌∷◌, map, refl, sym, ap, ◌∙◌, subst, if◌then◌else◌}
 use Rattle.std.proofs.lemmas.List.{map-append}
+use Rattle.std.proofs.lemmas.Result.{IfErr-weaker}
 use Rattle.tn_discipline.specs.declared.termios.Settings.{Settings}
+use Rattle.tn_discipline.specs.HalfLine.{HalfLine, GivesText, effect_entries}
+use Rattle.tn_discipline.specs.Keys.{gives_entry, role_of_key}
 use Rattle.tn_discipline.specs.declared.keys.Role.{Role}
+use Rattle.tn_discipline.specs.declared.reads.Entry.TheVariants as entry
+use Rattle.tn_discipline.proofs.lemmas.Editing.{quiet_gain}
 use Rattle.tn_linemode.specs.Modes.{edits}
 use Rattle.tn_nvt.specs.declared.items.Item.TheVariants.{Byte}
 use Rattle.tn_pty.specs.Terminal.{Terminal}
@@ -53,10 +58,25 @@ refused_shut mid new r pty.Closed x same = inl (same ∙ ap (λ (t : Terminal). 
 refused_shut mid new r pty.TooFarAhead x same = inr (same ∙ ap (λ (t : Terminal). record mid { terminal = t }) x.3)
 refused_shut mid new r pty.Memory x same = inr (same ∙ ap (λ (t : Terminal). record mid { terminal = t }) x.2)
 
+-- a key that gives a text makes an entry
+text_is_entry : (l : HalfLine) (r : Role) (b : Bool) → gives_entry r ≡ b → GivesText l r → b ≡ true
+text_is_entry l r true is text = refl
+text_is_entry l r false is (bytes, gives) =
+    let none : [] ≡ entry.Text bytes ∷ [] = sym (quiet_gain l r is) ∙ ap effect_entries gives in
+    cc
+
 refused_cause : (t new : Terminal) (r : Role) (f : PtyFault) → Refuses t r f new → IsKeyCause t r f
 refused_cause t new r pty.Closed x = x.0
 refused_cause t new r pty.TooFarAhead x = (x.1, x.2)
-refused_cause t new r pty.Memory x = x.1
+refused_cause t new r pty.Memory x = (x.1, x.0.room (text_is_entry t.line r (gives_entry r) refl x.1))
+
+-- and so of a key that is typed while the client does not edit
+pub refused_key : (old : End) (new : Terminal) (byte : ℕ) {T : Type 0} (r : Result T PtyFault) → edits old.modes.current ≡ false → IfErr r (λ f. Refuses old.terminal (role_of_key old.terminal.settings byte) f new) → IfErr r (λ f. IsKeyCause old.terminal (role_of_typed old byte) f)
+refused_key old new byte r edit refused =
+    let key : Role = role_of_key old.terminal.settings byte in
+    let role : key ≡ role_of_typed old byte = ap (λ (e : Bool). role_of_byte old.terminal.settings e byte) (sym edit) in
+    IfErr-weaker r (λ f. Refuses old.terminal key f new) (λ f. IsKeyCause old.terminal (role_of_typed old byte) f)
+    (λ f x. subst (λ (q : Role). IsKeyCause old.terminal q f) role (refused_cause old.terminal new key f x)) refused
 
 -- the role of the byte that was refused
 role_there : (old : End) (done : List ℕ) (byte : ℕ) → role_of_typed (end_after_run old done) byte ≡ role_of_input (input_at old) old.terminal.settings byte

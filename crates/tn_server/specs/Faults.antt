@@ -1,5 +1,5 @@
 -- Why calls are refused.
-use Rattle.std.specs.Prelude.{◌≡◌, ◌≢◌, ◌⊎◌, true, Option, Some, None, [], length}
+use Rattle.std.specs.Prelude.{◌≡◌, ◌≢◌, ◌<◌, ◌⊎◌, true, Option, Some, None, [], length}
 use Rattle.tn_discipline.specs.HalfLine.{GivesText}
 use Rattle.tn_discipline.specs.Keys.{gives_entry}
 use Rattle.tn_nvt.specs.declared.items.Item.{Item}
@@ -17,12 +17,13 @@ use Rattle.tn_server.specs.declared.faults.ServerFault.TheVariants.{Pty, Memory,
 abbrev pub SaysSomething : History → Event → Type 0
 SaysSomething h e = replies h e ≢ []
 
--- why an item is refused: too many entries wait for the one that it makes; memory runs out for the text of
--- a line, for what is to be sent, or for a list
+-- why an item is refused: too many entries wait for the one that it makes; there is room for it, and memory
+-- runs out for the text of its line; or it runs out for what is to be sent, or for a list
 abbrev pub IsCause : History → Item → ServerFault → Type 0
 IsCause h item (Pty pty.TooFarAhead) =
     (gives_entry (role_of_item h item) ≡ true) × (length (waiting h) ≡ max_waiting)
-IsCause h item (Pty pty.Memory) = GivesText (line h) (role_of_item h item)
+IsCause h item (Pty pty.Memory) =
+    GivesText (line h) (role_of_item h item) × (length (waiting h) < max_waiting)
 IsCause h item (Pty pty.Closed) = Unit {0}
 IsCause h item Memory = SaysSomething h (got item) ⊎ IsList (payload_at (options h) item)
 IsCause h item Failed = ⊥

@@ -1,5 +1,5 @@
 -- One event at a server end, as a step from what the end knows now. `Calls` ties these steps to histories.
-use Rattle.std.specs.Prelude.{◌≡◌, ◌≢◌, ◌⊎◌, ℕ, Bool, true, false, ◌||◌, Option, Some, None, is_some, List, [], ◌++◌, length}
+use Rattle.std.specs.Prelude.{◌≡◌, ◌<◌, ◌≢◌, ◌⊎◌, ℕ, Bool, true, false, ◌||◌, Option, Some, None, is_some, List, [], ◌++◌, length}
 use Rattle.tn_codes.specs.declared.codes.Command.{Command}
 use Rattle.tn_codes.specs.declared.codes.Verb.{Verb}
 use Rattle.tn_codes.specs.declared.payloads.Payload.{Payload}
@@ -160,7 +160,7 @@ IsShut old new = (new ≡ old) ⊎ (new ≡ record old { terminal = shut_termina
 -- why the terminal refuses a key or command of this role
 abbrev pub IsKeyCause : Terminal → Role → PtyFault → Type 0
 IsKeyCause t r pty.TooFarAhead = (gives_entry r ≡ true) × (length t.entries ≡ max_waiting)
-IsKeyCause t r pty.Memory = GivesText t.line r
+IsKeyCause t r pty.Memory = GivesText t.line r × (length t.entries < max_waiting)
 IsKeyCause t r pty.Closed = t.closed ≡ true
 
 -- memory may be wanted for a payload
