@@ -5,7 +5,7 @@
 //! ```
 //!
 //! Each reads all of its input before it writes, so none can filter a pipe that never ends. `tn_loopback`
-//! serves and connects, and `tn_program` is the program that runs what its words ask for.
+//! serves, `tn_connect` connects, and `tn_program` is the program that runs what its words ask for.
 #![tactic(auto)]
 
 pub use decode::run_decode;

@@ -3,19 +3,22 @@
 //!
 //! ```
 //! let jobs = Gateways::new(reader, writer, LineEnd::Lf); // both halves of a connection, or any others
+//! let jobs = Joiner::new(rt, host, port, LineEnd::Lf, hook); // the same, of a connection that is made for the first job
 //! ```
 //!
-//! It opens no connection and waits for nobody but its reader and its writer. A session ends its jobs; the
-//! end of the service ends the job in the background alone, so that whoever owns the session's connection
-//! hangs up.
+//! It waits for nobody but its reader and its writer. A session ends its jobs; the end of the service ends the
+//! job in the background alone, so that whoever owns the session's connection hangs up, as a `Joiner` does by
+//! its hook.
 #![tactic(auto)]
 
+pub use dialing::{Dial, Heard, Joiner, Told};
 pub use joining::Gateway;
 pub use line_ends::LineEnd;
 pub use makers::Gateways;
 pub use sending::{Sending, Way};
 pub use showing::Showing;
 
+mod dialing;
 mod joining;
 pub mod laws;
 mod line_ends;

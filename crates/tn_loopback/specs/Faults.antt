@@ -1,19 +1,17 @@
 -- Which faults come from where.
-use Rattle.tn_loopback.specs.declared.fault.LoopbackFault.{LoopbackFault}
-use Rattle.tn_loopback.specs.declared.fault.LoopbackFault.TheVariants.{Network, Session, Limit, Memory, Trace}
+use Rattle.tn_loopback.specs.declared.fault.ServeFault.{ServeFault}
+use Rattle.tn_loopback.specs.declared.fault.ServeFault.TheVariants.{Network, Limit, Memory}
 use Rattle.tn_roster.specs.declared.RosterFault.{RosterFault}
 use Rattle.tn_roster.specs.declared.RosterFault.TheVariants as roster
 
 -- what an error of the network is told as
-abbrev pub IsOfNetwork : LoopbackFault → Type 0
+abbrev pub IsOfNetwork : ServeFault → Type 0
 IsOfNetwork Network = Unit {0}
 IsOfNetwork Memory = Unit {0}
-IsOfNetwork Session = ⊥
 IsOfNetwork Limit = ⊥
-IsOfNetwork Trace = ⊥
 
 -- what a fault of the roster is told as
-abbrev pub told_as : RosterFault → LoopbackFault
+abbrev pub told_as : RosterFault → ServeFault
 told_as roster.BadLimit = Limit
 told_as roster.Full = Limit
 told_as roster.Memory = Memory

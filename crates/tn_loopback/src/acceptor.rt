@@ -1,7 +1,6 @@
 //! Connections are accepted in a thread of their own.
 
 use crate::events::Event;
-use crate::host::Host;
 use crate::notes::note_refused_accept;
 use crossbeam_channel::Sender;
 use std::alloc::Global;
@@ -9,6 +8,7 @@ use std::io::ErrorKind;
 use std::net::{SocketAddr, TcpListener, TcpStream};
 use std::time::Duration;
 use std::{io, thread};
+use tn_sockets::Host;
 
 /// How many milliseconds lie between two attempts where the machine can give no connection.
 const PAUSE: u64 = 100;

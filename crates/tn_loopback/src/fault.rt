@@ -1,4 +1,4 @@
-//! Why serving or connecting failed.
+//! Why serving failed.
 
 ghost use Rattle.std.specs.Prelude.{◌≡◌};
 
@@ -7,68 +7,62 @@ use std::io;
 use thiserror::Error;
 use tn_roster::RosterFault;
 
-/// Why serving or connecting failed.
+/// Why serving failed.
 #[derive(Clone, Copy, Debug, PartialEq, Eq, Error)]
-pub enum LoopbackFault {
-    /// The port could not be bound, a connection was not accepted, or none was made.
+pub enum ServeFault {
+    /// The port could not be bound, or a connection was not accepted.
     #[error("network")]
     Network,
-    /// A session ended in a fault.
-    #[error("session")]
-    Session,
     /// A roster cannot have so many places.
     #[error("bad limit")]
     Limit,
     #[error("memory")]
     Memory,
-    /// The file for a trace could not be made.
-    #[error("write")]
-    Trace,
 }
 
-impl From<AllocError> for LoopbackFault {
-    ghost use Rattle.tn_loopback.specs.declared.fault.LoopbackFault.TheVariants as fault;
+impl From<AllocError> for ServeFault {
+    ghost use Rattle.tn_loopback.specs.declared.fault.ServeFault.TheVariants as fault;
 
     ghost from_gives = { λ _ told. told ≡ fault.Memory };
 
-    fn from(_error: AllocError) -> LoopbackFault {
-        LoopbackFault::Memory
+    fn from(_error: AllocError) -> ServeFault {
+        ServeFault::Memory
     }
 }
 
-impl<T: Drop> From<AllocFailed<T>> for LoopbackFault {
-    ghost use Rattle.tn_loopback.specs.declared.fault.LoopbackFault.TheVariants as fault;
+impl<T: Drop> From<AllocFailed<T>> for ServeFault {
+    ghost use Rattle.tn_loopback.specs.declared.fault.ServeFault.TheVariants as fault;
 
     ghost from_gives = { λ _ told. told ≡ fault.Memory };
 
-    fn from(_error: AllocFailed<T>) -> LoopbackFault {
-        LoopbackFault::Memory
+    fn from(_error: AllocFailed<T>) -> ServeFault {
+        ServeFault::Memory
     }
 }
 
-impl From<RosterFault> for LoopbackFault {
+impl From<RosterFault> for ServeFault {
     ghost use Rattle.tn_loopback.specs.Faults.{told_as};
 
     ghost from_gives = { λ fault told. told ≡ told_as fault };
 
-    fn from(fault: RosterFault) -> LoopbackFault {
+    fn from(fault: RosterFault) -> ServeFault {
         match fault {
-            RosterFault::BadLimit | RosterFault::Full => LoopbackFault::Limit,
-            RosterFault::Memory => LoopbackFault::Memory,
+            RosterFault::BadLimit | RosterFault::Full => ServeFault::Limit,
+            RosterFault::Memory => ServeFault::Memory,
         }
     }
 }
 
-impl From<io::Error> for LoopbackFault {
+impl From<io::Error> for ServeFault {
     ghost use Rattle.tn_loopback.specs.Faults.{IsOfNetwork};
 
     ghost from_gives = { λ _ told. IsOfNetwork told };
 
-    fn from(error: io::Error) -> LoopbackFault {
+    fn from(error: io::Error) -> ServeFault {
         if error.kind() == io::ErrorKind::OutOfMemory {
-            LoopbackFault::Memory
+            ServeFault::Memory
         } else {
-            LoopbackFault::Network
+            ServeFault::Network
         }
     }
 }

@@ -1,9 +1,9 @@
 //! How a session over a connection ended.
 
 ghost use Rattle.std.specs.Prelude.{◌≡◌, true, false};
-ghost use Rattle.tn_loopback.specs.Ends.{EndsWhole, IsWhole};
+ghost use Rattle.tn_loopback.specs.Ends.{IsWhole};
 
-use tn_session::{Ended, Report, SessionFault};
+use tn_session::{Report, SessionFault};
 
 /// How a session over a connection ended.
 #[derive(Clone, Copy, Debug, PartialEq, Eq)]
@@ -29,19 +29,8 @@ impl Finished {
         ensures faulted { result ≡ false → ¬ IsWhole self.now }
     {
         match &self.report {
-            Ok(report) => ends_whole(report),
+            Ok(report) => report.ended.is_whole(),
             Err(_) => false,
         }
-    }
-}
-
-/// Whether the report is of a session that ended without a fault.
-pub(crate) fn ends_whole(report: &Report) -> bool
-    ensures whole { result ≡ true → EndsWhole report.now }
-    ensures faulted { result ≡ false → ¬ EndsWhole report.now }
-{
-    match report.ended {
-        Ended::HangUp | Ended::Done => true,
-        Ended::Fault(_) => false,
     }
 }

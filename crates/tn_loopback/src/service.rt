@@ -1,7 +1,7 @@
 //! What a server does for its users.
 
+use crate::call::Call;
 use crate::finished::Finished;
-use crate::hook::Call;
 use std::alloc::{AllocError, Global};
 use tn_jobs::Job;
 use tn_session::Maker;

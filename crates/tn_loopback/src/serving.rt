@@ -5,11 +5,10 @@ ghost use Rattle.tn_loopback.specs.Ends.{ServesAll};
 ghost use Rattle.tn_roster.specs.Held.{IsLimit};
 
 use crate::acceptor::Acceptor;
+use crate::call::Call;
 use crate::events::Event;
-use crate::fault::LoopbackFault;
+use crate::fault::ServeFault;
 use crate::finished::Finished;
-use crate::hook::{Call, Hook};
-use crate::host::Host;
 use crate::notes::{note_end, note_listening, note_peer};
 use crate::running::{Running, tell_fault, tell_if_faulted};
 use crate::served::Served;
@@ -24,7 +23,7 @@ use std::net::{Net, Shutdown, SocketAddr, TcpListener, TcpStream};
 use std::thread;
 use std::thread::JoinHandle;
 use tn_roster::{Roster, note};
-use tn_sockets::Standing;
+use tn_sockets::{Hook, Host, Standing};
 
 /// How many events wait at most for the loop.
 const EVENTS: usize = 16;
@@ -46,14 +45,13 @@ pub fn serve<H, V, E>(
     serving: Serving,
     service: V,
     errors: &mut E,
-) -> Result<Served, LoopbackFault>
+) -> Result<Served, ServeFault>
 where
     H: Host + Net<Listener = TcpListener, Stream = TcpStream>,
     V: Service + Drop,
     E: Write,
     ensures all { IfOk result (ServesAll serving.count) }
-    ensures limit { IsErrOf result LoopbackFault.Limit → ¬ IsLimit serving.sessions }
-    ensures no_session { result ≢ Err LoopbackFault.Session }
+    ensures limit { IsErrOf result ServeFault.Limit → ¬ IsLimit serving.sessions }
 {
     let listener = TcpListener::bind(&rt, (host, port))?;
     serve_on(rt, alloc, &listener, serving, service, errors)
@@ -67,11 +65,10 @@ pub fn serve_on<H: Host, V: Service + Drop, E: Write>(
     serving: Serving,
     service: V,
     errors: &mut E,
-) -> Result<Served, LoopbackFault>
+) -> Result<Served, ServeFault>
     ensures all { IfOk result (ServesAll serving.count) }
-    ensures limit { IsErrOf result LoopbackFault.Limit → ¬ IsLimit serving.sessions }
-    ensures bad_limit { (¬ IsLimit serving.sessions) → IsErrOf result LoopbackFault.Limit }
-    ensures no_session { result ≢ Err LoopbackFault.Session }
+    ensures limit { IsErrOf result ServeFault.Limit → ¬ IsLimit serving.sessions }
+    ensures bad_limit { (¬ IsLimit serving.sessions) → IsErrOf result ServeFault.Limit }
 {
     let count = serving.count;
     let roster = Roster::new(alloc, usize::from(serving.sessions))?;
@@ -87,7 +84,7 @@ pub fn serve_on<H: Host, V: Service + Drop, E: Write>(
         verbose: serving.verbose,
     };
     let Ok(acceptor) = thread::spawn(&rt, move || acceptor.run()) else {
-        return Err(LoopbackFault::Memory);
+        return Err(ServeFault::Memory);
     };
     let mut open = Open {
         rt,
@@ -106,7 +103,7 @@ pub fn serve_on<H: Host, V: Service + Drop, E: Write>(
     drop(receiver);
     acceptor.join(&rt);
     if served.accepted() != count {
-        return Err(LoopbackFault::Network);
+        return Err(ServeFault::Network);
     }
     Ok(served)
 }

@@ -2,7 +2,6 @@
 
 use crate::events::Event;
 use crate::finished::Finished;
-use crate::host::Host;
 use crate::settings::SessionOptions;
 use crossbeam_channel::Sender;
 use std::alloc::Global;
@@ -13,7 +12,7 @@ use std::thread;
 use std::thread::JoinHandle;
 use tn_discipline::Settings;
 use tn_session::{Maker, Report, SessionFault, Unwatched, serve_session};
-use tn_sockets::{Attended, Connection, Standing};
+use tn_sockets::{Attended, Connection, Host, Standing};
 
 /// A session that is to run over a connection that was accepted.
 #[derive(Drop)]

@@ -1,14 +1,10 @@
-//! How to serve and how to connect.
+//! How to serve.
 
 ghost use Rattle.std.specs.Prelude.{◌≡◌, false};
 ghost use Rattle.tn_discipline.specs.Limits.{standard_limit};
 
-use std::alloc::Global;
-use std::fs::File;
-use std::sync::Arc;
 use tn_discipline::Limit;
 use tn_server::Editing;
-use tn_sockets::Link;
 
 /// What is the same of all sessions of a server.
 #[derive(Clone, Copy, Debug, PartialEq, Eq)]
@@ -69,46 +65,4 @@ impl Serving {
             verbose: false,
         }
     }
-}
-
-/// Where the keys of a client come from.
-#[derive(Clone, Copy, Debug, PartialEq, Eq)]
-pub enum Origin {
-    /// A reader of which nothing else is known: each of its bytes is a key.
-    Reader,
-    /// Standard input, each of whose bytes is a key; it is waited for, so that the session ends though
-    /// nothing comes.
-    Input,
-    /// The same at a terminal, whose user speaks to the client itself behind the escape character.
-    Terminal,
-}
-
-/// How to connect.
-#[derive(Clone, Copy, Debug, PartialEq, Eq)]
-pub struct Connecting {
-    /// The port, of 1 to 65,535.
-    pub port: u16,
-    /// The width of the window in characters, or 0 for none that is told.
-    pub width: u16,
-    /// The height of the window in lines, or 0 for none that is told.
-    pub height: u16,
-    /// How many bytes a line has at most.
-    pub line_limit: Limit,
-    pub origin: Origin,
-    /// The escape character of a terminal, if it has one.
-    pub escape: Option<u8>,
-}
-
-/// What a client's session has beside its keys and its screen.
-#[derive(Drop)]
-pub struct Notes<'a> {
-    /// Gets a line for each item that comes and goes.
-    pub trace: Option<File>,
-    /// Tells each new size of the window, where standard input is waited for: width and height, five
-    /// characters each, a space between them and a line feed behind them.
-    pub sizes: Option<File>,
-    /// Gets the causes of a fault, a line each.
-    pub causes: &'a mut Vec<u8>,
-    /// The connection, as the screen has it.
-    pub link: Arc<Link, Global>,
 }

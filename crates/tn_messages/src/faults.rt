@@ -1,7 +1,8 @@
 //! How a session ends.
 
-ghost use Rattle.std.specs.Prelude.{◌≡◌};
+ghost use Rattle.std.specs.Prelude.{◌≡◌, true, false};
 ghost use Rattle.tn_messages.specs.Counting.{first_end};
+ghost use Rattle.tn_messages.specs.Ending.{EndsWhole};
 
 use thiserror::Error;
 use tn_client::ClientFault;
@@ -47,6 +48,17 @@ impl Ended {
         match self {
             Ended::HangUp => next,
             Ended::Done | Ended::Fault(_) => self,
+        }
+    }
+
+    /// Whether it is no fault.
+    pub fn is_whole(self) -> bool
+        ensures whole { result ≡ true → EndsWhole self }
+        ensures faulted { result ≡ false → ¬ EndsWhole self }
+    {
+        match self {
+            Ended::HangUp | Ended::Done => true,
+            Ended::Fault(_) => false,
         }
     }
 }

@@ -3,11 +3,13 @@ use Rattle.std.proofs.Common.{◌≡◌, ℕ, inl, inr, Option, Some, None, List
 use Rattle.tn_cli.specs.Faults as cli
 use Rattle.tn_cli.specs.declared.fault.CliFault.{CliFault}
 use Rattle.tn_cli.specs.declared.fault.CliFault.TheVariants.{Read, TooLong, Script, World, Write, Memory}
-use Rattle.tn_loopback.specs.declared.fault.LoopbackFault.{LoopbackFault}
-use Rattle.tn_loopback.specs.declared.fault.LoopbackFault.TheVariants as connection
+use Rattle.tn_connect.specs.declared.fault.ConnectFault.{ConnectFault}
+use Rattle.tn_connect.specs.declared.fault.ConnectFault.TheVariants as connect
+use Rattle.tn_loopback.specs.declared.fault.ServeFault.{ServeFault}
+use Rattle.tn_loopback.specs.declared.fault.ServeFault.TheVariants as serve
 use Rattle.tn_program.specs.Outcomes.{ComesOf, ComesOfRun, ComesOfNoRun}
 use Rattle.tn_program.specs.Runs.{DoesAsAsked, RunsAsked}
-use Rattle.tn_program.specs.Statuses.{status_of_connection, status_of}
+use Rattle.tn_program.specs.Statuses.{status_of, status_of_connecting, status_of_serving}
 use Rattle.tn_program.specs.declared.outcome.Outcome.{Outcome}
 use Rattle.tn_program.specs.declared.outcome.Outcome.TheVariants as outcome
 use Rattle.tn_streams.specs.Known.{KnownReader}
@@ -28,12 +30,15 @@ faulted (World line) zero = omega (arith, zero)
 faulted Write zero = omega (arith, zero)
 faulted Memory zero = omega (arith, zero)
 
-disconnected : (f : LoopbackFault) → status_of_connection f ≡ 0 → ⊥
-disconnected connection.Network zero = omega (arith, zero)
-disconnected connection.Session zero = omega (arith, zero)
-disconnected connection.Limit zero = omega (arith, zero)
-disconnected connection.Memory zero = omega (arith, zero)
-disconnected connection.Trace zero = omega (arith, zero)
+unserved : (f : ServeFault) → status_of_serving f ≡ 0 → ⊥
+unserved serve.Network zero = omega (arith, zero)
+unserved serve.Limit zero = omega (arith, zero)
+unserved serve.Memory zero = omega (arith, zero)
+
+unconnected : (f : ConnectFault) → status_of_connecting f ≡ 0 → ⊥
+unconnected connect.Network zero = omega (arith, zero)
+unconnected connect.Session zero = omega (arith, zero)
+unconnected connect.Memory zero = omega (arith, zero)
 
 -- the run that was asked for
 
@@ -49,10 +54,11 @@ ran a input old new (outcome.World (Ok done)) (e, ends) zero = subst (λ a. Runs
 ran a input old new (outcome.World (Err f)) h zero = absurd (faulted f zero)
 ran a input old new (outcome.Served (Ok served)) (serving, e, ends) zero =
     subst (λ a. RunsAsked a input old new) (sym e) (served, ends.all, ends.unwritten)
-ran a input old new (outcome.Served (Err f)) h zero = absurd (disconnected f zero)
+ran a input old new (outcome.Served (Err f)) h zero = absurd (unserved f zero)
 ran a input old new (outcome.Connected (Ok r)) (connecting, e, ends) zero =
     subst (λ a. RunsAsked a input old new) (sym e) (r.0, r.1, ends.ran, ends.whole)
-ran a input old new (outcome.Connected (Err f)) h zero = absurd (disconnected f zero)
+ran a input old new (outcome.Connected (Err f)) h zero = absurd (unconnected f zero)
+ran a input old new outcome.Untraced h zero = absurd (omega (arith, zero))
 ran a input old new (outcome.Help ended) h zero = absurd h
 ran a input old new (outcome.Version ended) h zero = absurd h
 ran a input old new (outcome.Usage detail) h zero = absurd h
@@ -75,6 +81,7 @@ helped words input old new (outcome.Decode ended) h zero = absurd h
 helped words input old new (outcome.World ended) h zero = absurd h
 helped words input old new (outcome.Served ended) h zero = absurd h
 helped words input old new (outcome.Connected ended) h zero = absurd h
+helped words input old new outcome.Untraced h zero = absurd h
 
 pub does : (words : List (List ℕ)) (input : KnownReader) (old new : Option (List ℕ)) (came : Outcome)
     → status_of came ≡ 0 → ComesOf words input old new came → DoesAsAsked words input old new

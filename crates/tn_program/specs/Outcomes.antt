@@ -4,10 +4,14 @@ use Rattle.std.specs.Io.KnownBytes.{Appends}
 use Rattle.tn_cli.specs.Ends.{EndsDecode, EndsLocal, EndsReplay, EndsWorld}
 use Rattle.tn_cli.specs.declared.fault.CliFault.{CliFault}
 use Rattle.tn_cli.specs.declared.fault.CliFault.TheVariants as fault
-use Rattle.tn_loopback.specs.Ends.{EndsWhole, RunsClient, ServesAll}
-use Rattle.tn_loopback.specs.declared.fault.LoopbackFault.{LoopbackFault}
-use Rattle.tn_loopback.specs.declared.fault.LoopbackFault.TheVariants as connection
+use Rattle.tn_connect.specs.Clients.{RunsClient}
+use Rattle.tn_connect.specs.declared.fault.ConnectFault.{ConnectFault}
+use Rattle.tn_connect.specs.declared.fault.ConnectFault.TheVariants as connect
+use Rattle.tn_loopback.specs.Ends.{ServesAll}
+use Rattle.tn_loopback.specs.declared.fault.ServeFault.{ServeFault}
+use Rattle.tn_loopback.specs.declared.fault.ServeFault.TheVariants as serve
 use Rattle.tn_loopback.specs.declared.served.Served.{Served}
+use Rattle.tn_messages.specs.Ending.{EndsWhole}
 use Rattle.tn_program.specs.Statuses.{status_of}
 use Rattle.tn_program.specs.declared.outcome.Outcome.{Outcome}
 use Rattle.tn_program.specs.declared.outcome.Outcome.TheVariants as outcome
@@ -24,20 +28,18 @@ use Rattle.tn_words.specs.declared.words.Asked.TheVariants as asked
 use Rattle.tn_words.specs.declared.words.WordsFault.TheVariants as words_fault
 
 -- What came of serving.
-pub record EndsServing (serving : Serving) (ended : Result Served LoopbackFault)
+pub record EndsServing (serving : Serving) (ended : Result Served ServeFault)
     (old new : Option (List ℕ)) : Type 0 where
   pub all : IfOk ended (ServesAll serving.count)
-  pub limit : IsErrOf ended connection.Limit → ¬ IsLimit serving.sessions
-  pub no_session : ended ≢ Err connection.Session
+  pub limit : IsErrOf ended serve.Limit → ¬ IsLimit serving.sessions
   pub unwritten : new ≡ old
 
 -- What came of connecting.
-pub record EndsConnecting (connecting : Connecting) (ended : Result (Report × ClientPorts) LoopbackFault)
+pub record EndsConnecting (connecting : Connecting) (ended : Result (Report × ClientPorts) ConnectFault)
     (input : KnownReader) (old new : Option (List ℕ)) : Type 0 where
   pub ran : IfOk ended (λ r. RunsClient (window_as connecting) input old new r.0 r.1)
-  pub whole : IfOk ended (λ r. EndsWhole r.0)
-  pub unwritten : OnErr ended (ended ≢ Err connection.Session → new ≡ old)
-  pub no_limit : ended ≢ Err connection.Limit
+  pub whole : IfOk ended (λ r. EndsWhole r.0.ended)
+  pub unwritten : OnErr ended (ended ≢ Err connect.Session → new ≡ old)
 
 -- What came of writing the help.
 pub record EndsHelp (ended : Result ⊤ CliFault) (old new : Option (List ℕ)) : Type 0 where
@@ -60,6 +62,8 @@ ComesOfRun a input old new (outcome.Served ended) =
 ComesOfRun a input old new (outcome.Connected ended) =
     (connecting : Connecting) × (a ≡ asked.Connect connecting)
     × EndsConnecting connecting ended input old new
+ComesOfRun a input old new outcome.Untraced =
+    (connecting : Connecting) × (a ≡ asked.Connect connecting) × (connecting.trace ≢ None) × (new ≡ old)
 ComesOfRun a input old new (outcome.Help ended) = ⊥
 ComesOfRun a input old new (outcome.Version ended) = ⊥
 ComesOfRun a input old new (outcome.Usage detail) = ⊥
@@ -79,6 +83,7 @@ ComesOfNoRun words old new (outcome.Decode ended) = ⊥
 ComesOfNoRun words old new (outcome.World ended) = ⊥
 ComesOfNoRun words old new (outcome.Served ended) = ⊥
 ComesOfNoRun words old new (outcome.Connected ended) = ⊥
+ComesOfNoRun words old new outcome.Untraced = ⊥
 
 -- this came of the words: the run that they ask for, or none
 abbrev pub ComesOf : List (List ℕ) → KnownReader → Option (List ℕ) → Option (List ℕ) → Outcome → Type 0

@@ -5,8 +5,10 @@ use Rattle.tn_cli.specs.Decode.{Decodes}
 use Rattle.tn_cli.specs.Playing.{PlaysScript}
 use Rattle.tn_cli.specs.Replay.{Replays}
 use Rattle.tn_cli.specs.Typing.{PrintsKeys}
-use Rattle.tn_loopback.specs.Ends.{EndsWhole, RunsClient, ServesAll}
+use Rattle.tn_connect.specs.Clients.{RunsClient}
+use Rattle.tn_loopback.specs.Ends.{ServesAll}
 use Rattle.tn_loopback.specs.declared.served.Served.{Served}
+use Rattle.tn_messages.specs.Ending.{EndsWhole}
 use Rattle.tn_program.specs.Settings.{window_as}
 use Rattle.tn_session.specs.declared.parties.ClientPorts.{ClientPorts}
 use Rattle.tn_session.specs.declared.parties.Report.{Report}
@@ -26,7 +28,7 @@ RunsAsked World input old new = IfSome input.bytes (λ script. PlaysScript scrip
 RunsAsked (Serve serving) input old new = (served : Served) × ServesAll serving.count served × (new ≡ old)
 RunsAsked (Connect connecting) input old new =
     (report : Report) × (ports : ClientPorts)
-    × RunsClient (window_as connecting) input old new report ports × EndsWhole report
+    × RunsClient (window_as connecting) input old new report ports × EndsWhole report.ended
 
 -- the run that the words ask for, or some text where they ask for help, or the version
 abbrev pub DoesAsAsked : List (List ℕ) → KnownReader → Option (List ℕ) → Option (List ℕ) → Type 0

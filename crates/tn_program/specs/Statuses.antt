@@ -1,22 +1,32 @@
 -- The status of a process, by what came of its words.
 use Rattle.std.specs.Prelude.{ℕ, Result, Ok, Err}
 use Rattle.tn_cli.specs.Faults.{status_after}
-use Rattle.tn_loopback.specs.declared.fault.LoopbackFault.{LoopbackFault}
-use Rattle.tn_loopback.specs.declared.fault.LoopbackFault.TheVariants.{Network, Session, Limit, Memory, Trace}
+use Rattle.tn_connect.specs.declared.fault.ConnectFault.{ConnectFault}
+use Rattle.tn_connect.specs.declared.fault.ConnectFault.TheVariants as connect
+use Rattle.tn_loopback.specs.declared.fault.ServeFault.{ServeFault}
+use Rattle.tn_loopback.specs.declared.fault.ServeFault.TheVariants as serve
 use Rattle.tn_program.specs.declared.outcome.Outcome.{Outcome}
 use Rattle.tn_program.specs.declared.outcome.Outcome.TheVariants as outcome
 
-abbrev pub status_of_connection : LoopbackFault → ℕ
-status_of_connection Network = 1
-status_of_connection Memory = 1
-status_of_connection Trace = 1
-status_of_connection Limit = 2
-status_of_connection Session = 3
+abbrev pub status_of_serving : ServeFault → ℕ
+status_of_serving serve.Network = 1
+status_of_serving serve.Memory = 1
+status_of_serving serve.Limit = 2
 
--- the status after sessions over connections
-abbrev pub status_after_sessions : {A : Type 0} → Result A LoopbackFault → ℕ
-status_after_sessions (Ok done) = 0
-status_after_sessions (Err fault) = status_of_connection fault
+abbrev pub status_of_connecting : ConnectFault → ℕ
+status_of_connecting connect.Network = 1
+status_of_connecting connect.Memory = 1
+status_of_connecting connect.Session = 3
+
+-- the status after a server's sessions
+abbrev pub status_after_serving : {A : Type 0} → Result A ServeFault → ℕ
+status_after_serving (Ok done) = 0
+status_after_serving (Err fault) = status_of_serving fault
+
+-- the status after a client's session
+abbrev pub status_after_connecting : {A : Type 0} → Result A ConnectFault → ℕ
+status_after_connecting (Ok done) = 0
+status_after_connecting (Err fault) = status_of_connecting fault
 
 -- 0 where what was asked for was done, and else the status of the fault that met it
 abbrev pub status_of : Outcome → ℕ
@@ -24,8 +34,9 @@ status_of (outcome.Local ended) = status_after ended
 status_of (outcome.Replay ended) = status_after ended
 status_of (outcome.Decode ended) = status_after ended
 status_of (outcome.World ended) = status_after ended
-status_of (outcome.Served ended) = status_after_sessions ended
-status_of (outcome.Connected ended) = status_after_sessions ended
+status_of (outcome.Served ended) = status_after_serving ended
+status_of (outcome.Connected ended) = status_after_connecting ended
+status_of outcome.Untraced = 1
 status_of (outcome.Help ended) = status_after ended
 status_of (outcome.Version ended) = status_after ended
 status_of (outcome.Usage detail) = 2

@@ -9,15 +9,16 @@
 //! It does not set a terminal to raw mode: whoever starts it does.
 #![tactic(auto)]
 
-pub use gateway::{Dial, Heard, Joiner, Joining, Told};
 pub use outcome::Outcome;
 pub use program::{outcome_of_words, run_words};
 pub use seat::Seat;
+pub use serving::Joining;
 pub use settings::Answering;
-pub use tn_loopback::{Link, Origin, Screen};
+pub use tn_connect::{Link, Origin, Screen};
+pub use tn_gateway::Dial;
 
-mod gateway;
 mod outcome;
 mod program;
 mod seat;
+mod serving;
 mod settings;

@@ -2,12 +2,13 @@
 
 ghost use Rattle.std.specs.Prelude.{◌≡◌};
 ghost use Rattle.tn_cli.specs.Faults.{status_after};
-ghost use Rattle.tn_program.specs.Statuses.{status_after_sessions, status_of};
+ghost use Rattle.tn_program.specs.Statuses.{status_after_connecting, status_after_serving, status_of};
 
 use std::fmt::Display;
 use std::io::Write;
 use tn_cli::CliFault;
-use tn_loopback::{LoopbackFault, Served};
+use tn_connect::ConnectFault;
+use tn_loopback::{ServeFault, Served};
 use tn_session::{ClientPorts, Report};
 
 /// The status of a process whose words were not accepted.
@@ -24,8 +25,10 @@ pub enum Outcome {
     Replay(Result<(), CliFault>),
     Decode(Result<(), CliFault>),
     World(Result<(), CliFault>),
-    Served(Result<Served, LoopbackFault>),
-    Connected(Result<(Report, ClientPorts), LoopbackFault>),
+    Served(Result<Served, ServeFault>),
+    Connected(Result<(Report, ClientPorts), ConnectFault>),
+    /// They ask for a connection with a trace, whose file could not be made; none was made.
+    Untraced,
     /// They ask for help; it was written, or that failed.
     Help(Result<(), CliFault>),
     /// They ask for the version; it was written, or that failed.
@@ -46,8 +49,9 @@ impl Outcome {
             Outcome::Replay(ended) => after_run(ended),
             Outcome::Decode(ended) => after_run(ended),
             Outcome::World(ended) => after_run(ended),
-            Outcome::Served(ended) => after_sessions(ended),
-            Outcome::Connected(ended) => after_sessions(ended),
+            Outcome::Served(ended) => after_serving(ended),
+            Outcome::Connected(ended) => after_connecting(ended),
+            Outcome::Untraced => CliFault::Write.status(),
             Outcome::Help(ended) => after_run(ended),
             Outcome::Version(ended) => after_run(ended),
             Outcome::Usage(_) => USAGE,
@@ -65,6 +69,7 @@ impl Outcome {
             Outcome::World(Err(fault)) => tell(errors, fault),
             Outcome::Served(Err(fault)) => tell(errors, fault),
             Outcome::Connected(Err(fault)) => tell(errors, fault),
+            Outcome::Untraced => tell(errors, &CliFault::Write),
             Outcome::Help(Err(fault)) => tell(errors, fault),
             Outcome::Version(Err(fault)) => tell(errors, fault),
             Outcome::Usage(Some(detail)) => tell_usage(errors, detail.as_str()),
@@ -84,16 +89,23 @@ fn after_run(ended: &Result<(), CliFault>) -> u8
     }
 }
 
-fn after_sessions<T>(ended: &Result<T, LoopbackFault>) -> u8
-    ensures { result ≡ status_after_sessions ended.now }
+fn after_serving(ended: &Result<Served, ServeFault>) -> u8
+    ensures { result ≡ status_after_serving ended.now }
 {
     match ended {
         Ok(_) => 0,
-        Err(LoopbackFault::Network) => 1,
-        Err(LoopbackFault::Memory) => 1,
-        Err(LoopbackFault::Trace) => 1,
-        Err(LoopbackFault::Limit) => 2,
-        Err(LoopbackFault::Session) => 3,
+        Err(ServeFault::Network | ServeFault::Memory) => 1,
+        Err(ServeFault::Limit) => 2,
+    }
+}
+
+fn after_connecting<T>(ended: &Result<T, ConnectFault>) -> u8
+    ensures { result ≡ status_after_connecting ended.now }
+{
+    match ended {
+        Ok(_) => 0,
+        Err(ConnectFault::Network | ConnectFault::Memory) => 1,
+        Err(ConnectFault::Session) => 3,
     }
 }
 

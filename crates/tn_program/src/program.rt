@@ -2,13 +2,13 @@
 
 ghost use Rattle.std.specs.Prelude.{◌≡◌, ◌≢◌, ◌⊎◌, None, IfErr, IfOk, IsOk, OnErr, map, string_bytes};
 ghost use Rattle.std.specs.IoError.{error_kind};
-ghost use Rattle.tn_loopback.specs.Ends.{foreseen};
+ghost use Rattle.tn_connect.specs.Clients.{foreseen};
 ghost use Rattle.tn_program.specs.Outcomes.{ComesOf, ComesOfRun, EndsVersion, EndsWith, AskForNothing};
 ghost use Rattle.tn_program.specs.Runs.{DoesAsAsked};
 
-use crate::gateway::{Dial, serve_asked};
 use crate::outcome::Outcome;
 use crate::seat::Seat;
+use crate::serving::serve_asked;
 use crate::settings::connecting_of;
 use std::alloc::{AllocError, Global};
 use std::fs::{File, Files};
@@ -16,7 +16,8 @@ use std::io;
 use std::io::{ErrorKind, Read, Write};
 use std::net::{Net, TcpListener, TcpStream};
 use tn_cli::{CliFault, run_decode, run_local, run_replay, run_world};
-use tn_loopback::{Host, LoopbackFault, Notes, connect};
+use tn_connect::{Host, Notes, connect};
+use tn_gateway::Dial;
 use tn_words::{Asked, Connecting, VERSION_LINE, WordsFault, read_words};
 
 /// Runs what the words of the command line ask for, where they could be read. The program's name is the
@@ -214,7 +215,7 @@ fn run_connect<
         (W.contents writer.old) (W.contents writer.new) result }
 {
     let Ok(trace) = open_trace(&rt, &asked, causes) else {
-        return Outcome::Connected(Err(LoopbackFault::Trace));
+        return Outcome::Untraced;
     };
     let Seat {
         origin,
@@ -238,7 +239,9 @@ fn open_trace<H: Files<File = File>>(
     rt: &H,
     asked: &Connecting,
     causes: &mut Vec<u8>,
-) -> io::Result<Option<File>> {
+) -> io::Result<Option<File>>
+    ensures { OnErr result (asked.now.trace ≢ None) }
+{
     let Some(path) = &asked.trace else {
         return Ok(None);
     };

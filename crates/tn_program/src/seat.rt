@@ -1,13 +1,13 @@
 //! Where a reader's bytes come from, and whom they are for.
 
-ghost use Rattle.tn_loopback.specs.Ends.{foreseen};
+ghost use Rattle.tn_connect.specs.Clients.{foreseen};
 
 use std::alloc::Global;
 use std::fs::File;
 use std::io;
 use std::io::Read;
 use std::sync::Arc;
-use tn_loopback::{Link, Origin};
+use tn_connect::{Link, Origin};
 
 /// A reader, where its bytes come from, what tells the sizes of the window in which they are typed, and the
 /// connection that they are for, as the screen has it.

@@ -1,12 +1,13 @@
 //! What was asked for, as sessions over connections take it.
 
 ghost use Rattle.std.specs.Prelude.{◌≡◌};
-ghost use Rattle.tn_loopback.specs.Ends.{window_of};
+ghost use Rattle.tn_connect.specs.Clients.{window_of};
 ghost use Rattle.tn_program.specs.Settings.{editing_as, escape_as, window_as};
 
 use std::alloc::{AllocError, Global};
 use tn_answerer::{Answerer, Answerers};
-use tn_loopback::{Call, Connecting, Origin, Service, SessionOptions};
+use tn_connect::{Connecting, Origin};
+use tn_loopback::{Call, Service, SessionOptions};
 use tn_server::Editing;
 use tn_words::Escape;
 

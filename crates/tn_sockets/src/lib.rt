@@ -1,5 +1,5 @@
-//! What a session over a connection reads and writes: both sides of the connection, the terminal and its
-//! window, a screen, and a trace of what passes.
+//! What a session over a connection needs besides its threads: both sides of the connection, the terminal and its
+//! window, a screen, a trace of what passes, and how a job hangs up.
 //!
 //! ```
 //! let (reader, writer) = Connection::split(stream)?;
@@ -14,6 +14,8 @@
 pub use attended::{Attended, Standing};
 pub use connection::Connection;
 pub use console::Console;
+pub use hook::Hook;
+pub use host::Host;
 pub use incoming::Incoming;
 pub use keys::{Keys, Typing};
 pub use link::Link;
@@ -25,6 +27,8 @@ pub use trace::Trace;
 mod attended;
 mod connection;
 mod console;
+mod hook;
+mod host;
 mod incoming;
 mod keys;
 mod link;

@@ -7,8 +7,8 @@ use std::sync::Arc;
 use std::test::Fail;
 use std::thread;
 use std::thread::JoinHandle;
+use tn_connect::{ConnectFault, Connecting, Host, Link, Notes, Origin, Screen, connect};
 use tn_discipline::Limit;
-use tn_loopback::{Connecting, Host, Link, LoopbackFault, Notes, Origin, Screen, connect};
 
 /// A screen that takes nothing.
 #[derive(Drop)]
@@ -29,7 +29,7 @@ fn fault_of<H>(
     rt: H,
     alloc: Global,
     port: u16,
-) -> Result<(Option<LoopbackFault>, Vec<u8>), AllocError>
+) -> Result<(Option<ConnectFault>, Vec<u8>), AllocError>
 where
     H: Host + Net<Listener = TcpListener, Stream = TcpStream>,
 {
@@ -64,7 +64,7 @@ fn a_port_where_nobody_listens_is_told(rt: HostRuntime) -> Result<(), Fail> {
     let port = listener.local_addr()?.port();
     drop(listener);
     let (fault, causes) = fault_of(rt, rt.alloc(), port)?;
-    assert!(rt; fault == Some(LoopbackFault::Network));
+    assert!(rt; fault == Some(ConnectFault::Network));
     assert!(rt; causes.as_slice().starts_with(b"tn: 127.0.0.1:"));
     Ok(())
 }
@@ -99,7 +99,7 @@ fn a_dead_screen_ends_a_session(rt: HostRuntime) -> Result<(), Fail> {
     let port = listener.local_addr()?.port();
     let server = send_text(&rt, listener)?;
     let (fault, causes) = fault_of(rt, rt.alloc(), port)?;
-    assert!(rt; fault == Some(LoopbackFault::Session));
+    assert!(rt; fault == Some(ConnectFault::Session));
     assert!(rt; causes.as_slice().starts_with(b"tn: the screen"));
     assert!(rt; server.join(&rt));
     Ok(())

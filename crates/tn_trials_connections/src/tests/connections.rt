@@ -11,11 +11,9 @@ use std::test::Fail;
 use std::thread::JoinHandle;
 use std::{io, thread};
 use tn_answerer::Answerers;
+use tn_connect::{ConnectFault, Connecting, Link, Notes, Origin, connect};
 use tn_discipline::Limit;
-use tn_loopback::{
-    Connecting, Host, Link, LoopbackFault, Notes, Origin, Serving, SessionOptions, connect,
-    serve_connection, serve_on,
-};
+use tn_loopback::{Host, Serving, SessionOptions, serve_connection, serve_on};
 use tn_program::Answering;
 use tn_roster::{Roster, RosterFault, note};
 use tn_server::Editing;
@@ -94,7 +92,7 @@ fn connect_here<H, K>(
     port: u16,
     keys: K,
     screen: &mut Vec<u8>,
-) -> Result<(), LoopbackFault>
+) -> Result<(), ConnectFault>
 where
     H: Host + Net<Listener = TcpListener, Stream = TcpStream>,
     K: Read + Drop + Send + 'static,

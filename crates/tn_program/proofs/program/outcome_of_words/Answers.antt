@@ -1,5 +1,5 @@
 use Rattle.std.proofs.Common.{map, string_bytes, subst}
-use Rattle.tn_loopback.specs.Ends.{foreseen}
+use Rattle.tn_connect.specs.Clients.{foreseen}
 use Rattle.tn_program.specs.Outcomes.{ComesOf}
 use Rattle.tn_program.proofs.program.outcome_of_words.Goals as goal
 

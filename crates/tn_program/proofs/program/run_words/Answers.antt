@@ -1,5 +1,5 @@
 use Rattle.std.proofs.Common.{map, string_bytes, sym, ◌∙◌}
-use Rattle.tn_loopback.specs.Ends.{foreseen}
+use Rattle.tn_connect.specs.Clients.{foreseen}
 use Rattle.tn_program.proofs.Coming.{if_ok, does}
 use Rattle.tn_program.proofs.program.run_words.Goals as goal
 

@@ -1,20 +1,18 @@
-//! `tn serve`: its own job, or a line service that each session is joined to.
+//! A connection to a line service, for the jobs of one session.
 
-ghost use Rattle.std.specs.Prelude.{◌≢◌, Err, IfOk, IsErrOf};
 ghost use Rattle.std.specs.Io.{ReadsAtMost, WritesAtMost};
-ghost use Rattle.tn_loopback.specs.Ends.{ServesAll};
-ghost use Rattle.tn_roster.specs.Held.{IsLimit};
 
-use crate::settings::{Answering, options_of};
+use crate::joining::Gateway;
+use crate::line_ends::LineEnd;
+use crate::makers::Gateways;
 use std::alloc::{AllocError, Global};
 use std::io;
 use std::io::{ErrorKind, Read, Write};
 use std::net::{Net, Shutdown, TcpListener, TcpStream};
 use std::sync::Wait;
 use std::time::Duration;
-use tn_gateway::{Gateway, Gateways, LineEnd};
-use tn_loopback::{Call, Hook, Host, LoopbackFault, Served, Service, Serving, serve};
 use tn_session::{Finish, Maker};
+use tn_sockets::Hook;
 
 /// How many milliseconds a read or a write waits before it looks whether its session is over.
 const LOOK: u64 = 250;
@@ -43,71 +41,6 @@ impl<H: Net<Listener = TcpListener, Stream = TcpStream>> Dial for H {
     }
 }
 
-/// Serves as was asked for.
-pub(crate) fn serve_asked<H, E>(
-    rt: H,
-    alloc: Global,
-    asked: &tn_words::Serving,
-    errors: &mut E,
-) -> Result<Served, LoopbackFault>
-where
-    H: Dial + Host + Net<Listener = TcpListener, Stream = TcpStream>,
-    E: Write,
-    ensures all { IfOk result (ServesAll asked.now.count) }
-    ensures limit { IsErrOf result LoopbackFault.Limit → ¬ IsLimit asked.now.sessions }
-    ensures no_session { result ≢ Err LoopbackFault.Session }
-{
-    let serving = Serving {
-        sessions: asked.sessions,
-        count: asked.count,
-        options: options_of(asked),
-        verbose: asked.verbose,
-    };
-    let (host, port) = (asked.host.as_str(), asked.port);
-    let Some(to) = &asked.to else {
-        let service = Answering { ticks: asked.ticks };
-        return serve(rt, alloc, host, port, serving, service, errors);
-    };
-    let line_end = if asked.crlf {
-        LineEnd::CrLf
-    } else {
-        LineEnd::Lf
-    };
-    let service = Joining {
-        rt,
-        host: String::from_str(alloc, to.host.as_str())?,
-        port: to.port,
-        line_end,
-    };
-    serve(rt, alloc, host, port, serving, service, errors)
-}
-
-/// Joins each session to the line service at this host and port.
-#[derive(Drop)]
-pub struct Joining<H> {
-    pub rt: H,
-    pub host: String,
-    pub port: u16,
-    pub line_end: LineEnd,
-}
-
-impl<H: Dial + Host> Service for Joining<H> {
-    type Job = Gateway<Heard<H>, Told<H>>;
-
-    type Jobs = Joiner<H>;
-
-    fn session(&mut self, alloc: Global, call: Call) -> Result<Joiner<H>, AllocError> {
-        Ok(Joiner {
-            rt: self.rt,
-            host: String::from_str(alloc, self.host.as_str())?,
-            port: self.port,
-            line_end: self.line_end,
-            hook: Some(call.hook),
-            jobs: None,
-        })
-    }
-}
-
 /// Makes the jobs of one session that is joined to a line service: it connects to it for the first of them.
 #[derive(Drop)]
 pub struct Joiner<H> {
@@ -117,6 +50,20 @@ pub struct Joiner<H> {
     line_end: LineEnd,
     hook: Option<Hook>,
     jobs: Option<Gateways<Heard<H>, Told<H>>>,
+}
+
+impl<H> Joiner<H> {
+    /// Jobs that are joined to the service at this host and port, and end the connection of this hook with it.
+    pub fn new(rt: H, host: String, port: u16, line_end: LineEnd, hook: Hook) -> Joiner<H> {
+        Joiner {
+            rt,
+            host,
+            port,
+            line_end,
+            hook: Some(hook),
+            jobs: None,
+        }
+    }
 }
 
 impl<H: Copy + Dial + Wait> Joiner<H> {

@@ -1,19 +1,8 @@
-//! A connection that comes to a server, and how the jobs of its session end it.
+//! How the jobs of a session end its connection.
 
+use crate::attended::Standing;
 use std::alloc::{AllocError, Global};
-use std::net::SocketAddr;
 use std::sync::Arc;
-use tn_sockets::Standing;
-
-/// A connection that is to have a session.
-#[derive(Drop)]
-pub struct Call {
-    /// The session's number, from 0 on. Another session gets it once this one has ended.
-    pub number: usize,
-    /// Who it is with.
-    pub peer: SocketAddr,
-    pub hook: Hook,
-}
 
 /// How a job ends the connection of its session from outside of the session, and learns that it is over. A
 /// job in the background has no other way: its end ends no session.
@@ -23,7 +12,8 @@ pub struct Hook {
 }
 
 impl Hook {
-    pub(crate) fn new(standing: &Arc<Standing, Global>) -> Result<Hook, AllocError> {
+    /// A hook of the connection that stands so.
+    pub fn new(standing: &Arc<Standing, Global>) -> Result<Hook, AllocError> {
         Ok(Hook {
             standing: Arc::try_clone(standing)?,
         })

@@ -1,13 +1,12 @@
 //! `tn connect`: a client's session over a connection.
 
 ghost use Rattle.std.specs.Prelude.{◌≡◌, ◌≢◌, Ok, Err, IfOk, IfErr, OnErr};
-ghost use Rattle.tn_loopback.specs.Ends.{EndsWhole, RunsClient, foreseen, window_of};
-ghost use Rattle.tn_loopback.specs.Faults.{IsOfNetwork};
+ghost use Rattle.tn_connect.specs.Clients.{RunsClient, foreseen, window_of};
+ghost use Rattle.tn_connect.specs.Faults.{IsOfNetwork};
+ghost use Rattle.tn_messages.specs.Ending.{EndsWhole};
 ghost use Rattle.tn_streams.specs.Known.{known_reader};
 
-use crate::fault::LoopbackFault;
-use crate::finished::ends_whole;
-use crate::host::Host;
+use crate::fault::ConnectFault;
 use crate::reaching::reach;
 use crate::settings::{Connecting, Notes, Origin};
 use std::alloc::Global;
@@ -18,8 +17,8 @@ use std::sync::Arc;
 use std::{io, thread};
 use tn_session::{ClientPorts, Ended, Finish, Report, SessionFault, Unwatched, client_session};
 use tn_sockets::{
-    Connection, Console, Incoming, Keys, Link, Outgoing, Sending, Sizes, Throttle, Trace, Typing,
-    queue_for,
+    Connection, Console, Host, Incoming, Keys, Link, Outgoing, Sending, Sizes, Throttle, Trace,
+    Typing, queue_for,
 };
 use tn_streams::Source;
 
@@ -47,7 +46,7 @@ fn wire<H: Host>(
     link: &Arc<Link, Global>,
     trace: &Trace<H>,
     origin: Origin,
-) -> Result<(Wires<H>, Throttle<H>), LoopbackFault>
+) -> Result<(Wires<H>, Throttle<H>), ConnectFault>
     ensures { IfErr result IsOfNetwork }
 {
     let (reader, writer) = Connection::split(stream)?;
@@ -128,7 +127,7 @@ fn talk_and_send<H: Host, K: Read + Drop + Send + 'static, S: Write>(
     typing: Typing<H, K>,
     screen: &mut S,
     connecting: Connecting,
-) -> Result<Talked, LoopbackFault>
+) -> Result<Talked, ConnectFault>
     ensures ran { IfOk result (λ talked. IfOk talked.ended (λ r.
         RunsClient (window_of connecting) (foreseen connecting.origin (K.remaining typing.keys))
         (S.contents screen.old) (S.contents screen.new) r.0 r.1)) }
@@ -141,7 +140,7 @@ fn talk_and_send<H: Host, K: Read + Drop + Send + 'static, S: Write>(
         sending,
     } = wires;
     let Ok(sending) = thread::spawn(&rt, move || -> io::Result<()> { sending.run() }) else {
-        return Err(LoopbackFault::Memory);
+        return Err(ConnectFault::Memory);
     };
     let ended = talk_from(
         rt,
@@ -178,14 +177,13 @@ pub fn connect<
     keys: K,
     screen: &mut S,
     notes: Notes<'_>,
-) -> Result<(Report, ClientPorts), LoopbackFault>
+) -> Result<(Report, ClientPorts), ConnectFault>
     ensures ran { IfOk result (λ r.
         RunsClient (window_of connecting) (foreseen connecting.origin (K.remaining keys))
         (S.contents screen.old) (S.contents screen.new) r.0 r.1) }
-    ensures whole { IfOk result (λ r. EndsWhole r.0) }
-    ensures unshown { OnErr result (result ≢ Err LoopbackFault.Session →
+    ensures whole { IfOk result (λ r. EndsWhole r.0.ended) }
+    ensures unshown { OnErr result (result ≢ Err ConnectFault.Session →
         S.contents screen.new ≡ S.contents screen.old) }
-    ensures no_limit { result ≢ Err LoopbackFault.Limit }
 {
     let Notes {
         trace,
@@ -223,15 +221,15 @@ fn note_talked(causes: &mut Vec<u8>, talked: &Talked, link: &Link) {
 }
 
 // The result of a session that is over. Where its sending failed it is a fault, unless its user has left.
-fn result_of(talked: Talked, is_left: bool) -> Result<(Report, ClientPorts), LoopbackFault>
+fn result_of(talked: Talked, is_left: bool) -> Result<(Report, ClientPorts), ConnectFault>
     ensures ran { IfOk result (λ r. talked.ended ≡ Ok r) }
-    ensures whole { IfOk result (λ r. EndsWhole r.0) }
-    ensures fault { IfErr result (λ fault. fault ≡ LoopbackFault.Session) }
+    ensures whole { IfOk result (λ r. EndsWhole r.0.ended) }
+    ensures fault { IfErr result (λ fault. fault ≡ ConnectFault.Session) }
 {
     let Talked { ended, sent, .. } = talked;
     let ended = if_whole(ended)?;
     if sent.is_err() && !is_left {
-        return Err(LoopbackFault::Session);
+        return Err(ConnectFault::Session);
     }
     Ok(ended)
 }
@@ -272,17 +270,17 @@ fn note_unsent(causes: &mut Vec<u8>, sent: &io::Result<()>, waiting: usize) {
 }
 
 // The result of a session that ended without a fault.
-fn if_whole<P: Drop>(ended: Result<(Report, P), SessionFault>) -> Result<(Report, P), LoopbackFault>
+fn if_whole<P: Drop>(ended: Result<(Report, P), SessionFault>) -> Result<(Report, P), ConnectFault>
     ensures ran { IfOk result (λ r. ended ≡ Ok r) }
-    ensures whole { IfOk result (λ r. EndsWhole r.0) }
-    ensures faulted { OnErr result (IfOk ended (λ r. ¬ EndsWhole r.0)) }
-    ensures fault { IfErr result (λ fault. fault ≡ LoopbackFault.Session) }
+    ensures whole { IfOk result (λ r. EndsWhole r.0.ended) }
+    ensures faulted { OnErr result (IfOk ended (λ r. ¬ EndsWhole r.0.ended)) }
+    ensures fault { IfErr result (λ fault. fault ≡ ConnectFault.Session) }
 {
     let Ok((report, ports)) = ended else {
-        return Err(LoopbackFault::Session);
+        return Err(ConnectFault::Session);
     };
-    if ends_whole(&report) {
+    if report.ended.is_whole() {
         return Ok((report, ports));
     }
-    Err(LoopbackFault::Session)
+    Err(ConnectFault::Session)
 }

@@ -1,9 +1,9 @@
 //! Reaching a host.
 
 ghost use Rattle.std.specs.Prelude.{IfErr};
-ghost use Rattle.tn_loopback.specs.Faults.{IsOfNetwork};
+ghost use Rattle.tn_connect.specs.Faults.{IsOfNetwork};
 
-use crate::fault::LoopbackFault;
+use crate::fault::ConnectFault;
 use std::io::Write;
 use std::net::{Net, TcpListener, TcpStream, ToSocketAddrs};
 
@@ -14,14 +14,14 @@ pub(crate) fn reach<H: Net<Listener = TcpListener, Stream = TcpStream>>(
     host: &str,
     port: u16,
     causes: &mut Vec<u8>,
-) -> Result<TcpStream, LoopbackFault>
+) -> Result<TcpStream, ConnectFault>
     ensures { IfErr result IsOfNetwork }
 {
     let addresses = match (host, port).to_socket_addrs(rt) {
         Ok(addresses) => addresses,
         Err(error) => {
             let _ = writeln!(causes, "tn: {}: {}", host, error);
-            return Err(LoopbackFault::from(error));
+            return Err(ConnectFault::from(error));
         },
     };
     let mut last = None;
@@ -38,7 +38,7 @@ pub(crate) fn reach<H: Net<Listener = TcpListener, Stream = TcpStream>>(
         }
     }
     match last {
-        Some(error) => Err(LoopbackFault::from(error)),
-        None => Err(LoopbackFault::Network),
+        Some(error) => Err(ConnectFault::from(error)),
+        None => Err(ConnectFault::Network),
     }
 }

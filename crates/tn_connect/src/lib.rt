@@ -1,0 +1,19 @@
+//! A client's session over a connection, in threads of its own.
+//!
+//! ```
+//! let ended = connect(rt, alloc, "host", connecting, keys, &mut screen, notes)?;
+//! ```
+//!
+//! Nothing is proved about what a connection carries: the session is proved for whatever its readers give, and
+//! this crate only starts and joins its threads. It sends no password and encrypts nothing.
+#![tactic(auto)]
+
+pub use connecting::connect;
+pub use fault::ConnectFault;
+pub use settings::{Connecting, Notes, Origin};
+pub use tn_sockets::{Host, Link, Screen};
+
+mod connecting;
+mod fault;
+mod reaching;
+mod settings;
