@@ -15,8 +15,8 @@ use tn_c_parts::Code;
 /// One word that C has: null where nothing is held, and else the address of a box of what is held. In C it is
 /// `tn_handle`, which begins as `{0}`.
 ///
-/// It has no `Drop`, so that code that lets one go does not compile: what is held is taken out of it as a box,
-/// and a handle that is left over is taken apart.
+/// It has no `Drop`, so that code that lets one go does not compile: what is held is taken out of it as a
+/// box, and a handle that is left over is taken apart.
 #[repr(C)]
 pub struct Handle {
     at: *mut (),

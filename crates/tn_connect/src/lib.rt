@@ -4,8 +4,8 @@
 //! let ended = connect(rt, alloc, "host", connecting, keys, &mut screen, notes)?;
 //! ```
 //!
-//! Nothing is proved about what a connection carries: the session is proved for whatever its readers give, and
-//! this crate only starts and joins its threads. It sends no password and encrypts nothing.
+//! Nothing is proved about what a connection carries: the session is proved for whatever its readers give,
+//! and this crate only starts and joins its threads. It encrypts nothing.
 #![tactic(auto)]
 
 pub use connecting::connect;

@@ -53,7 +53,7 @@ pub struct Joiner<H> {
 }
 
 impl<H> Joiner<H> {
-    /// Jobs that are joined to the service at this host and port, and end the connection of this hook with it.
+    /// Jobs that are joined to the service at this host and port, and hang up by this hook where it ends.
     pub fn new(rt: H, host: String, port: u16, line_end: LineEnd, hook: Hook) -> Joiner<H> {
         Joiner {
             rt,

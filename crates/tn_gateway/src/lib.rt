@@ -3,12 +3,12 @@
 //!
 //! ```
 //! let jobs = Gateways::new(reader, writer, LineEnd::Lf); // both halves of a connection, or any others
-//! let jobs = Joiner::new(rt, host, port, LineEnd::Lf, hook); // the same, of a connection that is made for the first job
+//! let jobs = Joiner::new(rt, host, port, LineEnd::Lf, hook); // of a connection made for the first job
 //! ```
 //!
-//! It waits for nobody but its reader and its writer. A session ends its jobs; the end of the service ends the
-//! job in the background alone, so that whoever owns the session's connection hangs up, as a `Joiner` does by
-//! its hook.
+//! It waits for nobody but its reader and its writer. A session ends its jobs; the end of the service ends
+//! the job in the background alone, so that whoever owns the session's connection hangs up, as a `Joiner`
+//! does by its hook.
 #![tactic(auto)]
 
 pub use dialing::{Dial, Heard, Joiner, Told};

@@ -1,4 +1,4 @@
--- An example that meets every premise of `LawOfRuns` and has an entry: one line, typed at the client and heard
+-- An example that meets every premise of `LawOfRuns` and has an entry: a line, typed at the client and heard
 -- at the server.
 use Rattle.std.specs.Prelude.{◌≡◌, ℕ, true, [], ◌∷◌}
 use Rattle.tn_client_core.specs.Marks as core

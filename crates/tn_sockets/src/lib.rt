@@ -1,5 +1,5 @@
-//! What a session over a connection needs besides its threads: both sides of the connection, the terminal and its
-//! window, a screen, a trace of what passes, and how a job hangs up.
+//! What a session over a connection needs besides its threads: both sides of the connection, the terminal
+//! and its window, a screen, a trace of what passes, and how a job hangs up.
 //!
 //! ```
 //! let (reader, writer) = Connection::split(stream)?;
