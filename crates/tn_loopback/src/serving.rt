@@ -1,6 +1,6 @@
 //! Each connection has a session in threads of its own.
 
-ghost use Rattle.std.specs.Prelude.{◌≡◌, ◌≢◌, ◌<◌, ◌≤◌, ◌+◌, ◌^◌, ◌-◌, IfOk, IsErrOf, Err};
+ghost use Rattle.std.specs.Prelude.{◌≡◌, ◌<◌, ◌≤◌, ◌+◌, ◌^◌, ◌-◌, true, IfOk, IsErrOf, vec_len};
 ghost use Rattle.tn_loopback.specs.Ends.{ServesAll};
 ghost use Rattle.tn_roster.specs.Held.{IsLimit};
 
@@ -139,7 +139,10 @@ impl<H: Host, V: Service> Open<H, V> {
         }
     }
 
-    fn is_done(&self) -> bool {
+    // Whether no more connections are to come, and each session has ended and is joined.
+    fn is_done(&self) -> bool
+        ensures { result ≡ true → vec_len self.now.running.started ≡ 0 }
+    {
         (self.is_broken || self.running.accepted >= self.serving.count) && self.running.is_empty()
     }
 
