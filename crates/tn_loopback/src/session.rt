@@ -1,5 +1,11 @@
 //! One session of a server over a connection.
 
+ghost use Rattle.std.specs.Prelude.{◌≡◌, ◌≢◌, IfOk, IfErr};
+ghost use Rattle.tn_loopback.specs.Servers.{RunsServer};
+ghost use Rattle.tn_session.specs.Facts.{job_facts};
+ghost use Rattle.tn_session.specs.Session.{IsRefusal};
+ghost use Rattle.tn_term.specs.Welcoming.{too_far_ahead};
+
 use crate::events::Event;
 use crate::finished::Finished;
 use crate::settings::SessionOptions;
@@ -54,7 +60,12 @@ where
     M: Maker + Drop,
     M::Job: Send + 'static,
 {
-    fn run(self) -> Finished {
+    fn run(self) -> Finished
+        ensures fault { IfErr result.report IsRefusal }
+        ensures ran { IfOk result.report (λ report.
+            RunsServer (job_facts M.Job.fresh M.Job.reacts M.Job.steps) (M.left self.jobs) self.options report) }
+        ensures in_reach { IfOk result.report (λ report. report.ended ≢ too_far_ahead) }
+    {
         match Arc::try_clone(&self.standing) {
             Ok(standing) => {
                 let report = self.converse();
@@ -68,7 +79,12 @@ where
         }
     }
 
-    fn converse(self) -> Result<Report, SessionFault> {
+    fn converse(self) -> Result<Report, SessionFault>
+        ensures fault { IfErr result IsRefusal }
+        ensures ran { IfOk result (λ report.
+            RunsServer (job_facts M.Job.fresh M.Job.reacts M.Job.steps) (M.left self.jobs) self.options report) }
+        ensures in_reach { IfOk result (λ report. report.ended ≢ too_far_ahead) }
+    {
         let Session {
             rt,
             alloc,
@@ -87,31 +103,41 @@ where
         let Ok(reader) = Attended::new(rt, stream, theirs, options.idle) else {
             return Err(SessionFault::Start);
         };
-        let Ok(gate) = Arc::new(alloc, Unwatched) else {
-            return Err(SessionFault::Memory);
-        };
-        let SessionOptions {
-            line_limit,
-            editing,
-            ..
-        } = options;
-        let settings = Settings::standard();
-        let (report, _ports) = serve_session(
-            rt,
-            alloc,
-            reader,
-            &mut writer,
-            settings,
-            line_limit,
-            editing,
-            jobs,
-            gate,
-        )?;
+        let report = talk(rt, alloc, reader, &mut writer, options, jobs)?;
         if standing.is_hung_up() {
             linger(rt, writer.into_stream(), standing);
         }
         Ok(report)
     }
+}
+
+// Runs a session with this reader and this writer, and a terminal with standard settings.
+fn talk<H, M>(
+    rt: H,
+    alloc: Global,
+    reader: Attended<H>,
+    writer: &mut Connection,
+    options: SessionOptions,
+    jobs: M,
+) -> Result<Report, SessionFault>
+where
+    H: Host,
+    M: Maker + Drop,
+    M::Job: Send + 'static,
+    ensures fault { IfErr result IsRefusal }
+    ensures ran { IfOk result (λ report.
+        RunsServer (job_facts M.Job.fresh M.Job.reacts M.Job.steps) (M.left jobs) options report) }
+    ensures in_reach { IfOk result (λ report. report.ended ≢ too_far_ahead) }
+{
+    let Ok(gate) = Arc::new(alloc, Unwatched) else {
+        return Err(SessionFault::Memory);
+    };
+    let settings = Settings::standard();
+    let (limit, editing) = (options.line_limit, options.editing);
+    let (report, _ports) = serve_session(
+        rt, alloc, reader, writer, settings, limit, editing, jobs, gate,
+    )?;
+    Ok(report)
 }
 
 // Reads what a peer still sends after it was told that no more comes, until it has closed or had its time to.
@@ -136,6 +162,10 @@ where
     H: Host,
     M: Maker + Drop,
     M::Job: Send + 'static,
+    ensures fault { IfErr result IsRefusal }
+    ensures ran { IfOk result (λ report.
+        RunsServer (job_facts M.Job.fresh M.Job.reacts M.Job.steps) (M.left jobs) options report) }
+    ensures in_reach { IfOk result (λ report. report.ended ≢ too_far_ahead) }
 {
     let Ok(standing) = Standing::new(alloc) else {
         return Err(SessionFault::Memory);
