@@ -1,10 +1,11 @@
 -- The jobs of a session that is joined to a service.
-use Rattle.std.specs.Prelude.{◌≡◌, ℕ, Option, Some, None, List}
+use Rattle.std.specs.Prelude.{◌≡◌, ℕ, ◌+◌, Option, Some, None, List}
 use Rattle.tn_discipline.specs.declared.reads.Entry.{Entry}
 use Rattle.tn_gateway.specs.Sending.{SendsEntry, silent}
 use Rattle.tn_gateway.specs.Showing.{Shows}
 use Rattle.tn_gateway.specs.declared.joining.Gateway.{Gateway}
 use Rattle.tn_gateway.specs.declared.joining.Gateway.TheVariants as side
+use Rattle.tn_gateway.specs.declared.makers.Gateways.{Gateways}
 use Rattle.tn_gateway.specs.declared.sending.Way.TheVariants.{Open}
 use Rattle.tn_jobs.specs.declared.reactions.Reaction.{Reaction}
 use Rattle.tn_jobs.specs.declared.verdicts.After.TheVariants.{Stay, Done}
@@ -17,6 +18,12 @@ use Rattle.tn_streams.specs.Telling.{Calls}
 abbrev pub count : {A : Type 0} → Option A → ℕ
 count None = 0
 count (Some x) = 1
+
+-- how many jobs are to come where they are made over a connection: both, until that was tried
+abbrev pub left_to_make : {R W A : Type 0} → Option A → Option (Gateways R W) → ℕ
+left_to_make (Some hook) jobs = 2
+left_to_make None (Some jobs) = count jobs.writer + count jobs.reader
+left_to_make None None = 0
 
 abbrev pub IsFresh : {R W : Type 0} → Gateway R W → Type 0
 IsFresh (side.Sends sending) = sending.way ≡ Open

@@ -1,6 +1,8 @@
 //! A connection to a line service, for the jobs of one session.
 
 ghost use Rattle.std.specs.Io.{ReadsAtMost, WritesAtMost};
+ghost use Rattle.std.specs.Prelude.{◌≡◌, ◌+◌, IfOk};
+ghost use Rattle.tn_gateway.specs.Joining.{count};
 
 use crate::joining::Gateway;
 use crate::line_ends::LineEnd;
@@ -67,7 +69,9 @@ impl<H> Joiner<H> {
 }
 
 impl<H: Copy + Dial + Wait> Joiner<H> {
-    fn join(&self, hook: Hook) -> Result<Gateways<Heard<H>, Told<H>>, AllocError> {
+    fn join(&self, hook: Hook) -> Result<Gateways<Heard<H>, Told<H>>, AllocError>
+        ensures { IfOk result (λ jobs. count jobs.writer + count jobs.reader ≡ 2) }
+    {
         let rt = self.rt;
         let (heard, told) = match rt.dial(self.host.as_str(), self.port) {
             Ok((heard, told)) => (Some(heard), Some(told)),
@@ -90,7 +94,12 @@ impl<H: Copy + Dial + Wait> Joiner<H> {
 }
 
 impl<H: Copy + Dial + Wait> Maker for Joiner<H> {
+    ghost use Rattle.std.specs.Prelude.{Some};
+    ghost use Rattle.tn_gateway.specs.Joining.{left_to_make};
+
     type Job = Gateway<Heard<H>, Told<H>>;
+
+    ghost left = { λ joiner. Some (left_to_make joiner.hook joiner.jobs) };
 
     fn next(&mut self, alloc: Global) -> Result<Option<Gateway<Heard<H>, Told<H>>>, AllocError> {
         if let Some(hook) = self.hook.take() {
