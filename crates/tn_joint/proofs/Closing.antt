@@ -11,7 +11,7 @@ use Rattle.tn_client_core.specs.declared.messages.Origin.{Origin}
 use Rattle.tn_client_core.specs.declared.messages.Origin.TheVariants.{Keys, Net}
 use Rattle.tn_client_core.specs.declared.messages.Told.{Told}
 use Rattle.tn_client_core.specs.declared.progress.Progress.{Progress}
-use Rattle.tn_joint.proofs.ClientTurns.{opens, sent_latest}
+use Rattle.tn_session.proofs.lemmas.ClientTurns.{opens, sent_latest}
 use Rattle.tn_session.specs.CoreTurns.{all_told}
 use Rattle.tn_session.specs.Mailbox.{from, mail}
 use Rattle.tn_session.specs.Reader.{Closes}

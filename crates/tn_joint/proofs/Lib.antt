@@ -1,7 +1,5 @@
 pub mod Prefixes
 pub mod Hearing
-pub mod ServerTurns
-pub mod ClientTurns
 pub mod Walking
 pub mod Tying
 pub mod Closing

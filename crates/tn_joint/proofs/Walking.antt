@@ -12,10 +12,10 @@ use Rattle.tn_client_core.specs.declared.messages.Told.{Told}
 use Rattle.tn_discipline.specs.Canon.{Canon, typed_entries}
 use Rattle.tn_discipline.specs.Characters.{standard_characters}
 use Rattle.tn_jobs.specs.Jobs.{Jobs}
-use Rattle.tn_joint.proofs.ClientTurns.{ClientAt, client_turns}
+use Rattle.tn_session.proofs.lemmas.ClientTurns.{ClientAt, client_turns}
 use Rattle.tn_joint.proofs.Prefixes.{server-append, client-append}
 use Rattle.tn_joint.proofs.Hearing.{heard_first, heard_all}
-use Rattle.tn_joint.proofs.ServerTurns.{server_turns}
+use Rattle.tn_session.proofs.lemmas.ServerTurns.{server_turns}
 use Rattle.tn_joint.specs.Joint.{Step, served, told, server_steps, client_steps, Both, began, Runs, IsInTime, IsCarried, LinesAreLocal}
 use Rattle.tn_nvt.specs.declared.items.Item.{Item}
 use Rattle.tn_server.proofs.lemmas.Fitting.{sent-fit}
@@ -49,13 +49,13 @@ joins {P} {A} R p m q [] x f r = (q, subst (λ (u : P). R u x q) (sym f) r, refl
 joins R p m q (y ∷ ys) x f r = (f.0, f.1, joins R f.0 m q ys x f.2 r)
 
 module _ (canon : Canon) (editing : Editing) (width height : ℕ) (opens : Bool) (jobs : Jobs) (Tied : server.History → client.History → Type 0) (ties : Ties canon editing width height Tied) where
-  abbrev first : Both
+  abbrev pub first : Both
   first = began opens canon editing jobs width height canon.limit
 
   abbrev Carries : List Step → Type 0
   Carries order = (done later : List Step) (now : Both) → order ≡ done ++ later → Runs first done now → IsInTime now
 
-  abbrev At : Both → Type 0
+  abbrev pub At : Both → Type 0
   At now = ClientAt (λ k. Tied now.server.history k) now.client
 
   server_heard : (done : List Step) (now : Both) → Runs first done now → IsInTime now → IsPrefixOf (server.items now.server.history) (client_says.items_said now.client.sent)
@@ -65,7 +65,7 @@ module _ (canon : Canon) (editing : Editing) (width height : ℕ) (opens : Bool)
   client_heard done now r i = heard_first now.client.stream (client.items now.client.history) (server_says.items_said now.server.history) (in_order width height canon.limit (client_steps done) now.client r.1).read (sent-fit now.server.history) i.to_client
 
   -- one step of the terminal
-  server_goes : (done : List Step) (now : Both) (m : Message) (k : term_mark.Mark) (mid : term_run.Run) → Runs first (done ++ served (m, k) ∷ []) (record { server = mid; client = now.client }) → IsInTime (record { server = mid; client = now.client }) → term.Turns now.server (m, k) mid → At now → At (record { server = mid; client = now.client })
+  pub server_goes : (done : List Step) (now : Both) (m : Message) (k : term_mark.Mark) (mid : term_run.Run) → Runs first (done ++ served (m, k) ∷ []) (record { server = mid; client = now.client }) → IsInTime (record { server = mid; client = now.client }) → term.Turns now.server (m, k) mid → At now → At (record { server = mid; client = now.client })
   server_goes done now m k mid r i t at =
       let sent = now.client.sent in
       record {
@@ -79,7 +79,7 @@ module _ (canon : Canon) (editing : Editing) (width height : ℕ) (opens : Bool)
       }
 
   -- and one of the core
-  client_goes : (done : List Step) (now : Both) (x : Told) (k : core_mark.Mark) (mid : core_run.Run) → Runs first (done ++ told (x, k) ∷ []) (record { server = now.server; client = mid }) → IsInTime (record { server = now.server; client = mid }) → core.Turns now.client (x, k) mid → At now → At (record { server = now.server; client = mid })
+  pub client_goes : (done : List Step) (now : Both) (x : Told) (k : core_mark.Mark) (mid : core_run.Run) → Runs first (done ++ told (x, k) ∷ []) (record { server = now.server; client = mid }) → IsInTime (record { server = now.server; client = mid }) → core.Turns now.client (x, k) mid → At now → At (record { server = now.server; client = mid })
   client_goes done now x k mid r i t at =
       let h = now.server.history in
       client_turns (λ c. Tied h c) (server_says.items_said h) (record {
@@ -89,13 +89,13 @@ module _ (canon : Canon) (editing : Editing) (width height : ℕ) (opens : Bool)
       }) now.client mid x k t (client_heard (done ++ told (x, k) ∷ []) (record { server = now.server; client = mid }) r i) at
 
   -- the steps so far, and one more
-  more_served : (done : List Step) (now : Both) (m : Message × term_mark.Mark) (mid : term_run.Run) → Runs first done now → term.Turns now.server m mid → Runs first (done ++ served m ∷ []) (record { server = mid; client = now.client })
+  pub more_served : (done : List Step) (now : Both) (m : Message × term_mark.Mark) (mid : term_run.Run) → Runs first done now → term.Turns now.server m mid → Runs first (done ++ served m ∷ []) (record { server = mid; client = now.client })
   more_served done now m mid r t = (
     subst (λ (l : List (Message × term_mark.Mark)). FoldsTo term.Turns first.server l mid) (sym (server-append done (served m ∷ []))) (joins term.Turns first.server now.server mid (server_steps done) m r.0 t),
     subst (λ (l : List (Told × core_mark.Mark)). FoldsTo core.Turns first.client l now.client) (sym (client-append done (served m ∷ []) ∙ append-nil (client_steps done))) r.1,
   )
 
-  more_told : (done : List Step) (now : Both) (x : Told × core_mark.Mark) (mid : core_run.Run) → Runs first done now → core.Turns now.client x mid → Runs first (done ++ told x ∷ []) (record { server = now.server; client = mid })
+  pub more_told : (done : List Step) (now : Both) (x : Told × core_mark.Mark) (mid : core_run.Run) → Runs first done now → core.Turns now.client x mid → Runs first (done ++ told x ∷ []) (record { server = now.server; client = mid })
   more_told done now x mid r t = (
     subst (λ (l : List (Message × term_mark.Mark)). FoldsTo term.Turns first.server l now.server) (sym (server-append done (told x ∷ []) ∙ append-nil (server_steps done))) r.0,
     subst (λ (l : List (Told × core_mark.Mark)). FoldsTo core.Turns first.client l mid) (sym (client-append done (told x ∷ []))) (joins core.Turns first.client now.client mid (client_steps done) x r.1 t),
@@ -121,7 +121,7 @@ module _ (canon : Canon) (editing : Editing) (width height : ℕ) (opens : Bool)
   begun_history true = refl
   begun_history false = refl
 
-  begun_at : At first
+  pub begun_at : At first
   begun_at = record {
     latest = λ o. refl;
     tied = subst (λ (h : server.History). Tied h (client.begun width height canon.limit)) (sym (begun_history opens)) ties.begins;

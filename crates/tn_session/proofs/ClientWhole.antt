@@ -1,18 +1,25 @@
 -- A whole client session: its passes joined, and what its threads did.
-use Rattle.std.proofs.Common.{◌≡◌, true, false, List, [], ◌++◌, Some, None, sym, ap, ◌∙◌, subst, append-nil, arith}
+use Rattle.std.proofs.Common.{◌≡◌, ℕ, Bool, true, false, refl, List, [], ◌++◌, Some, None, sym, ap, ◌∙◌, subst, append-nil, arith}
 use Rattle.tn_client_core.proofs.lemmas.Bringing.{in_order}
 use Rattle.tn_client_core.proofs.lemmas.Ending.{fault_cause}
-use Rattle.tn_client_core.specs.Bringing.{TakesInOrder}
+use Rattle.tn_client_core.specs.Bringing.{TakesInOrder, brought}
+use Rattle.tn_client_core.specs.Marks.{all_written, all_whole}
 use Rattle.tn_client_core.specs.Run.{start}
 use Rattle.tn_client_core.specs.declared.machine.Core.{Core}
+use Rattle.tn_client_core.specs.declared.messages.Mark.{Mark}
+use Rattle.tn_client_core.specs.declared.messages.Origin.TheVariants as origin
 use Rattle.tn_client_core.specs.declared.messages.Told.{Told}
+use Rattle.tn_client_core.specs.declared.progress.Progress.{Progress}
 use Rattle.tn_session.proofs.Brought.{keys_brought, net_brought}
 use Rattle.tn_session.proofs.ClientCauses.{read_cause, write_cause}
+use Rattle.tn_session.proofs.CoreGoing.{unwritten}
+use Rattle.tn_session.proofs.Going.{false_true}
 use Rattle.tn_session.proofs.Lefts.{none_over}
 use Rattle.tn_session.proofs.Mailbox.{all_woven}
 use Rattle.tn_session.proofs.Sent.{reader_sent}
+use Rattle.tn_session.proofs.lemmas.Sessions.{client_transcript, client_reads, as_read, as_written}
 use Rattle.tn_session.specs.Client.{core_view, AreTwoSettled, IsClientRun, client_report}
-use Rattle.tn_session.specs.CoreTurns.{CoreHandles}
+use Rattle.tn_session.specs.CoreTurns.{CoreHandles, all_told}
 use Rattle.tn_session.specs.Facts.{ClientResult}
 use Rattle.tn_session.specs.Mailbox.{Interleaves, from, four, sender, union, nobody, everyone, with_handled, Total}
 use Rattle.tn_session.specs.Reader.{ReaderSends}
@@ -50,6 +57,14 @@ settles_two pass net keys p₁ p₂ p₃ n' p₄ k' p₅ e₁ e₂ e₃ held en 
       all_woven p₂ h a [] [] d whole held,
     )
 
+-- where nothing failed, all was written
+all_out : (marked : List (Told × Mark)) (rest : List ℕ) → (all_written marked ≡ true → rest ≡ []) → (all_whole marked ≡ false → false ≡ true) → rest ≡ []
+all_out marked rest all never = by (all_written marked) refl
+  where
+    by : (b : Bool) → all_written marked ≡ b → rest ≡ []
+    by true e = all e
+    by false e = absurd (false_true (never (unwritten marked e)))
+
 -- all of a client's session that ran
 pub client_ran : (core last : Core) (keys_reader net_reader : KnownReader) (writer screen : KnownWriting) (pass₀ pass₁ net keys : View) (result : ClientResult)
     → pass₀ ≡ core_view [] → CoreHandles core pass₀ pass₁ writer screen last → ReaderSends Net false net_reader net → ReaderSends Keys true keys_reader keys
@@ -66,6 +81,9 @@ client_ran core last keys_reader net_reader writer screen pass₀ pass₁ net ke
     let woven : Interleaves acted.handled (four ns.mails [] [] ks.mails) = λ w. ap (from w) (sym (append-nil acted.handled) ∙ ap (λ (l : List Mail). acted.handled ++ l) (sym none)) ∙ s.3.1 w in
     let typed : ReaderSends Keys true keys_reader result.keys = subst (λ (w : View). ReaderSends Keys true keys_reader w) (ks.is ∙ sym s.1) sk in
     let read : ReaderSends Net false net_reader result.net = subst (λ (w : View). ReaderSends Net false net_reader w) (ns.is ∙ sym s.0) sn in
+    let said = client_transcript window.width window.height window.limit acted.goes.marked g.0 acted.goes.bytes g.3.0 g.1 g.3.1 in
+    let net_first = net_brought net_reader net acted.handled ns.mails sn ns.is (woven Net) (woven Desk) (woven Back) in
+    let keys_first = keys_brought keys_reader keys acted.handled ks.mails sk ks.is (woven Keys) in
     let is : result.report ≡ client_report g.0.progress = er ∙ ap client_report g.2.progress in
     let caused = λ (f : SessionFault) (e : result.report.ended ≡ ended.Fault f). fault_cause window.width window.height window.limit acted.goes.marked g.0 f g.1 (sym (ap (λ (o : Report). o.ended) is) ∙ e) in
     record {
@@ -82,8 +100,8 @@ client_ran core last keys_reader net_reader writer screen pass₀ pass₁ net ke
       messages = acted.goes.whole;
       run = g.0;
       runs = g.1;
-      keys_brought = keys_brought keys_reader keys acted.handled ks.mails sk ks.is (woven Keys);
-      net_brought = net_brought net_reader net acted.handled ns.mails sn ns.is (woven Net) (woven Desk) (woven Back);
+      keys_brought = keys_first;
+      net_brought = net_first;
       in_order = subst (λ (ms : List Told). TakesInOrder ms g.0) acted.goes.whole (in_order window.width window.height window.limit acted.goes.marked g.0 g.1);
       written = acted.goes.bytes;
       unwritten = g.3.0;
@@ -91,6 +109,14 @@ client_ran core last keys_reader net_reader writer screen pass₀ pass₁ net ke
       tells = acted.goes.tells;
       sends = g.3.1;
       all_sent = g.3.2;
+      sent_whole = λ on. all_out acted.goes.marked g.3.0 g.3.2 (λ e. sym on ∙ ap (λ (p : Progress). p.over) (sym g.2.progress) ∙ acted.goes.over e);
+      transcript = said.transcript;
+      was_read = as_read net_reader.bytes _ _ (client_reads begin acted.goes.marked g.0 acted.goes.bytes said ∙ ap (brought origin.Net) acted.goes.whole) net_first;
+      was_written = as_written writer.before.bytes writer.after.bytes _ _ said.writes acted.goes.wrote;
+      transcribed = said.transcribed;
+      keys_read = brought origin.Keys (all_told acted.handled);
+      keys_were_read = keys_first;
+      keys_are = refl;
       shown = acted.goes.text;
       unshown = g.4.0;
       displayed = acted.goes.showed;

@@ -194,7 +194,7 @@ by-push is ((n, j) ∷ ms) m k = ap (λ (b : Bool). is j && b) (by-push is ms m 
     assoc true b c = refl
     assoc false b c = refl
 
-unwritten : (ms : List (Told × Mark)) → all_written ms ≡ false → all_whole ms ≡ false
+pub unwritten : (ms : List (Told × Mark)) → all_written ms ≡ false → all_whole ms ≡ false
 unwritten [] e = e
 unwritten ((n, mark.Whole) ∷ ms) e = unwritten ms e
 unwritten ((n, mark.WriteFailed) ∷ ms) e = refl

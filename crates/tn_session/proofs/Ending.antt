@@ -296,7 +296,7 @@ module _ {J : Type 0} {facts : JobFacts J} {jobs : SessionJobs} {settings : Term
   may_come = subst (MayAllCome false) (sym s.messages) nets.may
 
   -- the pieces that were handled are those that were read
-  all_pieces : heard messages ≡ concat (pieces_in s.read.0)
+  pub all_pieces : heard messages ≡ concat (pieces_in s.read.0)
   all_pieces = ap heard s.messages ∙ nets.bytes ∙ ap heard net_said ∙ net_bytes s.read.0 net_end.0 s.read.1 net_end.1.0
 
   pub heard_of_reader : Hears settings.canon settings.editing messages s.run → (result.report.ended ≡ ended.HangUp → HangsUp jobs.first.0 messages s.run) → HearsReader reader.bytes result.report.ended s.run

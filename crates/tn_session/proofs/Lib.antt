@@ -13,6 +13,7 @@ pub mod Lefts
 pub mod Sent
 pub mod Numbering
 pub mod Makers
+pub mod lemmas
 pub mod Whole
 pub mod Causes
 pub mod Ending

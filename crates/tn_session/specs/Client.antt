@@ -1,13 +1,13 @@
 -- The running client session, of what its ports give back, for every schedule.
-use Rattle.std.specs.Prelude.{◌≡◌, ◌⊎◌, ℕ, true, false, Option, Some, None, List, [], ◌++◌, length, map}
-use Rattle.std.specs.Io.KnownBytes.{Appends, Consumes}
+use Rattle.std.specs.Prelude.{◌≡◌, ◌⊎◌, ℕ, true, false, Some, None, List, [], ◌++◌, length, map}
+use Rattle.std.specs.Io.KnownBytes.{Appends}
 use Rattle.crossbeam_channel.specs.Claims.{view, IsSeatAt}
 use Rattle.crossbeam_channel.specs.Ends.{sends_on, receives_on, ruled_capacity}
 use Rattle.tn_client.specs.Replies.{items_said}
 use Rattle.tn_client.specs.Screen.{text_shown}
-use Rattle.tn_client_core.specs.Bringing.{brought, TakesInOrder}
+use Rattle.tn_client_core.specs.Bringing.{brought_from, brought, TakesInOrder}
 use Rattle.tn_client_core.specs.Ending.{IsEndedAt}
-use Rattle.tn_client_core.specs.Marks.{Runs, no_write_failed, no_show_failed, all_by, all_written, all_whole}
+use Rattle.tn_client_core.specs.Marks.{Turns, Runs, no_write_failed, no_show_failed, all_by, all_written, all_whole}
 use Rattle.tn_client_core.specs.Reaching.{LeadsTo}
 use Rattle.tn_client_core.specs.Run.{Run, start}
 use Rattle.tn_client_core.specs.declared.machine.Core.{Core}
@@ -21,6 +21,7 @@ use Rattle.tn_session.specs.Facts.{ClientResult, Window}
 use Rattle.tn_session.specs.Mailbox.{Interleaves, four, sender}
 use Rattle.tn_session.specs.Reader.{ReaderSends}
 use Rattle.tn_session.specs.Reading.{max_reads, pieces_in}
+use Rattle.tn_session.specs.Transcripts.{Exchange, ReadsPrefix, Transcribes, all_read, all_wrote}
 use Rattle.tn_session.specs.Turns.{Tells, max_writes}
 use Rattle.tn_session.specs.declared.channels.View.{View}
 use Rattle.tn_session.specs.declared.client.Mailbox.{Mailbox}
@@ -62,9 +63,12 @@ AreTwoSettled pass net keys net' keys' core' =
 abbrev pub client_report : Progress → Report
 client_report p = record { ended = p.ended; pieces = p.pieces; entries = 0; stops = 0 }
 
--- these bytes are the first of those that the reader gives
-abbrev pub ReadsPrefix : Option (List ℕ) → List ℕ → Type 0
-ReadsPrefix given bytes = (left : Option (List ℕ)) × Consumes given left bytes
+-- what a message brings from the network, and what the client says on it by now
+abbrev pub brings : Told × Mark → List ℕ
+brings m = brought_from origin.Net m.0.from m.0.message
+
+abbrev pub says : Run → List ℕ
+says c = spells (items_said c.sent)
 
 -- Of what Keys and Net sent, in the order that these passes know, and of what the core handled,
 -- wrote and showed.
@@ -98,6 +102,18 @@ pub record RunningClient (window : Window) (keys net : KnownReader) (writer scre
   pub tells : Tells (all_by no_write_failed marked) writer.before.calls writer.after.calls
   pub sends : spells (items_said run.sent) ≡ written ++ unwritten
   pub all_sent : all_written marked ≡ true → unwritten ≡ []
+  pub sent_whole : run.progress.over ≡ false → unwritten ≡ []
+  -- ITS TRANSCRIPT: what it read is what the reader gave, and what it wrote is what the writer got
+  pub transcript : List Exchange
+  pub was_read : ReadsPrefix net.bytes (all_read transcript)
+  pub was_written : Appends writer.before.bytes writer.after.bytes (all_wrote transcript)
+  -- a step for each message
+  pub transcribed : Transcribes Turns brings says (start window.width window.height window.limit) marked run
+      written transcript
+  -- and the keys that it read from the user
+  pub keys_read : List ℕ
+  pub keys_were_read : ReadsPrefix keys.bytes keys_read
+  pub keys_are : keys_read ≡ brought origin.Keys (all_told handled)
   -- and what was shown of what it shows
   pub shown : List ℕ
   pub unshown : List ℕ

@@ -11,6 +11,7 @@ pub mod Facts
 pub mod Jobs
 pub mod Makers
 pub mod Joining
+pub mod Transcripts
 pub mod Session
 pub mod Reader
 pub mod CoreTurns

@@ -1,5 +1,5 @@
 -- The running session, of what its ports give back, for every schedule.
-use Rattle.std.specs.Prelude.{◌≡◌, ◌⊎◌, ℕ, Bool, true, false, ◌&&◌, Option, Some, List, [], ◌++◌, length, map}
+use Rattle.std.specs.Prelude.{◌≡◌, ◌⊎◌, ℕ, Bool, true, false, ◌&&◌, Option, Some, None, List, [], ◌∷◌, ◌++◌, length, map}
 use Rattle.std.specs.Io.KnownBytes.{Appends, Consumes, IsAtEnd}
 use Rattle.tn_discipline.specs.declared.reads.Entry.{Entry}
 use Rattle.tn_jobs.specs.Jobs.{Jobs}
@@ -19,6 +19,7 @@ use Rattle.tn_session.specs.Reader.{ReaderSends}
 use Rattle.tn_session.specs.Reading.{max_reads, pieces_in}
 use Rattle.tn_session.specs.Stepping.{AreSteps}
 use Rattle.tn_session.specs.Talk.{IsTalk}
+use Rattle.tn_session.specs.Transcripts.{Exchange, ReadsPrefix, Transcribes, all_read, all_wrote}
 use Rattle.tn_session.specs.Turning.{IsQueue, ids_of}
 use Rattle.tn_session.specs.Turns.{Writes, Tells, max_writes, messages_of}
 use Rattle.tn_session.specs.declared.mail.Mail.{Mail}
@@ -31,9 +32,10 @@ use Rattle.tn_streams.specs.Telling.{SomeFailed}
 use Rattle.tn_term.specs.Ending.{IsFaultCause}
 use Rattle.tn_term.specs.Giving.{GivesPrefix, entries_put}
 use Rattle.tn_term.specs.Hearing.{entries_by}
-use Rattle.tn_term.specs.Marks.{Runs, run_after_opening, all_whole, no_writes_failed}
+use Rattle.tn_term.specs.Marks.{Turns, Runs, run_after_opening, all_whole, no_writes_failed}
 use Rattle.tn_term.specs.Reaching.{LeadsTo}
 use Rattle.tn_term.specs.Run.{Run, start, opening}
+use Rattle.tn_messages.specs.Pieces.{bytes_in}
 use Rattle.tn_messages.specs.declared.faults.Ended.{Ended}
 use Rattle.tn_messages.specs.declared.faults.Ended.TheVariants.{HangUp, Fault}
 use Rattle.tn_messages.specs.declared.faults.SessionFault.{SessionFault}
@@ -151,6 +153,19 @@ TakesEntries settings given ended taken =
     → IsPrefixOf (entries_put taken) (entries_by settings.canon settings.editing xs)
     × (ended ≡ HangUp → entries_put taken ≡ entries_by settings.canon settings.editing xs)
 
+-- A step of its transcript writes the opening words, or handles a message; what that brings from the network, and
+-- what the server says on it by now.
+abbrev pub OpensOrTurns : Run → Option (Message × Mark) → Run → Type 0
+OpensOrTurns c None new = new ≡ c
+OpensOrTurns c (Some m) new = Turns c m new
+
+abbrev pub brings : Option (Message × Mark) → List ℕ
+brings None = []
+brings (Some m) = bytes_in m.0
+
+abbrev pub says : Run → List ℕ
+says c = spells (items_said c.history)
+
 -- The whole of it, for the jobs that were made. `to_make` is how many jobs the maker tells are to come.
 pub record RunningSession {J : Type 0} (facts : JobFacts J) (to_make : Option ℕ) (settings : TermSettings)
     (reader : KnownReader) (writer : KnownWriting) (result : SessionResult) : Type 0 where
@@ -171,6 +186,17 @@ pub record RunningSession {J : Type 0} (facts : JobFacts J) (to_make : Option �
   pub in_order : GivesPrefix schedule.taken schedule.run.history
   pub all_taken : result.report.ended ≡ HangUp → entries_put schedule.taken ≡ entries schedule.run.history
   pub by_bytes : TakesEntries settings reader.bytes result.report.ended schedule.taken
+  pub entries_taken : List Entry
+  pub entries_are : entries_taken ≡ entries_put schedule.taken
+  -- ITS TRANSCRIPT: what it read is what the reader gave, and what it wrote is what the writer got
+  pub transcript : List Exchange
+  pub was_read : ReadsPrefix reader.bytes (all_read transcript)
+  pub was_written : Appends writer.before.bytes writer.after.bytes (all_wrote transcript)
+  -- a step for the opening words, and one for each message; it was heard whole where a hang-up ended the session
+  pub transcribed : Transcribes OpensOrTurns brings says
+      (run_after_opening schedule.wrote_opening (start settings.canon settings.editing jobs))
+      (None ∷ map (λ m. Some m) schedule.marked) schedule.run schedule.written transcript
+  pub heard_whole : result.report.ended ≡ HangUp → schedule.run.stream ≡ all_read transcript
   -- six: a fault is told only where its cause was there
   pub caused : (f : SessionFault) → result.report.ended ≡ Fault f
       → IsFaultCause schedule.wrote_opening

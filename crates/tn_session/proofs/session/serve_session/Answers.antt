@@ -1,6 +1,7 @@
-use Rattle.std.proofs.Common.{◌≡◌, sym, ap, ◌∙◌}
+use Rattle.std.proofs.Common.{◌≡◌, refl, sym, ap, ◌∙◌}
 use Rattle.tn_discipline.specs.Canon.{Canon}
 use Rattle.tn_term.proofs.lemmas.Giving.{puts_are_front, taken_are_front}
+use Rattle.tn_term.specs.Giving.{entries_put}
 use Rattle.tn_term.specs.Marks.{run_after_opening}
 use Rattle.tn_term.specs.Run.{start}
 use Rattle.tn_messages.specs.declared.faults.Ended.TheVariants.{HangUp, Fault}
@@ -8,10 +9,11 @@ use Rattle.tn_messages.specs.declared.faults.SessionFault.{SessionFault}
 use Rattle.tn_messages.specs.declared.faults.SessionFault.TheVariants as fault
 use Rattle.tn_session.specs.declared.parties.Report.{Report}
 use Rattle.tn_session.specs.Turning.{ids_of}
-use Rattle.tn_session.proofs.Ending.{may_come, heard_of_reader, took_all, takes_entries, read_cause, write_cause}
+use Rattle.tn_session.proofs.Ending.{may_come, all_pieces, heard_of_reader, took_all, takes_entries, read_cause, write_cause}
 use Rattle.tn_session.proofs.Makers.{some_are, no_first}
 use Rattle.std.proofs.lemmas.Result.{IfOk-weaker}
 use Rattle.tn_session.proofs.Reach.{never_begun}
+use Rattle.tn_session.proofs.lemmas.Sessions.{server_transcript, server_reads, as_read, as_written}
 use Rattle.tn_session.proofs.session.serve_session.Goals as goal
 
 pub returns-clause-ran : goal.returns-clause-ran
@@ -29,6 +31,8 @@ returns-clause-ran g c = IfOk-weaker c.run_begun.result _ _ (λ r ran.
     let heard = heard_of_reader s hears hung in
     let all = λ (e : report.ended ≡ HangUp). took_all s (hung e) in
     let begin = run_after_opening s.wrote_opening (start canon c.args.editing jobs) in
+    let said = server_transcript begin s.marked s.run s.written s.unwritten s.runs s.sends in
+    let reads = server_reads begin s.marked s.run s.written said in
     let caused = λ (f : SessionFault) (e : report.ended ≡ Fault f). c.faults_have_causes.ensures s.wrote_opening canon c.args.editing jobs s.marked s.run f s.runs (sym (ap (λ (r : Report). r.ended) s.report_is) ∙ e) in
     record {
       jobs = jobs;
@@ -43,6 +47,13 @@ returns-clause-ran g c = IfOk-weaker c.run_begun.result _ _ (λ r ran.
       in_order = front;
       all_taken = all;
       by_bytes = takes_entries s hears heard front all;
+      entries_taken = entries_put s.taken;
+      entries_are = refl;
+      transcript = said.transcript;
+      was_read = as_read _ _ _ (reads ∙ all_pieces s) (s.read.1, s.read.3);
+      was_written = as_written _ _ _ _ said.writes s.appended;
+      transcribed = said.transcribed;
+      heard_whole = λ e. (hung e).all_heard ∙ sym reads;
       caused = caused;
       read_failed = λ e. read_cause s begin (caused fault.Read e);
       write_failed = λ e. write_cause s begin (caused fault.Write e);

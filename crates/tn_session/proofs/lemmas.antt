@@ -1,0 +1,4 @@
+pub mod ServerTurns
+pub mod ClientTurns
+pub mod Transcribing
+pub mod Sessions

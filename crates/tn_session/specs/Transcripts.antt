@@ -1,0 +1,50 @@
+-- What can be seen of a session on its connection: step by step, which bytes it read and which it wrote. Read
+-- `Exchange`, `all_read` and `all_wrote`; what follows ties them to a run.
+use Rattle.std.specs.Prelude.{◌≡◌, ◌⊎◌, ℕ, Option, List, [], ◌∷◌, ◌++◌, map}
+use Rattle.std.specs.Io.KnownBytes.{Consumes}
+use Rattle.std.specs.List.{FoldsTo}
+use Rattle.tn_streams.specs.Prefixes.{IsPrefixOf}
+
+-- A STEP of a session, in the order in which its core took them: the bytes from the network that came in it,
+-- and those that it wrote to the network in it
+pub record Exchange : Type 0 where
+  pub read : List ℕ
+  pub wrote : List ℕ
+
+-- all that was read, and all that was written
+abbrev pub all_read : List Exchange → List ℕ
+all_read [] = []
+all_read (x ∷ xs) = x.read ++ all_read xs
+
+abbrev pub all_wrote : List Exchange → List ℕ
+all_wrote [] = []
+all_wrote (x ∷ xs) = x.wrote ++ all_wrote xs
+
+-- these bytes were read: they are the first of those that the reader gives
+abbrev pub ReadsPrefix : Option (List ℕ) → List ℕ → Type 0
+ReadsPrefix given bytes = (left : Option (List ℕ)) × Consumes given left bytes
+
+-- a run, and what was written by now
+pub record Point (R : Type 0) : Type 0 where
+  pub run : R
+  pub wrote : List ℕ
+
+-- One step of a run, of which a message brings these bytes, and which says these: what is written by now is all
+-- that is said by now, or all that was ever written.
+pub record IsExchange {R M : Type 0} (turns : R → M → R → Type 0) (brings : M → List ℕ) (says : R → List ℕ)
+    (written : List ℕ) (old : Point R) (step : M × Exchange) (new : Point R) : Type 0 where
+  pub turn : turns old.run step.0 new.run
+  pub read : step.1.read ≡ brings step.0
+  pub wrote : new.wrote ≡ old.wrote ++ step.1.wrote
+  pub said : IsPrefixOf new.wrote (says new.run)
+  pub whole : (new.wrote ≡ says new.run) ⊎ (new.wrote ≡ written)
+
+-- a step for each message of a run, in which all was written that was
+pub record Transcribes {R M : Type 0} (turns : R → M → R → Type 0) (brings : M → List ℕ)
+    (says : R → List ℕ) (first : R) (messages : List M) (last : R) (written : List ℕ)
+    (transcript : List Exchange) : Type 0 where
+  pub steps : List (M × Exchange)
+  pub of_messages : map (λ s. s.0) steps ≡ messages
+  pub of_steps : map (λ s. s.1) steps ≡ transcript
+  pub goes : FoldsTo (IsExchange turns brings says written) (record { run = first; wrote = [] }) steps
+      (record { run = last; wrote = written })
