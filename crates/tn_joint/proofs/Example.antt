@@ -17,16 +17,16 @@ use Rattle.tn_streams.specs.Prefixes.{IsPrefixOf}
 use Rattle.tn_wire.specs.Prefixes.{IsRead}
 
 -- what the server's terminal hears
-abbrev bytes : List ℕ
+abbrev pub bytes : List ℕ
 bytes = 97 ∷ 13 ∷ 0 ∷ []
 
-abbrev items : List Item
+abbrev pub items : List Item
 items = Byte 97 ∷ Byte 13 ∷ []
 
 nothing_is_partial : IsPartial []
 nothing_is_partial = record { segment = spelled (Byte 97); more = 97 ∷ []; is_segment = tt; proper = lit< tt; begins = refl }
 
-is_read : IsRead bytes items
+pub is_read : IsRead bytes items
 is_read = (
   [],
   record {

@@ -2,8 +2,11 @@ pub mod Prefixes
 pub mod Hearing
 pub mod Walking
 pub mod Tying
+pub mod Transcripts
 pub mod Closing
 pub mod Sessions
 pub mod Law
 pub mod Example
 pub mod Whole
+pub mod Seen
+pub mod ExampleSessions

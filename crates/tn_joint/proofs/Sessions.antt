@@ -35,12 +35,12 @@ prefix_trans : (xs ys zs : List Entry) → IsPrefixOf xs ys → IsPrefixOf ys zs
 prefix_trans xs ys zs p q = (p.0 ++ q.0, sym (append_assoc xs p.0 q.0) ∙ ap (λ (l : List Entry). l ++ q.0) p.1 ∙ q.1)
 
 -- of what a reader gives, these bytes come first
-given_first : (all : List ℕ) (left : Option (List ℕ)) (first later bytes : List ℕ) → bytes ≡ first ++ later → Consumes (Some all) left bytes → (more : List ℕ) × (all ≡ first ++ more)
+pub given_first : (all : List ℕ) (left : Option (List ℕ)) (first later bytes : List ℕ) → bytes ≡ first ++ later → Consumes (Some all) left bytes → (more : List ℕ) × (all ≡ first ++ more)
 given_first all None first later bytes e c = absurd c
 given_first all (Some ys) first later bytes e c = (later ++ ys, c ∙ ap (λ (bs : List ℕ). bs ++ ys) e ∙ append_assoc first later ys)
 
 -- more keys only add entries
-more_entries : (canon : Canon) (first more all : List ℕ) → all ≡ first ++ more → IsPrefixOf (typed_entries canon first) (typed_entries canon all)
+pub more_entries : (canon : Canon) (first more all : List ℕ) → all ≡ first ++ more → IsPrefixOf (typed_entries canon first) (typed_entries canon all)
 more_entries canon first more all e =
     let before = roles_of canon.settings first in
     let after = roles_of canon.settings more in (
@@ -50,7 +50,7 @@ more_entries canon first more all e =
           ∙ entries-all canon.limit before after),
     )
 
-one_list : (a b : List Mail) → sender who.Keys a ≡ sender who.Keys b → a ≡ b
+pub one_list : (a b : List Mail) → sender who.Keys a ≡ sender who.Keys b → a ≡ b
 one_list a b e = is_some a b (ap (λ (v : View). v.keys) e)
   where
     is_some : (x y : List Mail) → Some x ≡ Some y → x ≡ y

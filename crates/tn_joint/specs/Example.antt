@@ -1,5 +1,5 @@
--- An example that meets every premise of `LawOfRuns` and has an entry: a line, typed at the client and heard
--- at the server.
+-- An example that meets every premise of `LawOfRuns`, and one that meets those of `Headline`, and has an entry: a
+-- line, typed at the client and heard at the server.
 use Rattle.std.specs.Prelude.{◌≡◌, ℕ, true, [], ◌∷◌}
 use Rattle.tn_client_core.specs.Marks as core
 use Rattle.tn_client_core.specs.Run as core_run
@@ -14,7 +14,9 @@ use Rattle.tn_discipline.specs.Limits.{standard_limit}
 use Rattle.tn_discipline.specs.declared.reads.Entry.TheVariants.{Text}
 use Rattle.tn_jobs.specs.Jobs.{Jobs}
 use Rattle.tn_joint.specs.Joint.{Both, began, IsCarried, client_said}
+use Rattle.tn_joint.specs.Transcripts as seen
 use Rattle.tn_server.specs.Lines.{entries}
+use Rattle.tn_session.specs.Facts.{JobFacts, job_facts}
 use Rattle.tn_server.specs.declared.wishes.Editing.{Editing}
 use Rattle.tn_term.specs.Marks as term
 use Rattle.tn_term.specs.Run as term_run
@@ -47,3 +49,17 @@ pub record CarriesALine (editing : Editing) (jobs : Jobs) (width height : ℕ) :
   pub carried : IsCarried (began true canon editing jobs width height canon.limit) (heard ∷ []) (typed ∷ [])
   pub whole : last.server.stream ≡ client_said last
   pub entry : entries last.server.history ≡ Text (97 ∷ 10 ∷ []) ∷ []
+
+-- jobs of which nothing is known
+abbrev pub any_jobs : JobFacts (Unit {0})
+any_jobs = job_facts (λ job. Unit {0}) (λ old entry reaction new. Unit {0}) (λ old reaction new. Unit {0})
+
+-- Two sessions, of which a socket carries the line: it is typed, and taken, and both run to the end.
+pub record SessionsCarryALine (editing : Editing) : Type 0 where
+  pub server : seen.Served any_jobs canon
+  pub client : seen.Connected canon.limit
+  pub edited : server.editing ≡ editing
+  pub carried : seen.IsCarried server.ran.transcript client.ran.transcript
+  pub ran : seen.RanToTheEnd server client
+  pub typed_keys : client.ran.keys_read ≡ 97 ∷ 13 ∷ []
+  pub taken : server.ran.entries_taken ≡ Text (97 ∷ 10 ∷ []) ∷ []

@@ -1,3 +1,4 @@
 pub mod Example
 pub mod Joint
 pub mod Sessions
+pub mod Transcripts

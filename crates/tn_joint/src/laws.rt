@@ -2,9 +2,10 @@
 
 ghost use Rattle.std.specs.Prelude.{ℕ};
 ghost use Rattle.tn_jobs.specs.Jobs.{Jobs};
-ghost use Rattle.tn_joint.specs.Example.{CarriesALine};
+ghost use Rattle.tn_joint.specs.Example.{CarriesALine, SessionsCarryALine};
 ghost use Rattle.tn_joint.specs.Joint.{LawOfRuns, LawOfPrefixes};
 ghost use Rattle.tn_joint.specs.Sessions.{HeadlineOfTwo, WhatYouType};
+ghost use Rattle.tn_joint.specs.Transcripts.{Headline};
 ghost use Rattle.tn_session.specs.Facts.{job_facts};
 ghost use Rattle.tn_server.specs.declared.wishes.Editing.{Editing};
 
@@ -19,6 +20,12 @@ pub fn prefixes_lead_on()
 /// other, and is an entry there.
 pub fn a_line_is_carried()
     ensures { (editing : Editing) (jobs : Jobs) (width height : ℕ) → CarriesALine editing jobs width height }
+{}
+
+/// What `what_is_seen_to_be_typed_is_read` asks of two sessions can be met, and both can run to the end: a line
+/// is typed at the client, and taken by the job.
+pub fn two_sessions_carry_a_line()
+    ensures { (editing : Editing) → SessionsCarryALine editing }
 {}
 
 /// A line means the same wherever it is edited, from the first byte of two sessions on.
@@ -37,4 +44,10 @@ pub fn headline_of_two<M: Maker>()
 /// end.
 pub fn what_you_type_is_what_the_job_reads<M: Maker>()
     ensures { WhatYouType (job_facts M.Job.fresh M.Job.reacts M.Job.steps) }
+{}
+
+/// The same of what can be seen of two sessions on their connection: where a socket carries what each wrote, what
+/// the job took is a prefix of the entries of the keys that were typed, and all of them where both ran to the end.
+pub fn what_is_seen_to_be_typed_is_read<M: Maker>()
+    ensures { Headline (job_facts M.Job.fresh M.Job.reacts M.Job.steps) }
 {}
