@@ -1,12 +1,15 @@
 //! The sessions that are started and not yet joined, and how the earlier ones ended.
 
-ghost use Rattle.std.specs.Prelude.{◌≡◌, ◌<◌, ◌+◌, ◌-◌, ◌^◌, true, IfSome, vec_len, vec_capacity};
+ghost use Rattle.std.specs.Prelude.{◌≡◌, ◌<◌, ◌≤◌, ◌+◌, ◌-◌, ◌^◌, true, IfSome, vec_len, vec_capacity};
+
+ghost use Rattle.tn_roster.specs.Held.{held_count};
 
 use crate::finished::Finished;
 use crate::served::Served;
 use std::alloc::Global;
 use std::io::Write;
 use std::thread::{JoinHandle, Threads};
+use tn_roster::Roster;
 
 // A started session, and its number. Its thread returns how it ended.
 #[derive(Drop)]
@@ -28,7 +31,8 @@ pub(crate) struct Running {
 
 impl Running {
     pub(crate) fn new(alloc: Global) -> Running
-        ensures { result.accepted ≡ 0 }
+        ensures accepted { result.accepted ≡ 0 }
+        ensures none { vec_len result.started ≡ 0 }
     {
         Running {
             started: Vec::new(alloc),
@@ -48,6 +52,7 @@ impl Running {
     /// Whether there is room for one more session. False when out of memory.
     pub(crate) fn has_room(&mut self) -> bool
         ensures accepted { self.new.accepted ≡ self.old.accepted }
+        ensures same { vec_len self.new.started ≡ vec_len self.old.started }
         ensures room { result ≡ true → vec_len self.new.started < vec_capacity self.new.started }
     {
         self.started.reserve(1).is_ok()
@@ -66,7 +71,9 @@ impl Running {
 
     /// Joins the session with this number, if there is one, and counts and returns how it ended.
     pub(crate) fn join<R: Threads>(&mut self, rt: &R, number: usize) -> Option<Finished>
-        ensures { self.new.accepted ≡ self.old.accepted }
+        ensures accepted { self.new.accepted ≡ self.old.accepted }
+        ensures some { IfSome result (λ _. vec_len self.new.started + 1 ≡ vec_len self.old.started) }
+        ensures fewer { vec_len self.new.started ≤ vec_len self.old.started }
     {
         let place = self.place_of(number)?;
         Some(self.join_at(rt, place))
@@ -91,7 +98,8 @@ impl Running {
     pub(crate) fn keep(&mut self, number: usize, session: JoinHandle<Finished>)
         requires room { vec_len self.old.started < vec_capacity self.old.started }
         requires more { self.old.accepted < 2 ^ 32 - 1 }
-        ensures { self.new.accepted ≡ self.old.accepted + 1 }
+        ensures accepted { self.new.accepted ≡ self.old.accepted + 1 }
+        ensures one { vec_len self.new.started ≡ vec_len self.old.started + 1 }
     {
         self.started.push_reserved(Started { number, session });
         self.accepted += 1;
@@ -100,16 +108,19 @@ impl Running {
     /// Counts an accepted connection whose session could not be started.
     pub(crate) fn fail(&mut self)
         requires { self.old.accepted < 2 ^ 32 - 1 }
-        ensures { self.new.accepted ≡ self.old.accepted + 1 }
+        ensures accepted { self.new.accepted ≡ self.old.accepted + 1 }
+        ensures same { vec_len self.new.started ≡ vec_len self.old.started }
     {
         self.faulted += 1;
         self.accepted += 1;
     }
 
     /// Counts an accepted connection that got no session.
-    pub(crate) fn refuse(&mut self)
-        requires { self.old.accepted < 2 ^ 32 - 1 }
-        ensures { self.new.accepted ≡ self.old.accepted + 1 }
+    pub(crate) fn refuse(&mut self, _roster: &Roster)
+        requires full { held_count _roster.now ≡ _roster.now.limit }
+        requires more { self.old.accepted < 2 ^ 32 - 1 }
+        ensures accepted { self.new.accepted ≡ self.old.accepted + 1 }
+        ensures same { vec_len self.new.started ≡ vec_len self.old.started }
     {
         self.refused += 1;
         self.accepted += 1;

@@ -2,7 +2,7 @@
 
 ghost use Rattle.std.specs.Prelude.{◌≡◌, ◌<◌, ◌≤◌, ◌+◌, ◌^◌, ◌-◌, true, IfOk, IsErrOf, vec_len};
 ghost use Rattle.tn_loopback.specs.Ends.{ServesAll};
-ghost use Rattle.tn_roster.specs.Held.{IsLimit};
+ghost use Rattle.tn_roster.specs.Held.{IsLimit, held_count};
 
 use crate::acceptor::Acceptor;
 use crate::call::Call;
@@ -121,6 +121,7 @@ struct Open<H, V> {
     is_broken: bool,
     events: Sender<Event, Global>,
     turned_away: VecDeque<TcpStream>,
+    ghost within: { vec_len running.started ≤ held_count roster },
 }
 
 impl<H: Host, V: Service> Open<H, V> {
@@ -157,7 +158,7 @@ impl<H: Host, V: Service> Open<H, V> {
         }
         let Ok(number) = entered else {
             self.turn_away(stream);
-            return self.running.refuse();
+            return self.running.refuse(&self.roster);
         };
         if self.serving.verbose {
             note_peer(&self.rt, number, peer);
@@ -180,6 +181,7 @@ impl<H: Host, V: Service> Open<H, V> {
         peer: SocketAddr,
     ) -> Option<JoinHandle<Finished>>
         ensures running { self.new.running ≡ self.old.running }
+        ensures roster { self.new.roster ≡ self.old.roster }
     {
         let events = self.events.clone().ok()?;
         let standing = Standing::new(self.alloc).ok()?;
@@ -216,7 +218,8 @@ impl<H: Host, V: Service> Open<H, V> {
 
     // Tells a connection that there is no room. The longest of those kept open is closed for it.
     fn turn_away(&mut self, mut stream: TcpStream)
-        ensures { self.new.running ≡ self.old.running }
+        ensures running { self.new.running ≡ self.old.running }
+        ensures roster { self.new.roster ≡ self.old.roster }
     {
         let _ = stream.write_all(b"full\r\n");
         let _ = stream.shutdown(Shutdown::Write);

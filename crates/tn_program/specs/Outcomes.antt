@@ -4,7 +4,7 @@ use Rattle.std.specs.Io.KnownBytes.{Appends}
 use Rattle.tn_cli.specs.Ends.{EndsDecode, EndsLocal, EndsReplay, EndsWorld}
 use Rattle.tn_cli.specs.declared.fault.CliFault.{CliFault}
 use Rattle.tn_cli.specs.declared.fault.CliFault.TheVariants as fault
-use Rattle.tn_connect.specs.Clients.{RunsClient}
+use Rattle.tn_connect.specs.Clients.{RunsClient, foreseen}
 use Rattle.tn_connect.specs.declared.fault.ConnectFault.{ConnectFault}
 use Rattle.tn_connect.specs.declared.fault.ConnectFault.TheVariants as connect
 use Rattle.tn_loopback.specs.Ends.{ServesAll}
@@ -20,6 +20,7 @@ use Rattle.tn_roster.specs.Held.{IsLimit}
 use Rattle.tn_session.specs.declared.parties.ClientPorts.{ClientPorts}
 use Rattle.tn_session.specs.declared.parties.Report.{Report}
 use Rattle.tn_streams.specs.Known.{KnownReader}
+use Rattle.tn_connect.specs.declared.settings.Origin.{Origin}
 use Rattle.tn_words.specs.Words.{AskFor, AsksForHelp, AsksForVersion, Refuses, version_line}
 use Rattle.tn_words.specs.declared.settings.Connecting.{Connecting}
 use Rattle.tn_words.specs.declared.settings.Serving.{Serving}
@@ -52,22 +53,22 @@ pub record EndsVersion (ended : Result ⊤ CliFault) (old new : Option (List ℕ
   pub fault : IfErr ended (λ f. f ≡ fault.Write)
 
 -- what was asked for was run, and this came of it
-abbrev pub ComesOfRun : Asked → KnownReader → Option (List ℕ) → Option (List ℕ) → Outcome → Type 0
-ComesOfRun a input old new (outcome.Local ended) = (a ≡ asked.Local) × EndsLocal ended input.bytes old new
-ComesOfRun a input old new (outcome.Replay ended) = (a ≡ asked.Replay) × EndsReplay ended input.bytes old new
-ComesOfRun a input old new (outcome.Decode ended) = (a ≡ asked.Decode) × EndsDecode ended input.bytes old new
-ComesOfRun a input old new (outcome.World ended) = (a ≡ asked.World) × EndsWorld ended input.bytes old new
-ComesOfRun a input old new (outcome.Served ended) =
+abbrev pub ComesOfRun : Asked → Origin → Option (List ℕ) → Option (List ℕ) → Option (List ℕ) → Outcome → Type 0
+ComesOfRun a origin bytes old new (outcome.Local ended) = (a ≡ asked.Local) × EndsLocal ended bytes old new
+ComesOfRun a origin bytes old new (outcome.Replay ended) = (a ≡ asked.Replay) × EndsReplay ended bytes old new
+ComesOfRun a origin bytes old new (outcome.Decode ended) = (a ≡ asked.Decode) × EndsDecode ended bytes old new
+ComesOfRun a origin bytes old new (outcome.World ended) = (a ≡ asked.World) × EndsWorld ended bytes old new
+ComesOfRun a origin bytes old new (outcome.Served ended) =
     (serving : Serving) × (a ≡ asked.Serve serving) × EndsServing serving ended old new
-ComesOfRun a input old new (outcome.Connected ended) =
+ComesOfRun a origin bytes old new (outcome.Connected ended) =
     (connecting : Connecting) × (a ≡ asked.Connect connecting)
-    × EndsConnecting connecting ended input old new
-ComesOfRun a input old new outcome.Untraced =
+    × EndsConnecting connecting ended (foreseen origin bytes) old new
+ComesOfRun a origin bytes old new outcome.Untraced =
     (connecting : Connecting) × (a ≡ asked.Connect connecting) × (connecting.trace ≢ None) × (new ≡ old)
-ComesOfRun a input old new (outcome.Help ended) = ⊥
-ComesOfRun a input old new (outcome.Version ended) = ⊥
-ComesOfRun a input old new (outcome.Usage detail) = ⊥
-ComesOfRun a input old new outcome.Memory = ⊥
+ComesOfRun a origin bytes old new (outcome.Help ended) = ⊥
+ComesOfRun a origin bytes old new (outcome.Version ended) = ⊥
+ComesOfRun a origin bytes old new (outcome.Usage detail) = ⊥
+ComesOfRun a origin bytes old new outcome.Memory = ⊥
 
 -- nothing was run: the words ask for help or for the version, or are not accepted, or memory ran out
 abbrev pub ComesOfNoRun : List (List ℕ) → Option (List ℕ) → Option (List ℕ) → Outcome → Type 0
@@ -86,14 +87,14 @@ ComesOfNoRun words old new (outcome.Connected ended) = ⊥
 ComesOfNoRun words old new outcome.Untraced = ⊥
 
 -- this came of the words: the run that they ask for, or none
-abbrev pub ComesOf : List (List ℕ) → KnownReader → Option (List ℕ) → Option (List ℕ) → Outcome → Type 0
-ComesOf words input old new came =
-    ((a : Asked) × AskFor words a × ComesOfRun a input old new came) ⊎ ComesOfNoRun words old new came
+abbrev pub ComesOf : List (List ℕ) → Origin → Option (List ℕ) → Option (List ℕ) → Option (List ℕ) → Outcome → Type 0
+ComesOf words origin bytes old new came =
+    ((a : Asked) × AskFor words a × ComesOfRun a origin bytes old new came) ⊎ ComesOfNoRun words old new came
 
 -- the status of what came of the words
-abbrev pub EndsWith : List (List ℕ) → KnownReader → Option (List ℕ) → Option (List ℕ) → ℕ → Type 0
-EndsWith words input old new status =
-    (came : Outcome) × ComesOf words input old new came × (status ≡ status_of came)
+abbrev pub EndsWith : List (List ℕ) → Origin → Option (List ℕ) → Option (List ℕ) → Option (List ℕ) → ℕ → Type 0
+EndsWith words origin bytes old new status =
+    (came : Outcome) × ComesOf words origin bytes old new came × (status ≡ status_of came)
 
 -- they ask for no run, for no help and not for the version
 abbrev pub AskForNothing : List (List ℕ) → Type 0

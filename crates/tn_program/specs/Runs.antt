@@ -5,14 +5,14 @@ use Rattle.tn_cli.specs.Decode.{Decodes}
 use Rattle.tn_cli.specs.Playing.{PlaysScript}
 use Rattle.tn_cli.specs.Replay.{Replays}
 use Rattle.tn_cli.specs.Typing.{PrintsKeys}
-use Rattle.tn_connect.specs.Clients.{RunsClient}
+use Rattle.tn_connect.specs.Clients.{RunsClient, foreseen}
 use Rattle.tn_loopback.specs.Ends.{ServesAll}
 use Rattle.tn_loopback.specs.declared.served.Served.{Served}
 use Rattle.tn_messages.specs.Ending.{EndsWhole}
 use Rattle.tn_program.specs.Settings.{window_as}
 use Rattle.tn_session.specs.declared.parties.ClientPorts.{ClientPorts}
 use Rattle.tn_session.specs.declared.parties.Report.{Report}
-use Rattle.tn_streams.specs.Known.{KnownReader}
+use Rattle.tn_connect.specs.declared.settings.Origin.{Origin}
 use Rattle.tn_words.specs.Words.{AskFor, AsksForHelp, AsksForVersion, version_line}
 use Rattle.tn_words.specs.declared.words.Asked.{Asked}
 use Rattle.tn_words.specs.declared.words.Asked.TheVariants.{Local, Replay, Decode, World, Serve, Connect}
@@ -20,19 +20,19 @@ use Rattle.tn_words.specs.declared.words.Asked.TheVariants.{Local, Replay, Decod
 -- Where the reader tells its bytes and the writer what it holds, the run has appended what was asked for.
 -- Where it served, as many connections were accepted as were asked for, and nothing was written; where it
 -- connected, a client's session ran with these keys and this screen, and ended in no fault.
-abbrev pub RunsAsked : Asked → KnownReader → Option (List ℕ) → Option (List ℕ) → Type 0
-RunsAsked Local input old new = IfSome input.bytes (λ keys. PrintsKeys keys old new)
-RunsAsked Replay input old new = IfSome input.bytes (λ stream. Replays stream old new)
-RunsAsked Decode input old new = IfSome input.bytes (λ stream. Decodes stream old new)
-RunsAsked World input old new = IfSome input.bytes (λ script. PlaysScript script old new)
-RunsAsked (Serve serving) input old new = (served : Served) × ServesAll serving.count served × (new ≡ old)
-RunsAsked (Connect connecting) input old new =
+abbrev pub RunsAsked : Asked → Origin → Option (List ℕ) → Option (List ℕ) → Option (List ℕ) → Type 0
+RunsAsked Local origin bytes old new = IfSome bytes (λ keys. PrintsKeys keys old new)
+RunsAsked Replay origin bytes old new = IfSome bytes (λ stream. Replays stream old new)
+RunsAsked Decode origin bytes old new = IfSome bytes (λ stream. Decodes stream old new)
+RunsAsked World origin bytes old new = IfSome bytes (λ script. PlaysScript script old new)
+RunsAsked (Serve serving) origin bytes old new = (served : Served) × ServesAll serving.count served × (new ≡ old)
+RunsAsked (Connect connecting) origin bytes old new =
     (report : Report) × (ports : ClientPorts)
-    × RunsClient (window_as connecting) input old new report ports × EndsWhole report.ended
+    × RunsClient (window_as connecting) (foreseen origin bytes) old new report ports × EndsWhole report.ended
 
 -- the run that the words ask for, or some text where they ask for help, or the version
-abbrev pub DoesAsAsked : List (List ℕ) → KnownReader → Option (List ℕ) → Option (List ℕ) → Type 0
-DoesAsAsked words input old new =
-    ((asked : Asked) × AskFor words asked × RunsAsked asked input old new)
+abbrev pub DoesAsAsked : List (List ℕ) → Origin → Option (List ℕ) → Option (List ℕ) → Option (List ℕ) → Type 0
+DoesAsAsked words origin bytes old new =
+    ((asked : Asked) × AskFor words asked × RunsAsked asked origin bytes old new)
     ⊎ (AsksForHelp words × ((help : List ℕ) × Appends old new help))
     ⊎ (AsksForVersion words × Appends old new version_line)

@@ -2,7 +2,6 @@
 
 ghost use Rattle.std.specs.Prelude.{◌≡◌, ◌≢◌, ◌⊎◌, None, IfErr, IfOk, IsOk, OnErr, map, string_bytes};
 ghost use Rattle.std.specs.IoError.{error_kind};
-ghost use Rattle.tn_connect.specs.Clients.{foreseen};
 ghost use Rattle.tn_program.specs.Outcomes.{ComesOf, ComesOfRun, EndsVersion, EndsWith, AskForNothing};
 ghost use Rattle.tn_program.specs.Runs.{DoesAsAsked};
 
@@ -42,10 +41,10 @@ pub fn run_words<
     ensures usage { IfErr words (λ error. error_kind error ≢ ErrorKind.OutOfMemory → result ≡ 2) }
     ensures unwritten { OnErr words (W.contents writer.new ≡ W.contents writer.old) }
     ensures done { result ≡ 0 → IfOk words (λ words. DoesAsAsked (map string_bytes words.items)
-        (foreseen seat.origin (R.remaining seat.reader))
+        seat.origin (R.remaining seat.reader)
         (W.contents writer.old) (W.contents writer.new)) }
     ensures ended { IfOk words (λ words. EndsWith (map string_bytes words.items)
-        (foreseen seat.origin (R.remaining seat.reader))
+        seat.origin (R.remaining seat.reader)
         (W.contents writer.old) (W.contents writer.new) result) }
     // 1 when out of memory
     ensures refused { IfOk words (λ words. AskForNothing (map string_bytes words.items) →
@@ -80,7 +79,7 @@ pub fn outcome_of_words<
         result ≡ Outcome.Usage None) }
     ensures unwritten { OnErr words (W.contents writer.new ≡ W.contents writer.old) }
     ensures comes { IfOk words (λ words. ComesOf (map string_bytes words.items)
-        (foreseen seat.origin (R.remaining seat.reader))
+        seat.origin (R.remaining seat.reader)
         (W.contents writer.old) (W.contents writer.new) result) }
 {
     match words {
@@ -115,7 +114,7 @@ fn run_strings<
     errors: &mut E,
     causes: &mut Vec<u8>,
 ) -> Outcome
-    ensures { ComesOf (map string_bytes words.now) (foreseen seat.origin (R.remaining seat.reader))
+    ensures { ComesOf (map string_bytes words.now) seat.origin (R.remaining seat.reader)
         (W.contents writer.old) (W.contents writer.new) result }
 {
     match texts_of(alloc, words) {
@@ -148,7 +147,7 @@ fn run_texts<
     errors: &mut E,
     causes: &mut Vec<u8>,
 ) -> Outcome
-    ensures { ComesOf (map (λ word. word.now) words.now) (foreseen seat.origin (R.remaining seat.reader))
+    ensures { ComesOf (map (λ word. word.now) words.now) seat.origin (R.remaining seat.reader)
         (W.contents writer.old) (W.contents writer.new) result }
 {
     match read_words(alloc, words) {
@@ -186,7 +185,7 @@ fn run_asked<
     errors: &mut E,
     causes: &mut Vec<u8>,
 ) -> Outcome
-    ensures { ComesOfRun asked (foreseen seat.origin (R.remaining seat.reader))
+    ensures { ComesOfRun asked seat.origin (R.remaining seat.reader)
         (W.contents writer.old) (W.contents writer.new) result }
 {
     match asked {
@@ -211,7 +210,7 @@ fn run_connect<
     writer: &mut W,
     causes: &mut Vec<u8>,
 ) -> Outcome
-    ensures { ComesOfRun (Asked.Connect asked) (foreseen seat.origin (R.remaining seat.reader))
+    ensures { ComesOfRun (Asked.Connect asked) seat.origin (R.remaining seat.reader)
         (W.contents writer.old) (W.contents writer.new) result }
 {
     let Ok(trace) = open_trace(&rt, &asked, causes) else {

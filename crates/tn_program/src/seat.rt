@@ -1,7 +1,5 @@
 //! Where a reader's bytes come from, and whom they are for.
 
-ghost use Rattle.tn_connect.specs.Clients.{foreseen};
-
 use std::alloc::Global;
 use std::fs::File;
 use std::io;
@@ -20,7 +18,7 @@ pub struct Seat<R> {
 }
 
 impl<R: Read> Read for Seat<R> {
-    ghost remaining = { λ seat. (foreseen seat.origin (R.Read.remaining seat.reader)).bytes };
+    ghost remaining = { λ seat. R.Read.remaining seat.reader };
 
     fn read(&mut self, buf: &mut [u8]) -> io::Result<usize> {
         self.reader.read(buf)
