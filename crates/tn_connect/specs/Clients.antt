@@ -20,12 +20,16 @@ foreseen Reader bytes = record { bytes = bytes; failures = None; sizes = Some []
 foreseen Input bytes = record { bytes = None; failures = None; sizes = None }
 foreseen Terminal bytes = record { bytes = None; failures = None; sizes = None }
 
--- a client's session ran with these keys and this screen, before and after it; of the connection nothing is
--- known, but that it tells no size
+-- A client's session ran with these keys and this screen, before and after it. Of what the connection brings
+-- nothing is known, but that it tells no size; what the session wrote was put behind what was put before.
 abbrev pub RunsClient : Window → KnownReader → Option (List ℕ) → Option (List ℕ)
     → Report → ClientPorts → Type 0
 RunsClient window keys seen now report ports =
-    RunningClient window keys (record { bytes = None; failures = None; sizes = Some [] })
-    (record { before = record { bytes = None; calls = None }; after = record { bytes = None; calls = None } })
+    (before after : List ℕ)
+    × RunningClient window keys (record { bytes = None; failures = None; sizes = Some [] })
+    (record {
+      before = record { bytes = Some before; calls = None };
+      after = record { bytes = Some after; calls = None };
+    })
     (record { before = record { bytes = seen; calls = None }; after = record { bytes = now; calls = None } })
     (client_result report ports)

@@ -1,6 +1,6 @@
 //! `tn connect`: a client's session over a connection.
 
-ghost use Rattle.std.specs.Prelude.{◌≡◌, ◌≢◌, Ok, Err, IfOk, IfErr, OnErr};
+ghost use Rattle.std.specs.Prelude.{◌≡◌, ◌≢◌, Ok, Err, false, IsOk, IfOk, IfErr, OnErr};
 ghost use Rattle.tn_connect.specs.Clients.{RunsClient, foreseen, window_of};
 ghost use Rattle.tn_connect.specs.Faults.{IsOfNetwork};
 ghost use Rattle.tn_messages.specs.Ending.{EndsWhole};
@@ -17,8 +17,8 @@ use std::sync::Arc;
 use std::{io, thread};
 use tn_session::{ClientPorts, Ended, Finish, Report, SessionFault, Unwatched, client_session};
 use tn_sockets::{
-    Connection, Console, Host, Incoming, Keys, Link, Outgoing, Sending, Sizes, Throttle, Trace,
-    Typing, queue_for,
+    Connection, Console, Host, Incoming, Keys, Link, Outgoing, Sending, Sent, Sizes, Throttle,
+    Trace, Typing, queue_for,
 };
 use tn_streams::Source;
 
@@ -27,14 +27,14 @@ use tn_streams::Source;
 struct Wires<H> {
     incoming: Incoming<H, TcpStream>,
     outgoing: Outgoing<H>,
-    sending: Sending<H, Connection>,
+    sending: Sending<H, Connection<TcpStream>>,
 }
 
 // A session that is over, how its sending ended, and how many bytes were not sent.
 #[derive(Drop)]
 struct Talked {
     ended: Result<(Report, ClientPorts), SessionFault>,
-    sent: io::Result<()>,
+    sent: io::Result<Sent>,
     unsent: usize,
 }
 
@@ -139,7 +139,11 @@ fn talk_and_send<H: Host, K: Read + Drop + Send + 'static, S: Write>(
         mut outgoing,
         sending,
     } = wires;
-    let Ok(sending) = thread::spawn(&rt, move || -> io::Result<()> { sending.run() }) else {
+    let send = move || -> io::Result<Sent> {
+        let mut sending = sending;
+        sending.run()
+    };
+    let Ok(sending) = thread::spawn(&rt, send) else {
         return Err(ConnectFault::Memory);
     };
     let ended = talk_from(
@@ -224,6 +228,7 @@ fn note_talked(causes: &mut Vec<u8>, talked: &Talked, link: &Link) {
 fn result_of(talked: Talked, is_left: bool) -> Result<(Report, ClientPorts), ConnectFault>
     ensures ran { IfOk result (λ r. talked.ended ≡ Ok r) }
     ensures whole { IfOk result (λ r. EndsWhole r.0.ended) }
+    ensures sent { IfOk result (λ _. is_left ≡ false → IsOk talked.sent) }
     ensures fault { IfErr result (λ fault. fault ≡ ConnectFault.Session) }
 {
     let Talked { ended, sent, .. } = talked;
@@ -256,7 +261,7 @@ fn note_fault(causes: &mut Vec<u8>, fault: SessionFault, link: &Link) {
 }
 
 // Notes what was not sent, and why.
-fn note_unsent(causes: &mut Vec<u8>, sent: &io::Result<()>, waiting: usize) {
+fn note_unsent(causes: &mut Vec<u8>, sent: &io::Result<Sent>, waiting: usize) {
     if let Err(error) = sent {
         let _ = writeln!(causes, "tn: sending failed: {}", error);
     }

@@ -24,8 +24,11 @@ module _ {J : Type 0} (facts : JobFacts J) (headline : Headline facts) (p : Prog
   abbrev screen : KnownWriting
   screen = record { before = record { bytes = p.seen; calls = None }; after = record { bytes = p.now; calls = None } }
 
+  abbrev queued : KnownWriting
+  queued = record { before = record { bytes = Some p.connected.0; calls = None }; after = record { bytes = Some p.connected.1; calls = None } }
+
   abbrev Client : ℕ → Type 0
-  Client limit = RunningClient (record { width = p.connecting.width; height = p.connecting.height; limit = limit }) p.keys socket unknown screen (client_result p.client_report p.ports)
+  Client limit = RunningClient (record { width = p.connecting.width; height = p.connecting.height; limit = limit }) p.keys socket queued screen (client_result p.client_report p.ports)
 
   -- the same of any client's session
   record Reads (limit : ℕ) (c : Client limit) : Type 0 where
@@ -35,14 +38,14 @@ module _ {J : Type 0} (facts : JobFacts J) (headline : Headline facts) (p : Prog
 
   of_one_limit : (c : Client p.options.line_limit) → IsCarried served.ran.transcript c.transcript → Reads p.options.line_limit c
   of_one_limit c carried =
-      let client : Connected (terminal_of p.options).canon.limit = record { width = p.connecting.width; height = p.connecting.height; keys = p.keys; reader = socket; writer = unknown; screen = screen; result = client_result p.client_report p.ports; ran = c } in
+      let client : Connected (terminal_of p.options).canon.limit = record { width = p.connecting.width; height = p.connecting.height; keys = p.keys; reader = socket; writer = queued; screen = screen; result = client_result p.client_report p.ports; ran = c } in
       let reads = headline (terminal_of p.options).canon served client refl carried in
       record { prefix = reads.prefix; all = λ s c whole. reads.all (record { server = s; client = c; whole = whole }) }
 
-  pub reads_what_is_typed : p.connecting.line_limit ≡ p.options.line_limit → IsCarried served.ran.transcript p.connected.transcript → ReadsWhatIsTyped p
+  pub reads_what_is_typed : p.connecting.line_limit ≡ p.options.line_limit → IsCarried served.ran.transcript p.connected.2.transcript → ReadsWhatIsTyped p
   reads_what_is_typed e carried =
       let Q : ℕ → Type 0 = λ limit. (c : Client limit) → IsCarried served.ran.transcript c.transcript → Reads limit c in
-      let reads = subst Q (sym e) of_one_limit p.connected carried in
+      let reads = subst Q (sym e) of_one_limit p.connected.2 carried in
       record { prefix = reads.prefix; all = λ ran. reads.all ran.server ran.client ran.whole }
 
 pub headline_of_programs : {J : Type 0} (facts : JobFacts J) → Headline facts → HeadlineOfPrograms facts

@@ -35,14 +35,14 @@ abbrev pub server_transcript : {J : Type 0} {facts : JobFacts J} → Programs fa
 server_transcript p = p.served.1.transcript
 
 abbrev pub client_transcript : {J : Type 0} {facts : JobFacts J} → Programs facts → List Exchange
-client_transcript p = p.connected.transcript
+client_transcript p = p.connected.2.transcript
 
 -- what the job took, and what one local terminal gives for the keys that were read
 abbrev pub taken : {J : Type 0} {facts : JobFacts J} → Programs facts → List Entry
 taken p = p.served.1.entries_taken
 
 abbrev pub local : {J : Type 0} {facts : JobFacts J} → Programs facts → List Entry
-local p = typed_entries (terminal_of p.options).canon p.connected.keys_read
+local p = typed_entries (terminal_of p.options).canon p.connected.2.keys_read
 
 -- both sessions ended by a hang-up, and the server read all that the client wrote
 pub record RanToTheEnd {J : Type 0} {facts : JobFacts J} (p : Programs facts) : Type 0 where

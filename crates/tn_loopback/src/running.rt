@@ -1,7 +1,6 @@
 //! The sessions that are started and not yet joined, and how the earlier ones ended.
 
 ghost use Rattle.std.specs.Prelude.{◌≡◌, ◌<◌, ◌≤◌, ◌+◌, ◌-◌, ◌^◌, true, IfSome, vec_len, vec_capacity};
-
 ghost use Rattle.tn_roster.specs.Held.{held_count};
 
 use crate::finished::Finished;

@@ -115,8 +115,8 @@ where
 fn talk<H, M>(
     rt: H,
     alloc: Global,
-    reader: Attended<H>,
-    writer: &mut Connection,
+    reader: Attended<H, TcpStream>,
+    writer: &mut Connection<TcpStream>,
     options: SessionOptions,
     jobs: M,
 ) -> Result<Report, SessionFault>

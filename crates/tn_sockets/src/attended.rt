@@ -1,7 +1,11 @@
 //! What a client sends, and how long a server bears its silence.
 
+ghost use Rattle.std.specs.Prelude.{◌≡◌, ◌≤◌, ◌≢◌, length, take, IfOk, IfSome, None};
 ghost use Rattle.std.specs.Io.{ReadsAtMost};
+ghost use Rattle.std.specs.Io.KnownBytes.{Consumes, Keeps, ReadConsumes};
+ghost use Rattle.tn_sockets.specs.Passing.{GivesNext};
 
+use crate::connection::Closing;
 use std::alloc::{AllocError, Global};
 use std::io::{ErrorKind, Read};
 use std::net::{Shutdown, TcpStream};
@@ -97,9 +101,9 @@ impl Standing {
 /// What a client sends. It ends, as by a hang-up, where the client sends nothing for too long, where a job of
 /// the session wants that, and where the client does not close in time after it was told that no more comes.
 #[derive(Drop)]
-pub struct Attended<H> {
+pub struct Attended<H, S> {
     rt: H,
-    stream: TcpStream,
+    stream: S,
     standing: Arc<Standing, Global>,
     /// For how many seconds a client may send nothing, or 0 for ever.
     idle: u32,
@@ -107,7 +111,7 @@ pub struct Attended<H> {
     finished: Option<Instant>,
 }
 
-impl<H: Clock + Copy> Attended<H> {
+impl<H: Clock + Copy> Attended<H, TcpStream> {
     /// The reading side of a connection, whose peer may send nothing for `idle` seconds, or for ever where
     /// that is 0.
     pub fn new(
@@ -115,7 +119,7 @@ impl<H: Clock + Copy> Attended<H> {
         stream: TcpStream,
         standing: Arc<Standing, Global>,
         idle: u32,
-    ) -> io::Result<Attended<H>> {
+    ) -> io::Result<Attended<H, TcpStream>> {
         stream.set_read_timeout(Some(Duration::from_millis(LOOK)))?;
         let heard = Instant::now(&rt).ok();
         Ok(Attended {
@@ -127,7 +131,9 @@ impl<H: Clock + Copy> Attended<H> {
             finished: None,
         })
     }
+}
 
+impl<H: Clock + Copy, S: Drop> Attended<H, S> {
     // Whether a moment lies so many seconds back. Without a clock none does.
     fn is_past(&self, moment: Option<Instant>, seconds: u64) -> bool {
         match moment.map(|moment| moment.elapsed(&self.rt)) {
@@ -137,7 +143,9 @@ impl<H: Clock + Copy> Attended<H> {
     }
 
     // Whether no more is read: the peer had its time to close, or sent nothing for too long.
-    fn is_over(&mut self) -> bool {
+    fn is_over(&mut self) -> bool
+        ensures { self.new.stream ≡ self.old.stream }
+    {
         if self.standing.is_finished() {
             if self.finished.is_none() {
                 self.finished = Instant::now(&self.rt).ok();
@@ -152,7 +160,7 @@ impl<H: Clock + Copy> Attended<H> {
     }
 }
 
-impl<H: Clock + Copy + Wait> Attended<H> {
+impl<H: Clock + Copy + Wait, S: Drop + Read + Closing> Attended<H, S> {
     // Waits as long as the session is held, for two seconds at most.
     fn hold(&self) {
         for _ in 0..HOLDS {
@@ -163,36 +171,85 @@ impl<H: Clock + Copy + Wait> Attended<H> {
         }
     }
 
+    // One read. `None` where its time has passed: a peer that keepalive gave up is another error.
+    fn read_once(&mut self, buf: &mut [u8]) -> io::Result<Option<usize>>
+        ensures bound { IfOk result (λ some. IfSome some (λ n. n ≤ length buf.new)) }
+        ensures some { IfOk result (λ some. IfSome some (λ n.
+            Consumes (S.remaining self.old.stream) (S.remaining self.new.stream) (take n buf.new))) }
+        ensures none { IfOk result (λ some. some ≡ None →
+            Keeps (S.remaining self.old.stream) (S.remaining self.new.stream)) }
+    {
+        match self.stream.read(buf) {
+            Ok(count) => {
+                self.heard = Instant::now(&self.rt).ok();
+                Ok(Some(count))
+            },
+            Err(error) if error.kind() == ErrorKind::WouldBlock => Ok(None),
+            Err(error) => {
+                self.heard = Instant::now(&self.rt).ok();
+                Err(error)
+            },
+        }
+    }
+
     fn read_on(&mut self, buf: &mut [u8]) -> io::Result<usize>
-        ensures { ReadsAtMost result buf.new }
+        ensures bound { ReadsAtMost result buf.new }
+        ensures gives { GivesNext (S.remaining self.old.stream) (S.remaining self.new.stream) result buf.new }
     {
         let rt = self.rt;
         for _ in rt.forever() {
             if self.standing.is_to_end() {
                 return Ok(0);
             }
-            let read = self.stream.read(buf);
-            if !is_timeout(&read) {
-                self.heard = Instant::now(&self.rt).ok();
-                if matches!(read, Ok(0)) {
+            match self.read_once(buf) {
+                Ok(Some(0)) => {
                     self.hold();
-                }
-                // A session that is over discards what still comes.
-                if !self.standing.is_finished() || !matches!(read, Ok(1..)) {
-                    return read;
-                }
+                    return Ok(0);
+                },
+                Ok(Some(count)) => {
+                    // A session that is over discards what still comes.
+                    if self.standing.is_finished() {
+                        return self.discard(buf);
+                    }
+                    return Ok(count);
+                },
+                Ok(None) => {},
+                Err(error) => return Err(error),
             }
             if self.is_over() {
                 break;
             }
         }
-        let _ = self.stream.shutdown(Shutdown::Read);
+        self.stream.close(Shutdown::Read);
+        Ok(0)
+    }
+
+    // Reads to the end, and gives nothing.
+    fn discard(&mut self, buf: &mut [u8]) -> io::Result<usize>
+        ensures { IfOk result (λ n. n ≡ 0) }
+    {
+        let rt = self.rt;
+        for _ in rt.forever() {
+            if self.is_over() {
+                break;
+            }
+            match self.read_once(buf) {
+                Ok(Some(0)) => return Ok(0),
+                Ok(_) => {},
+                Err(error) => return Err(error),
+            }
+        }
+        self.stream.close(Shutdown::Read);
         Ok(0)
     }
 }
 
-impl<H: Clock + Copy + Wait> Read for Attended<H> {
-    fn read(&mut self, buf: &mut [u8]) -> io::Result<usize> {
+impl<H: Clock + Copy + Wait, S: Drop + Read + Closing> Read for Attended<H, S> {
+    fn read(&mut self, buf: &mut [u8]) -> io::Result<usize>
+        ensures bound { ReadsAtMost result buf.new }
+        ensures bytes { ReadConsumes None None result buf.new }
+        ensures gives { GivesNext (S.remaining self.old.stream) (S.remaining self.new.stream) result buf.new }
+    {
         let read = self.read_on(buf);
         if is_last(&read) {
             self.standing.gone.store(true, Ordering::SeqCst);
@@ -206,13 +263,5 @@ fn is_last(read: &io::Result<usize>) -> bool {
     match read {
         Ok(count) => *count == 0,
         Err(error) => error.kind() != ErrorKind::Interrupted,
-    }
-}
-
-// The read waited for its time. A peer that keepalive gave up is another error.
-fn is_timeout(read: &io::Result<usize>) -> bool {
-    match read {
-        Ok(_) => false,
-        Err(error) => error.kind() == ErrorKind::WouldBlock,
     }
 }

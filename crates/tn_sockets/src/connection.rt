@@ -1,5 +1,6 @@
 //! One end of a connection, as a session uses it.
 
+ghost use Rattle.std.specs.Prelude.{◌≡◌};
 ghost use Rattle.libc.specs.Net.{SockOption};
 
 use crate::attended::Standing;
@@ -20,33 +21,50 @@ const KEEPALIVE_INTERVAL: u8 = 15;
 
 const KEEPALIVE_COUNT: u8 = 4;
 
+/// A stream of which each direction can be closed.
+pub trait Closing {
+    fn close(&self, how: Shutdown);
+}
+
+impl Closing for TcpStream {
+    fn close(&self, how: Shutdown) {
+        let _ = self.shutdown(how);
+    }
+}
+
 /// The writing side of a connection. Finishing it shuts it down, so that the peer reads its end.
 #[derive(Drop)]
-pub struct Connection {
-    stream: TcpStream,
+pub struct Connection<S> {
+    stream: S,
     standing: Option<Arc<Standing, Global>>,
 }
 
-impl Connection {
+impl Connection<TcpStream> {
     /// Both sides of a connection, the reading one first. What is written is sent at once: a session
     /// writes its echo and its job's text separately, and the second would otherwise wait until the first
     /// is acknowledged. TCP keepalive finds a peer whose machine is gone.
-    pub fn split(stream: TcpStream) -> io::Result<(TcpStream, Connection)> {
+    pub fn split(stream: TcpStream) -> io::Result<(TcpStream, Connection<TcpStream>)> {
         stream.set_nodelay(true)?;
         keep_alive(&stream);
         let reader = stream.try_clone()?;
         let standing = None;
         Ok((reader, Connection { stream, standing }))
     }
+}
 
+impl<S: Drop> Connection<S> {
     /// The same, of which the reading side has to know when it is finished.
-    pub fn with_standing(self, standing: Arc<Standing, Global>) -> Connection {
+    pub fn with_standing(self, standing: Arc<Standing, Global>) -> Connection<S>
+        ensures { result.stream ≡ self.stream }
+    {
         let standing = Some(standing);
         Connection { standing, ..self }
     }
 
     /// The connection itself, which is not finished.
-    pub fn into_stream(self) -> TcpStream {
+    pub fn into_stream(self) -> S
+        ensures { result ≡ self.stream }
+    {
         let Connection { stream, .. } = self;
         stream
     }
@@ -70,7 +88,9 @@ fn set(stream: &TcpStream, level: i32, name: i32, value: u8)
     let _ = unsafe { c::setsockopt(stream.as_raw_fd(), level, name, &bytes, 4) };
 }
 
-impl Write for Connection {
+impl<S: Write> Write for Connection<S> {
+    ghost contents = { λ connection. S.Write.contents connection.stream };
+
     fn write(&mut self, buf: &[u8]) -> io::Result<usize> {
         self.stream.write(buf)
     }
@@ -80,11 +100,11 @@ impl Write for Connection {
     }
 }
 
-impl Finish for Connection {
+impl<S: Write + Closing> Finish for Connection<S> {
     fn finish(&mut self) {
         if let Some(standing) = &self.standing {
             standing.finish();
         }
-        let _ = self.stream.shutdown(Shutdown::Write);
+        self.stream.close(Shutdown::Write);
     }
 }

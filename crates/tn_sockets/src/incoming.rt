@@ -1,5 +1,10 @@
 //! What a client's connection brings.
 
+ghost use Rattle.std.specs.Prelude.{◌≡◌, None};
+ghost use Rattle.std.specs.Io.{ReadsAtMost};
+ghost use Rattle.std.specs.Io.KnownBytes.{ReadConsumes};
+ghost use Rattle.tn_sockets.specs.Passing.{HandsOn};
+
 use crate::link::Link;
 use crate::trace::{Direction, Trace};
 use std::alloc::Global;
@@ -87,7 +92,9 @@ impl<H, N> Incoming<H, N> {
 }
 
 impl<H: Copy + Wait, N: Read> Incoming<H, N> {
-    fn take(&mut self, bytes: &[u8]) {
+    fn take(&mut self, bytes: &[u8])
+        ensures { self.new.reader ≡ self.old.reader }
+    {
         self.link.count_came(bytes.len());
         self.trace.note(Direction::Came, bytes);
         if let Some(watch) = &mut self.watch {
@@ -97,7 +104,11 @@ impl<H: Copy + Wait, N: Read> Incoming<H, N> {
 }
 
 impl<H: Copy + Wait, N: Read> Read for Incoming<H, N> {
-    fn read(&mut self, buf: &mut [u8]) -> io::Result<usize> {
+    fn read(&mut self, buf: &mut [u8]) -> io::Result<usize>
+        ensures bound { ReadsAtMost result buf.new }
+        ensures bytes { ReadConsumes None None result buf.new }
+        ensures hands_on { HandsOn (N.remaining self.old.reader) (N.remaining self.new.reader) result buf.new }
+    {
         let got = self.reader.read(buf);
         match &got {
             Ok(0) => self.link.close(),

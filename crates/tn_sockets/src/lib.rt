@@ -3,24 +3,27 @@
 //!
 //! ```
 //! let (reader, writer) = Connection::split(stream)?;
-//! let (outgoing, sending, throttle) = queue_for(rt, alloc, writer, link, trace)?;
-//! let sender = thread::spawn(&rt, move || sending.run());
+//! let (outgoing, mut sending, throttle) = queue_for(rt, alloc, writer, link, trace)?;
+//! let sent = sending.run()?; // in a thread of its own
 //! ```
 //!
-//! It starts no thread and no session. Nothing is proved of what a connection or a terminal carries, but that
-//! keys of a reader are its bytes.
+//! It starts no thread and no session. Nothing is proved of what a socket or a terminal carries. It is proved that
+//! both sides of a connection hand on what their stream gives and takes, that what is sent is what was queued, in
+//! order, and that keys of a reader are its bytes.
 #![tactic(auto)]
 
 pub use attended::{Attended, Standing};
-pub use connection::Connection;
+pub use connection::{Closing, Connection};
 pub use console::Console;
 pub use hook::Hook;
 pub use host::Host;
 pub use incoming::Incoming;
 pub use keys::{Keys, Typing};
 pub use link::Link;
-pub use outgoing::{Outgoing, Sending, Throttle, queue_for};
+pub use outgoing::{Outgoing, Throttle, queue_for};
+pub use pieces::{Hand, InTurn, QueuePass, QueueReceiver, QueueSender};
 pub use screen::Screen;
+pub use sending::{Sending, Sent};
 pub use sizes::Sizes;
 pub use trace::Trace;
 
@@ -33,6 +36,8 @@ mod incoming;
 mod keys;
 mod link;
 mod outgoing;
+mod pieces;
 mod screen;
+mod sending;
 mod sizes;
 mod trace;

@@ -1,8 +1,16 @@
 //! What a client sends goes out in a thread of its own, so that it reads on while the server does not.
 
+ghost use Rattle.std.specs.Option.{ForSome};
+ghost use Rattle.std.specs.Prelude.{◌≢◌, None};
+ghost use Rattle.crossbeam_channel.specs.Claims.{view, IsSeatAt};
+ghost use Rattle.crossbeam_channel.specs.Ends.{sends_on};
+ghost use Rattle.tn_sockets.specs.Queue.{put_bytes};
+
 use crate::link::Link;
+use crate::pieces::{CutTaker, Hand, InTurn, Puts, QueuePass, QueueSender};
+use crate::sending::Sending;
 use crate::trace::{Direction, Trace};
-use crossbeam_channel::{Receiver, Sender, bounded};
+use crossbeam_channel::{Receiver, bounded, bounded_with};
 use std::alloc::{AllocError, Global};
 use std::io;
 use std::io::{ErrorKind, Write};
@@ -32,7 +40,7 @@ impl Waiting {
         self.bytes.fetch_add(bytes, Ordering::SeqCst);
     }
 
-    fn remove(&self, bytes: usize) {
+    pub(crate) fn remove(&self, bytes: usize) {
         self.writes.fetch_sub(1, Ordering::SeqCst);
         self.bytes.fetch_sub(bytes, Ordering::SeqCst);
     }
@@ -51,20 +59,12 @@ impl Waiting {
 pub struct Outgoing<H> {
     rt: H,
     alloc: Global,
-    pieces: Option<Sender<Vec<u8>, Global>>,
+    pieces: Option<QueueSender>,
+    pass: QueuePass,
     waiting: Arc<Waiting, Global>,
     trace: Trace<H>,
-}
-
-/// Sends what waits.
-#[derive(Drop)]
-pub struct Sending<H, W> {
-    rt: H,
-    writer: W,
-    pieces: Receiver<Vec<u8>, Global>,
-    waiting: Arc<Waiting, Global>,
-    sent: Sender<(), Global>,
-    link: Arc<Link, Global>,
+    ghost seated: { ForSome pieces (λ to. IsSeatAt (sends_on to) pass) },
+    ghost puts: { (view pass).put ≢ None },
 }
 
 /// Lets keys be read once little waits.
@@ -86,7 +86,10 @@ pub fn queue_for<H: Copy, W>(
 where
     W: Drop,
 {
-    let (sender, pieces) = bounded(alloc, MAX_WRITES)?;
+    let (sender, pieces, mut pass) = bounded_with::<Vec<u8>, Hand, InTurn, Global>(
+        alloc, MAX_WRITES,
+    )?;
+    let taker = sender.another::<CutTaker>(&mut pass);
     let (sent, throttled) = bounded(alloc, 1)?;
     let waiting = Waiting {
         writes: AtomicUsize::new(0),
@@ -102,6 +105,7 @@ where
         rt,
         writer,
         pieces,
+        pass: taker,
         waiting: Arc::try_clone(&waiting)?,
         sent,
         link,
@@ -110,6 +114,7 @@ where
         rt,
         alloc,
         pieces: Some(sender),
+        pass,
         waiting,
         trace,
     };
@@ -124,6 +129,8 @@ impl<H> Outgoing<H> {
 }
 
 impl<H: Copy + Wait> Write for Outgoing<H> {
+    ghost contents = { λ outgoing. put_bytes (view outgoing.pass) };
+
     fn write(&mut self, buf: &[u8]) -> io::Result<usize> {
         let Some(pieces) = &self.pieces else {
             return Err(io::Error::from(ErrorKind::BrokenPipe));
@@ -132,7 +139,7 @@ impl<H: Copy + Wait> Write for Outgoing<H> {
         piece.extend_from_slice(buf)?;
         self.waiting.add(buf.len());
         self.trace.note(Direction::Went, buf);
-        match pieces.send(&self.rt, piece) {
+        match pieces.send_as::<Puts, H>(&self.rt, &mut self.pass, piece) {
             Ok(()) => Ok(buf.len()),
             Err(_) => Err(io::Error::from(ErrorKind::BrokenPipe)),
         }
@@ -146,36 +153,6 @@ impl<H: Copy + Wait> Write for Outgoing<H> {
 impl<H: Copy + Wait> Finish for Outgoing<H> {
     fn finish(&mut self) {
         self.pieces = None;
-    }
-}
-
-impl<H: Copy + Wait, W: Drop + Finish + Write> Sending<H, W> {
-    /// Sends all until no more comes, and finishes the writer. Where a write fails the link is ended, since
-    /// the other end hears no more. Once the user has left, what still comes is discarded.
-    pub fn run(self) -> io::Result<()> {
-        let Sending {
-            rt,
-            mut writer,
-            pieces,
-            waiting,
-            sent,
-            link,
-        } = self;
-        for _ in rt.forever() {
-            let Ok(piece) = pieces.recv(&rt) else {
-                break;
-            };
-            let wrote = writer.write_all(&piece);
-            if wrote.is_err() && !link.is_left() {
-                link.hang_up();
-                return wrote;
-            }
-            link.count_went(piece.len());
-            waiting.remove(piece.len());
-            let _ = sent.try_send(&rt, ());
-        }
-        writer.finish();
-        Ok(())
     }
 }
 

@@ -1,0 +1,4 @@
+pub mod Seats
+pub mod Queue
+pub mod Writing
+pub mod Passing
