@@ -1,3 +1,4 @@
+pub mod Dialing
 pub mod Joining
 pub mod Lines
 pub mod Sending

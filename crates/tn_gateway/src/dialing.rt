@@ -1,8 +1,11 @@
 //! A connection to a line service, for the jobs of one session.
 
 ghost use Rattle.std.specs.Io.{ReadsAtMost, WritesAtMost};
-ghost use Rattle.std.specs.Prelude.{◌≡◌, ◌+◌, IfOk};
+ghost use Rattle.std.specs.Io.KnownBytes.{ReadConsumes, WriteAppends};
+ghost use Rattle.std.specs.Prelude.{◌≡◌, ◌+◌, None, IfOk};
+ghost use Rattle.tn_gateway.specs.Dialing.{bytes_left, bytes_held};
 ghost use Rattle.tn_gateway.specs.Joining.{count};
+ghost use Rattle.tn_sockets.specs.Passing.{HandsOn};
 
 use crate::joining::Gateway;
 use crate::line_ends::LineEnd;
@@ -14,7 +17,7 @@ use std::net::{Net, Shutdown, TcpListener, TcpStream};
 use std::sync::Wait;
 use std::time::Duration;
 use tn_session::{Finish, Maker};
-use tn_sockets::Hook;
+use tn_sockets::{Closing, Hook};
 
 /// How many milliseconds a read or a write waits before it looks whether its session is over.
 const LOOK: u64 = 250;
@@ -51,12 +54,16 @@ pub struct Joiner<H> {
     port: u16,
     line_end: LineEnd,
     hook: Option<Hook>,
-    jobs: Option<Gateways<Heard<H>, Told<H>>>,
+    jobs: Option<Gateways<Heard<H, TcpStream>, Told<H, TcpStream>>>,
 }
 
 impl<H> Joiner<H> {
     /// Jobs that are joined to the service at this host and port, and hang up by this hook where it ends.
-    pub fn new(rt: H, host: String, port: u16, line_end: LineEnd, hook: Hook) -> Joiner<H> {
+    pub fn new(rt: H, host: String, port: u16, line_end: LineEnd, hook: Hook) -> Joiner<H>
+        ensures host { result.host ≡ host }
+        ensures port { result.port ≡ port }
+        ensures line_end { result.line_end ≡ line_end }
+    {
         Joiner {
             rt,
             host,
@@ -69,8 +76,12 @@ impl<H> Joiner<H> {
 }
 
 impl<H: Copy + Dial + Wait> Joiner<H> {
-    fn join(&self, hook: Hook) -> Result<Gateways<Heard<H>, Told<H>>, AllocError>
-        ensures { IfOk result (λ jobs. count jobs.writer + count jobs.reader ≡ 2) }
+    fn join(
+        &self,
+        hook: Hook,
+    ) -> Result<Gateways<Heard<H, TcpStream>, Told<H, TcpStream>>, AllocError>
+        ensures both { IfOk result (λ jobs. count jobs.writer + count jobs.reader ≡ 2) }
+        ensures line_end { IfOk result (λ jobs. jobs.line_end ≡ self.now.line_end) }
     {
         let rt = self.rt;
         let (heard, told) = match rt.dial(self.host.as_str(), self.port) {
@@ -97,11 +108,14 @@ impl<H: Copy + Dial + Wait> Maker for Joiner<H> {
     ghost use Rattle.std.specs.Prelude.{Some};
     ghost use Rattle.tn_gateway.specs.Joining.{left_to_make};
 
-    type Job = Gateway<Heard<H>, Told<H>>;
+    type Job = Gateway<Heard<H, TcpStream>, Told<H, TcpStream>>;
 
     ghost left = { λ joiner. Some (left_to_make joiner.hook joiner.jobs) };
 
-    fn next(&mut self, alloc: Global) -> Result<Option<Gateway<Heard<H>, Told<H>>>, AllocError> {
+    fn next(
+        &mut self,
+        alloc: Global,
+    ) -> Result<Option<Gateway<Heard<H, TcpStream>, Told<H, TcpStream>>>, AllocError> {
         if let Some(hook) = self.hook.take() {
             self.jobs = Some(self.join(hook)?);
         }
@@ -117,37 +131,52 @@ impl<H: Copy + Dial + Wait> Maker for Joiner<H> {
 
 /// What the service says. Its end hangs up, and where the session is over, it ends.
 #[derive(Drop)]
-pub struct Heard<H> {
+pub struct Heard<H, S> {
     rt: H,
-    stream: Option<TcpStream>,
+    stream: Option<S>,
     /// What is read where the service was not reached.
     words: &'static [u8],
     hook: Hook,
 }
 
-impl<H: Copy + Wait> Heard<H> {
-    fn hear(&mut self, buf: &mut [u8]) -> io::Result<usize>
-        ensures { ReadsAtMost result buf.new }
-    {
-        let rt = self.rt;
-        let Some(stream) = &mut self.stream else {
-            return self.words.read(buf);
-        };
-        for _ in rt.forever() {
-            let read = stream.read(buf);
-            if !is_timeout(&read) {
-                return read;
-            }
-            if self.hook.is_over() {
-                return Ok(0);
-            }
+// Reads what comes, until the session is over.
+fn hear<H: Wait, S: Read>(rt: &H, stream: &mut S, hook: &Hook, buf: &mut [u8]) -> io::Result<usize>
+    ensures bound { ReadsAtMost result buf.new }
+    ensures hands_on { HandsOn (S.remaining stream.old) (S.remaining stream.new) result buf.new }
+{
+    for _ in rt.forever() {
+        match stream.read(buf) {
+            Ok(count) => return Ok(count),
+            Err(error) if is_timeout(&error) => {},
+            Err(error) => return Err(error),
         }
-        Ok(0)
+        if hook.is_over() {
+            return Ok(0);
+        }
+    }
+    Ok(0)
+}
+
+impl<H: Copy + Wait, S: Drop + Read> Heard<H, S> {
+    fn hear(&mut self, buf: &mut [u8]) -> io::Result<usize>
+        ensures bound { ReadsAtMost result buf.new }
+        ensures hands_on { HandsOn (bytes_left S.remaining self.old.stream self.old.words.now)
+            (bytes_left S.remaining self.new.stream self.new.words.now) result buf.new }
+    {
+        match &mut self.stream {
+            Some(stream) => hear(&self.rt, stream, &self.hook, buf),
+            None => self.words.read(buf),
+        }
     }
 }
 
-impl<H: Copy + Wait> Read for Heard<H> {
-    fn read(&mut self, buf: &mut [u8]) -> io::Result<usize> {
+impl<H: Copy + Wait, S: Drop + Read> Read for Heard<H, S> {
+    fn read(&mut self, buf: &mut [u8]) -> io::Result<usize>
+        ensures bound { ReadsAtMost result buf.new }
+        ensures bytes { ReadConsumes None None result buf.new }
+        ensures hands_on { HandsOn (bytes_left S.remaining self.old.stream self.old.words.now)
+            (bytes_left S.remaining self.new.stream self.new.words.now) result buf.new }
+    {
         let read = self.hear(buf);
         if is_last(&read) {
             self.hook.hang_up();
@@ -158,30 +187,40 @@ impl<H: Copy + Wait> Read for Heard<H> {
 
 /// What the service is told. Where the session is over, a service that takes nothing is given up in time.
 #[derive(Drop)]
-pub struct Told<H> {
+pub struct Told<H, S> {
     rt: H,
-    stream: Option<TcpStream>,
+    stream: Option<S>,
     hook: Hook,
 }
 
-impl<H: Copy + Wait> Write for Told<H> {
-    fn write(&mut self, buf: &[u8]) -> io::Result<usize> {
-        let rt = self.rt;
-        let Some(stream) = &mut self.stream else {
-            return Err(io::Error::from(ErrorKind::NotConnected));
-        };
-        let mut looks = 0u32;
-        for _ in rt.forever() {
-            let written = stream.write(buf);
-            if !is_timeout(&written) {
-                return written;
-            }
-            looks = looks.saturating_add(1);
-            if looks >= LOOKS && self.hook.is_over() {
-                break;
-            }
+// Writes as much as the stream takes at once, until the session is over and it takes nothing in time.
+fn tell<H: Wait, S: Write>(rt: &H, stream: &mut S, hook: &Hook, buf: &[u8]) -> io::Result<usize>
+    ensures bound { WritesAtMost result buf.now }
+    ensures bytes { WriteAppends (S.contents stream.old) (S.contents stream.new) result buf.now }
+{
+    let mut looks = 0u32;
+    for _ in rt.forever() {
+        match stream.write(buf) {
+            Ok(count) => return Ok(count),
+            Err(error) if is_timeout(&error) => {},
+            Err(error) => return Err(error),
         }
-        Err(io::Error::from(ErrorKind::BrokenPipe))
+        looks = looks.saturating_add(1);
+        if looks >= LOOKS && hook.is_over() {
+            break;
+        }
+    }
+    Err(io::Error::from(ErrorKind::BrokenPipe))
+}
+
+impl<H: Copy + Wait, S: Drop + Write> Write for Told<H, S> {
+    ghost contents = { λ told. bytes_held S.Write.contents told.stream };
+
+    fn write(&mut self, buf: &[u8]) -> io::Result<usize> {
+        match &mut self.stream {
+            Some(stream) => tell(&self.rt, stream, &self.hook, buf),
+            None => Err(io::Error::from(ErrorKind::NotConnected)),
+        }
     }
 
     fn flush(&mut self) -> io::Result<()> {
@@ -189,20 +228,17 @@ impl<H: Copy + Wait> Write for Told<H> {
     }
 }
 
-impl<H: Copy + Wait> Finish for Told<H> {
+impl<H: Copy + Wait, S: Drop + Write + Closing> Finish for Told<H, S> {
     fn finish(&mut self) {
         if let Some(stream) = &self.stream {
-            let _ = stream.shutdown(Shutdown::Write);
+            stream.close(Shutdown::Write);
         }
     }
 }
 
 // The call waited for its time.
-fn is_timeout(done: &io::Result<usize>) -> bool {
-    match done {
-        Ok(_) => false,
-        Err(error) => error.kind() == ErrorKind::WouldBlock,
-    }
+fn is_timeout(error: &io::Error) -> bool {
+    error.kind() == ErrorKind::WouldBlock
 }
 
 // The service has said all, or its connection is broken.

@@ -4,12 +4,12 @@ ghost use Rattle.std.specs.Prelude.{IfOk, IsErrOf};
 ghost use Rattle.tn_loopback.specs.Ends.{ServesAll};
 ghost use Rattle.tn_roster.specs.Held.{IsLimit};
 
-use crate::settings::{Answering, options_of};
+use crate::settings::{answering_of, line_end_of, serving_of};
 use std::alloc::{AllocError, Global};
 use std::io::Write;
 use std::net::{Net, TcpListener, TcpStream};
 use tn_gateway::{Dial, Gateway, Heard, Joiner, LineEnd, Told};
-use tn_loopback::{Call, Host, ServeFault, Served, Service, Serving, serve};
+use tn_loopback::{Call, Host, ServeFault, Served, Service, serve};
 
 /// Serves as was asked for.
 pub(crate) fn serve_asked<H, E>(
@@ -24,27 +24,16 @@ where
     ensures all { IfOk result (ServesAll asked.now.count) }
     ensures limit { IsErrOf result ServeFault.Limit → ¬ IsLimit asked.now.sessions }
 {
-    let serving = Serving {
-        sessions: asked.sessions,
-        count: asked.count,
-        options: options_of(asked),
-        verbose: asked.verbose,
-    };
+    let serving = serving_of(asked);
     let (host, port) = (asked.host.as_str(), asked.port);
     let Some(to) = &asked.to else {
-        let service = Answering { ticks: asked.ticks };
-        return serve(rt, alloc, host, port, serving, service, errors);
-    };
-    let line_end = if asked.crlf {
-        LineEnd::CrLf
-    } else {
-        LineEnd::Lf
+        return serve(rt, alloc, host, port, serving, answering_of(asked), errors);
     };
     let service = Joining {
         rt,
         host: String::from_str(alloc, to.host.as_str())?,
         port: to.port,
-        line_end,
+        line_end: line_end_of(asked),
     };
     serve(rt, alloc, host, port, serving, service, errors)
 }
@@ -59,7 +48,7 @@ pub struct Joining<H> {
 }
 
 impl<H: Dial + Host> Service for Joining<H> {
-    type Job = Gateway<Heard<H>, Told<H>>;
+    type Job = Gateway<Heard<H, TcpStream>, Told<H, TcpStream>>;
 
     type Jobs = Joiner<H>;
 

@@ -2,12 +2,13 @@
 
 ghost use Rattle.std.specs.Prelude.{◌≡◌};
 ghost use Rattle.tn_connect.specs.Clients.{window_of};
-ghost use Rattle.tn_program.specs.Settings.{editing_as, escape_as, window_as};
+ghost use Rattle.tn_program.specs.Settings.{editing_as, escape_as, line_end_as, window_as};
 
 use std::alloc::{AllocError, Global};
 use tn_answerer::{Answerer, Answerers};
 use tn_connect::{Connecting, Origin};
-use tn_loopback::{Call, Service, SessionOptions};
+use tn_gateway::LineEnd;
+use tn_loopback::{Call, Service, Serving, SessionOptions};
 use tn_server::Editing;
 use tn_words::Escape;
 
@@ -25,6 +26,41 @@ impl Service for Answering {
 
     fn session(&mut self, _alloc: Global, _call: Call) -> Result<Answerers, AllocError> {
         Ok(Answerers::new(self.ticks))
+    }
+}
+
+// How it was asked to serve.
+pub(crate) fn serving_of(asked: &tn_words::Serving) -> Serving
+    ensures sessions { result.sessions ≡ asked.now.sessions }
+    ensures count { result.count ≡ asked.now.count }
+    ensures verbose { result.verbose ≡ asked.now.verbose }
+    ensures line_limit { result.options.line_limit ≡ asked.now.line_limit }
+    ensures editing { result.options.editing ≡ editing_as asked.now.local }
+    ensures idle { result.options.idle ≡ asked.now.idle }
+{
+    Serving {
+        sessions: asked.sessions,
+        count: asked.count,
+        options: options_of(asked),
+        verbose: asked.verbose,
+    }
+}
+
+// The jobs that were asked for, where each session has its own.
+pub(crate) fn answering_of(asked: &tn_words::Serving) -> Answering
+    ensures { result.ticks ≡ asked.now.ticks }
+{
+    Answering { ticks: asked.ticks }
+}
+
+// How lines to a service end.
+pub(crate) fn line_end_of(asked: &tn_words::Serving) -> LineEnd
+    ensures { result ≡ line_end_as asked.now.crlf }
+{
+    if asked.crlf {
+        LineEnd::CrLf
+    } else {
+        LineEnd::Lf
     }
 }
 
@@ -55,6 +91,7 @@ pub(crate) fn connecting_of(asked: &tn_words::Connecting, origin: Origin) -> Con
     ensures window { window_of result ≡ window_as asked.now }
     ensures origin { result.origin ≡ origin }
     ensures escape { result.escape ≡ escape_as asked.now.escape }
+    ensures port { result.port ≡ asked.now.port }
 {
     Connecting {
         port: asked.port,
