@@ -301,6 +301,14 @@ still_open Net Left p e = e
 still_open Keys (Resized size) p e = e
 still_open Net (Resized size) p e = e
 
+-- and what is closed stays so
+pub stays_closed : (from : Origin) (m : Message) (p : Progress) → p.closed ≡ true → (after_message from m p).closed ≡ true
+stays_closed from m p e = by (after_message from m p).closed refl
+  where
+    by : (b : Bool) → (after_message from m p).closed ≡ b → (after_message from m p).closed ≡ true
+    by true is = is
+    by false is = let open_before = still_open from m p is in cc
+
 pub does_step : (told : Told) (old new : Core) (x u : List ℕ) → IsPlain told.message → old.progress.over ≡ false → new ≡ record old { progress = after_message told.from told.message old.progress } → DoesWhole old told x x u u new
 does_step told old new x u plain on is = record {
   said = [];

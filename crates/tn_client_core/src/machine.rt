@@ -82,6 +82,7 @@ impl Core {
             out.old.items out.new.items screen.old.items screen.new.items self.new) }
         ensures cause { IfErr result (RefusesFor self.old
             (record { from = Origin.Keys; message = Message.Piece keys.now })) }
+        ensures closed { self.new.progress.closed ≡ self.old.progress.closed }
     {
         self.progress = self.progress.fed();
         type_all(&mut self.end, keys, out, screen)?;
@@ -104,6 +105,7 @@ impl Core {
             out.old.items out.new.items screen.old.items screen.new.items self.new) }
         ensures cause { IfErr result (RefusesFor self.old
             (record { from = Origin.Net; message = Message.Piece piece.now })) }
+        ensures closed { self.new.progress.closed ≡ self.old.progress.closed }
     {
         self.progress = self.progress.fed();
         self.end.feed(piece, out, screen)?;
@@ -126,6 +128,7 @@ impl Core {
             out.old.items out.new.items screen.old.items screen.new.items self.new) }
         ensures cause { IfErr result (RefusesFor self.old
             (record { from = from; message = Message.Piece piece.now })) }
+        ensures closed { self.new.progress.closed ≡ self.old.progress.closed }
     {
         match from {
             Origin::Keys => self.keys(piece, out, screen),
@@ -149,6 +152,7 @@ impl Core {
             out.old.items out.new.items seen seen self.new) }
         ensures cause { IfErr result (RefusesFor self.old
             (record { from = from; message = Message.Resized size })) }
+        ensures closed { self.new.progress.closed ≡ self.old.progress.closed }
     {
         self.end.resize(size.width, size.height, out)?;
         Ok(())
@@ -185,6 +189,7 @@ impl Core {
         ensures err { OnErr result (StopsWithin self.old told
             out.old.items out.new.items screen.old.items screen.new.items self.new) }
         ensures cause { IfErr result (RefusesFor self.old told) }
+        ensures closed { self.old.progress.closed ≡ true → self.new.progress.closed ≡ true }
     {
         let Told { from, message } = told;
         match message {
@@ -208,6 +213,7 @@ impl Core {
     pub fn write_failed(&mut self)
         ensures leads { (c : Run) → LeadsTo c self.old → LeadsTo (run.fail SessionFault.Write c) self.new }
         ensures over { self.new.progress.over ≡ true }
+        ensures closed { self.new.progress.closed ≡ self.old.progress.closed }
     {
         self.fails(SessionFault::Write);
     }
@@ -227,6 +233,8 @@ impl Core {
         ensures turns { IsTurn result self.old told out.new.items screen.new.items self.new }
         ensures unwritten { no_write_failed result ≡ true }
         ensures unshown { no_show_failed result ≡ true }
+        ensures closed { self.old.progress.closed ≡ true → self.new.progress.closed ≡ true }
+        ensures silent { self.old.progress.closed ≡ true → out.new.items ≡ [] }
     {
         if self.progress.over {
             return Mark::Whole;

@@ -8,6 +8,7 @@ pub mod Telling
 pub mod Talk
 pub mod Turning
 pub mod Going
+pub mod Finishing
 pub mod Reach
 pub mod Lefts
 pub mod Sent

@@ -7,6 +7,7 @@ pub mod Talk
 pub mod Stepping
 pub mod Turning
 pub mod Turns
+pub mod Closing
 pub mod Facts
 pub mod Jobs
 pub mod Makers

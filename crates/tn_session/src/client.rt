@@ -7,6 +7,7 @@ ghost use Rattle.tn_session.specs.Client.{core_view, IsReadyForTwo, AreTwoSettle
 ghost use Rattle.tn_session.specs.Facts.{client_result};
 ghost use Rattle.tn_session.specs.Session.{IsRefusal, IsOfThreads};
 ghost use Rattle.tn_streams.specs.Known.{known_reader, known_writing};
+ghost use Rattle.tn_streams.specs.Sending.{IsFinished};
 
 use crate::channels::{
     AllRoles, CutKeys, CutNet, Knows, MailPass, MailReceiver, MailSeat, MailSender, Union, View,
@@ -150,6 +151,7 @@ where
         (known_reader N.remaining N.foretold N.sizes started.net.promise.reader.value)
         (known_writing W.contents W.told writer.old writer.new)
         (known_writing S.contents S.told screen.old screen.new) (client_result r.0 r.1)) }
+    ensures finished { IfOk result (λ r. IsFinished (W.sending writer.old) (W.sending writer.new)) }
 {
     let Some(pass) = run_core(rt, alloc, &ends.from, pass, core, writer, screen, stop) else {
         writer.finish();
@@ -190,6 +192,7 @@ where
         (known_reader N.remaining N.foretold N.sizes readers.net)
         (known_writing W.contents W.told writer.old writer.new)
         (known_writing S.contents S.told screen.old screen.new) (client_result r.0 r.1)) }
+    ensures finished { IfOk result (λ r. IsFinished (W.sending writer.old) (W.sending writer.new)) }
 {
     let Mailbox {
         ends,
@@ -253,6 +256,7 @@ where
         (known_reader N.remaining N.foretold N.sizes readers.net)
         (known_writing W.contents W.told writer.old writer.new)
         (known_writing S.contents S.told screen.old screen.new) (client_result r.0 r.1)) }
+    ensures finished { IfOk result (λ r. IsFinished (W.sending writer.old) (W.sending writer.new)) }
 {
     let Ok(outfit) = equip(alloc, gate) else {
         return Err(SessionFault::Memory);
@@ -289,6 +293,7 @@ where
         (known_reader N.remaining N.foretold N.sizes net_reader)
         (known_writing W.contents W.told net_writer.old net_writer.new)
         (known_writing S.contents S.told screen.old screen.new) (client_result r.0 r.1)) }
+    ensures finished { IfOk result (λ r. IsFinished (W.sending net_writer.old) (W.sending net_writer.new)) }
 {
     let Ok(mut core) = Core::start(alloc, width, height, limit) else {
         return Err(SessionFault::Memory);

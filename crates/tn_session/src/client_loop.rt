@@ -1,16 +1,17 @@
 //! The core of a client's session: mails are handled until both senders have left.
 
-ghost use Rattle.std.specs.Prelude.{◌≡◌, ◌&&◌, ◌||◌, not, Some, [], IfSome};
+ghost use Rattle.std.specs.Prelude.{◌≡◌, ◌&&◌, ◌||◌, not, true, Some, [], IfSome};
 ghost use Rattle.crossbeam_channel.specs.Claims.{view, IsSeatAt};
 ghost use Rattle.crossbeam_channel.specs.Ends.{receives_on};
 ghost use Rattle.tn_client_core.specs.Marks.{is_whole};
 ghost use Rattle.tn_session.specs.CoreTurns.{TurnsTold, CoreHandles, origin_of, told_of};
 ghost use Rattle.tn_streams.specs.Known.{known_writing};
+ghost use Rattle.tn_streams.specs.Sending.{StaysOpen, IsFinished};
 
 use crate::channels::{Handles, MailPass, MailReceiver};
 use crate::closing::{Standing, close};
 use crate::mail::{Mail, Sender};
-use crate::term::leaves;
+use crate::term::{finish_unless, leaves};
 use crate::writing::write_out;
 use std::alloc::Global;
 use std::sync::Wait;
@@ -66,6 +67,10 @@ fn turn<W: Finish, S: Drain>(
     ensures text { text.new.items ≡ [] }
     ensures turned { TurnsTold core.old told (known_writing W.contents W.told writer.old writer.new)
         (known_writing S.contents S.told screen.old screen.new) core.new }
+    ensures going { StaysOpen (W.sending writer.old) (W.sending writer.new) }
+    ensures silent { (core.old.progress.over || core.old.progress.closed) ≡ true →
+        W.sending writer.new ≡ W.sending writer.old }
+    ensures closed { core.old.progress.closed ≡ true → core.new.progress.closed ≡ true }
 {
     let mark = core.handle(told, out, text);
     let written = write_out(writer, out);
@@ -79,7 +84,9 @@ fn turn<W: Finish, S: Drain>(
 }
 
 // Keys leaves where no more comes from the network or nothing has any effect any more.
-fn standing_of(progress: Progress) -> Standing {
+fn standing_of(progress: Progress) -> Standing
+    ensures closes { result.closes ≡ (progress.over || progress.closed) }
+{
     Standing {
         stops: progress.over || progress.at_end,
         closes: progress.over || progress.closed,
@@ -103,6 +110,7 @@ pub(crate) fn run_core<R: Wait, W: Finish, S: Drain>(
     ensures acted { IfSome result (λ p.
         CoreHandles core.old (view pass) (view p) (known_writing W.contents W.told writer.old writer.new)
         (known_writing S.contents S.told screen.old screen.new) core.new) }
+    ensures finished { IfSome result (λ p. IsFinished (W.sending writer.old) (W.sending writer.new)) }
 {
     let mut out = Vec::new(alloc);
     let mut text = Vec::new(alloc);
@@ -110,6 +118,7 @@ pub(crate) fn run_core<R: Wait, W: Finish, S: Drain>(
     let mut closed = false;
     for _ in rt.forever() {
         if lefts >= SENDERS {
+            finish_unless(closed, writer);
             return Some(pass);
         }
         let Ok(mail) = from.recv_as::<Handles, R>(rt, &mut pass) else {

@@ -2,6 +2,7 @@
 
 ghost use Rattle.std.specs.Prelude.{◌≡◌};
 ghost use Rattle.std.specs.Io.KnownBytes.{Keeps};
+ghost use Rattle.tn_session.specs.Closing.{Closes};
 
 use std::sync::atomic::{AtomicBool, Ordering};
 use tn_streams::Finish;
@@ -25,6 +26,7 @@ pub(crate) fn close<W: Finish>(
 ) -> bool
     ensures contents { Keeps (W.contents writer.old) (W.contents writer.new) }
     ensures told { W.told writer.new ≡ W.told writer.old }
+    ensures closes { Closes standing.closes closed result (W.sending writer.old) (W.sending writer.new) }
 {
     if standing.stops {
         stop.store(true, Ordering::SeqCst);

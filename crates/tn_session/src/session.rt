@@ -11,6 +11,7 @@ ghost use Rattle.tn_session.specs.Session.{IsBegun, IsOpening, IsRun, IsRefusal,
 ghost use Rattle.tn_session.specs.Turning.{IsQueue, ids_of, queue_of};
 ghost use Rattle.tn_session.specs.Turns.{StaysInReach};
 ghost use Rattle.tn_streams.specs.Known.{known_reader, known_writing};
+ghost use Rattle.tn_streams.specs.Sending.{StaysOpen, IsFinished};
 ghost use Rattle.tn_term.specs.Welcoming.{too_far_ahead};
 
 use crate::back::Runner;
@@ -167,6 +168,7 @@ fn open<W: Finish>(term: &mut Term, out: &mut Vec<u8>, writer: &mut W)
     ensures out { out.new.items ≡ [] }
     ensures opened { IsOpening term.old out.old.items
         (known_writing W.contents W.told writer.old writer.new) term.new }
+    ensures going { StaysOpen (W.sending writer.old) (W.sending writer.new) }
 {
     let written = write_out(writer, out);
     out.clear();
@@ -225,6 +227,7 @@ where
         (known_reader Rd.remaining Rd.foretold Rd.sizes started.net.promise.reader.value)
         (known_writing W.contents W.told writer.old writer.new) term.old (session_result r.0 r.1)) }
     ensures in_reach { IfOk result (λ r. StaysInReach term.old r.0.ended) }
+    ensures finished { IfOk result (λ r. IsFinished (W.sending writer.old) (W.sending writer.new)) }
 {
     let Some(passes) = run_term(rt, &ends, passes, term, out, writer, watch) else {
         writer.finish();
@@ -268,6 +271,7 @@ where
         (known_reader Rd.remaining Rd.foretold Rd.sizes reader)
         (known_writing W.contents W.told writer.old writer.new) begun.term (session_result r.0 r.1)) }
     ensures in_reach { IfOk result (λ r. StaysInReach begun.term r.0.ended) }
+    ensures finished { IfOk result (λ r. IsFinished (W.sending writer.old) (W.sending writer.new)) }
 {
     let Channels {
         ends,
@@ -372,6 +376,7 @@ where
         begun.term begun.out.items (known_reader Rd.remaining Rd.foretold Rd.sizes reader)
         (known_writing W.contents W.told writer.old writer.new) (session_result r.0 r.1)) }
     ensures in_reach { IfOk result (λ r. StaysInReach begun.term r.0.ended) }
+    ensures finished { IfOk result (λ r. IsFinished (W.sending writer.old) (W.sending writer.new)) }
 {
     let Ok(outfit) = equip(alloc, gate) else {
         return Err(SessionFault::Memory);
@@ -410,6 +415,7 @@ where
         (known_reader Rd.remaining Rd.foretold Rd.sizes reader)
         (known_writing W.contents W.told writer.old writer.new) (session_result r.0 r.1)) }
     ensures in_reach { IfOk result (λ r. r.0.ended ≢ too_far_ahead) }
+    ensures finished { IfOk result (λ r. IsFinished (W.sending writer.old) (W.sending writer.new)) }
 {
     pieces_are_heard();
     all_goes_before_a_hang_up();

@@ -5,9 +5,11 @@ ghost use Rattle.std.specs.Io.KnownBytes.{Keeps};
 ghost use Rattle.crossbeam_channel.specs.Claims.{view, IsSeatAt};
 ghost use Rattle.crossbeam_channel.specs.Ends.{sends_on, receives_on};
 ghost use Rattle.tn_discipline.specs.declared.reads.Entry.{Entry as EntryT};
+ghost use Rattle.tn_session.specs.Closing.{Closes};
 ghost use Rattle.tn_session.specs.EntryChannel.{putter};
 ghost use Rattle.tn_session.specs.Turns.{HandlesAll, StaysInReach, TurnsMessage, left_one};
 ghost use Rattle.tn_streams.specs.Known.{known_writing};
+ghost use Rattle.tn_streams.specs.Sending.{StaysOpen, IsFinished};
 ghost use Rattle.tn_term.specs.Marks.{is_whole};
 ghost use Rattle.tn_term.specs.Run.{puts_of};
 
@@ -139,6 +141,8 @@ fn turn<R: Wait, W: Finish>(
     ensures turned { IfSome result (λ h.
         TurnsMessage term.old message (known_writing W.contents W.told writer.old writer.new) (view hand)
         (view h) term.new) }
+    ensures going { StaysOpen (W.sending writer.old) (W.sending writer.new) }
+    ensures silent { term.old.progress.over ≡ true → W.sending writer.new ≡ W.sending writer.old }
 {
     let Outcome { put, last, mark } = term.handle(message, out);
     let hand = put_if(rt, entries, hand, put);
@@ -153,16 +157,20 @@ fn turn<R: Wait, W: Finish>(
 }
 
 // The background jobs stop where no more comes or nothing has any effect any more, and then this end is done.
-fn standing_of(progress: Progress) -> Standing {
+fn standing_of(progress: Progress) -> Standing
+    ensures closes { result.closes ≡ progress.over }
+{
     Standing {
         stops: progress.over || progress.at_end,
         closes: progress.over,
     }
 }
 
-fn finish_unless<W: Finish>(closed: bool, writer: &mut W)
+/// Tells the writer that no more comes, unless it was told.
+pub(crate) fn finish_unless<W: Finish>(closed: bool, writer: &mut W)
     ensures contents { Keeps (W.contents writer.old) (W.contents writer.new) }
     ensures told { W.told writer.new ≡ W.told writer.old }
+    ensures closes { Closes true closed true (W.sending writer.old) (W.sending writer.new) }
 {
     if !closed {
         writer.finish();
@@ -193,6 +201,7 @@ pub(crate) fn run_term<R: Wait, W: Finish, G: Gate>(
         HandlesAll term.old (view passes.mails) (view p.mails) (view passes.hand) (view p.hand)
         (known_writing W.contents W.told writer.old writer.new) term.new) }
     ensures in_reach { IfSome result (λ p. StaysInReach term.old term.new.progress.ended) }
+    ensures finished { IfSome result (λ p. IsFinished (W.sending writer.old) (W.sending writer.new)) }
 {
     let Passes {
         mut mails,

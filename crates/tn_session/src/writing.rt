@@ -2,6 +2,7 @@
 
 ghost use Rattle.std.specs.Prelude.{◌≡◌, [], true};
 ghost use Rattle.tn_session.specs.Turns.{Tells, Writes};
+ghost use Rattle.tn_streams.specs.Sending.{StaysOpen};
 
 use tn_streams::{Drain, is_interrupted};
 
@@ -10,6 +11,8 @@ pub(crate) fn write_out<W: Drain>(writer: &mut W, bytes: &[u8]) -> bool
     ensures writes { Writes result (W.contents writer.old) (W.contents writer.new) bytes.now }
     ensures tells { Tells result (W.told writer.old) (W.told writer.new) }
     ensures none { bytes.now ≡ [] → result ≡ true }
+    ensures going { StaysOpen (W.sending writer.old) (W.sending writer.new) }
+    ensures silent { bytes.now ≡ [] → W.sending writer.new ≡ W.sending writer.old }
 {
     let mut at = 0;
     for _write in 0..u64::MAX {

@@ -4,3 +4,4 @@ pub mod Foretelling
 pub mod Prefixes
 pub mod Known
 pub mod Sizes
+pub mod Sending

@@ -22,6 +22,7 @@ ghost use Rattle.std.specs.IoError.{error_kind};
 ghost use Rattle.std.specs.Io.{ReadsAtMost, WritesAtMost};
 ghost use Rattle.std.specs.Io.KnownBytes.{ReadConsumes, WriteAppends, Keeps};
 ghost use Rattle.tn_streams.specs.Foretelling.{Failures, ForetellsCall};
+ghost use Rattle.tn_streams.specs.Sending.{Sending, written_on, finished_on};
 ghost use Rattle.tn_streams.specs.Sizes.{TellsSize};
 ghost use Rattle.tn_streams.specs.declared.window.WindowSize.{WindowSize as WindowSizeT};
 ghost use Rattle.tn_streams.specs.Telling.{Calls, TellsCall, CountsRead, CountsWrite};
@@ -75,19 +76,24 @@ pub trait Drain {
     // What it tells of its calls.
     ghost told: { Self → Option Calls } = { λ _. None };
 
+    // Whether more may come, where that is told.
+    ghost sending: { Self → Option Sending } = { λ _. None };
+
     /// Writes the first of the bytes.
     fn write_some(&mut self, buf: &[u8]) -> Result<usize>
         ensures bound { WritesAtMost result buf.now }
         ensures bytes { WriteAppends (contents self.old) (contents self.new) result buf.now }
-        ensures tells { TellsCall (CountsWrite buf.now result) (told self.old) (told self.new) };
+        ensures tells { TellsCall (CountsWrite buf.now result) (told self.old) (told self.new) }
+        ensures goes { sending self.new ≡ written_on (sending self.old) };
 }
 
 /// A writer that is told when no more comes from this end. Nothing is said of what that does, but that no
-/// call of the writer is counted for it.
+/// call of the writer is counted for it, and that a write after it may be told from one before.
 pub trait Finish: Drain {
     fn finish(&mut self)
         ensures contents { Keeps (Self.contents self.old) (Self.contents self.new) }
-        ensures told { Self.told self.new ≡ Self.told self.old };
+        ensures told { Self.told self.new ≡ Self.told self.old }
+        ensures finishes { Self.sending self.new ≡ finished_on (Self.sending self.old) };
 }
 
 /// A list of what was written, which keeps it.

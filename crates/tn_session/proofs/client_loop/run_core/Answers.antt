@@ -1,7 +1,9 @@
-use Rattle.std.proofs.Common.{ap, refl, [], ◌∷◌, ◌++◌, Option, List, subst, arith}
+use Rattle.std.proofs.Common.{◌∙◌, ◌||◌, ap, refl, [], ◌∷◌, ◌++◌, Option, List, subst, arith}
 use Rattle.crossbeam_channel.specs.Claims.{view}
 use Rattle.tn_client_core.specs.declared.messages.Told.{Told}
-use Rattle.tn_session.proofs.CoreGoing.{told_next, told_none}
+use Rattle.tn_client_core.specs.declared.progress.Progress.{Progress}
+use Rattle.tn_session.proofs.CoreGoing.{told_next, told_none, told_kept}
+use Rattle.tn_session.proofs.Finishing.{open_none, stands_next, stands_last, stays_done}
 use Rattle.tn_session.proofs.Going.{lefts_of-push, left_small}
 use Rattle.tn_session.proofs.Mailbox.{handles, totals, handled_more}
 use Rattle.tn_session.specs.CoreTurns.{TurnsTold}
@@ -24,6 +26,7 @@ loop-init g c = (
   c.new-out.ensures.items,
   c.new-text.ensures.items,
   omega arith,
+  open_none _,
 )
 
 pub loop-preserved : goal.loop-preserved
@@ -45,15 +48,21 @@ loop-preserved g c =
       c.turn.ensures.out,
       c.turn.ensures.text,
       omega (arith, small, more, c.leaves-left.ensures),
+      stands_next c.standing_of.result.closes c.loop.closed c.close-closed.result (c.loop.core.progress.over || c.loop.core.progress.closed) (c.turn.new.core.progress.over || c.turn.new.core.progress.closed) _ _ _ _ c.loop.invariant.5 c.turn.ensures.going c.turn.ensures.silent (stays_done c.loop.core.progress.over c.loop.core.progress.closed _ _ c.turn.ensures.turned.turn.stays c.turn.ensures.closed) (c.standing_of.ensures.closes ∙ ap (λ (p : Progress). p.over || p.closed) c.progress.ensures) c.close-closed.ensures.closes,
     )
 
 pub returns-then-lefts-ge-SENDERS-clause-acted : goal.returns-then-lefts-ge-SENDERS-clause-acted
 returns-then-lefts-ge-SENDERS-clause-acted g c =
     let i = c.loop.invariant.1 in
     let enough = c.if-lefts-ge-SENDERS.true in
+    let writer = known_writer g.W.Drain.contents g.W.Drain.told in
+    let screen = known_writer g.S.Drain.contents g.S.Drain.told in
     record {
       handled = i.0;
       view = i.1;
       lefts = omega (arith, enough, i.2);
-      goes = i.3;
+      goes = told_kept c.args.core.now c.loop.core _ (writer c.args.writer.now) (writer c.loop.writer) (writer c.finish_unless.new.writer) (screen c.args.screen.now) (screen c.loop.screen) c.finish_unless.ensures.contents c.finish_unless.ensures.told i.3;
     }
+
+pub returns-then-lefts-ge-SENDERS-clause-finished : goal.returns-then-lefts-ge-SENDERS-clause-finished
+returns-then-lefts-ge-SENDERS-clause-finished g c = stands_last c.loop.closed (c.loop.core.progress.over || c.loop.core.progress.closed) _ _ _ c.loop.invariant.5 c.finish_unless.ensures.closes

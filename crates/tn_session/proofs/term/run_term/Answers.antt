@@ -1,10 +1,12 @@
-use Rattle.std.proofs.Common.{ap, refl, sym, ◌∙◌, [], ◌∷◌, ◌++◌, Option, List, arith, append-nil}
+use Rattle.std.proofs.Common.{false, ap, refl, sym, ◌∙◌, [], ◌∷◌, ◌++◌, Option, List, arith, append-nil}
 use Rattle.crossbeam_channel.specs.Claims.{view}
 use Rattle.tn_session.specs.EntryChannel.{putter}
 use Rattle.tn_session.specs.declared.mail.Mail.{Mail}
 use Rattle.tn_term.specs.Run.{puts_of}
+use Rattle.tn_term.specs.declared.progress.Progress.{Progress}
 use Rattle.tn_session.proofs.Mailbox.{handles, totals, handled_more}
-use Rattle.tn_session.proofs.Going.{going_next, going_none, going_kept, lefts_of-push, left_small, puts_two}
+use Rattle.tn_session.proofs.Finishing.{open_none, stands_next, stands_last}
+use Rattle.tn_session.proofs.Going.{false_true, going_next, going_none, going_kept, lefts_of-push, left_small, puts_two}
 use Rattle.tn_session.proofs.Reach.{reach_start, reach_next}
 use Rattle.tn_streams.specs.Known.{known_writer}
 use Rattle.tn_session.proofs.term.run_term.Goals as goal
@@ -28,6 +30,7 @@ loop-init g c = (
   omega arith,
   c.give_credit-owed.ensures.seat,
   reach_start c.args.term.now,
+  stands_next c.standing_of.result.closes false c.close-closed.result false c.args.term.now.progress.over _ _ _ _ (open_none _) (open_none _) (λ e. refl) (λ e. absurd (false_true e)) (c.standing_of.ensures.closes ∙ ap (λ (p : Progress). p.over) c.progress.ensures) c.close-closed.ensures.closes,
 )
 
 pub turn-requires-clause-role : goal.turn-requires-clause-role
@@ -57,6 +60,7 @@ loop-preserved g c =
       omega (arith, small, more, c.leaves-left.ensures),
       c.give_credit-owed-in-loop.ensures.seat,
       reach_next c.args.term.now c.loop.term c.turn.new.term _ x.message _ _ i.1 _ _ i.5 t (λ d at. c.welcomes.ensures.welcome d at c.if-not-welcomes.false) c.loop.invariant.6,
+      stands_next c.standing_of-in-loop.result.closes c.loop.closed c.close-closed-in-loop.result c.loop.term.progress.over c.turn.new.term.progress.over _ _ _ _ c.loop.invariant.7 c.turn.ensures.going c.turn.ensures.silent t.turn.stays (c.standing_of-in-loop.ensures.closes ∙ ap (λ (p : Progress). p.over) c.progress-in-loop-2.ensures) c.close-closed-in-loop.ensures.closes,
     )
 
 pub returns-then-lefts-ge-SENDERS-clause-acted : goal.returns-then-lefts-ge-SENDERS-clause-acted
@@ -72,3 +76,6 @@ returns-then-lefts-ge-SENDERS-clause-acted g c =
       lefts = omega (arith, enough, i.4);
       goes = going_kept c.args.term.now c.loop.term _ (writer c.args.writer.now) (writer c.loop.writer) (writer c.finish_unless.new.writer) i.1 c.finish_unless.ensures.contents c.finish_unless.ensures.told i.5;
     }
+
+pub returns-then-lefts-ge-SENDERS-clause-finished : goal.returns-then-lefts-ge-SENDERS-clause-finished
+returns-then-lefts-ge-SENDERS-clause-finished g c = stands_last c.loop.closed c.loop.term.progress.over _ _ _ c.loop.invariant.7 c.finish_unless.ensures.closes

@@ -7,6 +7,7 @@ use Rattle.tn_session.specs.EntryChannel.{putter}
 use Rattle.tn_session.specs.Turns.{GoesOn, StaysInReach, lefts_of, messages_of}
 use Rattle.tn_session.specs.declared.mail.Mail.{Mail}
 use Rattle.tn_streams.specs.Known.{known_writing}
+use Rattle.tn_session.proofs.Finishing.{StandsAt}
 use Rattle.tn_session.proofs.term.run_term.Given as goal
 
 abbrev pub invariant-loop : goal.invariant-loop
@@ -19,3 +20,4 @@ invariant-loop g l =
     × GoesOn l.fn.term (messages_of handled) (known_writing g.W.Drain.contents g.W.Drain.told l.fn.writer l.writer) puts l.term)
     × (l.out.items ≡ []) × (l.lefts ≤ 3)
     × IsSeatAt (sends_on l.ends.give) l.give × StaysInReach l.fn.term l.term.progress.ended
+    × StandsAt l.closed l.term.progress.over (g.W.Drain.sending l.fn.writer) (g.W.Drain.sending l.writer)

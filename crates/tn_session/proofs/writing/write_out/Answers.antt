@@ -1,5 +1,6 @@
 use Rattle.std.proofs.Common.{◌≡◌, Ok, Err, refl, arith, take, drop, length, ◌-◌, length-drop}
 use Rattle.std.proofs.Math.Seq.{take-add}
+use Rattle.tn_session.proofs.Finishing.{open_more, not_below}
 use Rattle.tn_session.proofs.Going.{appends_more, appends_kept, take_all, stops_at, stops_now, writes_all, writes_so_many, ok_writes}
 use Rattle.tn_session.specs.Turns.{max_writes}
 use Rattle.tn_streams.proofs.lemmas.Telling.{made_more, accounts_made, accounts_failed, accounts_passed, write_stays, write_fails}
@@ -13,6 +14,8 @@ loop-write-preserved g c =
       omega (arith, b, length-drop c.loop-write.at c.args.bytes.now),
       rw (take-add c.loop-write.at c.in-Ok.n c.args.bytes.now) (appends_more _ _ _ _ _ i.1 (let all : take (length c.args.bytes.now - c.loop-write.at) (drop c.loop-write.at c.args.bytes.now) ≡ drop c.loop-write.at c.args.bytes.now = take_all _ _ (omega (arith, length-drop c.loop-write.at c.args.bytes.now)) in rw all at c.in-Ok.ensures.bytes)),
       made_more (CountsWrite _ (Ok c.in-Ok.n)) c.loop-write._write _ _ _ (write_stays _ c.in-Ok.n c.in-Ok.n-test.1) i.2 c.in-Ok.ensures.tells,
+      open_more _ _ _ i.3 c.in-Ok.ensures.goes,
+      λ none. absurd (not_below c.args.bytes.now c.loop-write.at none c.if-at-bytes.false),
     )
 
 pub returns-then-at-bytes-clause-writes : goal.returns-then-at-bytes-clause-writes

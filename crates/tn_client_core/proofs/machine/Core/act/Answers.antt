@@ -1,5 +1,6 @@
-use Rattle.std.proofs.Common.{ℕ, List, OnOk, OnErr, sym, subst}
-use Rattle.tn_client_core.proofs.Doing.{does_step, is_plain, shows_ok, shows_err}
+use Rattle.std.proofs.Common.{◌≡◌, true, ℕ, List, OnOk, OnErr, sym, subst}
+use Rattle.tn_client_core.proofs.Doing.{does_step, stays_closed, is_plain, shows_ok, shows_err}
+use Rattle.tn_client_core.specs.declared.machine.Core.{Core}
 use Rattle.tn_client_core.specs.Reaching.{DoesWhole, StopsWithin}
 use Rattle.tn_messages.specs.declared.messages.Message.{Message}
 use Rattle.tn_messages.specs.declared.messages.Message.TheVariants.{Resized}
@@ -24,4 +25,5 @@ returns-in_default c = record {
   ok = does_step c.args.told c.args.self.now c.step.new.self _ _ (is_plain c.args.told.message c.in_default.not-Piece c.in_default.not-Resized) c.requires c.step.ensures;
   err = tt;
   cause = tt;
+  closed = λ e. subst (λ (k : Core). k.progress.closed ≡ true) (sym c.step.ensures) (stays_closed c.args.told.from c.args.told.message c.args.self.now.progress e);
 }
