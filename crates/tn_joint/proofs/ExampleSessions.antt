@@ -214,14 +214,14 @@ module _ (editing : Editing) where
   read : ReaderSends who.Net false a_socket result.views.net
   read = (piece_told bytes ∷ [], None, HangUp ∷ Left ∷ [], tt, inl (HangUp, (tt, tt), refl), refl, All-cons IsPiece bytes [] is_piece (All-nil IsPiece), (None, refl))
 
-  abbrev jobs : SessionJobs
-  jobs = record { first = first_job; others = record { ids = []; tostop = false } }
+  abbrev jobs : SessionJobs (Unit {0})
+  jobs = record { first = first_job; job = tt; queue = []; tostop = false }
 
   puts_are : r8.puts ≡ taken
   unfolding cell state_of options_after_wish new_options
   puts_are = refl
 
-  schedule : Schedule example.any_jobs jobs settings table a_socket writes_unknown result
+  schedule : Schedule example.any_jobs.acts jobs settings table a_socket writes_unknown result
   schedule = record {
     from_net = from_net;
     from_desk = from_desk;
@@ -248,7 +248,7 @@ module _ (editing : Editing) where
     taken = taken;
     took_is = refl;
     took_first = ([], append-nil taken ∙ sym puts_are);
-    talked = ((Text (97 ∷ 10 ∷ []), calm) ∷ [], tt, tt, tt, (tt, tt, refl), inl (refl, refl));
+    talked = ((Text (97 ∷ 10 ∷ []), calm) ∷ [], tt, tt, refl, (tt, tt, refl), inl (refl, refl));
     stepped = ([], Left ∷ [], inl refl, refl, tt, λ id i. absurd i, λ id i. absurd i);
     report_is = refl;
   }
@@ -260,7 +260,9 @@ module _ (editing : Editing) where
       record {
         jobs = table;
         first = first_job;
-        others = [];
+        job = tt;
+        queue = [];
+        begun = tt;
         numbered = record { foreground = refl; background = λ id i. absurd i; no_more = no_more };
         all = tt;
         tostop = false;

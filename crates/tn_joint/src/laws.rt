@@ -7,6 +7,7 @@ ghost use Rattle.tn_joint.specs.Joint.{LawOfRuns, LawOfPrefixes};
 ghost use Rattle.tn_joint.specs.Sessions.{HeadlineOfTwo, WhatYouType};
 ghost use Rattle.tn_joint.specs.Transcripts.{Headline};
 ghost use Rattle.tn_session.specs.Facts.{job_facts};
+ghost use Rattle.tn_session.specs.Makers.{begins};
 ghost use Rattle.tn_server.specs.declared.wishes.Editing.{Editing};
 
 use tn_session::Maker;
@@ -36,18 +37,21 @@ pub fn lines_are_local()
 /// What the foreground job of a session takes is a prefix of the entries that the keys of the other session's
 /// user give at a local terminal.
 pub fn headline_of_two<M: Maker>()
-    ensures { HeadlineOfTwo (job_facts M.Job.fresh M.Job.reacts M.Job.steps) }
+    ensures { (maker : M) →
+        HeadlineOfTwo (job_facts (begins M.Job.fresh M.gives maker) M.Job.reacts M.Job.steps) }
 {}
 
 /// What you type is what the job reads: where the special characters are the standard ones and both lines
 /// have one limit, where the socket carries what each end says, in order, and where both sessions run to the
 /// end.
 pub fn what_you_type_is_what_the_job_reads<M: Maker>()
-    ensures { WhatYouType (job_facts M.Job.fresh M.Job.reacts M.Job.steps) }
+    ensures { (maker : M) →
+        WhatYouType (job_facts (begins M.Job.fresh M.gives maker) M.Job.reacts M.Job.steps) }
 {}
 
 /// The same of what can be seen of two sessions on their connection: where a socket carries what each wrote, what
 /// the job took is a prefix of the entries of the keys that were typed, and all of them where both ran to the end.
 pub fn what_is_seen_to_be_typed_is_read<M: Maker>()
-    ensures { Headline (job_facts M.Job.fresh M.Job.reacts M.Job.steps) }
+    ensures { (maker : M) →
+        Headline (job_facts (begins M.Job.fresh M.gives maker) M.Job.reacts M.Job.steps) }
 {}

@@ -3,6 +3,7 @@
 ghost use Rattle.std.specs.Prelude.{IfOk};
 ghost use Rattle.tn_logged.specs.Logs.{RunsLogged};
 ghost use Rattle.tn_session.specs.Facts.{job_facts, session_result};
+ghost use Rattle.tn_session.specs.Makers.{begins};
 ghost use Rattle.tn_streams.specs.Known.{known_reader};
 
 use crate::log::Log;
@@ -35,7 +36,7 @@ where
     M::Job: Send + 'static,
     G: Gate + Drop + Send + Sync + 'static,
     ensures ran { IfOk result (λ r.
-        RunsLogged (job_facts M.Job.fresh M.Job.reacts M.Job.steps) (M.left maker)
+        RunsLogged (job_facts (begins M.Job.fresh M.gives maker) M.Job.reacts M.Job.steps) (M.left maker)
         (record { canon = record { settings = settings; limit = limit }; editing = editing })
         (known_reader Rd.remaining Rd.foretold Rd.sizes reader) r.2 (session_result r.0 r.1)) }
 {

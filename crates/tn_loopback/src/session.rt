@@ -3,6 +3,7 @@
 ghost use Rattle.std.specs.Prelude.{◌≡◌, ◌≢◌, IfOk, IfErr};
 ghost use Rattle.tn_loopback.specs.Servers.{RunsServer};
 ghost use Rattle.tn_session.specs.Facts.{job_facts};
+ghost use Rattle.tn_session.specs.Makers.{begins};
 ghost use Rattle.tn_session.specs.Session.{IsRefusal};
 ghost use Rattle.tn_term.specs.Welcoming.{too_far_ahead};
 
@@ -63,7 +64,8 @@ where
     fn run(self) -> Finished
         ensures fault { IfErr result.report IsRefusal }
         ensures ran { IfOk result.report (λ report.
-            RunsServer (job_facts M.Job.fresh M.Job.reacts M.Job.steps) (M.left self.jobs) self.options report) }
+            RunsServer (job_facts (begins M.Job.fresh M.gives self.jobs) M.Job.reacts M.Job.steps)
+            (M.left self.jobs) self.options report) }
         ensures in_reach { IfOk result.report (λ report. report.ended ≢ too_far_ahead) }
     {
         match Arc::try_clone(&self.standing) {
@@ -82,7 +84,8 @@ where
     fn converse(self) -> Result<Report, SessionFault>
         ensures fault { IfErr result IsRefusal }
         ensures ran { IfOk result (λ report.
-            RunsServer (job_facts M.Job.fresh M.Job.reacts M.Job.steps) (M.left self.jobs) self.options report) }
+            RunsServer (job_facts (begins M.Job.fresh M.gives self.jobs) M.Job.reacts M.Job.steps)
+            (M.left self.jobs) self.options report) }
         ensures in_reach { IfOk result (λ report. report.ended ≢ too_far_ahead) }
     {
         let Session {
@@ -126,7 +129,8 @@ where
     M::Job: Send + 'static,
     ensures fault { IfErr result IsRefusal }
     ensures ran { IfOk result (λ report.
-        RunsServer (job_facts M.Job.fresh M.Job.reacts M.Job.steps) (M.left jobs) options report) }
+        RunsServer (job_facts (begins M.Job.fresh M.gives jobs) M.Job.reacts M.Job.steps)
+        (M.left jobs) options report) }
     ensures in_reach { IfOk result (λ report. report.ended ≢ too_far_ahead) }
 {
     let Ok(gate) = Arc::new(alloc, Unwatched) else {
@@ -164,7 +168,8 @@ where
     M::Job: Send + 'static,
     ensures fault { IfErr result IsRefusal }
     ensures ran { IfOk result (λ report.
-        RunsServer (job_facts M.Job.fresh M.Job.reacts M.Job.steps) (M.left jobs) options report) }
+        RunsServer (job_facts (begins M.Job.fresh M.gives jobs) M.Job.reacts M.Job.steps)
+        (M.left jobs) options report) }
     ensures in_reach { IfOk result (λ report. report.ended ≢ too_far_ahead) }
 {
     let Ok(standing) = Standing::new(alloc) else {

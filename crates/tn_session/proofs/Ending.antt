@@ -13,7 +13,7 @@ use Rattle.tn_session.proofs.Causes.{from_hit, from_miss, HasFailure, has_failur
 use Rattle.tn_session.proofs.Lefts.{same_self}
 use Rattle.tn_session.proofs.Mailbox.{sender_share}
 use Rattle.tn_session.proofs.Readers.{closes_ending}
-use Rattle.tn_session.specs.Facts.{JobFacts, SessionJobs, SessionResult, TermSettings}
+use Rattle.tn_session.specs.Facts.{JobActs, SessionJobs, SessionResult, TermSettings}
 use Rattle.tn_session.specs.Mailbox.{same, from, sender, mail}
 use Rattle.tn_session.specs.EntryChannel.{taker}
 use Rattle.tn_session.specs.Reading.{IsEnding, IsReadCause, max_reads, Telling, piece_told, size_told, told_messages, pieces_in}
@@ -242,7 +242,7 @@ known_left bytes stream (Some rest) c = (rest, c, λ at. at)
 
 -- A SESSION
 
-module _ {J : Type 0} {facts : JobFacts J} {jobs : SessionJobs} {settings : TermSettings} {table : Jobs} {reader : KnownReader} {writer : KnownWriting} {result : SessionResult}
+module _ {J : Type 0} {facts : JobActs J} {jobs : SessionJobs J} {settings : TermSettings} {table : Jobs} {reader : KnownReader} {writer : KnownWriting} {result : SessionResult}
     (s : Schedule {J = J} facts jobs settings table reader writer result) where
   abbrev pub messages : List Message
   messages = map (λ m. m.0) s.marked

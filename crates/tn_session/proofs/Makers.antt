@@ -1,8 +1,10 @@
 -- How many jobs were made.
-use Rattle.std.proofs.Common.{◌≡◌, ℕ, ◌+◌, ◌≤◌, Option, Some, None, Ok, Err, List, [], ◌∷◌, ◌++◌, length, refl, ap, ◌∙◌, subst, arith}
-use Rattle.tn_session.specs.Turning.{ids_of}
+use Rattle.std.proofs.Common.{◌≡◌, ℕ, ◌+◌, ◌≤◌, Option, Some, None, IfSome, Ok, Err, List, [], ◌∷◌, ◌++◌, length, refl, sym, ap, ◌∙◌, subst, arith}
+use Rattle.std.proofs.lemmas.Fn.{FoldsTo-push}
+use Rattle.std.specs.List.{FoldsTo}
+use Rattle.tn_session.specs.Turning.{EachFresh, ids_of, jobs_of}
 use Rattle.tn_session.specs.declared.back.Runner.{Runner}
-use Rattle.tn_session.specs.Makers.{HasMade, MayBeDone, MayGoOn, MakesJob, AreAll, IsMakerFault}
+use Rattle.tn_session.specs.Makers.{AreFresh, HasMade, MayBeDone, MayGoOn, MakesJob, AreAll, IsMakerFault}
 use Rattle.tn_messages.specs.declared.faults.SessionFault.{SessionFault}
 use Rattle.tn_messages.specs.declared.faults.SessionFault.TheVariants as fault
 
@@ -69,3 +71,32 @@ one_longer (x ∷ queue) r = let ih = one_longer queue r in omega (arith, ih)
 -- one job more stands in the queue
 pub one_more : {J : Type 0} (queue later : List (Runner J)) (r : Runner J) → later ≡ queue ++ r ∷ [] → length (ids_of later) ≡ length (ids_of queue) + 1
 one_more queue later r e = ap (λ l. length (ids_of l)) e ∙ one_longer queue r
+
+pub all_fresh : {J : Type 0} (fresh : J → Type 0) (queue : List (Runner J)) → EachFresh fresh queue → AreFresh fresh (jobs_of queue)
+all_fresh fresh [] f = tt
+all_fresh fresh (r ∷ rs) f = (f.0, all_fresh fresh rs f.1)
+
+jobs_longer : {J : Type 0} (queue : List (Runner J)) (r : Runner J) → jobs_of (queue ++ r ∷ []) ≡ jobs_of queue ++ r.job ∷ []
+jobs_longer [] r = refl
+jobs_longer (x ∷ queue) r = ap (λ l. x.job ∷ l) (jobs_longer queue r)
+
+-- and it is the last
+pub one_last : {J : Type 0} (queue later : List (Runner J)) (r : Runner J) → later ≡ queue ++ r ∷ [] → jobs_of later ≡ jobs_of queue ++ r.job ∷ []
+one_last queue later r e = ap (λ l. jobs_of l) e ∙ jobs_longer queue r
+
+-- the maker gave the first job
+pub gave_first : {M J : Type 0} (gives : M → J → M → Type 0) (a b : M) (job first : J) (queue : List (Runner J)) → gives a job b → first ≡ job → queue ≡ [] → FoldsTo gives a (first ∷ jobs_of queue) b
+gave_first {M} {J} gives a b job first queue one e none =
+    let P : List (Runner J) → Type 0 = λ q. FoldsTo gives a (first ∷ jobs_of q) b in
+    let Q : J → Type 0 = λ j. FoldsTo gives a (j ∷ []) b in
+    subst P (sym none) (subst Q (sym e) (FoldsTo-push gives a [] a job b refl one))
+
+-- and one more
+pub gave_more : {M J : Type 0} (gives : M → J → M → Type 0) (a b d : M) (first later job : J) (queue more : List (Runner J)) → FoldsTo gives a (first ∷ jobs_of queue) b → gives b job d → later ≡ first → jobs_of more ≡ jobs_of queue ++ job ∷ [] → FoldsTo gives a (later ∷ jobs_of more) d
+gave_more {M} {J} gives a b d first later job queue more before one same e =
+    let P : List J → Type 0 = λ l. FoldsTo gives a (later ∷ l) d in
+    let Q : J → Type 0 = λ j. FoldsTo gives a (j ∷ (jobs_of queue ++ job ∷ [])) d in
+    subst P (sym e) (subst Q (sym same) (FoldsTo-push gives a (first ∷ jobs_of queue) b job d before one))
+
+pub came : {J : Type 0} (P : J → Type 0) (o : Option J) (job : J) → o ≡ Some job → IfSome o P → P job
+came {J} P o job e m = let Q : Option J → Type 0 = λ x. IfSome x P in subst Q e m

@@ -16,7 +16,7 @@ use Rattle.tn_session.specs.declared.mail.Sender.TheVariants.{Back}
 use Rattle.tn_term.specs.Run.{has_text}
 use Rattle.tn_messages.specs.declared.messages.Message.{Message}
 use Rattle.tn_messages.specs.declared.messages.Message.TheVariants.{Refused, Left}
-use Rattle.tn_session.specs.Turning.{ids_of, AreApart, EachFresh, IsQueue, Chain, EachRuns, AllStay, EachStays, Running, StandsNext, AdvancesQueue}
+use Rattle.tn_session.specs.Turning.{ids_of, AreApart, EachBegan, Holds, Chain, EachRuns, AllStay, EachStays, Running, StandsNext, AdvancesQueue}
 
 abbrev Said : Type 0
 Said = JobId × Reaction
@@ -47,17 +47,17 @@ all-push : (tostop : Bool) (xs : List Reaction) (x : Reaction) → AllStay tosto
 all-push tostop [] x all on = (on, tt)
 all-push tostop (y ∷ xs) x all on = (all.0, all-push tostop xs x all.1 on)
 
-module _ {J : Type 0} (fresh : J → Type 0) (steps : J → Reaction → J → Type 0) (tostop : Bool) (ids : List ℕ) where
+module _ {J : Type 0} (began : ℕ → J → Type 0) (steps : J → Reaction → J → Type 0) (tostop : Bool) (ids : List ℕ) where
   by-push : (said : List Said) (s : Said) → IsIn s.0.0 ids → AreBy ids said → AreBy ids (said ++ s ∷ [])
   by-push [] s i b = (i, tt)
   by-push (x ∷ said) s i b = (b.0, by-push said s i b.1)
 
-  chain_on : (said : List Said) (s : Said) (job new : J) → Chain fresh steps said s.0.0 job → steps job s.1 new → Chain fresh steps (said ++ s ∷ []) s.0.0 new
+  chain_on : (said : List Said) (s : Said) (job new : J) → Chain began steps said s.0.0 job → steps job s.1 new → Chain began steps (said ++ s ∷ []) s.0.0 new
   chain_on said s job new c step =
       let P : List Reaction → Type 0 = λ xs. FoldsTo steps c.0 xs new in
       (c.0, c.1, subst P (sym (same-push said s s.0.0 (eq-eqb s.0.0 s.0.0 refl))) (FoldsTo-push steps c.0 (reactions_of s.0.0 said) job s.1 new c.2 step))
 
-  chain_stays : (said : List Said) (s : Said) (id : ℕ) (job : J) → (s.0.0 == id) ≡ false → Chain fresh steps said id job → Chain fresh steps (said ++ s ∷ []) id job
+  chain_stays : (said : List Said) (s : Said) (id : ℕ) (job : J) → (s.0.0 == id) ≡ false → Chain began steps said id job → Chain began steps (said ++ s ∷ []) id job
   chain_stays said s id job e c = let P : List Reaction → Type 0 = λ xs. FoldsTo steps c.0 xs job in (c.0, c.1, subst P (sym (other-push said s id e)) c.2)
 
   is_other : (a b : ℕ) → (a ≡ b → ⊥) → (a == b) ≡ false
@@ -67,11 +67,11 @@ module _ {J : Type 0} (fresh : J → Type 0) (steps : J → Reaction → J → T
       by true e = absurd (apart (eqb-true a b e))
       by false e = e
 
-  runs_stay : (said : List Said) (s : Said) (queue : List (Runner J)) → (IsIn s.0.0 (ids_of queue) → ⊥) → EachRuns fresh steps ids said queue → EachRuns fresh steps ids (said ++ s ∷ []) queue
+  runs_stay : (said : List Said) (s : Said) (queue : List (Runner J)) → (IsIn s.0.0 (ids_of queue) → ⊥) → EachRuns began steps ids said queue → EachRuns began steps ids (said ++ s ∷ []) queue
   runs_stay said s [] none e = tt
   runs_stay said s (r ∷ rs) none e = (e.0, chain_stays said s r.id.0 r.job (is_other s.0.0 r.id.0 (λ same. none (inl same))) e.1, runs_stay said s rs (λ i. none (inr i)) e.2)
 
-  runs-push : (said : List Said) (queue : List (Runner J)) (r : Runner J) → IsIn r.id.0 ids → Chain fresh steps said r.id.0 r.job → EachRuns fresh steps ids said queue → EachRuns fresh steps ids said (queue ++ r ∷ [])
+  runs-push : (said : List Said) (queue : List (Runner J)) (r : Runner J) → IsIn r.id.0 ids → Chain began steps said r.id.0 r.job → EachRuns began steps ids said queue → EachRuns began steps ids said (queue ++ r ∷ [])
   runs-push said [] r i c e = (i, c, tt)
   runs-push said (x ∷ queue) r i c e = (e.0, e.1, runs-push said queue r i c e.2)
 
@@ -86,22 +86,22 @@ module _ {J : Type 0} (fresh : J → Type 0) (steps : J → Reaction → J → T
     apart-push queue r (λ i. none (inr i)) a.1,
   )
 
-  each_of : (said : List Said) (s : Said) (job : J) → Chain fresh steps (said ++ s ∷ []) s.0.0 job → (other : ℕ) → Steps {J = J} fresh steps said other → (b : Bool) → (other == s.0.0) ≡ b → Steps {J = J} fresh steps (said ++ s ∷ []) other
+  each_of : (said : List Said) (s : Said) (job : J) → Chain began steps (said ++ s ∷ []) s.0.0 job → (other : ℕ) → Steps {J = J} began steps said other → (b : Bool) → (other == s.0.0) ≡ b → Steps {J = J} began steps (said ++ s ∷ []) other
   each_of said s job next other old true e =
-      let P : ℕ → Type 0 = λ n. Steps {J = J} fresh steps (said ++ s ∷ []) n in
+      let P : ℕ → Type 0 = λ n. Steps {J = J} began steps (said ++ s ∷ []) n in
       subst P (sym (eqb-true other s.0.0 e)) (next.0, job, next.1, next.2)
   each_of said s job next other old false e =
       let Q : List Reaction → Type 0 = λ xs. FoldsTo steps old.0 xs old.1 in
       let apart = is_other s.0.0 other (λ same. let t = eq-eqb other s.0.0 (sym same) in cc) in
       (old.0, old.1, old.2, subst Q (sym (other-push said s other apart)) old.3)
 
-  runs_fresh : (queue : List (Runner J)) → ((id : ℕ) → IsIn id (ids_of queue) → IsIn id ids) → EachFresh fresh queue → EachRuns fresh steps ids [] queue
+  runs_fresh : (queue : List (Runner J)) → ((id : ℕ) → IsIn id (ids_of queue) → IsIn id ids) → EachBegan began queue → EachRuns began steps ids [] queue
   runs_fresh [] inside f = tt
   runs_fresh (r ∷ rs) inside f = (inside r.id.0 (inl refl), (r.job, f.0, refl), runs_fresh rs (λ id i. inside id (inr i)) f.1)
 
-  fresh_steps : (queue : List (Runner J)) → EachFresh fresh queue → (id : ℕ) → IsIn id (ids_of queue) → Steps {J = J} fresh steps [] id
+  fresh_steps : (queue : List (Runner J)) → EachBegan began queue → (id : ℕ) → IsIn id (ids_of queue) → Steps {J = J} began steps [] id
   fresh_steps [] f id i = absurd i
-  fresh_steps (r ∷ rs) f id i = ⊎_elim (λ e. (r.job, r.job, f.0, refl)) (λ later. fresh_steps rs f.1 id later) i
+  fresh_steps (r ∷ rs) f id i = ⊎_elim (λ e. (r.job, r.job, subst (λ (n : ℕ). began n r.job) (sym e) f.0, refl)) (λ later. fresh_steps rs f.1 id later) i
 
   -- of those in the queue that made no step nothing changes
   stay_on : (said : List Said) (s : Said) (queue : List (Runner J)) → (IsIn s.0.0 (ids_of queue) → ⊥) → EachStays tostop said queue → EachStays tostop (said ++ s ∷ []) queue
@@ -133,12 +133,12 @@ module _ {J : Type 0} (fresh : J → Type 0) (steps : J → Reaction → J → T
   gone_or_last true true rest new r e = inl e
   gone_or_last false refused rest new r e = inl e.1
 
-  pub advanced : (said : List Said) (old new : List (Runner J)) (id : JobId) (reaction : Reaction) (refused : Bool) → Running fresh steps tostop ids said old → AdvancesQueue steps tostop old id reaction refused new → Running fresh steps tostop ids (said ++ (id, reaction) ∷ []) new
+  pub advanced : (said : List Said) (old new : List (Runner J)) (id : JobId) (reaction : Reaction) (refused : Bool) → Running began steps tostop ids said old → AdvancesQueue steps tostop old id reaction refused new → Running began steps tostop ids (said ++ (id, reaction) ∷ []) new
   advanced said old new id reaction refused run a =
       let s : Said = (id, reaction) in
-      let P : List (Runner J) → Type 0 = λ l. EachRuns fresh steps ids said l × AreApart (ids_of l) × EachStays tostop said l in
+      let P : List (Runner J) → Type 0 = λ l. EachRuns began steps ids said l × AreApart (ids_of l) × EachStays tostop said l in
       let here = subst P a.was (run.runs, run.apart, run.stay) in
-      let Q : JobId → Type 0 = λ i. IsIn i.0 ids × Chain fresh steps said i.0 a.runner.job × (IsIn i.0 (ids_of a.rest) → ⊥) × AllStay tostop (reactions_of i.0 said) in
+      let Q : JobId → Type 0 = λ i. IsIn i.0 ids × Chain began steps said i.0 a.runner.job × (IsIn i.0 (ids_of a.rest) → ⊥) × AllStay tostop (reactions_of i.0 said) in
       let mine = subst Q (sym a.number) (here.0.0, here.0.1, here.1.0, here.2.0) in
       let next = chain_on said s a.runner.job a.job mine.1 a.step in
       let rest = runs_stay said s a.rest mine.2 here.0.2 in
@@ -146,7 +146,7 @@ module _ {J : Type 0} (fresh : J → Type 0) (steps : J → Reaction → J → T
       let last : Runner J = record { id = id; job = a.job } in
       let W : List Reaction → Type 0 = λ xs. AllStay tostop xs in
       let stands = λ (keeps : stays tostop reaction ≡ true). subst W (sym (same-push said s id.0 (eq-eqb id.0 id.0 refl))) (all-push tostop (reactions_of id.0 said) reaction mine.3 keeps) in
-      let R : List (Runner J) → Type 0 = λ l. EachRuns fresh steps ids (said ++ s ∷ []) l × AreApart (ids_of l) × EachStays tostop (said ++ s ∷ []) l in
+      let R : List (Runner J) → Type 0 = λ l. EachRuns began steps ids (said ++ s ∷ []) l × AreApart (ids_of l) × EachStays tostop (said ++ s ∷ []) l in
       let after = ⊎_elim (λ gone. subst R (sym gone) (rest, here.1.1, on)) (λ stood. subst R (sym stood.1) (runs-push (said ++ s ∷ []) a.rest last mine.0 next rest, apart-push a.rest last mine.2 here.1.1, stay-push (said ++ s ∷ []) a.rest last (stands stood.0) on)) (gone_or_last (stays tostop reaction) refused a.rest new last a.left) in
       record {
         by = by-push said s mine.0 run.by;
@@ -157,24 +157,30 @@ module _ {J : Type 0} (fresh : J → Type 0) (steps : J → Reaction → J → T
         apart = after.1;
       }
 
-pub running_first : {J : Type 0} (fresh : J → Type 0) (steps : J → Reaction → J → Type 0) (tostop : Bool) (queue : List (Runner J)) → IsQueue fresh queue → Running fresh steps tostop (ids_of queue) [] queue
-running_first fresh steps tostop queue l = record {
-  by = tt;
-  leave = λ id i. tt;
-  stay = none_left fresh steps tostop (ids_of queue) queue;
-  each = fresh_steps fresh steps tostop (ids_of queue) queue l.0;
-  runs = runs_fresh fresh steps tostop (ids_of queue) queue (λ id i. i) l.0;
-  apart = l.1;
-}
+each_held : {J : Type 0} (all queue : List (Runner J)) → ((id : ℕ) (job : J) → Holds queue id job → Holds all id job) → EachBegan (Holds all) queue
+each_held all [] held = tt
+each_held all (r ∷ rs) held = (held r.id.0 r.job (inl (refl, refl)), each_held all rs (λ id job h. held id job (inr h)))
+
+pub running_first : {J : Type 0} (steps : J → Reaction → J → Type 0) (tostop : Bool) (queue : List (Runner J)) → AreApart (ids_of queue) → Running (Holds queue) steps tostop (ids_of queue) [] queue
+running_first steps tostop queue apart =
+    let began = each_held queue queue (λ id job h. h) in
+    record {
+      by = tt;
+      leave = λ id i. tt;
+      stay = none_left (Holds queue) steps tostop (ids_of queue) queue;
+      each = fresh_steps (Holds queue) steps tostop (ids_of queue) queue began;
+      runs = runs_fresh (Holds queue) steps tostop (ids_of queue) queue (λ id i. i) began;
+      apart = apart;
+    }
 
 pub said_step : (ss : List Said) (s : Said) (v : View) → v ≡ sender Back (map (mail Back) (map step_said ss ++ step_said s ∷ [])) → v ≡ sender Back (map (mail Back) (map step_said (ss ++ s ∷ [])))
 said_step ss s v e = e ∙ ap (λ (ms : List Message). sender Back (map (mail Back) ms)) (sym (map-append step_said ss (s ∷ [])))
 
-pub closes_left : {J : Type 0} (fresh : J → Type 0) (steps : J → Reaction → J → Type 0) (tostop : Bool) (ids : List ℕ) (ss : List Said) (queue : List (Runner J)) (v : View) → Running fresh steps tostop ids ss queue → v ≡ sender Back (map (mail Back) (map step_said ss ++ Left ∷ [])) → AreSteps {J = J} fresh steps (record { ids = ids; tostop = tostop }) v
-closes_left fresh steps tostop ids ss queue v r e = (ss, Left ∷ [], inl refl, e, r.by, r.each, r.leave)
+pub closes_left : {J : Type 0} (began : ℕ → J → Type 0) (steps : J → Reaction → J → Type 0) (tostop : Bool) (ids : List ℕ) (ss : List Said) (queue : List (Runner J)) (v : View) → Running began steps tostop ids ss queue → v ≡ sender Back (map (mail Back) (map step_said ss ++ Left ∷ [])) → AreSteps {J = J} began steps (record { ids = ids; tostop = tostop }) v
+closes_left began steps tostop ids ss queue v r e = (ss, Left ∷ [], inl refl, e, r.by, r.each, r.leave)
 
-pub closes_refused : {J : Type 0} (fresh : J → Type 0) (steps : J → Reaction → J → Type 0) (tostop : Bool) (ids : List ℕ) (ss : List Said) (queue : List (Runner J)) (v : View) → Running fresh steps tostop ids ss queue → v ≡ sender Back (map (mail Back) ((map step_said ss ++ Refused ∷ []) ++ Left ∷ [])) → AreSteps {J = J} fresh steps (record { ids = ids; tostop = tostop }) v
-closes_refused fresh steps tostop ids ss queue v r e =
+pub closes_refused : {J : Type 0} (began : ℕ → J → Type 0) (steps : J → Reaction → J → Type 0) (tostop : Bool) (ids : List ℕ) (ss : List Said) (queue : List (Runner J)) (v : View) → Running began steps tostop ids ss queue → v ≡ sender Back (map (mail Back) ((map step_said ss ++ Refused ∷ []) ++ Left ∷ [])) → AreSteps {J = J} began steps (record { ids = ids; tostop = tostop }) v
+closes_refused began steps tostop ids ss queue v r e =
     (ss, Refused ∷ Left ∷ [], inr refl, e ∙ ap (λ (ms : List Message). sender Back (map (mail Back) ms)) (append_assoc (map step_said ss) (Refused ∷ []) (Left ∷ [])), r.by, r.each, r.leave)
 
 -- a job that runs on stands last, if memory for that was found

@@ -13,14 +13,15 @@ use Rattle.tn_session.proofs.Going.{appends_more, false_true, from_to}
 use Rattle.tn_session.proofs.Lefts.{none_over}
 use Rattle.tn_session.proofs.Mailbox.{all_woven}
 use Rattle.tn_session.proofs.Sent.{NoLeft, Sent, no_left-append, sent_by, reader_sent}
-use Rattle.tn_session.specs.Facts.{JobFacts, SessionJobs, SessionResult, SessionViews}
+use Rattle.tn_session.specs.Facts.{JobActs, SessionJobs, SessionResult, SessionViews}
 use Rattle.tn_session.specs.Joining.{handler, AreSettled}
 use Rattle.tn_session.specs.Mailbox.{from, sender, union, nobody, everyone, with_handled, mail, Total}
 use Rattle.tn_session.specs.EntryChannel.{putter, taker, joined_hands, both_hands, no_hand, LeftOver}
 use Rattle.tn_session.specs.Reader.{ReaderSends}
 use Rattle.tn_session.specs.Session.{IsOpening, IsRun, report_of}
 use Rattle.tn_session.specs.Stepping.{BackJobs, AreSteps, step_said}
-use Rattle.tn_session.specs.Talk.{IsTalk, Closes, turns_said}
+use Rattle.tn_session.specs.Talk.{IsJob, IsTalk, Closes, turns_said}
+use Rattle.tn_session.specs.Turning.{Holds, queue_of}
 use Rattle.tn_session.specs.Turns.{HandlesAll, Writes, max_writes}
 use Rattle.tn_session.specs.declared.channels.View.{View}
 use Rattle.tn_session.specs.declared.entries.Hand.{Hand}
@@ -96,8 +97,8 @@ desk_sent id fresh reacts v w talked = closed talked.0 talked.5
         y)
         c
 
-pub back_sent : {J : Type 0} (fresh : J → Type 0) (steps : J → Reaction → J → Type 0) (jobs : BackJobs) (v : View) → AreSteps {J = J} fresh steps jobs v → Sent Back v
-back_sent fresh steps ids v s =
+pub back_sent : {J : Type 0} (began : ℕ → J → Type 0) (steps : J → Reaction → J → Type 0) (jobs : BackJobs) (v : View) → AreSteps {J = J} began steps jobs v → Sent Back v
+back_sent began steps ids v s =
     let said = map step_said s.0 in
     let stay = steps_stay s.0 in
     let P : List Message → Type 0 = λ ms. v ≡ sender Back (map (mail Back) (said ++ ms)) in
@@ -127,9 +128,9 @@ same_history true canon editing jobs = refl
 same_history false canon editing jobs = refl
 
 -- all of a session that ran
-pub scheduled : {J : Type 0} (facts : JobFacts J) (jobs : SessionJobs) (words : List ℕ) (reader : KnownReader) (x y z : KnownWriter) (term mid last : Term) (pass₀ : View) (hand₀ : Hand) (ended : SessionViews) (result : SessionResult)
+pub scheduled : {J : Type 0} (facts : JobActs J) (jobs : SessionJobs J) (words : List ℕ) (reader : KnownReader) (x y z : KnownWriter) (term mid last : Term) (pass₀ : View) (hand₀ : Hand) (ended : SessionViews) (result : SessionResult)
     → pass₀ ≡ handler [] → hand₀ ≡ putter [] → IsOpening term words (from_to x y) mid → HandlesAll mid pass₀ ended.term hand₀ ended.put (from_to y z) last
-    → ReaderSends Net false reader ended.net → IsTalk {J = J} jobs.first facts.fresh facts.reacts ended.desk ended.took → AreSteps {J = J} facts.fresh facts.steps jobs.others ended.back
+    → ReaderSends Net false reader ended.net → IsTalk {J = J} jobs.first (IsJob jobs.job) facts.reacts ended.desk ended.took → AreSteps {J = J} (Holds jobs.queue) facts.steps (queue_of jobs.tostop jobs.queue) ended.back
     → AreSettled ended result.views → result.report ≡ report_of last.progress
     → IsRun {J = J} facts jobs term words reader (from_to x z) result
 scheduled {J} facts jobs words reader x y z term mid last pass₀ hand₀ ended result ep eh o acted sn talked stepped settled er settings table at ew =
@@ -138,8 +139,8 @@ scheduled {J} facts jobs words reader x y z term mid last pass₀ hand₀ ended 
     let begin = run_after_opening o.written (start canon editing table) in
     let g = acted.goes.leads begin (o.leads (start canon editing table) at) in
     let ns = reader_sent Net false reader ended.net sn in
-    let ds = desk_sent jobs.first facts.fresh facts.reacts ended.desk ended.took talked in
-    let bs = back_sent facts.fresh facts.steps jobs.others ended.back stepped in
+    let ds = desk_sent jobs.first (IsJob jobs.job) facts.reacts ended.desk ended.took talked in
+    let bs = back_sent (Holds jobs.queue) facts.steps (queue_of jobs.tostop jobs.queue) ended.back stepped in
     let puts : g.0.puts ≡ acted.puts = g.3 ∙ ap (λ (ps : List (Option Entry)). ps ++ acted.puts) (no_puts o.written canon editing table) in
     let view : ended.term ≡ handler acted.handled = acted.view ∙ ap (λ (v : View). with_handled v acted.handled) ep in
     let all = settled acted.handled ns.mails ds.sent.mails bs.mails acted.puts ds.taken view ns.is ds.sent.is bs.is (acted.hand [] eh) ds.took in
@@ -147,7 +148,7 @@ scheduled {J} facts jobs words reader x y z term mid last pass₀ hand₀ ended 
     let sends : spells (items_said g.0.history) ≡ words ++ (acted.goes.bytes ++ g.4) = g.5 ∙ ap (λ (bytes : List ℕ). bytes ++ (acted.goes.bytes ++ g.4)) (ap (λ h. spells (items_said h)) (same_history o.written canon editing table) ∙ sym ew) in
     let w = wrote_all o.written words acted.goes.bytes g.4 (spells (items_said g.0.history)) x.bytes y.bytes z.bytes (all_whole acted.goes.marked) o.wrote acted.goes.wrote (λ e. acted.goes.idle (o.over e)) sends g.6 in
     let N : View → Type 0 = λ v. ReaderSends Net false reader v in
-    let B : View → Type 0 = λ v. AreSteps {J = J} facts.fresh facts.steps jobs.others v in
+    let B : View → Type 0 = λ v. AreSteps {J = J} (Holds jobs.queue) facts.steps (queue_of jobs.tostop jobs.queue) v in
     record {
       from_net = ns.mails;
       from_desk = ds.sent.mails;
@@ -174,7 +175,7 @@ scheduled {J} facts jobs words reader x y z term mid last pass₀ hand₀ ended 
       taken = ds.taken;
       took_is = all.5;
       took_first = (all.7.0, all.7.1 ∙ sym puts);
-      talked = subst (λ (u : View × Hand). IsTalk {J = J} jobs.first facts.fresh facts.reacts u.0 u.1) (λ i. ((ds.sent.is ∙ sym all.1) i, (ds.took ∙ sym all.5) i)) talked;
+      talked = subst (λ (u : View × Hand). IsTalk {J = J} jobs.first (IsJob jobs.job) facts.reacts u.0 u.1) (λ i. ((ds.sent.is ∙ sym all.1) i, (ds.took ∙ sym all.5) i)) talked;
       stepped = subst B (bs.is ∙ sym all.2) stepped;
       report_is = er ∙ ap report_of g.2.progress;
     }

@@ -1,5 +1,6 @@
 -- The jobs that a maker makes, as it tells how many are to come.
-use Rattle.std.specs.Prelude.{◌≡◌, ◌≢◌, ℕ, ◌+◌, min, Option, Some, None, Result, Ok, Err, List, length}
+use Rattle.std.specs.Prelude.{◌≡◌, ◌≢◌, ℕ, ◌+◌, min, Option, Some, None, Result, Ok, Err, List, [], ◌∷◌, length}
+use Rattle.std.specs.List.{FoldsTo}
 use Rattle.tn_messages.specs.declared.faults.SessionFault.{SessionFault}
 use Rattle.tn_messages.specs.declared.faults.SessionFault.TheVariants.{Memory, Start}
 
@@ -35,3 +36,15 @@ abbrev pub IsMakerFault : Option ℕ → SessionFault → Type 0
 IsMakerFault left Start = MayBeDone left
 IsMakerFault left Memory = MayGoOn left
 IsMakerFault left _ = ⊥
+
+abbrev pub AreFresh : {J : Type 0} → (J → Type 0) → List J → Type 0
+AreFresh fresh [] = Unit {0}
+AreFresh fresh (job ∷ jobs) = fresh job × AreFresh fresh jobs
+
+-- the maker gives these jobs, one after another
+abbrev pub GivesJobs : {M J : Type 0} → (M → J → M → Type 0) → M → List J → Type 0
+GivesJobs {M} gives maker jobs = (later : M) × FoldsTo gives maker jobs later
+
+-- they are those that the maker gives, in order, and none has done anything yet
+abbrev pub begins : {M J : Type 0} → (J → Type 0) → (M → J → M → Type 0) → M → List J → Type 0
+begins fresh gives maker jobs = AreFresh fresh jobs × GivesJobs gives maker jobs

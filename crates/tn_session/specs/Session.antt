@@ -9,7 +9,7 @@ use Rattle.tn_nvt.specs.declared.items.Item.{Item}
 use Rattle.tn_server.specs.Events.{items}
 use Rattle.tn_server.specs.Lines.{entries}
 use Rattle.tn_server.specs.Replies.{items_said}
-use Rattle.tn_session.specs.Facts.{JobFacts, SessionJobs, SessionResult, TermSettings}
+use Rattle.tn_session.specs.Facts.{JobActs, JobFacts, SessionJobs, SessionResult, TermSettings}
 use Rattle.tn_session.specs.Jobs.{Numbered}
 use Rattle.tn_streams.specs.Prefixes.{IsPrefixOf}
 use Rattle.tn_session.specs.Mailbox.{Interleaves, four, sender}
@@ -18,9 +18,10 @@ use Rattle.tn_session.specs.Makers.{AreAll}
 use Rattle.tn_session.specs.Reader.{ReaderSends}
 use Rattle.tn_session.specs.Reading.{max_reads, pieces_in}
 use Rattle.tn_session.specs.Stepping.{AreSteps}
-use Rattle.tn_session.specs.Talk.{IsTalk}
+use Rattle.tn_session.specs.Talk.{IsJob, IsTalk}
 use Rattle.tn_session.specs.Transcripts.{Exchange, ReadsPrefix, Transcribes, all_read, all_wrote}
-use Rattle.tn_session.specs.Turning.{IsQueue, ids_of}
+use Rattle.tn_session.specs.Turning.{Holds, IsQueue, ids_of, jobs_of, queue_of}
+use Rattle.tn_session.specs.declared.back.Runner.{Runner}
 use Rattle.tn_session.specs.Turns.{Writes, Tells, max_writes, messages_of}
 use Rattle.tn_session.specs.declared.mail.Mail.{Mail}
 use Rattle.tn_session.specs.declared.mail.Sender.TheVariants.{Net, Desk, Back}
@@ -74,7 +75,7 @@ pub record IsOpening (old : Term) (words : List ℕ) (writer : KnownWriting) (ne
 
 -- One, two, three, four and six of what is said of a session: of what the three threads sent, in the order
 -- that these passes know, of what the terminal handled, put and wrote, and of what the foreground job took.
-pub record Schedule {J : Type 0} (facts : JobFacts J) (jobs : SessionJobs) (settings : TermSettings)
+pub record Schedule {J : Type 0} (acts : JobActs J) (jobs : SessionJobs J) (settings : TermSettings)
     (table : Jobs) (reader : KnownReader) (writer : KnownWriting) (result : SessionResult) : Type 0 where
   -- what each sent, and what was handled
   pub from_net : List Mail
@@ -102,22 +103,22 @@ pub record Schedule {J : Type 0} (facts : JobFacts J) (jobs : SessionJobs) (sett
   pub all_written : (wrote_opening && all_whole marked) ≡ true → unwritten ≡ []
   pub tells : Tells (wrote_opening && no_writes_failed marked) writer.before.calls writer.after.calls
   pub put_is : result.views.put ≡ putter run.puts
-  -- four: what was taken begins what was put, and what the jobs said is theirs
+  -- four: what was taken begins what was put, and what the jobs said is theirs, from where they began
   pub taken : List (Option Entry)
   pub took_is : result.views.took ≡ taker taken
   pub took_first : IsPrefixOf taken run.puts
-  pub talked : IsTalk jobs.first facts.fresh facts.reacts result.views.desk result.views.took
-  pub stepped : AreSteps facts.fresh facts.steps jobs.others result.views.back
+  pub talked : IsTalk jobs.first (IsJob jobs.job) acts.reacts result.views.desk result.views.took
+  pub stepped : AreSteps (Holds jobs.queue) acts.steps (queue_of jobs.tostop jobs.queue) result.views.back
   -- six: the report
   pub report_is : result.report ≡ report_of run.progress
 
 -- wherever the terminal is at first
-abbrev pub IsRun : {J : Type 0} → JobFacts J → SessionJobs → Term → List ℕ → KnownReader → KnownWriting
+abbrev pub IsRun : {J : Type 0} → JobActs J → SessionJobs J → Term → List ℕ → KnownReader → KnownWriting
     → SessionResult → Type 0
-IsRun facts jobs term words reader writer result =
+IsRun acts jobs term words reader writer result =
     (settings : TermSettings) (table : Jobs) → LeadsTo (start settings.canon settings.editing table) term
     → words ≡ spells (items_said (opening settings.canon settings.editing))
-    → Schedule facts jobs settings table reader writer result
+    → Schedule acts jobs settings table reader writer result
 
 -- the jobs were made, and the terminal is started with them
 pub record IsBegun {J : Type 0} (fresh : J → Type 0) (settings : TermSettings) (b : Begun J) : Type 0 where
@@ -130,12 +131,12 @@ pub record IsBegun {J : Type 0} (fresh : J → Type 0) (settings : TermSettings)
   pub words : b.out.items ≡ spells (items_said (opening settings.canon settings.editing))
 
 -- from after the opening words on, whatever these were
-abbrev pub RunsOn : {J : Type 0} → JobFacts J → SessionJobs → KnownReader → KnownWriting → Term
+abbrev pub RunsOn : {J : Type 0} → JobActs J → SessionJobs J → KnownReader → KnownWriting → Term
     → SessionResult → Type 0
-RunsOn facts jobs reader writer term result =
+RunsOn acts jobs reader writer term result =
     (began : Term) (words : List ℕ) (first : KnownWriter)
     → IsOpening began words (record { before = first; after = writer.before }) term
-    → IsRun facts jobs began words reader (record { before = first; after = writer.after }) result
+    → IsRun acts jobs began words reader (record { before = first; after = writer.after }) result
 
 -- The stream of the run is the first of the bytes that the reader gave, and all of them where a hang-up ended
 -- the session; its items are read by the definitions of the stream.
@@ -171,13 +172,16 @@ pub record RunningSession {J : Type 0} (facts : JobFacts J) (to_make : Option �
     (reader : KnownReader) (writer : KnownWriting) (result : SessionResult) : Type 0 where
   pub jobs : Jobs
   pub first : JobId
-  pub others : List ℕ
-  pub numbered : Numbered jobs first others
+  pub job : J
+  pub queue : List (Runner J)
+  -- the foreground job is the first that was made, and those in the background are the next
+  pub begun : facts.begins (job ∷ jobs_of queue)
+  pub numbered : Numbered jobs first (ids_of queue)
   -- all that were to come were made, up to sixteen
-  pub all : AreAll to_make others
+  pub all : AreAll to_make (ids_of queue)
   pub tostop : Bool
   pub by_flag : tostop ≡ settings.canon.settings.flags.tostop
-  pub schedule : Schedule facts (record { first = first; others = record { ids = others; tostop = tostop } })
+  pub schedule : Schedule facts.acts (record { first = first; job = job; queue = queue; tostop = tostop })
       settings jobs reader writer result
   -- two: what the run heard of the reader
   pub heard : HearsReader reader.bytes result.report.ended schedule.run

@@ -23,11 +23,11 @@ abbrev pub reactions_of : ℕ → List (JobId × Reaction) → List Reaction
 reactions_of id [] = []
 reactions_of id (s ∷ ss) = if s.0.0 == id then s.1 ∷ reactions_of id ss else reactions_of id ss
 
--- there are states of the job of this number, the first fresh, through which each of its steps goes
-abbrev pub Steps : {J : Type 0} → (J → Type 0) → (J → Reaction → J → Type 0) → List (JobId × Reaction) → ℕ
+-- there are states of the job of this number, the first as it began, through which each of its steps goes
+abbrev pub Steps : {J : Type 0} → (ℕ → J → Type 0) → (J → Reaction → J → Type 0) → List (JobId × Reaction) → ℕ
     → Type 0
-Steps {J} fresh steps said id =
-    (first : J) × (last : J) × fresh first × FoldsTo steps first (reactions_of id said) last
+Steps {J} began steps said id =
+    (first : J) × (last : J) × began id first × FoldsTo steps first (reactions_of id said) last
 
 abbrev pub IsClose : List Message → Type 0
 IsClose close = (close ≡ Left ∷ []) ⊎ (close ≡ Refused ∷ Left ∷ [])
@@ -68,9 +68,9 @@ pub record BackJobs : Type 0 where
 
 -- of these jobs: each step is one of theirs, those of each go through its states, no job makes one after it
 -- was judged out of the background, and then comes the close
-abbrev pub AreSteps : {J : Type 0} → (J → Type 0) → (J → Reaction → J → Type 0) → BackJobs → View → Type 0
-AreSteps {J} fresh steps jobs v =
+abbrev pub AreSteps : {J : Type 0} → (ℕ → J → Type 0) → (J → Reaction → J → Type 0) → BackJobs → View → Type 0
+AreSteps {J} began steps jobs v =
     (said : List (JobId × Reaction)) × (close : List Message) × IsClose close
     × (v ≡ sender Back (map (mail Back) (map step_said said ++ close)))
-    × AreBy jobs.ids said × ((id : ℕ) → IsIn id jobs.ids → Steps {J = J} fresh steps said id)
+    × AreBy jobs.ids said × ((id : ℕ) → IsIn id jobs.ids → Steps {J = J} began steps said id)
     × ((id : ℕ) → IsIn id jobs.ids → LeavesLast jobs.tostop (reactions_of id said))

@@ -44,9 +44,13 @@ Closes id turns v w =
     ⊎ ((e : Entry) × (v ≡ desk_sends (turns_said id turns ++ Take ∷ Refused ∷ Left ∷ []))
     × (w ≡ taker (entries_of turns ++ Some e ∷ [])))
 
--- it asked before each thing that it took, and answered each entry from the job's state, which began fresh
+-- the job itself
+abbrev pub IsJob : {J : Type 0} → J → J → Type 0
+IsJob job other = other ≡ job
+
+-- it asked before each thing that it took, and answered each entry from the job's state, which began so
 abbrev pub IsTalk : {J : Type 0} → JobId → (J → Type 0) → (J → Entry → Reaction → J → Type 0) → View → Hand
     → Type 0
-IsTalk {J} id fresh reacts v w =
+IsTalk {J} id began reacts v w =
     (turns : List (Entry × Reaction)) × (first : J) × (last : J)
-    × fresh first × Answers reacts first turns last × Closes id turns v w
+    × began first × Answers reacts first turns last × Closes id turns v w

@@ -1,5 +1,5 @@
 -- The background jobs that run, in a queue.
-use Rattle.std.specs.Prelude.{◌≡◌, ℕ, Bool, true, false, List, [], ◌∷◌, ◌++◌}
+use Rattle.std.specs.Prelude.{◌≡◌, ℕ, Bool, true, false, List, [], ◌∷◌, ◌++◌, ◌⊎◌}
 use Rattle.std.specs.List.{FoldsTo}
 use Rattle.tn_jobs.specs.declared.held_jobs.JobId.{JobId}
 use Rattle.tn_session.specs.declared.back.Runner.{Runner}
@@ -11,6 +11,15 @@ use Rattle.tn_session.specs.Stepping.{IsIn, AreBy, Steps, BackJobs, LeavesLast, 
 abbrev pub ids_of : {J : Type 0} → List (Runner J) → List ℕ
 ids_of [] = []
 ids_of (r ∷ rs) = r.id.0 ∷ ids_of rs
+
+abbrev pub jobs_of : {J : Type 0} → List (Runner J) → List J
+jobs_of [] = []
+jobs_of (r ∷ rs) = r.job ∷ jobs_of rs
+
+-- the queue holds this job under this number
+abbrev pub Holds : {J : Type 0} → List (Runner J) → ℕ → J → Type 0
+Holds [] id job = ⊥
+Holds (r ∷ rs) id job = ((id ≡ r.id.0) × (job ≡ r.job)) ⊎ Holds rs id job
 
 abbrev pub queue_of : {J : Type 0} → Bool → List (Runner J) → BackJobs
 queue_of tostop queue = record { ids = ids_of queue; tostop = tostop }
@@ -27,16 +36,21 @@ EachFresh fresh (r ∷ rs) = fresh r.job × EachFresh fresh rs
 abbrev pub IsQueue : {J : Type 0} → (J → Type 0) → List (Runner J) → Type 0
 IsQueue fresh queue = EachFresh fresh queue × AreApart (ids_of queue)
 
--- the job of this number has gone from a fresh state to this one
-abbrev pub Chain : {J : Type 0} → (J → Type 0) → (J → Reaction → J → Type 0) → List (JobId × Reaction) → ℕ → J
-    → Type 0
-Chain {J} fresh steps said id job = (first : J) × fresh first × FoldsTo steps first (reactions_of id said) job
+-- each job began as it is
+abbrev pub EachBegan : {J : Type 0} → (ℕ → J → Type 0) → List (Runner J) → Type 0
+EachBegan began [] = Unit {0}
+EachBegan began (r ∷ rs) = began r.id.0 r.job × EachBegan began rs
 
-abbrev pub EachRuns : {J : Type 0} → (J → Type 0) → (J → Reaction → J → Type 0) → List ℕ
+-- the job of this number has gone from where it began to this state
+abbrev pub Chain : {J : Type 0} → (ℕ → J → Type 0) → (J → Reaction → J → Type 0) → List (JobId × Reaction) → ℕ → J
+    → Type 0
+Chain {J} began steps said id job = (first : J) × began id first × FoldsTo steps first (reactions_of id said) job
+
+abbrev pub EachRuns : {J : Type 0} → (ℕ → J → Type 0) → (J → Reaction → J → Type 0) → List ℕ
     → List (JobId × Reaction) → List (Runner J) → Type 0
-EachRuns fresh steps ids said [] = Unit {0}
-EachRuns fresh steps ids said (r ∷ rs) =
-    IsIn r.id.0 ids × Chain fresh steps said r.id.0 r.job × EachRuns fresh steps ids said rs
+EachRuns began steps ids said [] = Unit {0}
+EachRuns began steps ids said (r ∷ rs) =
+    IsIn r.id.0 ids × Chain began steps said r.id.0 r.job × EachRuns began steps ids said rs
 
 -- all of them left the job in the background
 abbrev pub AllStay : Bool → List Reaction → Type 0
@@ -48,13 +62,13 @@ abbrev pub EachStays : {J : Type 0} → Bool → List (JobId × Reaction) → Li
 EachStays tostop said [] = Unit {0}
 EachStays tostop said (r ∷ rs) = AllStay tostop (reactions_of r.id.0 said) × EachStays tostop said rs
 
-pub record Running {J : Type 0} (fresh : J → Type 0) (steps : J → Reaction → J → Type 0) (tostop : Bool)
+pub record Running {J : Type 0} (began : ℕ → J → Type 0) (steps : J → Reaction → J → Type 0) (tostop : Bool)
     (ids : List ℕ) (said : List (JobId × Reaction)) (queue : List (Runner J)) : Type 0 where
   pub by : AreBy ids said
   pub leave : (id : ℕ) → IsIn id ids → LeavesLast tostop (reactions_of id said)
   pub stay : EachStays tostop said queue
-  pub each : (id : ℕ) → IsIn id ids → Steps {J = J} fresh steps said id
-  pub runs : EachRuns fresh steps ids said queue
+  pub each : (id : ℕ) → IsIn id ids → Steps {J = J} began steps said id
+  pub runs : EachRuns began steps ids said queue
   pub apart : AreApart (ids_of queue)
 
 -- The job that made a step stands last as long as it runs in the background, unless there was no memory

@@ -7,7 +7,7 @@ ghost use Rattle.tn_session.specs.Mailbox.{sender};
 ghost use Rattle.tn_session.specs.Stepping.{AreSteps, is_background, leaves_in_background};
 ghost use Rattle.tn_jobs.specs.Judging.{judged};
 ghost use Rattle.tn_jobs.specs.declared.verdicts.JobState.TheVariants as state;
-ghost use Rattle.tn_session.specs.Turning.{IsQueue, queue_of, TakesTurn};
+ghost use Rattle.tn_session.specs.Turning.{Holds, IsQueue, queue_of, TakesTurn};
 ghost use Rattle.tn_session.specs.declared.mail.Sender.TheVariants.{Back};
 
 use crate::channels::{MailPass, MailSeat};
@@ -100,7 +100,7 @@ pub(crate) fn run_back<R: Wait, J: Job, G: Gate>(
     requires mailbox { IsSeatAt (sends_on seat.to) seat.pass × (view seat.pass ≡ sender Back []) }
     requires jobs { IsQueue J.fresh queue.items }
     ensures seat { IfSome result (λ p. IsSeatAt (sends_on seat.to) p) }
-    ensures stepped { IfSome result (λ p. AreSteps J.fresh J.steps (queue_of tostop queue.items) (view p)) }
+    ensures stepped { IfSome result (λ p. AreSteps (Holds queue.items) J.steps (queue_of tostop queue.items) (view p)) }
 {
     let MailSeat { to, mut pass } = seat;
     for _ in rt.forever() {

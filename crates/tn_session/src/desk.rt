@@ -6,7 +6,7 @@ ghost use Rattle.crossbeam_channel.specs.Ends.{sends_on, receives_on};
 ghost use Rattle.tn_discipline.specs.declared.reads.Entry.{Entry as EntryT};
 ghost use Rattle.tn_session.specs.Mailbox.{sender};
 ghost use Rattle.tn_session.specs.EntryChannel.{taker};
-ghost use Rattle.tn_session.specs.Talk.{IsTalk};
+ghost use Rattle.tn_session.specs.Talk.{IsJob, IsTalk};
 ghost use Rattle.tn_session.specs.declared.mail.Sender.TheVariants.{Desk};
 
 use crate::channels::{MailPass, MailSeat};
@@ -54,7 +54,7 @@ pub(crate) fn run_desk<R: Wait, J: Job, G: Gate>(
     requires fresh { J.fresh job }
     ensures mailbox { IfSome result (λ r. IsSeatAt (sends_on seat.to) r.0) }
     ensures entries { IfSome result (λ r. IsSeatAt (receives_on entries.from) r.1) }
-    ensures talk { IfSome result (λ r. IsTalk id J.fresh J.reacts (view r.0) (view r.1)) }
+    ensures talk { IfSome result (λ r. IsTalk id (IsJob job) J.reacts (view r.0) (view r.1)) }
 {
     let MailSeat { to, mut pass } = seat;
     let EntrySeat {

@@ -1,9 +1,9 @@
 //! The jobs of a session are made, and a table holds them.
 
-ghost use Rattle.std.specs.Prelude.{◌≡◌, ◌+◌, [], length, IfOk, IfErr};
+ghost use Rattle.std.specs.Prelude.{◌≡◌, ◌+◌, [], ◌∷◌, ◌++◌, length, IfOk, IfErr};
 ghost use Rattle.tn_session.specs.Jobs.{IsMade};
-ghost use Rattle.tn_session.specs.Makers.{AreAll, IsMakerFault};
-ghost use Rattle.tn_session.specs.Turning.{ids_of};
+ghost use Rattle.tn_session.specs.Makers.{AreAll, GivesJobs, IsMakerFault};
+ghost use Rattle.tn_session.specs.Turning.{ids_of, jobs_of};
 
 use crate::back::Runner;
 use crate::parties::Maker;
@@ -30,6 +30,7 @@ fn make_first<J: Job>(alloc: Global, job: J) -> Result<Made<J>, SessionFault>
     requires { J.fresh job }
     ensures made { IfOk result (λ made. IsMade J.fresh made) }
     ensures alone { IfOk result (λ made. made.queue.items ≡ []) }
+    ensures first { IfOk result (λ made. made.job ≡ job) }
     ensures fault { IfErr result (λ fault. fault ≡ SessionFault.Memory) }
 {
     let mut table = Table::new(alloc);
@@ -55,6 +56,8 @@ fn make_more<J: Job>(mut made: Made<J>, job: J) -> Result<Made<J>, SessionFault>
     ensures more { IfOk result (λ more. IsMade J.fresh more) }
     ensures one { IfOk result (λ more.
         length (ids_of more.queue.items) ≡ length (ids_of made.queue.items) + 1) }
+    ensures first { IfOk result (λ more. more.job ≡ made.job) }
+    ensures next { IfOk result (λ more. jobs_of more.queue.items ≡ jobs_of made.queue.items ++ job ∷ []) }
     ensures fault { IfErr result (λ fault. fault ≡ SessionFault.Memory) }
 {
     let Ok(id) = made.table.add() else {
@@ -73,6 +76,8 @@ pub(crate) fn make_jobs<M: Maker>(
 ) -> Result<Made<M::Job>, SessionFault>
     ensures made { IfOk result (λ made. IsMade M.Job.fresh made) }
     ensures all { IfOk result (λ made. AreAll (M.left maker.old) (ids_of made.queue.items)) }
+    ensures in_order { IfOk result (λ made.
+        GivesJobs M.gives maker.old (made.job ∷ jobs_of made.queue.items)) }
     ensures fault { IfErr result (IsMakerFault (M.left maker.old)) }
 {
     let job = match maker.next(alloc) {

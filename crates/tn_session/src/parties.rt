@@ -17,11 +17,15 @@ pub trait Maker {
     // How many jobs are to come, where that is told.
     ghost left: { Self → Option ℕ } = { λ _. None };
 
+    // From the first state to the last, it gives this job.
+    ghost gives: { Self → Self.Job → Self → Type 0 } = { λ _ _ _. Unit {0} };
+
     /// The next job, which has done nothing yet; `None` where there is no more. It may run out of memory
     /// only where a job is to come.
     fn next(&mut self, alloc: Global) -> Result<Option<Self::Job>, AllocError>
         ensures fresh { IfOk result (λ next. IfSome next (λ job. Self.Job.fresh job)) }
-        ensures makes { MakesJob (left self.old) (left self.new) result };
+        ensures makes { MakesJob (left self.old) (left self.new) result }
+        ensures gives { IfOk result (λ next. IfSome next (λ job. gives self.old job self.new)) };
 }
 
 /// A place that a thread of a session comes by.

@@ -1,14 +1,14 @@
 //! A running session, from its first job to its report.
 
-ghost use Rattle.std.specs.Prelude.{◌≡◌, ◌≢◌, [], false, is_some, Some, IfOk, IfErr, IsErrOf};
+ghost use Rattle.std.specs.Prelude.{◌≡◌, ◌≢◌, [], ◌∷◌, false, is_some, Some, IfOk, IfErr, IsErrOf};
 ghost use Rattle.crossbeam_channel.specs.Claims.{view, IsSeatAt};
 ghost use Rattle.crossbeam_channel.specs.Ends.{sends_on, receives_on};
-ghost use Rattle.tn_session.specs.Facts.{job_facts, session_result};
+ghost use Rattle.tn_session.specs.Facts.{job_acts, job_facts, session_result};
 ghost use Rattle.tn_session.specs.Joining.{IsReady, handler};
-ghost use Rattle.tn_session.specs.Makers.{AreAll, IsMakerFault};
+ghost use Rattle.tn_session.specs.Makers.{AreAll, GivesJobs, IsMakerFault, begins};
 ghost use Rattle.tn_session.specs.EntryChannel.{putter};
 ghost use Rattle.tn_session.specs.Session.{IsBegun, IsOpening, IsRun, IsRefusal, IsOfThreads, RunsOn, RunningSession, report_of};
-ghost use Rattle.tn_session.specs.Turning.{IsQueue, ids_of, queue_of};
+ghost use Rattle.tn_session.specs.Turning.{IsQueue, ids_of, jobs_of};
 ghost use Rattle.tn_session.specs.Turns.{StaysInReach};
 ghost use Rattle.tn_streams.specs.Known.{known_reader, known_writing};
 ghost use Rattle.tn_streams.specs.Sending.{StaysOpen, IsFinished};
@@ -142,6 +142,8 @@ fn begin<M: Maker + Drop>(
         IsBegun M.Job.fresh
         (record { canon = record { settings = settings; limit = limit }; editing = editing }) begun) }
     ensures all { IfOk result (λ begun. AreAll (M.left maker) (ids_of begun.posts.queue.items)) }
+    ensures in_order { IfOk result (λ begun.
+        GivesJobs M.gives maker (begun.posts.job ∷ jobs_of begun.posts.queue.items)) }
 {
     let tostop = settings.flags.tostop;
     let Made {
@@ -219,10 +221,12 @@ where
     requires out { out.old.items ≡ [] }
     ensures fault { IfErr result (λ fault. fault ≡ SessionFault.Channel) }
     ensures ran { IfOk result (λ r.
-        RunsOn (job_facts J.fresh J.reacts J.steps)
+        RunsOn (job_acts J.reacts J.steps)
         (record {
           first = started.desk.promise.id;
-          others = queue_of started.back.promise.tostop started.back.promise.queue.value.items;
+          job = started.desk.promise.job.value;
+          queue = started.back.promise.queue.value.items;
+          tostop = started.back.promise.tostop;
         })
         (known_reader Rd.remaining Rd.foretold Rd.sizes started.net.promise.reader.value)
         (known_writing W.contents W.told writer.old writer.new) term.old (session_result r.0 r.1)) }
@@ -263,10 +267,12 @@ where
     requires out { begun.out.items ≡ [] }
     ensures fault { IfErr result IsOfThreads }
     ensures ran { IfOk result (λ r.
-        RunsOn (job_facts J.fresh J.reacts J.steps)
+        RunsOn (job_acts J.reacts J.steps)
         (record {
           first = begun.posts.first;
-          others = queue_of begun.posts.tostop begun.posts.queue.items;
+          job = begun.posts.job;
+          queue = begun.posts.queue.items;
+          tostop = begun.posts.tostop;
         })
         (known_reader Rd.remaining Rd.foretold Rd.sizes reader)
         (known_writing W.contents W.told writer.old writer.new) begun.term (session_result r.0 r.1)) }
@@ -368,10 +374,12 @@ where
     requires fresh { J.fresh begun.posts.job × IsQueue J.fresh begun.posts.queue.items }
     ensures fault { IfErr result IsRefusal }
     ensures ran { IfOk result (λ r.
-        IsRun (job_facts J.fresh J.reacts J.steps)
+        IsRun (job_acts J.reacts J.steps)
         (record {
           first = begun.posts.first;
-          others = queue_of begun.posts.tostop begun.posts.queue.items;
+          job = begun.posts.job;
+          queue = begun.posts.queue.items;
+          tostop = begun.posts.tostop;
         })
         begun.term begun.out.items (known_reader Rd.remaining Rd.foretold Rd.sizes reader)
         (known_writing W.contents W.told writer.old writer.new) (session_result r.0 r.1)) }
@@ -410,7 +418,7 @@ where
     ensures fault { IfErr result IsRefusal }
     ensures none { M.left maker ≡ Some 0 → IsErrOf result SessionFault.Start }
     ensures ran { IfOk result (λ r.
-        RunningSession (job_facts M.Job.fresh M.Job.reacts M.Job.steps) (M.left maker)
+        RunningSession (job_facts (begins M.Job.fresh M.gives maker) M.Job.reacts M.Job.steps) (M.left maker)
         (record { canon = record { settings = settings; limit = limit }; editing = editing })
         (known_reader Rd.remaining Rd.foretold Rd.sizes reader)
         (known_writing W.contents W.told writer.old writer.new) (session_result r.0 r.1)) }

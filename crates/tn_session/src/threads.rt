@@ -8,8 +8,8 @@ ghost use Rattle.tn_session.specs.Mailbox.{sender};
 ghost use Rattle.tn_session.specs.EntryChannel.{taker};
 ghost use Rattle.tn_session.specs.Reader.{ReaderSends};
 ghost use Rattle.tn_session.specs.Stepping.{AreSteps};
-ghost use Rattle.tn_session.specs.Talk.{IsTalk};
-ghost use Rattle.tn_session.specs.Turning.{IsQueue, queue_of};
+ghost use Rattle.tn_session.specs.Talk.{IsJob, IsTalk};
+ghost use Rattle.tn_session.specs.Turning.{Holds, IsQueue, queue_of};
 ghost use Rattle.tn_session.specs.declared.mail.Sender.TheVariants.{Desk, Back};
 ghost use Rattle.tn_streams.specs.Known.{known_reader};
 
@@ -60,18 +60,18 @@ pub(crate) struct DeskSays<J> {
     to: Snapshot<MailSender>,
     from: Snapshot<EntryReceiver>,
     id: JobId,
-    of: PhantomData<J>,
+    job: Snapshot<J>,
 }
 
 impl<J: Job> Promise<Option<(MailPass, EntryPass)>> for DeskSays<J> {
     ghost use Rattle.std.specs.Prelude.{IfSome};
     ghost use Rattle.crossbeam_channel.specs.Claims.{view, IsSeatAt};
     ghost use Rattle.crossbeam_channel.specs.Ends.{sends_on, receives_on};
-    ghost use Rattle.tn_session.specs.Talk.{IsTalk};
+    ghost use Rattle.tn_session.specs.Talk.{IsJob, IsTalk};
 
     ghost kept_by = { λ p r.
         IfSome r (λ x. IsSeatAt (sends_on p.to.value) x.0 × IsSeatAt (receives_on p.from.value) x.1 ×
-        IsTalk p.id J.fresh J.reacts (view x.0) (view x.1)) };
+        IsTalk p.id (IsJob p.job.value) J.reacts (view x.0) (view x.1)) };
 }
 
 /// What the thread of the background jobs promises.
@@ -88,11 +88,11 @@ impl<J: Job> Promise<Option<MailPass>> for BackSays<J> {
     ghost use Rattle.crossbeam_channel.specs.Claims.{view, IsSeatAt};
     ghost use Rattle.crossbeam_channel.specs.Ends.{sends_on};
     ghost use Rattle.tn_session.specs.Stepping.{AreSteps};
-    ghost use Rattle.tn_session.specs.Turning.{queue_of};
+    ghost use Rattle.tn_session.specs.Turning.{Holds, queue_of};
 
     ghost kept_by = { λ p r.
         IfSome r (λ pass. IsSeatAt (sends_on p.to.value) pass ×
-        AreSteps J.fresh J.steps (queue_of p.tostop p.queue.value.items) (view pass)) };
+        AreSteps (Holds p.queue.value.items) J.steps (queue_of p.tostop p.queue.value.items) (view pass)) };
 }
 
 /// The gate, and the flag that tells to stop.
@@ -163,20 +163,21 @@ pub(crate) fn start_desk<
         (view entries.pass ≡ taker []) }
     requires fresh { J.fresh job }
     ensures { IfSome result (λ h. (sends_on h.promise.to.value ≡ sends_on seat.to) ×
-        (receives_on h.promise.from.value ≡ receives_on entries.from) × (h.promise.id ≡ id)) }
+        (receives_on h.promise.from.value ≡ receives_on entries.from) × (h.promise.id ≡ id) ×
+        (h.promise.job.value ≡ job)) }
 {
     let promise = DeskSays {
         to: Snapshot::of(&seat.to),
         from: Snapshot::of(&entries.from),
         id,
-        of: PhantomData,
+        job: Snapshot::of(&job),
     };
     let work = move || -> Option<(MailPass, EntryPass)>
         requires { IsSeatAt (sends_on seat.to) seat.pass × (view seat.pass ≡ sender Desk []) ×
             (IsSeatAt (receives_on entries.from) entries.pass) × (view entries.pass ≡ taker []) ×
             J.fresh job }
         ensures { IfSome result (λ x. IsSeatAt (sends_on seat.to) x.0 ×
-            IsSeatAt (receives_on entries.from) x.1 × IsTalk id J.fresh J.reacts (view x.0) (view x.1)) }
+            IsSeatAt (receives_on entries.from) x.1 × IsTalk id (IsJob job) J.reacts (view x.0) (view x.1)) }
     { run_desk(&rt, alloc, seat, entries, id, job, &*gate) };
     match thread::spawn_with(&rt, promise, work) {
         Ok(handle) => Some(handle),
@@ -200,7 +201,7 @@ pub(crate) fn start_back<
     requires mailbox { IsSeatAt (sends_on seat.to) seat.pass × (view seat.pass ≡ sender Back []) }
     requires jobs { IsQueue J.fresh queue.items }
     ensures { IfSome result (λ h. (sends_on h.promise.to.value ≡ sends_on seat.to) ×
-        (queue_of h.promise.tostop h.promise.queue.value.items ≡ queue_of tostop queue.items)) }
+        (h.promise.queue.value ≡ queue) × (h.promise.tostop ≡ tostop)) }
 {
     let promise = BackSays {
         to: Snapshot::of(&seat.to),
@@ -212,7 +213,7 @@ pub(crate) fn start_back<
         requires { IsSeatAt (sends_on seat.to) seat.pass × (view seat.pass ≡ sender Back []) ×
             IsQueue J.fresh queue.items }
         ensures { IfSome result (λ p. IsSeatAt (sends_on seat.to) p ×
-            AreSteps J.fresh J.steps (queue_of tostop queue.items) (view p)) }
+            AreSteps (Holds queue.items) J.steps (queue_of tostop queue.items) (view p)) }
     { run_back(&rt, alloc, seat, queue, tostop, &watch) };
     match thread::spawn_with(&rt, promise, work) {
         Ok(handle) => Some(handle),
@@ -244,9 +245,9 @@ impl<Rd: Source, J: Job> Started<Rd, J> {
             (known_reader Rd.remaining Rd.foretold Rd.sizes self.net.promise.reader.value) (view r.net)) }
         ensures desk { IfSome result (λ r. IsSeatAt (sends_on self.desk.promise.to.value) r.desk ×
             IsSeatAt (receives_on self.desk.promise.from.value) r.took ×
-            IsTalk self.desk.promise.id J.fresh J.reacts (view r.desk) (view r.took)) }
+            IsTalk self.desk.promise.id (IsJob self.desk.promise.job.value) J.reacts (view r.desk) (view r.took)) }
         ensures back { IfSome result (λ r. IsSeatAt (sends_on self.back.promise.to.value) r.back ×
-            AreSteps J.fresh J.steps
+            AreSteps (Holds self.back.promise.queue.value.items) J.steps
             (queue_of self.back.promise.tostop self.back.promise.queue.value.items) (view r.back)) }
     {
         let Started { net, desk, back } = self;

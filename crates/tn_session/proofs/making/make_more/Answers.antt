@@ -1,4 +1,4 @@
-use Rattle.tn_session.proofs.Makers.{one_more}
+use Rattle.tn_session.proofs.Makers.{one_last, one_more}
 use Rattle.tn_session.proofs.Numbering.{queue_more}
 use Rattle.tn_session.proofs.making.make_more.Goals as goal
 
@@ -9,3 +9,6 @@ returns-clause-more g c =
 
 pub returns-clause-one : goal.returns-clause-one
 returns-clause-one g c = one_more c.args.made.queue.items c.push_back.new.self.items (record { id = c.in-Ok.id; job = c.args.job }) c.in-Ok-push_back.ensures.items
+
+pub returns-clause-next : goal.returns-clause-next
+returns-clause-next g c = one_last c.args.made.queue.items c.push_back.new.self.items (record { id = c.in-Ok.id; job = c.args.job }) c.in-Ok-push_back.ensures.items

@@ -8,9 +8,8 @@ use Rattle.tn_messages.specs.declared.faults.Ended.TheVariants.{HangUp, Fault}
 use Rattle.tn_messages.specs.declared.faults.SessionFault.{SessionFault}
 use Rattle.tn_messages.specs.declared.faults.SessionFault.TheVariants as fault
 use Rattle.tn_session.specs.declared.parties.Report.{Report}
-use Rattle.tn_session.specs.Turning.{ids_of}
 use Rattle.tn_session.proofs.Ending.{may_come, all_pieces, heard_of_reader, took_all, takes_entries, read_cause, write_cause}
-use Rattle.tn_session.proofs.Makers.{some_are, no_first}
+use Rattle.tn_session.proofs.Makers.{all_fresh, some_are, no_first}
 use Rattle.std.proofs.lemmas.Result.{IfOk-weaker}
 use Rattle.tn_session.proofs.Reach.{never_begun}
 use Rattle.tn_session.proofs.lemmas.Sessions.{server_transcript, server_reads, as_read, as_written}
@@ -37,7 +36,9 @@ returns-clause-ran g c = IfOk-weaker c.run_begun.result _ _ (λ r ran.
     record {
       jobs = jobs;
       first = posts.first;
-      others = ids_of posts.queue.items;
+      job = posts.job;
+      queue = posts.queue.items;
+      begun = ((is.job, all_fresh _ posts.queue.items is.queue.0), c.in_ok-begun.ensures.in_order);
       numbered = is.numbered;
       all = c.in_ok-begun.ensures.all;
       tostop = posts.tostop;
