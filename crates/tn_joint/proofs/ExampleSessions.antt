@@ -249,7 +249,7 @@ module _ (editing : Editing) where
     took_is = refl;
     took_first = ([], append-nil taken ∙ sym puts_are);
     talked = ((Text (97 ∷ 10 ∷ []), calm) ∷ [], tt, tt, refl, (tt, tt, refl), inl (refl, refl));
-    stepped = ([], Left ∷ [], inl refl, refl, tt, λ id i. absurd i, λ id i. absurd i);
+    stepped = ([], Left ∷ [], inl refl, refl, tt, λ id i. absurd i, λ id i. absurd i, [], refl);
     report_is = refl;
   }
 

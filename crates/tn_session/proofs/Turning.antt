@@ -9,7 +9,7 @@ use Rattle.tn_jobs.specs.declared.held_jobs.JobId.{JobId}
 use Rattle.tn_jobs.specs.declared.verdicts.JobState.TheVariants as job
 use Rattle.tn_session.specs.declared.back.Runner.{Runner}
 use Rattle.tn_jobs.specs.declared.reactions.Reaction.{Reaction}
-use Rattle.tn_session.specs.Stepping.{IsIn, AreBy, Steps, AreSteps, LeavesLast, reactions_of, step_said, leaves_in_background, stays}
+use Rattle.tn_session.specs.Stepping.{IsIn, AreBy, Steps, AreSteps, LeavesLast, StepInTurn, TakesItsTurn, reactions_of, step_said, turned, leaves_in_background, stays}
 use Rattle.tn_session.specs.Mailbox.{sender, mail}
 use Rattle.tn_session.specs.declared.channels.View.{View}
 use Rattle.tn_session.specs.declared.mail.Sender.TheVariants.{Back}
@@ -173,15 +173,42 @@ running_first steps tostop queue apart =
       apart = apart;
     }
 
+ids-push : {J : Type 0} (queue : List (Runner J)) (r : Runner J) → ids_of (queue ++ r ∷ []) ≡ ids_of queue ++ r.id.0 ∷ []
+ids-push [] r = refl
+ids-push (x ∷ queue) r = ap (λ (l : List ℕ). x.id.0 ∷ l) (ids-push queue r)
+
+stands_ids : {J : Type 0} (on refused : Bool) (rest new : List (Runner J)) (r : Runner J) → StandsNext on refused rest r new → refused ≡ false → turned on r.id.0 (ids_of rest) ≡ ids_of new
+stands_ids true false rest new r e f = sym (ap (λ l. ids_of l) e ∙ ids-push rest r)
+stands_ids true true rest new r e f = absurd (never f)
+  where
+    never : true ≡ false → ⊥
+    never g = cc
+stands_ids false refused rest new r e f = sym (ap (λ l. ids_of l) e.1)
+
+takes_turn : {J : Type 0} (tostop : Bool) (old rest : List (Runner J)) (runner : Runner J) (s : Said) → old ≡ runner ∷ rest → s.0 ≡ runner.id → TakesItsTurn tostop (ids_of old) s (turned (stays tostop s.1) s.0.0 (ids_of rest))
+takes_turn {J} tostop old rest runner s was number =
+    let P : List (Runner J) → Type 0 = λ l. TakesItsTurn tostop (ids_of l) s (turned (stays tostop s.1) s.0.0 (ids_of rest)) in
+    subst P (sym was) (ap (λ (i : JobId). i.0) number, ap (λ (i : JobId). turned (stays tostop s.1) i.0 (ids_of rest)) number)
+
+-- one step more, in turn
+pub in_turn : {J : Type 0} (steps : J → Reaction → J → Type 0) (tostop : Bool) (ids : List ℕ) (said : List Said) (old new : List (Runner J)) (id : JobId) (reaction : Reaction) (refused : Bool) → StepInTurn tostop ids said (ids_of old) → AdvancesQueue steps tostop old id reaction refused new → (left : List ℕ) × StepInTurn tostop ids (said ++ (id, reaction) ∷ []) left × (refused ≡ false → left ≡ ids_of new)
+in_turn steps tostop ids said old new id reaction refused before a =
+    let s : Said = (id, reaction) in
+    let left = turned (stays tostop reaction) id.0 (ids_of a.rest) in (
+      left,
+      FoldsTo-push (TakesItsTurn tostop) ids said (ids_of old) s left before (takes_turn tostop old a.rest a.runner s a.was a.number),
+      stands_ids (stays tostop reaction) refused a.rest new (record { id = id; job = a.job }) a.left,
+    )
+
 pub said_step : (ss : List Said) (s : Said) (v : View) → v ≡ sender Back (map (mail Back) (map step_said ss ++ step_said s ∷ [])) → v ≡ sender Back (map (mail Back) (map step_said (ss ++ s ∷ [])))
 said_step ss s v e = e ∙ ap (λ (ms : List Message). sender Back (map (mail Back) ms)) (sym (map-append step_said ss (s ∷ [])))
 
-pub closes_left : {J : Type 0} (began : ℕ → J → Type 0) (steps : J → Reaction → J → Type 0) (tostop : Bool) (ids : List ℕ) (ss : List Said) (queue : List (Runner J)) (v : View) → Running began steps tostop ids ss queue → v ≡ sender Back (map (mail Back) (map step_said ss ++ Left ∷ [])) → AreSteps {J = J} began steps (record { ids = ids; tostop = tostop }) v
-closes_left began steps tostop ids ss queue v r e = (ss, Left ∷ [], inl refl, e, r.by, r.each, r.leave)
+pub closes_left : {J : Type 0} (began : ℕ → J → Type 0) (steps : J → Reaction → J → Type 0) (tostop : Bool) (ids : List ℕ) (ss : List Said) (queue : List (Runner J)) (v : View) → Running began steps tostop ids ss queue → (left : List ℕ) → StepInTurn tostop ids ss left → v ≡ sender Back (map (mail Back) (map step_said ss ++ Left ∷ [])) → AreSteps {J = J} began steps (record { ids = ids; tostop = tostop }) v
+closes_left began steps tostop ids ss queue v r left turn e = (ss, Left ∷ [], inl refl, e, r.by, r.each, r.leave, left, turn)
 
-pub closes_refused : {J : Type 0} (began : ℕ → J → Type 0) (steps : J → Reaction → J → Type 0) (tostop : Bool) (ids : List ℕ) (ss : List Said) (queue : List (Runner J)) (v : View) → Running began steps tostop ids ss queue → v ≡ sender Back (map (mail Back) ((map step_said ss ++ Refused ∷ []) ++ Left ∷ [])) → AreSteps {J = J} began steps (record { ids = ids; tostop = tostop }) v
-closes_refused began steps tostop ids ss queue v r e =
-    (ss, Refused ∷ Left ∷ [], inr refl, e ∙ ap (λ (ms : List Message). sender Back (map (mail Back) ms)) (append_assoc (map step_said ss) (Refused ∷ []) (Left ∷ [])), r.by, r.each, r.leave)
+pub closes_refused : {J : Type 0} (began : ℕ → J → Type 0) (steps : J → Reaction → J → Type 0) (tostop : Bool) (ids : List ℕ) (ss : List Said) (queue : List (Runner J)) (v : View) → Running began steps tostop ids ss queue → (left : List ℕ) → StepInTurn tostop ids ss left → v ≡ sender Back (map (mail Back) ((map step_said ss ++ Refused ∷ []) ++ Left ∷ [])) → AreSteps {J = J} began steps (record { ids = ids; tostop = tostop }) v
+closes_refused began steps tostop ids ss queue v r left turn e =
+    (ss, Refused ∷ Left ∷ [], inr refl, e ∙ ap (λ (ms : List Message). sender Back (map (mail Back) ms)) (append_assoc (map step_said ss) (Refused ∷ []) (Left ∷ [])), r.by, r.each, r.leave, left, turn)
 
 -- a job that runs on stands last, if memory for that was found
 pub kept_on : {J : Type 0} (on found refused : Bool) (xs new : List (Runner J)) (r : Runner J) → on ≡ true → refused ≡ not found → new ≡ (if found then xs ++ r ∷ [] else xs) → StandsNext on refused xs r new

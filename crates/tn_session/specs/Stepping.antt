@@ -66,11 +66,25 @@ pub record BackJobs : Type 0 where
   pub ids : List ℕ
   pub tostop : Bool
 
+-- the one that stands first goes, and stands last where it stays in the background
+abbrev pub turned : Bool → ℕ → List ℕ → List ℕ
+turned true id ids = ids ++ id ∷ []
+turned false id ids = ids
+
+abbrev pub TakesItsTurn : Bool → List ℕ → JobId × Reaction → List ℕ → Type 0
+TakesItsTurn tostop [] s new = ⊥
+TakesItsTurn tostop (id ∷ ids) s new = (s.0.0 ≡ id) × (new ≡ turned (stays tostop s.1) id ids)
+
+-- the jobs of these numbers step in turn, and then these are left
+abbrev pub StepInTurn : Bool → List ℕ → List (JobId × Reaction) → List ℕ → Type 0
+StepInTurn tostop ids said left = FoldsTo (TakesItsTurn tostop) ids said left
+
 -- of these jobs: each step is one of theirs, those of each go through its states, no job makes one after it
--- was judged out of the background, and then comes the close
+-- was judged out of the background, they step in turn, and then comes the close
 abbrev pub AreSteps : {J : Type 0} → (ℕ → J → Type 0) → (J → Reaction → J → Type 0) → BackJobs → View → Type 0
 AreSteps {J} began steps jobs v =
     (said : List (JobId × Reaction)) × (close : List Message) × IsClose close
     × (v ≡ sender Back (map (mail Back) (map step_said said ++ close)))
     × AreBy jobs.ids said × ((id : ℕ) → IsIn id jobs.ids → Steps {J = J} began steps said id)
     × ((id : ℕ) → IsIn id jobs.ids → LeavesLast jobs.tostop (reactions_of id said))
+    × (left : List ℕ) × StepInTurn jobs.tostop jobs.ids said left
