@@ -25,6 +25,11 @@ left_to_make (Some hook) jobs = 2
 left_to_make None (Some jobs) = count jobs.writer + count jobs.reader
 left_to_make None None = 0
 
+-- of so many jobs that are to come, which comes next: the one that shows is the last
+abbrev pub GivesSide : {R W : Type 0} → ℕ → Gateway R W → Type 0
+GivesSide left (side.Sends sending) = Unit {0}
+GivesSide left (side.Shows showing) = left ≡ 1
+
 abbrev pub IsFresh : {R W : Type 0} → Gateway R W → Type 0
 IsFresh (side.Sends sending) = sending.way ≡ Open
 IsFresh (side.Shows showing) = Unit {0}

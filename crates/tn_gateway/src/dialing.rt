@@ -106,11 +106,13 @@ impl<H: Copy + Dial + Wait> Joiner<H> {
 
 impl<H: Copy + Dial + Wait> Maker for Joiner<H> {
     ghost use Rattle.std.specs.Prelude.{Some};
-    ghost use Rattle.tn_gateway.specs.Joining.{left_to_make};
+    ghost use Rattle.tn_gateway.specs.Joining.{GivesSide, left_to_make};
 
     type Job = Gateway<Heard<H, TcpStream>, Told<H, TcpStream>>;
 
     ghost left = { λ joiner. Some (left_to_make joiner.hook joiner.jobs) };
+
+    ghost gives = { λ old job new. GivesSide (left_to_make old.hook old.jobs) job };
 
     fn next(
         &mut self,
