@@ -1,10 +1,10 @@
 -- Each pass counts the credits that it takes, and the thread that reads takes one for each piece.
-use Rattle.std.proofs.Common.{◌≡◌, ℕ, ◌+◌, List, [], ◌∷◌, ◌++◌, Option, Some, None, refl, sym, ap, ◌∙◌, subst, arith, length, length-append, map}
+use Rattle.std.proofs.Common.{◌≡◌, ◌≤◌, ◌||◌, Bool, true, false, Result, Ok, Err, MatchResult, ℕ, ◌+◌, List, [], ◌∷◌, ◌++◌, Option, Some, None, refl, sym, ap, ◌∙◌, subst, arith, length, length-append, map}
 use Rattle.std.proofs.lemmas.List.{map-append}
 use Rattle.crossbeam_channel.specs.Fifo.{Pushes, Pops, Forks, Learns}
 use Rattle.tn_messages.specs.declared.messages.Message.{Message}
 use Rattle.tn_messages.specs.declared.messages.Message.TheVariants.{Piece, HangUp, ReadFailed, Take, Said, Refused, Left, Resized}
-use Rattle.tn_session.specs.Credits.{AnyTally, none_taken, one_taken, HaveTaken, piece_one, pieces_among}
+use Rattle.tn_session.specs.Credits.{AnyTally, none_taken, one_given, one_taken, owed_one, HaveTaken, piece_one, pieces_among}
 use Rattle.tn_session.specs.Mailbox.{mail, sender}
 use Rattle.tn_session.specs.Reader.{sends}
 use Rattle.tn_session.specs.Reading.{IsEnding, Telling, piece_told, size_told, told_messages, pieces_in}
@@ -19,8 +19,8 @@ use Rattle.tn_session.proofs.Readers.{Says, said, said_two, said_piece, pieces-p
 
 -- THE RULE
 
-pub gives : (n pass : ℕ) (v : Tally) (x : Credit) → Pushes AnyTally n pass v x (λ w. w ≡ v)
-gives n pass v x items views room kept at = (v, tt, refl)
+pub gives : (n pass : ℕ) (v : Tally) (x : Credit) → Pushes AnyTally n pass v x (λ w. w ≡ one_given v x)
+gives n pass v x items views room kept at = (one_given v x, tt, refl)
 
 pub takes : (pass : ℕ) (v : Tally) → Pops AnyTally pass v (λ x w. w ≡ one_taken v x)
 takes pass v x items views kept at = (one_taken v x, tt, refl)
@@ -35,6 +35,23 @@ cuts pass v items views kept at = tt
 
 pub taken_one : (v w : Tally) (x : Credit) → w ≡ one_taken v x → length w.taken ≡ length v.taken + 1
 taken_one v w x e = ap (λ (t : Tally). length t.taken) e ∙ length-append v.taken (x ∷ [])
+
+-- one at most was given, whatever was answered
+pub given_one : {U E : Type 0} (r : Result U E) (v w : Tally) (x : Credit) (P : E → Type 0) → MatchResult r (λ _. w ≡ one_given v x) (λ e. P e × (w ≡ v)) → length w.given ≤ length v.given + 1
+given_one (Ok u) v w x P e = let n = ap (λ (t : Tally). length t.given) e ∙ length-append v.given (x ∷ []) in omega (arith, n)
+given_one (Err f) v w x P e = let n = ap (λ (t : Tally). length t.given) e.1 in omega (arith, n)
+
+or_one : (a b : Bool) → owed_one (a || b) ≤ owed_one a + owed_one b
+or_one true b = grind arith
+or_one false b = grind arith
+
+-- no more are given than one, and one for each piece that was handled
+pub counts_on : (first old new pieces piece : ℕ) (owed is_piece due still : Bool) → old + owed_one owed ≤ first + 1 + pieces → owed_one is_piece ≡ piece → due ≡ (owed || is_piece) → new + owed_one still ≤ old + owed_one due → new + owed_one still ≤ first + 1 + (pieces + piece)
+counts_on first old new pieces piece owed is_piece due still a e d b = let c = or_one owed is_piece in let f = ap owed_one d in omega (arith, a, e, b, c, f)
+
+pub among-push : (xs : List Mail) (x : Mail) → pieces_among (xs ++ x ∷ []) ≡ pieces_among xs + piece_one x.message
+among-push [] x = omega arith
+among-push (y ∷ ys) x = let ih = among-push ys x in omega (arith, ih)
 
 pub taken_none : (o : Option CreditSeat) → HaveTaken 0 o o
 taken_none None = tt

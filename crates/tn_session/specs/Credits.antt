@@ -1,19 +1,29 @@
 -- The credits of a session: the thread that reads the network takes one for each piece that it sends.
-use Rattle.std.specs.Prelude.{◌≡◌, ℕ, ◌+◌, List, Option, Some, None, [], ◌∷◌, ◌++◌, length, ⊤}
+use Rattle.std.specs.Prelude.{◌≡◌, ℕ, Bool, true, false, ◌+◌, ◌≤◌, List, Option, Some, None, [], ◌∷◌, ◌++◌, length, ⊤}
 use Rattle.crossbeam_channel.specs.Claims.{view, IsSeatAt}
 use Rattle.crossbeam_channel.specs.Ends.{receives_on}
 use Rattle.tn_messages.specs.declared.messages.Message.{Message}
 use Rattle.tn_messages.specs.declared.messages.Message.TheVariants.{Piece}
+use Rattle.tn_session.specs.Mailbox.{with_handled}
+use Rattle.tn_session.specs.declared.channels.View.{View}
 use Rattle.tn_session.specs.declared.credit.Credit.{Credit}
 use Rattle.tn_session.specs.declared.credit.CreditSeat.{CreditSeat}
 use Rattle.tn_session.specs.declared.credit.Tally.{Tally}
 use Rattle.tn_session.specs.declared.mail.Mail.{Mail}
 
 abbrev pub none_taken : Tally
-none_taken = record { taken = [] }
+none_taken = record { taken = []; given = [] }
 
 abbrev pub one_taken : Tally → Credit → Tally
-one_taken v x = record { taken = v.taken ++ x ∷ [] }
+one_taken v x = record v { taken = v.taken ++ x ∷ [] }
+
+abbrev pub one_given : Tally → Credit → Tally
+one_given v x = record v { given = v.given ++ x ∷ [] }
+
+-- a credit is owed, or none is
+abbrev pub owed_one : Bool → ℕ
+owed_one true = 1
+owed_one false = 0
 
 -- each pass counts its own, whatever the channel holds
 abbrev pub AnyTally : List Credit → List Tally → Type 0
@@ -38,3 +48,9 @@ piece_one _ = 0
 abbrev pub pieces_among : List Mail → ℕ
 pieces_among [] = 0
 pieces_among (x ∷ xs) = piece_one x.message + pieces_among xs
+
+-- one credit is given at first at most, and one more for each piece that was handled
+abbrev pub GivesCredits : View → View → Tally → Tally → Type 0
+GivesCredits v w old new =
+    (handled : List Mail) × (w ≡ with_handled v handled)
+    × (length new.given ≤ length old.given + 1 + pieces_among handled)

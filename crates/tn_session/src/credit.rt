@@ -5,7 +5,7 @@ ghost use Rattle.std.specs.Prelude.{◌≡◌, ◌≤◌, ◌<◌, ◌+◌, true
 ghost use Rattle.crossbeam_channel.specs.Claims.{view, IsSeatAt};
 ghost use Rattle.crossbeam_channel.specs.Ends.{sends_on, receives_on};
 ghost use Rattle.tn_server.specs.Lines.{waiting};
-ghost use Rattle.tn_session.specs.Credits.{AnyTally, none_taken, one_taken, IsSeated, HaveTaken};
+ghost use Rattle.tn_session.specs.Credits.{AnyTally, none_taken, one_given, one_taken, owed_one, piece_one, IsSeated, HaveTaken};
 ghost use Rattle.tn_term.specs.Reaching.{LeadsTo};
 ghost use Rattle.tn_term.specs.Run.{Run};
 
@@ -23,9 +23,10 @@ pub(crate) const CREDITS: usize = 1;
 #[derive(Drop)]
 pub struct Credit;
 
-// The credits that a pass has taken. No value of it is made.
+// The credits that a pass has taken and given. No value of it is made.
 pub struct Tally {
     pub taken: LinkedList<Credit>,
+    pub given: LinkedList<Credit>,
 }
 
 // Credits may be given and taken at any time. Each pass counts its own.
@@ -40,7 +41,7 @@ impl Protocol<Credit, Tally> for Freely {
 pub struct Gives;
 
 impl Outcome<Credit, Tally> for Gives {
-    ghost then = { λ v x w. w ≡ v };
+    ghost then = { λ v x w. w ≡ one_given v x };
 }
 
 impl Lesson<Credit, Tally> for Gives {
@@ -105,8 +106,13 @@ pub(crate) fn take_credit<R: Wait>(rt: &R, credits: &mut Option<CreditSeat>) -> 
     }
 }
 
-pub(crate) fn is_piece(message: &Message) -> bool {
-    matches!(message, Message::Piece(_))
+pub(crate) fn is_piece(message: &Message) -> bool
+    ensures { owed_one result ≡ piece_one message.now }
+{
+    match message {
+        Message::Piece(_) => true,
+        _ => false,
+    }
 }
 
 /// Gives the credit that is owed, if one is and a piece is welcome. Answers whether it is owed still. One
@@ -125,6 +131,8 @@ pub(crate) fn give_credit<R: Wait>(
     ensures kept { (c : Run) → LeadsTo c term.now → result ≡ true → 511 < length (waiting c.history) }
     ensures over { term.now.progress.over ≡ true → result ≡ false }
     ensures none { owed ≡ false → result ≡ false }
+    ensures counted { length (view pass.new).given + owed_one result ≤
+        length (view pass.old).given + owed_one owed }
 {
     if !owed || !term.is_welcoming() {
         return owed;

@@ -6,6 +6,7 @@ ghost use Rattle.crossbeam_channel.specs.Claims.{view, IsSeatAt};
 ghost use Rattle.crossbeam_channel.specs.Ends.{sends_on, receives_on};
 ghost use Rattle.tn_discipline.specs.declared.reads.Entry.{Entry as EntryT};
 ghost use Rattle.tn_session.specs.Closing.{Closes};
+ghost use Rattle.tn_session.specs.Credits.{GivesCredits};
 ghost use Rattle.tn_session.specs.EntryChannel.{putter};
 ghost use Rattle.tn_session.specs.Turns.{HandlesAll, StaysInReach, TurnsMessage, left_one};
 ghost use Rattle.tn_streams.specs.Known.{known_writing};
@@ -106,6 +107,13 @@ fn tell_took<G: Gate>(gate: &G, before: u64, after: u64) {
     }
 }
 
+// Whether a credit is owed after a message.
+fn is_due(owed: bool, piece: bool) -> bool
+    ensures { result ≡ (owed || piece) }
+{
+    owed || piece
+}
+
 fn tell_said<G: Gate>(gate: &G, job: Option<JobId>) {
     if let Some(job) = job {
         gate.at(Place::TermSaid(job));
@@ -200,6 +208,7 @@ pub(crate) fn run_term<R: Wait, W: Finish, G: Gate>(
     ensures acted { IfSome result (λ p.
         HandlesAll term.old (view passes.mails) (view p.mails) (view passes.hand) (view p.hand)
         (known_writing W.contents W.told writer.old writer.new) term.new) }
+    ensures credits { IfSome result (λ p. GivesCredits (view passes.mails) (view p.mails) (view passes.give) (view p.give)) }
     ensures in_reach { IfSome result (λ p. StaysInReach term.old term.new.progress.ended) }
     ensures finished { IfSome result (λ p. IsFinished (W.sending writer.old) (W.sending writer.new)) }
 {
@@ -231,7 +240,7 @@ pub(crate) fn run_term<R: Wait, W: Finish, G: Gate>(
         tell_took(&*watch.gate, before, term.progress().entries);
         tell_said(&*watch.gate, job);
         closed = close(writer, &*watch.stop, standing_of(term.progress()), closed);
-        owed = give_credit(rt, &ends.give, &mut give, owed || piece, term);
+        owed = give_credit(rt, &ends.give, &mut give, is_due(owed, piece), term);
         lefts += left;
     }
     unreachable!()

@@ -1,10 +1,12 @@
-use Rattle.std.proofs.Common.{false, ap, refl, sym, ◌∙◌, [], ◌∷◌, ◌++◌, Option, List, arith, append-nil}
+use Rattle.std.proofs.Common.{false, ap, refl, sym, ◌∙◌, [], ◌∷◌, ◌++◌, Option, List, arith, append-nil, length}
 use Rattle.crossbeam_channel.specs.Claims.{view}
 use Rattle.tn_session.specs.EntryChannel.{putter}
 use Rattle.tn_session.specs.declared.mail.Mail.{Mail}
 use Rattle.tn_term.specs.Run.{puts_of}
 use Rattle.tn_term.specs.declared.progress.Progress.{Progress}
 use Rattle.tn_session.proofs.Mailbox.{handles, totals, handled_more}
+use Rattle.tn_session.proofs.Credits.{among-push, counts_on}
+use Rattle.tn_session.specs.Credits.{pieces_among}
 use Rattle.tn_session.proofs.Finishing.{open_none, stands_next, stands_last}
 use Rattle.tn_session.proofs.Going.{false_true, going_next, going_none, going_kept, lefts_of-push, left_small, puts_two}
 use Rattle.tn_session.proofs.Reach.{reach_start, reach_next}
@@ -24,6 +26,7 @@ loop-init g c = (
     ap (λ (o : Option (List Mail)). record (view c.args.passes.mails) { handled = o }) c.requires.mailbox.1,
     λ k e. e ∙ ap putter (sym (append-nil k)),
     refl,
+    omega (arith, c.give_credit-owed.ensures.counted),
     going_kept c.args.term.now _ [] (known_writer g.W.Drain.contents g.W.Drain.told c.args.writer.now) (known_writer g.W.Drain.contents g.W.Drain.told c.args.writer.now) (known_writer g.W.Drain.contents g.W.Drain.told c.close-closed.new.writer) [] c.close-closed.ensures.contents c.close-closed.ensures.told (going_none c.args.term.now (known_writer g.W.Drain.contents g.W.Drain.told c.args.writer.now)),
   ),
   c.requires.out,
@@ -54,12 +57,13 @@ loop-preserved g c =
         handled_more (view c.args.passes.mails) (view c.loop.mails) (view c.recv_as.new.pass) i.0 x i.2 c.in-Ok.ensures.rule,
         puts_two (view c.args.passes.hand) (view c.loop.hand) (view c.in_ok-hand.hand) i.1 (puts_of t.put ++ puts_of t.last) i.3 t.puts,
         omega (arith, lefts_of-push i.0 x, c.leaves-left.ensures, i.4),
-        going_next c.args.term.now c.loop.term c.turn.new.term i.0 x (writer c.args.writer.now) (writer c.loop.writer) (writer c.turn.new.writer) (writer c.close-closed-in-loop.new.writer) i.1 (view c.loop.hand) (view c.in_ok-hand.hand) c.close-closed-in-loop.ensures.contents c.close-closed-in-loop.ensures.told i.5 t,
+        (let n = counts_on (length (view c.args.passes.give).given) (length (view c.loop.give).given) (length (view c.give_credit-owed-in-loop.new.pass).given) (pieces_among i.0) _ c.loop.owed c.is_piece-piece.result c.is_due.result c.give_credit-owed-in-loop.result i.5 c.is_piece-piece.ensures c.is_due.ensures c.give_credit-owed-in-loop.ensures.counted in let p = among-push i.0 x in omega (arith, n, p)),
+        going_next c.args.term.now c.loop.term c.turn.new.term i.0 x (writer c.args.writer.now) (writer c.loop.writer) (writer c.turn.new.writer) (writer c.close-closed-in-loop.new.writer) i.1 (view c.loop.hand) (view c.in_ok-hand.hand) c.close-closed-in-loop.ensures.contents c.close-closed-in-loop.ensures.told i.6 t,
       ),
       c.turn.ensures.out,
       omega (arith, small, more, c.leaves-left.ensures),
       c.give_credit-owed-in-loop.ensures.seat,
-      reach_next c.args.term.now c.loop.term c.turn.new.term _ x.message _ _ i.1 _ _ i.5 t (λ d at. c.welcomes.ensures.welcome d at c.if-not-welcomes.false) c.loop.invariant.6,
+      reach_next c.args.term.now c.loop.term c.turn.new.term _ x.message _ _ i.1 _ _ i.6 t (λ d at. c.welcomes.ensures.welcome d at c.if-not-welcomes.false) c.loop.invariant.6,
       stands_next c.standing_of-in-loop.result.closes c.loop.closed c.close-closed-in-loop.result c.loop.term.progress.over c.turn.new.term.progress.over _ _ _ _ c.loop.invariant.7 c.turn.ensures.going c.turn.ensures.silent t.turn.stays (c.standing_of-in-loop.ensures.closes ∙ ap (λ (p : Progress). p.over) c.progress-in-loop-2.ensures) c.close-closed-in-loop.ensures.closes,
     )
 
@@ -74,8 +78,13 @@ returns-then-lefts-ge-SENDERS-clause-acted g c =
       view = i.2;
       hand = i.3;
       lefts = omega (arith, enough, i.4);
-      goes = going_kept c.args.term.now c.loop.term _ (writer c.args.writer.now) (writer c.loop.writer) (writer c.finish_unless.new.writer) i.1 c.finish_unless.ensures.contents c.finish_unless.ensures.told i.5;
+      goes = going_kept c.args.term.now c.loop.term _ (writer c.args.writer.now) (writer c.loop.writer) (writer c.finish_unless.new.writer) i.1 c.finish_unless.ensures.contents c.finish_unless.ensures.told i.6;
     }
 
 pub returns-then-lefts-ge-SENDERS-clause-finished : goal.returns-then-lefts-ge-SENDERS-clause-finished
 returns-then-lefts-ge-SENDERS-clause-finished g c = stands_last c.loop.closed c.loop.term.progress.over _ _ _ c.loop.invariant.7 c.finish_unless.ensures.closes
+
+pub returns-then-lefts-ge-SENDERS-clause-credits : goal.returns-then-lefts-ge-SENDERS-clause-credits
+returns-then-lefts-ge-SENDERS-clause-credits g c =
+    let i = c.loop.invariant.2 in
+    (i.0, i.2, omega (arith, i.5))

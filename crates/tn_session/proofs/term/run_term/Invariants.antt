@@ -1,7 +1,8 @@
-use Rattle.std.proofs.Common.{◌≡◌, ◌≤◌, List, [], Option, ◌++◌}
+use Rattle.std.proofs.Common.{◌≡◌, ◌≤◌, ◌+◌, List, [], Option, ◌++◌, length}
 use Rattle.crossbeam_channel.specs.Claims.{view, IsSeatAt}
 use Rattle.crossbeam_channel.specs.Ends.{sends_on, receives_on}
 use Rattle.tn_discipline.specs.declared.reads.Entry.{Entry}
+use Rattle.tn_session.specs.Credits.{owed_one, pieces_among}
 use Rattle.tn_session.specs.Mailbox.{with_handled}
 use Rattle.tn_session.specs.EntryChannel.{putter}
 use Rattle.tn_session.specs.Turns.{GoesOn, StaysInReach, lefts_of, messages_of}
@@ -17,6 +18,7 @@ invariant-loop g l =
     × (view l.mails ≡ with_handled (view l.fn.passes.mails) handled)
     × ((k : List (Option Entry)) → view l.fn.passes.hand ≡ putter k → view l.hand ≡ putter (k ++ puts))
     × (l.lefts ≡ lefts_of handled)
+    × (length (view l.give).given + owed_one l.owed ≤ length (view l.fn.passes.give).given + 1 + pieces_among handled)
     × GoesOn l.fn.term (messages_of handled) (known_writing g.W.Drain.contents g.W.Drain.told l.fn.writer l.writer) puts l.term)
     × (l.out.items ≡ []) × (l.lefts ≤ 3)
     × IsSeatAt (sends_on l.ends.give) l.give × StaysInReach l.fn.term l.term.progress.ended
