@@ -1,11 +1,13 @@
 //! `tn connect`: a client's session over a connection.
 
-ghost use Rattle.std.specs.Prelude.{◌≡◌, ◌≢◌, Ok, Err, false, IsOk, IfOk, IfErr, OnErr};
-ghost use Rattle.tn_connect.specs.Clients.{RunsClient, foreseen, window_of};
+ghost use Rattle.std.specs.Prelude.{◌≡◌, ◌≢◌, Ok, Err, Some, [], false, IsOk, IfOk, IfErr, OnErr};
+ghost use Rattle.crossbeam_channel.specs.Claims.{view};
+ghost use Rattle.tn_connect.specs.Clients.{RunsClient, connected, foreseen, window_of};
 ghost use Rattle.tn_connect.specs.Faults.{IsOfNetwork};
 ghost use Rattle.tn_messages.specs.Ending.{EndsWhole};
 ghost use Rattle.tn_streams.specs.Known.{known_reader};
 
+use crate::connected::Connected;
 use crate::fault::ConnectFault;
 use crate::reaching::reach;
 use crate::settings::{Connecting, Notes, Origin};
@@ -15,10 +17,10 @@ use std::io::{Read, Write};
 use std::net::{Net, TcpListener, TcpStream};
 use std::sync::Arc;
 use std::{io, thread};
-use tn_session::{ClientPorts, Ended, Finish, Report, SessionFault, Unwatched, client_session};
+use tn_session::{ClientPorts, Ended, Report, SessionFault, Unwatched, client_session};
 use tn_sockets::{
-    Connection, Console, Host, Incoming, Keys, Link, Outgoing, Sending, Sent, Sizes, Throttle,
-    Trace, Typing, queue_for,
+    Connection, Console, Host, Incoming, Keys, Link, Outgoing, QueuePass, Sending, Sent, Sizes,
+    Throttle, Trace, Typing, queue_for,
 };
 use tn_streams::Source;
 
@@ -30,12 +32,13 @@ struct Wires<H> {
     sending: Sending<H, Connection<TcpStream>>,
 }
 
-// A session that is over, how its sending ended, and how many bytes were not sent.
+// A session that is over, how its sending ended, how many bytes were not sent, and the queue of what it wrote.
 #[derive(Drop)]
 struct Talked {
     ended: Result<(Report, ClientPorts), SessionFault>,
     sent: io::Result<Sent>,
     unsent: usize,
+    queue: QueuePass,
 }
 
 // Lays out a connection's two directions. Keys are read as the throttle lets them.
@@ -47,7 +50,8 @@ fn wire<H: Host>(
     trace: &Trace<H>,
     origin: Origin,
 ) -> Result<(Wires<H>, Throttle<H>), ConnectFault>
-    ensures { IfErr result IsOfNetwork }
+    ensures fault { IfErr result IsOfNetwork }
+    ensures nothing_yet { IfOk result (λ r. (view r.0.outgoing.pass).put ≡ Some []) }
 {
     let (reader, writer) = Connection::split(stream)?;
     link.attach(&rt, reader.try_clone()?);
@@ -74,9 +78,10 @@ fn talk<H: Host, K: Source + Drop + Send + 'static, S: Write>(
     screen: &mut S,
     connecting: Connecting,
 ) -> Result<(Report, ClientPorts), SessionFault>
-    ensures { IfOk result (λ r.
+    requires nothing_yet { (view outgoing.old.pass).put ≡ Some [] }
+    ensures ran { IfOk result (λ r.
         RunsClient (window_of connecting) (known_reader K.remaining K.foretold K.sizes keys)
-        (S.contents screen.old) (S.contents screen.new) r.0 r.1) }
+        (S.contents screen.old) (S.contents screen.new) (connected r.0 r.1 outgoing.new.pass)) }
 {
     let Ok(gate) = Arc::new(alloc, Unwatched) else {
         return Err(SessionFault::Memory);
@@ -98,9 +103,10 @@ fn talk_from<H: Host, K: Read + Drop + Send + 'static, S: Write>(
     screen: &mut S,
     connecting: Connecting,
 ) -> Result<(Report, ClientPorts), SessionFault>
-    ensures { IfOk result (λ r.
+    requires nothing_yet { (view outgoing.old.pass).put ≡ Some [] }
+    ensures ran { IfOk result (λ r.
         RunsClient (window_of connecting) (foreseen connecting.origin (K.remaining typing.keys))
-        (S.contents screen.old) (S.contents screen.new) r.0 r.1) }
+        (S.contents screen.old) (S.contents screen.new) (connected r.0 r.1 outgoing.new.pass)) }
 {
     let origin = connecting.origin;
     match origin {
@@ -128,9 +134,10 @@ fn talk_and_send<H: Host, K: Read + Drop + Send + 'static, S: Write>(
     screen: &mut S,
     connecting: Connecting,
 ) -> Result<Talked, ConnectFault>
+    requires nothing_yet { (view wires.outgoing.pass).put ≡ Some [] }
     ensures ran { IfOk result (λ talked. IfOk talked.ended (λ r.
         RunsClient (window_of connecting) (foreseen connecting.origin (K.remaining typing.keys))
-        (S.contents screen.old) (S.contents screen.new) r.0 r.1)) }
+        (S.contents screen.old) (S.contents screen.new) (connected r.0 r.1 talked.queue))) }
     ensures unshown { OnErr result (S.contents screen.new ≡ S.contents screen.old) }
     ensures fault { IfErr result IsOfNetwork }
 {
@@ -155,19 +162,21 @@ fn talk_and_send<H: Host, K: Read + Drop + Send + 'static, S: Write>(
         screen,
         connecting,
     );
-    outgoing.finish();
+    outgoing.end();
     let sent = sending.join(&rt);
     let unsent = outgoing.waiting();
+    let queue = outgoing.into_pass();
     Ok(Talked {
         ended,
         sent,
         unsent,
+        queue,
     })
 }
 
 /// Connects to a host, an address or a name, and runs a client's session over the connection, with these
-/// keys and this screen, until the server has closed or the user leaves. A session that ends without a fault
-/// gives its report, and the ports in which contracts see what was sent and handled. Of a fault the causes
+/// keys and this screen, until the server has closed or the user leaves. What a session that ends without a
+/// fault returns tells contracts all that was read from the connection and written to it. Of a fault the causes
 /// are noted.
 pub fn connect<
     H: Host + Net<Listener = TcpListener, Stream = TcpStream>,
@@ -181,11 +190,10 @@ pub fn connect<
     keys: K,
     screen: &mut S,
     notes: Notes<'_>,
-) -> Result<(Report, ClientPorts), ConnectFault>
-    ensures ran { IfOk result (λ r.
-        RunsClient (window_of connecting) (foreseen connecting.origin (K.remaining keys))
-        (S.contents screen.old) (S.contents screen.new) r.0 r.1) }
-    ensures whole { IfOk result (λ r. EndsWhole r.0.ended) }
+) -> Result<Connected, ConnectFault>
+    ensures ran { IfOk result (RunsClient (window_of connecting) (foreseen connecting.origin (K.remaining keys))
+        (S.contents screen.old) (S.contents screen.new)) }
+    ensures whole { IfOk result (λ connected. EndsWhole connected.report.ended) }
     ensures unshown { OnErr result (result ≢ Err ConnectFault.Session →
         S.contents screen.new ≡ S.contents screen.old) }
 {
@@ -225,18 +233,27 @@ fn note_talked(causes: &mut Vec<u8>, talked: &Talked, link: &Link) {
 }
 
 // The result of a session that is over. Where its sending failed it is a fault, unless its user has left.
-fn result_of(talked: Talked, is_left: bool) -> Result<(Report, ClientPorts), ConnectFault>
-    ensures ran { IfOk result (λ r. talked.ended ≡ Ok r) }
-    ensures whole { IfOk result (λ r. EndsWhole r.0.ended) }
+fn result_of(talked: Talked, is_left: bool) -> Result<Connected, ConnectFault>
+    ensures ran { IfOk result (λ r. (talked.ended ≡ Ok (r.report, r.ports)) × (r.queue ≡ talked.queue)) }
+    ensures whole { IfOk result (λ r. EndsWhole r.report.ended) }
     ensures sent { IfOk result (λ _. is_left ≡ false → IsOk talked.sent) }
     ensures fault { IfErr result (λ fault. fault ≡ ConnectFault.Session) }
 {
-    let Talked { ended, sent, .. } = talked;
-    let ended = if_whole(ended)?;
+    let Talked {
+        ended,
+        sent,
+        queue,
+        ..
+    } = talked;
+    let (report, ports) = if_whole(ended)?;
     if sent.is_err() && !is_left {
         return Err(ConnectFault::Session);
     }
-    Ok(ended)
+    Ok(Connected {
+        report,
+        ports,
+        queue,
+    })
 }
 
 // The fault that a session ended in, if it did.

@@ -8,11 +8,13 @@
 //! and this crate only starts and joins its threads. It encrypts nothing.
 #![tactic(auto)]
 
+pub use connected::Connected;
 pub use connecting::connect;
 pub use fault::ConnectFault;
 pub use settings::{Connecting, Notes, Origin};
 pub use tn_sockets::{Host, Link, Screen};
 
+mod connected;
 mod connecting;
 mod fault;
 mod reaching;

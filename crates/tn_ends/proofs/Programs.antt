@@ -1,52 +1,66 @@
 -- The headline over two programs, from that over two sessions.
-use Rattle.std.proofs.Common.{◌≡◌, ℕ, None, Some, [], refl, sym, subst}
+use Rattle.std.proofs.Common.{◌≡◌, ℕ, Option, None, Some, List, [], refl, sym, ap, ◌∙◌, subst}
+use Rattle.std.specs.Io.KnownBytes.{Appends}
+use Rattle.crossbeam_channel.specs.Claims.{view}
 use Rattle.tn_discipline.specs.Canon.{typed_entries}
-use Rattle.tn_ends.specs.Programs.{Programs, ReadsWhatIsTyped, HeadlineOfPrograms}
+use Rattle.tn_ends.specs.Programs.{Programs, AreTheirs, ReadsWhatIsTyped, HeadlineOfPrograms}
 use Rattle.tn_joint.specs.Transcripts.{Served, Connected, IsCarried, Headline}
 use Rattle.tn_loopback.specs.Servers.{terminal_of}
 use Rattle.tn_messages.specs.declared.faults.Ended.TheVariants.{HangUp}
 use Rattle.tn_session.specs.Client.{RunningClient}
 use Rattle.tn_session.specs.Facts.{JobFacts, session_result, client_result}
 use Rattle.tn_session.specs.Transcripts.{all_read, all_wrote}
+use Rattle.tn_sockets.specs.Logs.{wrote}
+use Rattle.tn_sockets.specs.Queue.{put_bytes}
 use Rattle.tn_streams.specs.Known.{KnownReader, KnownWriting}
 use Rattle.tn_streams.specs.Prefixes.{IsPrefixOf}
 
 abbrev socket : KnownReader
 socket = record { bytes = None; failures = None; sizes = Some [] }
 
-abbrev unknown : KnownWriting
-unknown = record { before = record { bytes = None; calls = None }; after = record { bytes = None; calls = None } }
+-- what a writer that held nothing holds
+all_held : (after : Option (List ℕ)) (bytes : List ℕ) → Appends (Some []) after bytes → Some bytes ≡ after
+all_held None bytes a = absurd a
+all_held (Some xs) bytes a = ap Some (sym a)
 
 module _ {J : Type 0} (facts : JobFacts J) (headline : Headline facts) (p : Programs facts) where
   abbrev served : Served facts (terminal_of p.options).canon
-  served = record { editing = p.options.editing; to_make = p.to_make; reader = socket; writer = unknown; result = session_result p.server_report p.served.0; ran = p.served.1 }
+  served = record { editing = p.options.editing; to_make = p.to_make; reader = socket; writer = wrote p.conversed.log; result = session_result p.conversed.report p.conversed.ports; ran = p.served }
 
   abbrev screen : KnownWriting
   screen = record { before = record { bytes = p.seen; calls = None }; after = record { bytes = p.now; calls = None } }
 
   abbrev queued : KnownWriting
-  queued = record { before = record { bytes = Some p.connected.0; calls = None }; after = record { bytes = Some p.connected.1; calls = None } }
+  queued = record { before = record { bytes = Some []; calls = None }; after = record { bytes = put_bytes (view p.connected.queue); calls = None } }
 
   abbrev Client : ℕ → Type 0
-  Client limit = RunningClient (record { width = p.connecting.width; height = p.connecting.height; limit = limit }) p.keys socket queued screen (client_result p.client_report p.ports)
+  Client limit = RunningClient (record { width = p.connecting.width; height = p.connecting.height; limit = limit }) p.keys socket queued screen (client_result p.connected.report p.connected.ports)
 
   -- the same of any client's session
   record Reads (limit : ℕ) (c : Client limit) : Type 0 where
     pub prefix : IsPrefixOf served.ran.entries_taken (typed_entries (terminal_of p.options).canon c.keys_read)
-    pub all : p.server_report.ended ≡ HangUp → p.client_report.ended ≡ HangUp → all_read served.ran.transcript ≡ all_wrote c.transcript
+    pub all : p.conversed.report.ended ≡ HangUp → p.connected.report.ended ≡ HangUp → all_read served.ran.transcript ≡ all_wrote c.transcript
         → served.ran.entries_taken ≡ typed_entries (terminal_of p.options).canon c.keys_read
 
   of_one_limit : (c : Client p.options.line_limit) → IsCarried served.ran.transcript c.transcript → Reads p.options.line_limit c
   of_one_limit c carried =
-      let client : Connected (terminal_of p.options).canon.limit = record { width = p.connecting.width; height = p.connecting.height; keys = p.keys; reader = socket; writer = queued; screen = screen; result = client_result p.client_report p.ports; ran = c } in
+      let client : Connected (terminal_of p.options).canon.limit = record { width = p.connecting.width; height = p.connecting.height; keys = p.keys; reader = socket; writer = queued; screen = screen; result = client_result p.connected.report p.connected.ports; ran = c } in
       let reads = headline (terminal_of p.options).canon served client refl carried in
       record { prefix = reads.prefix; all = λ s c whole. reads.all (record { server = s; client = c; whole = whole }) }
 
-  pub reads_what_is_typed : p.connecting.line_limit ≡ p.options.line_limit → IsCarried served.ran.transcript p.connected.2.transcript → ReadsWhatIsTyped p
+  theirs : AreTheirs p
+  theirs = record {
+    server_read = p.served.came;
+    server_wrote = p.served.was_written ∙ sym p.served.schedule.appended;
+    client_read = p.joined.came;
+    client_wrote = ap Some p.joined.was_written ∙ all_held (put_bytes (view p.connected.queue)) p.joined.written p.joined.appended;
+  }
+
+  pub reads_what_is_typed : p.connecting.line_limit ≡ p.options.line_limit → IsCarried served.ran.transcript p.joined.transcript → ReadsWhatIsTyped p
   reads_what_is_typed e carried =
       let Q : ℕ → Type 0 = λ limit. (c : Client limit) → IsCarried served.ran.transcript c.transcript → Reads limit c in
-      let reads = subst Q (sym e) of_one_limit p.connected.2 carried in
-      record { prefix = reads.prefix; all = λ ran. reads.all ran.server ran.client ran.whole }
+      let reads = subst Q (sym e) of_one_limit p.joined carried in
+      record { prefix = reads.prefix; all = λ ran. reads.all ran.server ran.client ran.whole; theirs = theirs }
 
 pub headline_of_programs : {J : Type 0} (facts : JobFacts J) → Headline facts → HeadlineOfPrograms facts
 headline_of_programs facts headline p e carried = reads_what_is_typed facts headline p e carried

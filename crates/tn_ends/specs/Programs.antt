@@ -1,59 +1,70 @@
--- The headline over the two programs: of what `serve_connection` and `connect` promise. Read
--- `HeadlineOfPrograms` at the end first.
-use Rattle.std.specs.Prelude.{◌≡◌, ℕ, Option, List}
+-- The headline over the two programs: of what `serve_connection` and `connect` return. Read `HeadlineOfPrograms` at
+-- the end first.
+use Rattle.std.specs.Prelude.{◌≡◌, ℕ, Option, Some, List}
+use Rattle.crossbeam_channel.specs.Claims.{view}
 use Rattle.tn_connect.specs.Clients.{RunsClient, window_of}
+use Rattle.tn_connect.specs.declared.connected.Connected.{Connected}
 use Rattle.tn_connect.specs.declared.settings.Connecting.{Connecting}
 use Rattle.tn_discipline.specs.Canon.{typed_entries}
 use Rattle.tn_discipline.specs.declared.reads.Entry.{Entry}
 use Rattle.tn_joint.specs.Transcripts.{IsCarried}
 use Rattle.tn_loopback.specs.Servers.{RunsServer, terminal_of}
+use Rattle.tn_loopback.specs.declared.conversed.Conversed.{Conversed}
 use Rattle.tn_loopback.specs.declared.settings.SessionOptions.{SessionOptions}
 use Rattle.tn_messages.specs.declared.faults.Ended.TheVariants.{HangUp}
 use Rattle.tn_session.specs.Facts.{JobFacts}
-use Rattle.tn_session.specs.Transcripts.{Exchange, all_read, all_wrote}
-use Rattle.tn_session.specs.declared.parties.ClientPorts.{ClientPorts}
-use Rattle.tn_session.specs.declared.parties.Report.{Report}
+use Rattle.tn_session.specs.Transcripts.{Exchange, all_read, all_wrote, came_by}
+use Rattle.tn_sockets.specs.Logs.{logged}
+use Rattle.tn_sockets.specs.Queue.{put_bytes}
 use Rattle.tn_streams.specs.Known.{KnownReader}
 use Rattle.tn_streams.specs.Prefixes.{IsPrefixOf}
 
--- both returned: what each promises of its connection
+-- both returned: what each gave back, and promises of it
 pub record Programs {J : Type 0} (facts : JobFacts J) : Type 0 where
   pub to_make : Option ℕ
   pub options : SessionOptions
-  pub server_report : Report
-  pub served : RunsServer facts to_make options server_report
+  pub conversed : Conversed
+  pub served : RunsServer facts to_make options conversed
   pub connecting : Connecting
   pub keys : KnownReader
   pub seen : Option (List ℕ)
   pub now : Option (List ℕ)
-  pub client_report : Report
-  pub ports : ClientPorts
-  pub connected : RunsClient (window_of connecting) keys seen now client_report ports
+  pub connected : Connected
+  pub joined : RunsClient (window_of connecting) keys seen now connected
 
 -- what each read from its connection and wrote to it
 abbrev pub server_transcript : {J : Type 0} {facts : JobFacts J} → Programs facts → List Exchange
-server_transcript p = p.served.1.transcript
+server_transcript p = p.served.transcript
 
 abbrev pub client_transcript : {J : Type 0} {facts : JobFacts J} → Programs facts → List Exchange
-client_transcript p = p.connected.2.transcript
+client_transcript p = p.joined.transcript
+
+-- These are of THEIR connection: each read what its thread read from there; what the server wrote was taken by the
+-- connection, as its log has it, and what the client wrote waited in its queue for the thread that sends.
+pub record AreTheirs {J : Type 0} {facts : JobFacts J} (p : Programs facts) : Type 0 where
+  pub server_read : all_read (server_transcript p) ≡ came_by (view p.conversed.ports.net).net
+  pub server_wrote : all_wrote (server_transcript p) ≡ logged p.conversed.log
+  pub client_read : all_read (client_transcript p) ≡ came_by (view p.connected.ports.net).net
+  pub client_wrote : Some (all_wrote (client_transcript p)) ≡ put_bytes (view p.connected.queue)
 
 -- what the job took, and what one local terminal gives for the keys that were read
 abbrev pub taken : {J : Type 0} {facts : JobFacts J} → Programs facts → List Entry
-taken p = p.served.1.entries_taken
+taken p = p.served.entries_taken
 
 abbrev pub local : {J : Type 0} {facts : JobFacts J} → Programs facts → List Entry
-local p = typed_entries (terminal_of p.options).canon p.connected.2.keys_read
+local p = typed_entries (terminal_of p.options).canon p.joined.keys_read
 
 -- both sessions ended by a hang-up, and the server read all that the client wrote
 pub record RanToTheEnd {J : Type 0} {facts : JobFacts J} (p : Programs facts) : Type 0 where
-  pub server : p.server_report.ended ≡ HangUp
-  pub client : p.client_report.ended ≡ HangUp
+  pub server : p.conversed.report.ended ≡ HangUp
+  pub client : p.connected.report.ended ≡ HangUp
   pub whole : all_read (server_transcript p) ≡ all_wrote (client_transcript p)
 
 -- THE SENTENCE
 pub record ReadsWhatIsTyped {J : Type 0} {facts : JobFacts J} (p : Programs facts) : Type 0 where
   pub prefix : IsPrefixOf (taken p) (local p)
   pub all : RanToTheEnd p → taken p ≡ local p
+  pub theirs : AreTheirs p
 
 -- with lines of one limit, where a socket carries what each wrote
 abbrev pub HeadlineOfPrograms : {J : Type 0} → JobFacts J → Type 0

@@ -4,14 +4,14 @@ ghost use Rattle.tn_ends.specs.Programs.{HeadlineOfPrograms};
 ghost use Rattle.tn_session.specs.Facts.{job_facts};
 ghost use Rattle.tn_session.specs.Makers.{begins};
 
-use tn_joint::laws::what_is_seen_to_be_typed_is_read;
+use tn_joint::laws::what_you_type_is_what_the_job_reads;
 use tn_session::Maker;
 
-/// Of what `serve_connection` and `connect` promise: where a socket carries what each wrote, what the job took is a
-/// prefix of the entries of the keys that were typed, and all of them where both ran to the end.
+/// Of what `serve_connection` and `connect` return: where a socket carries what each wrote, what the job took is a
+/// prefix of the entries of the keys that the client read, and all of them where both ran to the end.
 pub fn what_you_type_over_a_connection_is_read<M: Maker>()
     ensures { (maker : M) →
         HeadlineOfPrograms (job_facts (begins M.Job.fresh M.gives maker) M.Job.reacts M.Job.steps) }
 {
-    what_is_seen_to_be_typed_is_read::<M>();
+    what_you_type_is_what_the_job_reads::<M>();
 }

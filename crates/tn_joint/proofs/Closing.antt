@@ -34,11 +34,11 @@ LeftLast [] = Unit {0}
 LeftLast (Left ∷ ms) = NoPiece ms
 LeftLast (_ ∷ ms) = LeftLast ms
 
-abbrev pub keys_cons : Origin → Message → List Message → List Message
+abbrev keys_cons : Origin → Message → List Message → List Message
 keys_cons Keys m ms = m ∷ ms
 keys_cons Net m ms = ms
 
-abbrev pub keys_messages : List Told → List Message
+abbrev keys_messages : List Told → List Message
 keys_messages [] = []
 keys_messages (t ∷ ts) = keys_cons t.from t.message (keys_messages ts)
 
@@ -218,7 +218,7 @@ closes_last may_stop pieces left foretold close closes =
     (λ x. subst (λ (l : List Message). LeftLast l) (sym x.2) tt)
     closes
 
-abbrev pub messages_in : List Mail → List Message
+abbrev messages_in : List Mail → List Message
 messages_in xs = map (λ x. x.message) xs
 
 told_more : (s : Sender) (m : Message) (xs : List Mail) → keys_messages (all_told xs) ≡ messages_in (from sender.Keys xs) → keys_messages (all_told (mail s m ∷ xs)) ≡ messages_in (from sender.Keys (mail s m ∷ xs))
@@ -227,11 +227,11 @@ told_more sender.Net m xs ih = ih
 told_more sender.Desk m xs ih = ih
 told_more sender.Back m xs ih = ih
 
-pub told_all : (xs : List Mail) → keys_messages (all_told xs) ≡ messages_in (from sender.Keys xs)
+told_all : (xs : List Mail) → keys_messages (all_told xs) ≡ messages_in (from sender.Keys xs)
 told_all [] = refl
 told_all (x ∷ xs) = told_more x.from x.message xs (told_all xs)
 
-pub mailed : (ms : List Message) → messages_in (map (mail sender.Keys) ms) ≡ ms
+mailed : (ms : List Message) → messages_in (map (mail sender.Keys) ms) ≡ ms
 mailed [] = refl
 mailed (m ∷ ms) = ap (λ (l : List Message). m ∷ l) (mailed ms)
 

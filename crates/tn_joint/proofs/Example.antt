@@ -1,32 +1,68 @@
--- One line, typed at the client and heard at the server: it meets the premises of the law, and is an entry.
-use Rattle.std.proofs.Common.{◌≡◌, ℕ, true, List, [], ◌∷◌, ◌++◌, refl, sym, ap, ◌∙◌, subst, lit<}
-use Rattle.tn_client.specs.Replies as client_says
+-- Two sessions whose transcripts a socket carries: a line is typed, heard and taken, and both hang up.
+use Rattle.std.proofs.Common.{◌≡◌, ℕ, zero, suc, inl, true, false, Option, Some, None, List, [], ◌∷◌, ◌++◌, refl, sym, ap, ◌∙◌, subst, map, append-nil, append_assoc, arith, lit<}
+use Rattle.std.proofs.lemmas.List.Elements.{All-nil, All-cons}
+use Rattle.tn_client.specs.Screen.{text_shown}
+use Rattle.tn_client_core.proofs.lemmas.Bringing.{in_order}
+use Rattle.tn_client_core.specs.Counting as client_counting
+use Rattle.tn_client_core.specs.Marks as core
 use Rattle.tn_client_core.specs.Run as core_run
-use Rattle.tn_jobs.specs.Jobs.{Jobs}
+use Rattle.tn_client_core.specs.declared.messages.Mark as core_mark
+use Rattle.tn_client_core.specs.declared.messages.Mark.TheVariants as core_is
+use Rattle.tn_client_core.specs.declared.messages.Origin.{Origin}
+use Rattle.tn_client_core.specs.declared.messages.Origin.TheVariants as origin
+use Rattle.tn_client_core.specs.declared.messages.Told.{Told}
+use Rattle.tn_discipline.specs.declared.reads.Entry.{Entry}
+use Rattle.tn_discipline.specs.declared.reads.Entry.TheVariants.{Text}
+use Rattle.tn_jobs.specs.Jobs.{Jobs, state_at}
+use Rattle.tn_jobs.specs.declared.held_jobs.JobId.{JobId}
+use Rattle.tn_jobs.specs.declared.reactions.Reaction.{Reaction}
+use Rattle.tn_jobs.specs.declared.verdicts.After.TheVariants.{Stay}
+use Rattle.tn_jobs.specs.declared.verdicts.JobState.TheVariants.{Foreground}
 use Rattle.tn_joint.specs.Example as example
-use Rattle.tn_joint.specs.Joint.{Step, served, told, Both, began, Runs, IsInTime, IsCarried, client_said, server_said}
-use Rattle.tn_nvt.specs.Spelling.{spells}
+use Rattle.tn_joint.specs.Transcripts.{Step, served, told, server_steps, client_steps, IsCarried, Served, Connected}
+use Rattle.tn_messages.specs.declared.faults.Ended.TheVariants as ended
+use Rattle.tn_messages.specs.declared.faults.SessionFault.{SessionFault}
+use Rattle.tn_messages.specs.declared.messages.Message.{Message}
+use Rattle.tn_messages.specs.declared.messages.Message.TheVariants.{Piece, HangUp, Take, Said, Left}
 use Rattle.tn_nvt.specs.Stream.{spelled, IsPartial}
 use Rattle.tn_nvt.specs.declared.items.Item.{Item}
 use Rattle.tn_nvt.specs.declared.items.Item.TheVariants.{Byte}
 use Rattle.tn_option.specs.Options.{state_of, options_after_wish, new_options}
 use Rattle.tn_option.specs.QMethod.{cell}
 use Rattle.tn_server.specs.declared.wishes.Editing.{Editing}
-use Rattle.tn_term.specs.Run as term_run
+use Rattle.tn_session.proofs.lemmas.Sessions.{server_transcript, server_reads, client_transcript, client_reads}
+use Rattle.tn_session.specs.Client as of_client
+use Rattle.tn_session.specs.Client.{RunningClient}
+use Rattle.tn_session.specs.EntryChannel.{putter, taker}
+use Rattle.tn_session.specs.Facts.{SessionJobs, SessionResult, TermSettings, ClientResult, Window}
+use Rattle.tn_session.specs.Mailbox.{from, four, mail, nobody, sender}
+use Rattle.tn_session.specs.Reader.{ReaderSends}
+use Rattle.tn_session.specs.Reading.{IsPiece, piece_told}
+use Rattle.tn_session.specs.Session as of_server
+use Rattle.tn_session.specs.Session.{Schedule, RunningSession, report_of}
+use Rattle.tn_session.specs.Transcripts.{Exchange, all_read, all_wrote}
+use Rattle.tn_session.specs.declared.mail.Mail.{Mail}
+use Rattle.tn_session.specs.declared.mail.Sender.{Sender}
+use Rattle.tn_session.specs.declared.mail.Sender.TheVariants as who
+use Rattle.tn_streams.specs.Known.{KnownReader, KnownWriting}
 use Rattle.tn_streams.specs.Prefixes.{IsPrefixOf}
+use Rattle.tn_term.specs.Marks as term
+use Rattle.tn_term.specs.Run as term_run
+use Rattle.tn_term.specs.declared.messages.Mark as term_mark
+use Rattle.tn_term.specs.declared.messages.Mark.TheVariants as term_is
 use Rattle.tn_wire.specs.Prefixes.{IsRead}
 
 -- what the server's terminal hears
-abbrev pub bytes : List ℕ
+abbrev bytes : List ℕ
 bytes = 97 ∷ 13 ∷ 0 ∷ []
 
-abbrev pub items : List Item
+abbrev items : List Item
 items = Byte 97 ∷ Byte 13 ∷ []
 
 nothing_is_partial : IsPartial []
 nothing_is_partial = record { segment = spelled (Byte 97); more = 97 ∷ []; is_segment = tt; proper = lit< tt; begins = refl }
 
-pub is_read : IsRead bytes items
+is_read : IsRead bytes items
 is_read = (
   [],
   record {
@@ -37,73 +73,383 @@ is_read = (
   },
 )
 
-module _ (editing : Editing) (jobs : Jobs) (width height : ℕ) where
-  abbrev first : Both
-  first = began true example.canon editing jobs width height example.canon.limit
+-- WHERE ALL THAT ONE WROTE IS ALL THAT THE OTHER READ, THE OTHER WAY ROUND NOTHING
+abbrev clients_first : List Exchange → List Exchange → List Step
+clients_first [] ss = map served ss
+clients_first (x ∷ cs) ss = told x ∷ clients_first cs ss
 
-  abbrev typed : Step
-  typed = told example.typed
+servers_of : (cs ss : List Exchange) → server_steps (clients_first cs ss) ≡ ss
+servers_of [] [] = refl
+servers_of [] (x ∷ ss) = ap (λ (l : List Exchange). x ∷ l) (servers_of [] ss)
+servers_of (c ∷ cs) ss = servers_of cs ss
 
-  abbrev heard : Step
-  heard = served example.heard
+clients_of : (cs ss : List Exchange) → client_steps (clients_first cs ss) ≡ cs
+clients_of [] [] = refl
+clients_of [] (x ∷ ss) = clients_of [] ss
+clients_of (c ∷ cs) ss = ap (λ (l : List Exchange). c ∷ l) (clients_of cs ss)
 
-  abbrev last : Both
-  last = record {
-    server = term_run.flush (term_run.feed bytes items first.server);
-    client = core_run.type_keys (97 ∷ 13 ∷ []) first.client;
-  }
+tails : (x y : Step) (xs ys : List Step) → x ∷ xs ≡ y ∷ ys → (x ≡ y) × (xs ≡ ys)
+tails x y xs ys e = (cc, cc)
 
-  in_time : (now : Both) (got : List ℕ) → now.server.stream ≡ got → now.client.stream ≡ [] → IsPrefixOf got (client_said now) → IsInTime now
-  in_time now got e f p = record {
-    to_server = subst (λ (l : List ℕ). IsPrefixOf l (client_said now)) (sym e) p;
-    to_client = subst (λ (l : List ℕ). IsPrefixOf l (server_said now)) (sym f) (server_said now, refl);
-  }
+nothing_first : (xs ys : List ℕ) → xs ++ ys ≡ [] → xs ≡ []
+nothing_first [] ys e = refl
+nothing_first (x ∷ xs) ys e = cc
 
-  none_yet : (now : Both) → Runs first [] now → IsInTime now
-  none_yet now r = in_time now [] (sym (ap (λ (c : term_run.Run). c.stream) r.0)) (sym (ap (λ (c : core_run.Run). c.stream) r.1)) (client_said now, refl)
+-- the server's part alone
+read_first : (ss : List Exchange) (done later : List Step) → map served ss ≡ done ++ later → (client_steps done ≡ []) × IsPrefixOf (all_read (server_steps done)) (all_read ss)
+read_first ss [] later e = (refl, (all_read ss, refl))
+read_first [] (d ∷ done) later e = cc
+read_first (x ∷ ss) (d ∷ done) later e =
+    let h = tails (served x) d (map served ss) (done ++ later) e in
+    let r = read_first ss done later h.1 in
+    let P : Step → Type 0 = λ s. (client_steps (s ∷ done) ≡ []) × IsPrefixOf (all_read (server_steps (s ∷ done))) (x.read ++ all_read ss) in
+    subst P h.0 (r.0, (r.1.0, append_assoc x.read (all_read (server_steps done)) r.1.0 ∙ ap (λ (l : List ℕ). x.read ++ l) r.1.1))
 
-  once : (d : Step) (now : Both) → typed ≡ d → Runs first (d ∷ []) now → IsInTime now
-  once d now e = subst (λ (s : Step). Runs first (s ∷ []) now → IsInTime now) e (λ r. in_time now [] (sym (ap (λ (c : term_run.Run). c.stream) r.0)) (sym (ap (λ (c : core_run.Run). c.stream) r.1.2) ∙ ap (λ (c : core_run.Run). c.stream) r.1.1) (client_said now, refl))
+-- what came before: so much was written by the client
+timely : (cs ss : List Exchange) (wrote : List ℕ) → all_read ss ≡ wrote ++ all_wrote cs → all_read cs ≡ [] → (done later : List Step) → clients_first cs ss ≡ done ++ later
+    → IsPrefixOf (all_read (server_steps done)) (wrote ++ all_wrote (client_steps done)) × (all_read (client_steps done) ≡ [])
+timely cs ss wrote e none [] later is = ((wrote ++ [], refl), refl)
+timely [] ss wrote e none (d ∷ done) later is =
+    let r = read_first ss (d ∷ done) later is in
+    let same : wrote ++ all_wrote (client_steps (d ∷ done)) ≡ all_read ss = ap (λ (l : List Exchange). wrote ++ all_wrote l) r.0 ∙ sym e in
+    (subst (λ (l : List ℕ). IsPrefixOf (all_read (server_steps (d ∷ done))) l) (sym same) r.1, ap all_read r.0)
+timely (c ∷ cs) ss wrote e none (d ∷ done) later is =
+    let h = tails (told c) d (clients_first cs ss) (done ++ later) is in
+    let first = nothing_first c.read (all_read cs) none in
+    let rest : all_read cs ≡ [] = ap (λ (l : List ℕ). l ++ all_read cs) (sym first) ∙ none in
+    let r = timely cs ss (wrote ++ c.wrote) (e ∙ sym (append_assoc wrote c.wrote (all_wrote cs))) rest done later h.1 in
+    let P : Step → Type 0 = λ s. IsPrefixOf (all_read (server_steps (s ∷ done))) (wrote ++ all_wrote (client_steps (s ∷ done))) × (all_read (client_steps (s ∷ done)) ≡ []) in
+    subst P h.0 (
+      subst (λ (l : List ℕ). IsPrefixOf (all_read (server_steps done)) l) (append_assoc wrote c.wrote (all_wrote (client_steps done))) r.0,
+      ap (λ (l : List ℕ). l ++ all_read (client_steps done)) first ∙ r.1,
+    )
 
-  twice : (d f : Step) (now : Both) → typed ≡ d → heard ≡ f → Runs first (d ∷ f ∷ []) now → IsInTime now
-  twice d f now e g =
-      subst (λ (s : Step). Runs first (s ∷ f ∷ []) now → IsInTime now) e
-      (subst (λ (s : Step). Runs first (typed ∷ s ∷ []) now → IsInTime now) g both)
-    where
-      both : Runs first (typed ∷ heard ∷ []) now → IsInTime now
-      both r =
-          let server : now.server.stream ≡ bytes = sym (ap (λ (c : term_run.Run). c.stream) r.0.2) ∙ ap (λ (c : term_run.Run). c.stream) r.0.1.2 in
-          let client_is : now.client.stream ≡ [] = sym (ap (λ (c : core_run.Run). c.stream) r.1.2) ∙ ap (λ (c : core_run.Run). c.stream) r.1.1 in
-          let sent : client_said now ≡ bytes = ap (λ (c : core_run.Run). spells (client_says.items_said c.sent)) (sym r.1.2 ∙ r.1.1) in
-          in_time now bytes server client_is ([], sym sent)
+one_way : (ss cs : List Exchange) → all_read ss ≡ all_wrote cs → all_read cs ≡ [] → IsCarried ss cs
+one_way ss cs e none = record {
+  order = clients_first cs ss;
+  of_server = servers_of cs ss;
+  of_client = clients_of cs ss;
+  in_time = λ done later is.
+      let t = timely cs ss [] e none done later is in
+      record { to_server = t.0; to_client = subst (λ (l : List ℕ). IsPrefixOf l (all_wrote (server_steps done))) (sym t.1) (all_wrote (server_steps done), refl) };
+}
 
-  carried : IsCarried first (example.heard ∷ []) (example.typed ∷ [])
-  carried = record { order = typed ∷ heard ∷ []; of_server = refl; of_client = refl; in_time = go }
-    where
-      heads : (a b : Step) (xs ys : List Step) → a ∷ xs ≡ b ∷ ys → (a ≡ b) × (xs ≡ ys)
-      heads a b xs ys e = (cc, cc)
+-- THE SERVER'S SESSION
+not_known : (xs : List ℕ) → None ≡ Some xs → ⊥
+not_known xs e = cc
 
-      go : (done later : List Step) (now : Both) → typed ∷ heard ∷ [] ≡ done ++ later → Runs first done now → IsInTime now
-      go [] later now e r = none_yet now r
-      go (d ∷ []) later now e r = once d now (heads typed d (heard ∷ []) later e).0 r
-      go (d ∷ f ∷ []) later now e r =
-          let one = heads typed d (heard ∷ []) (f ∷ later) e in
-          twice d f now one.0 (heads heard f [] later one.1).0 r
-      go (d ∷ f ∷ g ∷ more) later now e r =
-          let one = heads typed d (heard ∷ []) (f ∷ g ∷ (more ++ later)) e in
-          let two = heads heard f [] (g ∷ (more ++ later)) one.1 in
-          absurd (none g (more ++ later) two.1)
-        where
-          none : (x : Step) (xs : List Step) → [] ≡ x ∷ xs → ⊥
-          none x xs e = cc
+not_fault : (f : SessionFault) → ended.HangUp ≡ ended.Fault f → ⊥
+not_fault f e = cc
 
-  pub carries : example.CarriesALine editing jobs width height
+abbrev first_job : JobId
+first_job = record { 0 = 0 }
+
+abbrev table : Jobs
+table = Some Foreground ∷ []
+
+abbrev taken : List (Option Entry)
+taken = Some (Text (97 ∷ 10 ∷ [])) ∷ None ∷ []
+
+abbrev calm : Reaction
+calm = record { text = []; after = Stay }
+
+abbrev handled : List Mail
+handled =
+    mail who.Net (Piece bytes) ∷ mail who.Desk Take ∷ mail who.Desk (Said first_job [] Stay) ∷ mail who.Net HangUp ∷ mail who.Desk Take ∷ mail who.Desk Left
+    ∷ mail who.Net Left ∷ mail who.Back Left ∷ []
+
+abbrev from_net : List Mail
+from_net = mail who.Net (Piece bytes) ∷ mail who.Net HangUp ∷ mail who.Net Left ∷ []
+
+abbrev from_desk : List Mail
+from_desk = mail who.Desk Take ∷ mail who.Desk (Said first_job [] Stay) ∷ mail who.Desk Take ∷ mail who.Desk Left ∷ []
+
+abbrev from_back : List Mail
+from_back = mail who.Back Left ∷ []
+
+abbrev marked : List (Message × term_mark.Mark)
+marked =
+    (Piece bytes, term_is.Whole) ∷ (Take, term_is.Whole) ∷ (Said first_job [] Stay, term_is.Whole) ∷ (HangUp, term_is.Whole) ∷ (Take, term_is.Whole) ∷ (Left, term_is.Whole)
+    ∷ (Left, term_is.Whole) ∷ (Left, term_is.Whole) ∷ []
+
+woven : (s : Sender) → from s handled ≡ four from_net from_desk from_back [] s
+woven who.Net = refl
+woven who.Desk = refl
+woven who.Back = refl
+woven who.Keys = refl
+
+abbrev a_socket : KnownReader
+a_socket = record { bytes = None; failures = None; sizes = None }
+
+abbrev writes_unknown : KnownWriting
+writes_unknown = record { before = record { bytes = None; calls = None }; after = record { bytes = None; calls = None } }
+
+module _ (editing : Editing) where
+  abbrev settings : TermSettings
+  settings = record { canon = example.canon; editing = editing }
+
+  abbrev r0 : term_run.Run
+  r0 = term_run.start example.canon editing table
+
+  abbrev r1 : term_run.Run
+  r1 = term_run.flush (term_run.feed bytes items r0)
+
+  abbrev r2 : term_run.Run
+  r2 = term_run.flush (term_run.ask r1)
+
+  abbrev r3 : term_run.Run
+  r3 = term_run.after_said 0 [] (term_run.verdict r2 0 [] Stay) r2
+
+  abbrev r4 : term_run.Run
+  r4 = term_run.flush (term_run.hang_up r3)
+
+  abbrev r5 : term_run.Run
+  r5 = term_run.flush (term_run.ask r4)
+
+  abbrev r6 : term_run.Run
+  r6 = term_run.flush r5
+
+  abbrev r7 : term_run.Run
+  r7 = term_run.flush r6
+
+  abbrev r8 : term_run.Run
+  r8 = term_run.flush r7
+
+  server_runs : term.Runs r0 marked r8
   unfolding cell state_of options_after_wish new_options
-  carries = record {
-    last = last;
-    server = (last.server, (items, is_read, refl), refl);
-    client = (last.client, refl, refl);
-    carried = carried;
-    whole = refl;
-    entry = refl;
+  server_runs = (r1, (items, is_read, refl), (r2, refl, (r3, ([], refl, refl), (r4, refl, (r5, refl, (r6, refl, (r7, refl, (r8, refl, refl))))))))
+
+  is_piece : IsPiece bytes
+  is_piece = (lit< tt, omega (arith))
+
+  abbrev result : SessionResult
+  result = record {
+    report = report_of r8.progress;
+    views = record {
+      net = sender who.Net from_net;
+      desk = sender who.Desk from_desk;
+      back = sender who.Back from_back;
+      term = record nobody { handled = Some handled };
+      put = putter taken;
+      took = taker taken;
+    };
   }
+
+  read : ReaderSends who.Net false a_socket result.views.net
+  read = (piece_told bytes ∷ [], None, HangUp ∷ Left ∷ [], tt, inl (HangUp, (tt, tt), refl), refl, All-cons IsPiece bytes [] is_piece (All-nil IsPiece), (None, refl))
+
+  abbrev jobs : SessionJobs (Unit {0})
+  jobs = record { first = first_job; job = tt; queue = []; tostop = false }
+
+  puts_are : r8.puts ≡ taken
+  unfolding cell state_of options_after_wish new_options
+  puts_are = refl
+
+  schedule : Schedule example.any_jobs.acts jobs settings table a_socket writes_unknown result
+  schedule = record {
+    from_net = from_net;
+    from_desk = from_desk;
+    from_back = from_back;
+    handled = handled;
+    net_is = refl;
+    desk_is = refl;
+    back_is = refl;
+    term_is = refl;
+    woven = woven;
+    read = read;
+    wrote_opening = true;
+    marked = marked;
+    messages = refl;
+    run = r8;
+    runs = server_runs;
+    written = of_server.says r8;
+    unwritten = [];
+    appended = tt;
+    sends = sym (append-nil (of_server.says r8));
+    all_written = λ e. refl;
+    tells = refl;
+    put_is = ap putter (sym puts_are);
+    taken = taken;
+    took_is = refl;
+    took_first = ([], append-nil taken ∙ sym puts_are);
+    talked = ((Text (97 ∷ 10 ∷ []), calm) ∷ [], tt, tt, refl, (tt, tt, refl), inl (refl, refl));
+    stepped = ([], Left ∷ [], inl refl, refl, tt, λ id i. absurd i, λ id i. absurd i, [], refl);
+    report_is = refl;
+  }
+
+  running : RunningSession example.any_jobs None settings a_socket writes_unknown result
+  unfolding cell state_of options_after_wish new_options schedule
+  running =
+      let said = server_transcript r0 marked r8 (of_server.says r8) [] server_runs (sym (append-nil (of_server.says r8))) in
+      record {
+        jobs = table;
+        first = first_job;
+        job = tt;
+        queue = [];
+        begun = tt;
+        numbered = record { foreground = refl; background = λ id i. absurd i; no_more = no_more };
+        all = tt;
+        tostop = false;
+        by_flag = refl;
+        schedule = schedule;
+        heard = record { left = None; consumed = tt; all = λ e. tt; read = is_read };
+        in_order = ([], refl);
+        all_taken = λ e. refl;
+        by_bytes = λ given xs known of. absurd (not_known given known);
+        entries_taken = Text (97 ∷ 10 ∷ []) ∷ [];
+        entries_are = refl;
+        transcript = said.transcript;
+        was_read = (None, tt);
+        came = server_reads r0 marked r8 (of_server.says r8) said;
+        was_written = said.writes;
+        transcribed = said.transcribed;
+        heard_whole = λ e. sym (server_reads r0 marked r8 (of_server.says r8) said);
+        caused = λ f e. absurd (not_fault f e);
+        read_failed = λ e. absurd (not_fault _ e);
+        write_failed = λ e. absurd (not_fault _ e);
+      }
+    where
+      no_more : (id : ℕ) → (id ≡ 0 → ⊥) → ((⊥) → ⊥) → state_at table id ≡ None
+      no_more zero other none = absurd (other refl)
+      no_more (suc n) other none = refl
+
+-- THE CLIENT'S
+module _ (width height : ℕ) where
+  abbrev window : Window
+  window = record { width = width; height = height; limit = example.canon.limit }
+
+  abbrev typed : List ℕ
+  typed = 97 ∷ 13 ∷ []
+
+  abbrev keys_reader : KnownReader
+  keys_reader = record { bytes = Some typed; failures = None; sizes = None }
+
+  abbrev c0 : core_run.Run
+  c0 = core_run.start width height example.canon.limit
+
+  abbrev c1 : core_run.Run
+  c1 = core_run.type_keys typed c0
+
+  abbrev c2 : core_run.Run
+  c2 = core_run.turns (client_counting.after_message origin.Keys HangUp) c1
+
+  abbrev c3 : core_run.Run
+  c3 = core_run.turns (client_counting.after_message origin.Keys Left) c2
+
+  abbrev c4 : core_run.Run
+  c4 = core_run.turns (client_counting.after_message origin.Net HangUp) c3
+
+  abbrev c5 : core_run.Run
+  c5 = core_run.turns (client_counting.after_message origin.Net Left) c4
+
+  abbrev mails : List Mail
+  mails = mail who.Keys (Piece typed) ∷ mail who.Keys HangUp ∷ mail who.Keys Left ∷ mail who.Net HangUp ∷ mail who.Net Left ∷ []
+
+  abbrev from_keys : List Mail
+  from_keys = mail who.Keys (Piece typed) ∷ mail who.Keys HangUp ∷ mail who.Keys Left ∷ []
+
+  abbrev hung_up : List Mail
+  hung_up = mail who.Net HangUp ∷ mail who.Net Left ∷ []
+
+  abbrev tell : Origin → Message → Told × core_mark.Mark
+  tell o m = (record { from = o; message = m }, core_is.Whole)
+
+  abbrev told_all : List (Told × core_mark.Mark)
+  told_all = tell origin.Keys (Piece typed) ∷ tell origin.Keys HangUp ∷ tell origin.Keys Left ∷ tell origin.Net HangUp ∷ tell origin.Net Left ∷ []
+
+  client_runs : core.Runs c0 told_all c5
+  client_runs = (c1, refl, (c2, refl, (c3, refl, (c4, refl, (c5, refl, refl)))))
+
+  interleaved : (s : Sender) → from s mails ≡ four hung_up [] [] from_keys s
+  interleaved who.Net = refl
+  interleaved who.Desk = refl
+  interleaved who.Back = refl
+  interleaved who.Keys = refl
+
+  short : IsPiece typed
+  short = (lit< tt, omega (arith))
+
+  abbrev client_result : ClientResult
+  client_result = record {
+    report = of_client.client_report c5.progress;
+    keys = sender who.Keys from_keys;
+    net = sender who.Net hung_up;
+    core = record nobody { handled = Some mails };
+  }
+
+  keys_sent : ReaderSends who.Keys true keys_reader client_result.keys
+  keys_sent = (piece_told typed ∷ [], Some [], HangUp ∷ Left ∷ [], refl, inl (HangUp, (refl, tt), refl), refl, All-cons IsPiece typed [] short (All-nil IsPiece), (None, refl))
+
+  net_sent : ReaderSends who.Net false a_socket client_result.net
+  net_sent = ([], None, HangUp ∷ Left ∷ [], tt, inl (HangUp, (tt, tt), refl), refl, All-nil IsPiece, (None, refl))
+
+  conversing : RunningClient window keys_reader a_socket writes_unknown writes_unknown client_result
+  conversing =
+      let said = client_transcript width height example.canon.limit told_all c5 (of_client.says c5) [] client_runs (sym (append-nil (of_client.says c5))) in
+      record {
+        from_keys = from_keys;
+        from_net = hung_up;
+        handled = mails;
+        keys_is = refl;
+        net_is = refl;
+        core_is = refl;
+        woven = interleaved;
+        typed = keys_sent;
+        read = net_sent;
+        marked = told_all;
+        messages = refl;
+        run = c5;
+        runs = client_runs;
+        in_order = in_order width height example.canon.limit told_all c5 client_runs;
+        written = of_client.says c5;
+        unwritten = [];
+        appended = tt;
+        tells = refl;
+        sends = sym (append-nil (of_client.says c5));
+        all_sent = λ e. refl;
+        sent_whole = λ on. refl;
+        transcript = said.transcript;
+        was_read = (None, tt);
+        came = client_reads c0 told_all c5 (of_client.says c5) said;
+        was_written = said.writes;
+        transcribed = said.transcribed;
+        keys_read = typed;
+        keys_were_read = (Some [], refl);
+        keys_are = refl;
+        shown = text_shown c5.history;
+        unshown = [];
+        displayed = tt;
+        tells_shown = refl;
+        shows = sym (append-nil (text_shown c5.history));
+        all_shown = λ e. refl;
+        report_is = refl;
+        caused = λ f e. absurd (not_fault f e);
+        read_failed = λ e. absurd (not_fault _ e);
+        write_failed = λ e. absurd (not_fault _ e);
+      }
+
+  client_says : of_client.says c5 ≡ bytes
+  client_says = refl
+
+-- BOTH
+pub sessions_carry : (editing : Editing) → example.SessionsCarryALine editing
+unfolding cell state_of options_after_wish new_options running conversing
+sessions_carry editing =
+    let r = r8 editing in
+    let c = c5 80 24 in
+    let s_said = server_transcript (r0 editing) marked r (of_server.says r) [] (server_runs editing) (sym (append-nil (of_server.says r))) in
+    let c_said = client_transcript 80 24 example.canon.limit (told_all 80 24) c (of_client.says c) [] (client_runs 80 24) (sym (append-nil (of_client.says c))) in
+    let s_reads : all_read s_said.transcript ≡ bytes = server_reads (r0 editing) marked r (of_server.says r) s_said in
+    let c_reads : all_read c_said.transcript ≡ [] = client_reads (c0 80 24) (told_all 80 24) c (of_client.says c) c_said in
+    let whole : all_read s_said.transcript ≡ all_wrote c_said.transcript = s_reads ∙ sym (c_said.writes ∙ client_says 80 24) in
+    let s : Served example.any_jobs example.canon = record { editing = editing; to_make = None; reader = a_socket; writer = writes_unknown; result = result editing; ran = running editing } in
+    let c : Connected example.canon.limit = record { width = 80; height = 24; keys = keys_reader 80 24; reader = a_socket; writer = writes_unknown; screen = writes_unknown; result = client_result 80 24; ran = conversing 80 24 } in
+    record {
+      server = s;
+      client = c;
+      edited = refl;
+      carried = one_way s_said.transcript c_said.transcript whole c_reads;
+      ran = record { server = refl; client = refl; whole = whole };
+      typed_keys = refl;
+      taken = refl;
+    }

@@ -1,12 +1,11 @@
+pub mod Joint
 pub mod Prefixes
 pub mod Hearing
 pub mod Walking
 pub mod Tying
 pub mod Transcripts
 pub mod Closing
-pub mod Sessions
-pub mod Law
+pub mod Keys
 pub mod Example
 pub mod Whole
 pub mod Seen
-pub mod ExampleSessions

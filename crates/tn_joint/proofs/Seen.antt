@@ -11,11 +11,11 @@ use Rattle.tn_discipline.specs.Characters.{standard_characters}
 use Rattle.tn_discipline.specs.declared.reads.Entry.{Entry}
 use Rattle.tn_joint.proofs.Closing.{keys_sent}
 use Rattle.tn_joint.proofs.Hearing.{heard_all}
-use Rattle.tn_joint.proofs.Sessions.{given_first, more_entries, one_list}
+use Rattle.tn_joint.proofs.Keys.{given_first, more_entries, one_list}
 use Rattle.tn_joint.proofs.Transcripts.{holds}
 use Rattle.tn_joint.proofs.Tying.{ties}
 use Rattle.tn_joint.proofs.Whole.{goes_on_to_end}
-use Rattle.tn_joint.specs.Joint.{Both, LinesAreLocal, client_said}
+use Rattle.tn_joint.proofs.Joint.{Both, LinesAreLocal, client_said}
 use Rattle.tn_joint.specs.Transcripts.{Served, Connected, IsCarried, RanToTheEnd, Headline}
 use Rattle.tn_messages.specs.declared.faults.Ended.TheVariants.{HangUp}
 use Rattle.tn_server.specs.Events as server
@@ -76,9 +76,7 @@ module _ {J : Type 0} (facts : JobFacts J) (canon : Canon) (s : Served facts can
   all_said : c.result.report.ended ≡ HangUp → all_wrote c.ran.transcript ≡ client_said last
   all_said ended =
       let on = goes_on_to_end c.width c.height canon.limit c.ran.marked c.ran.run c.ran.runs (sym (ap (λ (r : Report). r.ended) c.ran.report_is) ∙ ended) in
-      let t = c.ran.transcribed in
-      let wrote = wrote_all core.Turns of_client.brings of_client.says c.ran.written t.steps _ _ t.goes in
-      sym (wrote ∙ ap all_wrote t.of_steps) ∙ sym (c.ran.sends ∙ ap (λ (l : List ℕ). c.ran.written ++ l) (c.ran.sent_whole on) ∙ append-nil c.ran.written)
+      c.ran.was_written ∙ sym (c.ran.sends ∙ ap (λ (l : List ℕ). c.ran.written ++ l) (c.ran.sent_whole on) ∙ append-nil c.ran.written)
 
   all_typed : c.result.report.ended ≡ HangUp → keys c.ran.run.history ≡ c.ran.keys_read
   all_typed ended =

@@ -1,4 +1,4 @@
--- From two transcripts that a socket carries to the law of two runs.
+-- From two transcripts that a socket carries to what their runs keep.
 use Rattle.std.proofs.Common.{◌≡◌, ℕ, Bool, Option, Some, None, List, [], ◌∷◌, ◌++◌, refl, sym, ap, ◌∙◌, subst, map, append_assoc, append-nil}
 use Rattle.std.specs.List.{FoldsTo}
 use Rattle.tn_client.specs.Events as client
@@ -12,8 +12,8 @@ use Rattle.tn_client_core.specs.declared.messages.Told.{Told}
 use Rattle.tn_discipline.specs.Canon.{Canon}
 use Rattle.tn_jobs.specs.Jobs.{Jobs}
 use Rattle.tn_joint.proofs.Walking.{Ties, At, first, server_goes, client_goes, more_served, more_told, begun_at}
-use Rattle.tn_joint.specs.Joint as runs
-use Rattle.tn_joint.specs.Joint.{Both, Runs}
+use Rattle.tn_joint.proofs.Joint as runs
+use Rattle.tn_joint.proofs.Joint.{Both, Runs}
 use Rattle.tn_joint.specs.Transcripts.{Step, served, told, server_steps, client_steps, IsInTime, IsCarried}
 use Rattle.tn_messages.specs.Pieces.{bytes_in}
 use Rattle.tn_messages.specs.declared.messages.Message.{Message}

@@ -1,4 +1,4 @@
--- From a relation of two histories to the law of two runs.
+-- A relation of two histories is kept by each step of two runs.
 use Rattle.std.proofs.Common.{◌≡◌, ℕ, Bool, true, false, List, [], ◌∷◌, ◌++◌, refl, sym, ◌∙◌, subst, append_assoc, append-nil}
 use Rattle.std.specs.List.{FoldsTo}
 use Rattle.tn_client.proofs.lemmas.Fitting.{sent-fits}
@@ -10,13 +10,12 @@ use Rattle.tn_client_core.specs.Run as core_run
 use Rattle.tn_client_core.specs.declared.messages.Mark as core_mark
 use Rattle.tn_client_core.specs.declared.messages.Told.{Told}
 use Rattle.tn_discipline.specs.Canon.{Canon, typed_entries}
-use Rattle.tn_discipline.specs.Characters.{standard_characters}
 use Rattle.tn_jobs.specs.Jobs.{Jobs}
 use Rattle.tn_session.proofs.lemmas.ClientTurns.{ClientAt, client_turns}
 use Rattle.tn_joint.proofs.Prefixes.{server-append, client-append}
-use Rattle.tn_joint.proofs.Hearing.{heard_first, heard_all}
+use Rattle.tn_joint.proofs.Hearing.{heard_first}
 use Rattle.tn_session.proofs.lemmas.ServerTurns.{server_turns}
-use Rattle.tn_joint.specs.Joint.{Step, served, told, server_steps, client_steps, Both, began, Runs, IsInTime, IsCarried, LinesAreLocal}
+use Rattle.tn_joint.proofs.Joint.{Step, served, told, server_steps, client_steps, Both, began, Runs, IsInTime}
 use Rattle.tn_nvt.specs.declared.items.Item.{Item}
 use Rattle.tn_server.proofs.lemmas.Fitting.{sent-fit}
 use Rattle.tn_server.specs.Events as server
@@ -51,9 +50,6 @@ joins R p m q (y ∷ ys) x f r = (f.0, f.1, joins R f.0 m q ys x f.2 r)
 module _ (canon : Canon) (editing : Editing) (width height : ℕ) (opens : Bool) (jobs : Jobs) (Tied : server.History → client.History → Type 0) (ties : Ties canon editing width height Tied) where
   abbrev pub first : Both
   first = began opens canon editing jobs width height canon.limit
-
-  abbrev Carries : List Step → Type 0
-  Carries order = (done later : List Step) (now : Both) → order ≡ done ++ later → Runs first done now → IsInTime now
 
   abbrev pub At : Both → Type 0
   At now = ClientAt (λ k. Tied now.server.history k) now.client
@@ -101,22 +97,6 @@ module _ (canon : Canon) (editing : Editing) (width height : ℕ) (opens : Bool)
     subst (λ (l : List (Told × core_mark.Mark)). FoldsTo core.Turns first.client l mid) (sym (client-append done (told x ∷ []))) (joins core.Turns first.client now.client mid (client_steps done) x r.1 t),
   )
 
-  walk : (order done later : List Step) (now last : Both) → Carries order → order ≡ done ++ later → Runs first done now → Runs now later last → At now → At last
-  walk order done [] now last carries e r l at =
-      subst (λ (b : Both). At b) (λ i. record { server = l.0 i; client = l.1 i }) at
-  walk order done (served m ∷ later) now last carries e r l at =
-      let mid : Both = record { server = l.0.0; client = now.client } in
-      let so_far = more_served done now m l.0.0 r l.0.1 in
-      let e2 = e ∙ sym (append_assoc done (served m ∷ []) later) in
-      walk order (done ++ served m ∷ []) later mid last carries e2 so_far (l.0.2, l.1)
-      (server_goes done now m.0 m.1 l.0.0 so_far (carries (done ++ served m ∷ []) later mid e2 so_far) l.0.1 at)
-  walk order done (told x ∷ later) now last carries e r l at =
-      let mid : Both = record { server = now.server; client = l.1.0 } in
-      let so_far = more_told done now x l.1.0 r l.1.1 in
-      let e2 = e ∙ sym (append_assoc done (told x ∷ []) later) in
-      walk order (done ++ told x ∷ []) later mid last carries e2 so_far (l.0, l.1.2)
-      (client_goes done now x.0 x.1 l.1.0 so_far (carries (done ++ told x ∷ []) later mid e2 so_far) l.1.1 at)
-
   begun_history : (b : Bool) → (term.run_after_opening b (term_run.start canon editing jobs)).history ≡ term_run.opening canon editing
   begun_history true = refl
   begun_history false = refl
@@ -126,20 +106,3 @@ module _ (canon : Canon) (editing : Editing) (width height : ℕ) (opens : Bool)
     latest = λ o. refl;
     tied = subst (λ (h : server.History). Tied h (client.begun width height canon.limit)) (sym (begun_history opens)) ties.begins;
   }
-
-  pub local_lines : (order : List Step) (last : Both) → Carries order → Runs first order last → LinesAreLocal canon last
-  local_lines order last carries r =
-      let at = walk order [] order first last carries refl (refl, refl) r begun_at in
-      record {
-        prefix = ties.prefix last.server.history last.client.sent at.tied;
-        complete = λ all. ties.complete last.server.history last.client.sent at.tied
-            (heard_all last.server.stream (server.items last.server.history) (client_says.items_said last.client.sent) (hears opens canon editing jobs (server_steps order) last.server r.0).read (sent-fits last.client.sent) all);
-      }
-
--- THE LAW, where such a relation is there for standard characters
-pub law_by : ((canon : Canon) (editing : Editing) (width height : ℕ) → canon.settings.chars ≡ standard_characters → (Tied : server.History → client.History → Type 0) → Ties canon editing width height Tied → (opens : Bool) (jobs : Jobs) (handled : List (Message × term_mark.Mark)) (heard : List (Told × core_mark.Mark)) (last : Both) → term.Runs (term.run_after_opening opens (term_run.start canon editing jobs)) handled last.server → core.Runs (core_run.start width height canon.limit) heard last.client → IsCarried (began opens canon editing jobs width height canon.limit) handled heard → LinesAreLocal canon last)
-law_by canon editing width height standard Tied ties opens jobs handled heard last s c carried =
-    local_lines canon editing width height opens jobs Tied ties carried.order last carried.in_time (
-      subst (λ (l : List (Message × term_mark.Mark)). FoldsTo term.Turns (term.run_after_opening opens (term_run.start canon editing jobs)) l last.server) (sym carried.of_server) s,
-      subst (λ (l : List (Told × core_mark.Mark)). FoldsTo core.Turns (core_run.start width height canon.limit) l last.client) (sym carried.of_client) c,
-    )

@@ -1,4 +1,2 @@
 pub mod Example
-pub mod Joint
-pub mod Sessions
 pub mod Transcripts

@@ -1,3 +1,4 @@
 pub mod Ends
 pub mod Faults
 pub mod Servers
+pub mod Counted

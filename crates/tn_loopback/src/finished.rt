@@ -15,14 +15,6 @@ pub struct Finished {
 }
 
 impl Finished {
-    // None of its threads could be started.
-    pub(crate) fn unstarted() -> Finished {
-        Finished {
-            report: Err(SessionFault::Start),
-            idle: false,
-        }
-    }
-
     /// Whether it ended without a fault.
     pub fn is_whole(&self) -> bool
         ensures whole { result ≡ true → IsWhole self.now }

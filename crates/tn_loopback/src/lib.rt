@@ -10,6 +10,7 @@
 #![tactic(auto)]
 
 pub use call::Call;
+pub use conversed::Conversed;
 pub use fault::ServeFault;
 pub use finished::Finished;
 pub use served::Served;
@@ -20,7 +21,9 @@ pub use settings::{Serving, SessionOptions};
 pub use tn_sockets::{Hook, Host};
 
 mod acceptor;
+mod asked;
 mod call;
+mod conversed;
 mod events;
 mod fault;
 mod finished;

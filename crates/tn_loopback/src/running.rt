@@ -1,37 +1,47 @@
 //! The sessions that are started and not yet joined, and how the earlier ones ended.
 
 ghost use Rattle.std.specs.Prelude.{◌≡◌, ◌<◌, ◌≤◌, ◌+◌, ◌-◌, ◌^◌, true, IfSome, vec_len, vec_capacity};
+ghost use Rattle.tn_loopback.specs.Counted.{StillCounts, facts_of};
 ghost use Rattle.tn_roster.specs.Held.{held_count};
 
+use crate::asked::Asked;
+use crate::conversed::Ran;
 use crate::finished::Finished;
 use crate::served::Served;
+use crate::session::SessionSays;
 use std::alloc::Global;
 use std::io::Write;
-use std::thread::{JoinHandle, Threads};
+use std::marker::PhantomData;
+use std::thread::{PromisedHandle, Threads};
+use tn_jobs::Job;
 use tn_roster::Roster;
+use tn_session::Maker;
 
-// A started session, and its number. Its thread returns how it ended.
+// A started session, and its number. Its thread promises what it gives back, under the options that were asked for.
 #[derive(Drop)]
-pub(crate) struct Started {
+pub(crate) struct Started<M: Maker, O: Asked> {
     number: usize,
-    session: JoinHandle<Finished>,
+    session: PromisedHandle<Ran, SessionSays<M>>,
+    under: PhantomData<O>,
+    ghost asked: { session.promise.options ≡ O.options },
 }
 
 /// The sessions that are started and not yet joined, and counts of how the other connections ended.
 #[derive(Drop)]
-pub(crate) struct Running {
-    pub(crate) started: Vec<Started>,
+pub(crate) struct Running<J: Job, M: Maker<Job = J>, O: Asked> {
+    pub(crate) started: Vec<Started<M, O>>,
     pub(crate) accepted: u32,
-    whole: u32,
-    faulted: u32,
+    pub(crate) whole: u32,
+    pub(crate) faulted: u32,
     refused: u32,
     ghost counted: { vec_len started + whole + faulted + refused ≡ accepted },
 }
 
-impl Running {
-    pub(crate) fn new(alloc: Global) -> Running
+impl<J: Job, M: Maker<Job = J>, O: Asked> Running<J, M, O> {
+    pub(crate) fn new(alloc: Global) -> Running<J, M, O>
         ensures accepted { result.accepted ≡ 0 }
         ensures none { vec_len result.started ≡ 0 }
+        ensures counts { (result.whole ≡ 0) × (result.faulted ≡ 0) }
     {
         Running {
             started: Vec::new(alloc),
@@ -51,6 +61,7 @@ impl Running {
     /// Whether there is room for one more session. False when out of memory.
     pub(crate) fn has_room(&mut self) -> bool
         ensures accepted { self.new.accepted ≡ self.old.accepted }
+        ensures counts { (self.new.whole ≡ self.old.whole) × (self.new.faulted ≡ self.old.faulted) }
         ensures same { vec_len self.new.started ≡ vec_len self.old.started }
         ensures room { result ≡ true → vec_len self.new.started < vec_capacity self.new.started }
     {
@@ -73,6 +84,8 @@ impl Running {
         ensures accepted { self.new.accepted ≡ self.old.accepted }
         ensures some { IfSome result (λ _. vec_len self.new.started + 1 ≡ vec_len self.old.started) }
         ensures fewer { vec_len self.new.started ≤ vec_len self.old.started }
+        ensures each { StillCounts (facts_of J.fresh M.gives J.reacts J.steps) M.left O.options
+            self.old.whole self.old.faulted self.new.whole self.new.faulted }
     {
         let place = self.place_of(number)?;
         Some(self.join_at(rt, place))
@@ -82,9 +95,12 @@ impl Running {
         requires { place < vec_len self.old.started }
         ensures accepted { self.new.accepted ≡ self.old.accepted }
         ensures joined { vec_len self.new.started + 1 ≡ vec_len self.old.started }
+        ensures each { StillCounts (facts_of J.fresh M.gives J.reacts J.steps) M.left O.options
+            self.old.whole self.old.faulted self.new.whole self.new.faulted }
     {
         let Started { session, .. } = self.started.swap_remove(place);
-        let finished = session.join(rt);
+        let ran = session.join(rt);
+        let finished = ran.finished();
         if finished.is_whole() {
             self.whole += 1;
         } else {
@@ -94,13 +110,19 @@ impl Running {
     }
 
     /// Counts an accepted connection, and keeps its session, which was started.
-    pub(crate) fn keep(&mut self, number: usize, session: JoinHandle<Finished>)
+    pub(crate) fn keep(&mut self, number: usize, session: PromisedHandle<Ran, SessionSays<M>>)
+        requires asked { session.promise.options ≡ O.options }
         requires room { vec_len self.old.started < vec_capacity self.old.started }
         requires more { self.old.accepted < 2 ^ 32 - 1 }
         ensures accepted { self.new.accepted ≡ self.old.accepted + 1 }
         ensures one { vec_len self.new.started ≡ vec_len self.old.started + 1 }
+        ensures counts { (self.new.whole ≡ self.old.whole) × (self.new.faulted ≡ self.old.faulted) }
     {
-        self.started.push_reserved(Started { number, session });
+        self.started.push_reserved(Started {
+            number,
+            session,
+            under: PhantomData,
+        });
         self.accepted += 1;
     }
 
@@ -109,6 +131,8 @@ impl Running {
         requires { self.old.accepted < 2 ^ 32 - 1 }
         ensures accepted { self.new.accepted ≡ self.old.accepted + 1 }
         ensures same { vec_len self.new.started ≡ vec_len self.old.started }
+        ensures each { StillCounts (facts_of J.fresh M.gives J.reacts J.steps) M.left O.options
+            self.old.whole self.old.faulted self.new.whole self.new.faulted }
     {
         self.faulted += 1;
         self.accepted += 1;
@@ -120,6 +144,7 @@ impl Running {
         requires more { self.old.accepted < 2 ^ 32 - 1 }
         ensures accepted { self.new.accepted ≡ self.old.accepted + 1 }
         ensures same { vec_len self.new.started ≡ vec_len self.old.started }
+        ensures counts { (self.new.whole ≡ self.old.whole) × (self.new.faulted ≡ self.old.faulted) }
     {
         self.refused += 1;
         self.accepted += 1;
@@ -127,7 +152,9 @@ impl Running {
 
     /// Joins all sessions, and reports each that ended in a fault.
     pub(crate) fn join_all<R: Threads, E: Write>(mut self, rt: &R, errors: &mut E) -> Served
-        ensures { result.accepted ≡ self.accepted }
+        ensures accepted { result.accepted ≡ self.accepted }
+        ensures each { StillCounts (facts_of J.fresh M.gives J.reacts J.steps) M.left O.options
+            self.whole self.faulted result.whole result.faulted }
     {
         while !self.started.is_empty() {
             let finished = self.join_at(rt, 0);

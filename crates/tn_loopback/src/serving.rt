@@ -1,27 +1,30 @@
 //! Each connection has a session in threads of its own.
 
-ghost use Rattle.std.specs.Prelude.{◌≡◌, ◌<◌, ◌≤◌, ◌+◌, ◌^◌, ◌-◌, true, IfOk, IsErrOf, vec_len};
+ghost use Rattle.std.specs.Prelude.{◌≡◌, ◌<◌, ◌≤◌, ◌+◌, ◌^◌, ◌-◌, true, IfOk, IfSome, IsErrOf, vec_len};
+ghost use Rattle.tn_loopback.specs.Counted.{CountsSessions, StillCounts, facts_of};
 ghost use Rattle.tn_loopback.specs.Ends.{ServesAll};
 ghost use Rattle.tn_roster.specs.Held.{IsLimit, held_count};
 
 use crate::acceptor::Acceptor;
+use crate::asked::Asked;
 use crate::call::Call;
+use crate::conversed::Ran;
 use crate::events::Event;
 use crate::fault::ServeFault;
-use crate::finished::Finished;
 use crate::notes::{note_end, note_listening, note_peer};
 use crate::running::{Running, tell_fault, tell_if_faulted};
 use crate::served::Served;
 use crate::service::Service;
-use crate::session::Session;
+use crate::session::{Session, SessionSays};
 use crate::settings::Serving;
 use crossbeam_channel::{Receiver, Sender};
 use std::alloc::Global;
 use std::collections::VecDeque;
 use std::io::Write;
+use std::marker::Brand;
 use std::net::{Net, Shutdown, SocketAddr, TcpListener, TcpStream};
 use std::thread;
-use std::thread::JoinHandle;
+use std::thread::PromisedHandle;
 use tn_roster::{Roster, note};
 use tn_sockets::{Hook, Host, Standing};
 
@@ -51,6 +54,8 @@ where
     V: Service + Drop,
     E: Write,
     ensures all { IfOk result (ServesAll serving.count) }
+    ensures each { IfOk result (λ served. CountsSessions (facts_of V.Job.fresh V.Jobs.gives V.Job.reacts V.Job.steps)
+        V.Jobs.left serving.options served.whole served.faulted) }
     ensures limit { IsErrOf result ServeFault.Limit → ¬ IsLimit serving.sessions }
 {
     let listener = TcpListener::bind(&rt, (host, port))?;
@@ -67,6 +72,27 @@ pub fn serve_on<H: Host, V: Service + Drop, E: Write>(
     errors: &mut E,
 ) -> Result<Served, ServeFault>
     ensures all { IfOk result (ServesAll serving.count) }
+    ensures each { IfOk result (λ served. CountsSessions (facts_of V.Job.fresh V.Jobs.gives V.Job.reacts V.Job.steps)
+        V.Jobs.left serving.options served.whole served.faulted) }
+    ensures limit { IsErrOf result ServeFault.Limit → ¬ IsLimit serving.sessions }
+    ensures bad_limit { (¬ IsLimit serving.sessions) → IsErrOf result ServeFault.Limit }
+{
+    serve_as::<H, V, E, Brand>(rt, alloc, listener, serving, service, errors)
+}
+
+// The same, for contracts that know the options of its sessions.
+fn serve_as<H: Host, V: Service + Drop, E: Write, O: Asked>(
+    rt: H,
+    alloc: Global,
+    listener: &TcpListener,
+    serving: Serving,
+    service: V,
+    errors: &mut E,
+) -> Result<Served, ServeFault>
+    requires asked { serving.options ≡ O.options }
+    ensures all { IfOk result (ServesAll serving.count) }
+    ensures each { IfOk result (λ served. CountsSessions (facts_of V.Job.fresh V.Jobs.gives V.Job.reacts V.Job.steps)
+        V.Jobs.left O.options served.whole served.faulted) }
     ensures limit { IsErrOf result ServeFault.Limit → ¬ IsLimit serving.sessions }
     ensures bad_limit { (¬ IsLimit serving.sessions) → IsErrOf result ServeFault.Limit }
 {
@@ -86,7 +112,7 @@ pub fn serve_on<H: Host, V: Service + Drop, E: Write>(
     let Ok(acceptor) = thread::spawn(&rt, move || acceptor.run()) else {
         return Err(ServeFault::Memory);
     };
-    let mut open = Open {
+    let mut open: Open<H, V, O> = Open {
         rt,
         alloc,
         serving,
@@ -110,22 +136,27 @@ pub fn serve_on<H: Host, V: Service + Drop, E: Write>(
 
 /// A server that is open: which sessions run, by number, and how those before them ended.
 #[derive(Drop)]
-struct Open<H, V> {
+struct Open<H, V: Service, O: Asked> {
     rt: H,
     alloc: Global,
     serving: Serving,
     service: V,
     roster: Roster,
-    running: Running,
+    running: Running<V::Job, V::Jobs, O>,
     /// No more connections come.
     is_broken: bool,
     events: Sender<Event, Global>,
     turned_away: VecDeque<TcpStream>,
     ghost within: { vec_len running.started ≤ held_count roster },
+    ghost asked: { serving.options ≡ O.options },
 }
 
-impl<H: Host, V: Service> Open<H, V> {
-    fn serve_all<E: Write>(&mut self, events: &Receiver<Event, Global>, errors: &mut E) {
+impl<H: Host, V: Service, O: Asked> Open<H, V, O> {
+    fn serve_all<E: Write>(&mut self, events: &Receiver<Event, Global>, errors: &mut E)
+        ensures each { StillCounts (facts_of V.Job.fresh V.Jobs.gives V.Job.reacts V.Job.steps)
+            V.Jobs.left O.options self.old.running.whole self.old.running.faulted
+            self.new.running.whole self.new.running.faulted }
+    {
         let rt = self.rt;
         for _ in rt.forever() {
             if self.is_done() {
@@ -148,7 +179,11 @@ impl<H: Host, V: Service> Open<H, V> {
     }
 
     // Starts a session over a connection that came, or turns it away where the session limit is reached.
-    fn admit<E: Write>(&mut self, stream: TcpStream, peer: &SocketAddr, errors: &mut E) {
+    fn admit<E: Write>(&mut self, stream: TcpStream, peer: &SocketAddr, errors: &mut E)
+        ensures each { StillCounts (facts_of V.Job.fresh V.Jobs.gives V.Job.reacts V.Job.steps)
+            V.Jobs.left O.options self.old.running.whole self.old.running.faulted
+            self.new.running.whole self.new.running.faulted }
+    {
         if self.running.accepted >= self.serving.count {
             return;
         }
@@ -179,7 +214,8 @@ impl<H: Host, V: Service> Open<H, V> {
         stream: TcpStream,
         number: usize,
         peer: SocketAddr,
-    ) -> Option<JoinHandle<Finished>>
+    ) -> Option<PromisedHandle<Ran, SessionSays<V::Jobs>>>
+        ensures asked { IfSome result (λ handle. handle.promise.options ≡ O.options) }
         ensures running { self.new.running ≡ self.old.running }
         ensures roster { self.new.roster ≡ self.old.roster }
     {
@@ -198,13 +234,17 @@ impl<H: Host, V: Service> Open<H, V> {
         };
         let started = session.start(number, events);
         if started.is_none() {
-            self.service.ended(number, &Finished::unstarted());
+            self.service.ended(number, &Ran::unstarted().finished());
         }
         started
     }
 
     // The session with this number has ended, and its number is free.
-    fn end<E: Write>(&mut self, number: usize, errors: &mut E) {
+    fn end<E: Write>(&mut self, number: usize, errors: &mut E)
+        ensures each { StillCounts (facts_of V.Job.fresh V.Jobs.gives V.Job.reacts V.Job.steps)
+            V.Jobs.left O.options self.old.running.whole self.old.running.faulted
+            self.new.running.whole self.new.running.faulted }
+    {
         let Some(finished) = self.running.join(&self.rt, number) else {
             return;
         };

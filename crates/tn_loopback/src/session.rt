@@ -1,25 +1,27 @@
 //! One session of a server over a connection.
 
-ghost use Rattle.std.specs.Prelude.{◌≡◌, ◌≢◌, IfOk, IfErr};
-ghost use Rattle.tn_loopback.specs.Servers.{RunsServer};
+ghost use Rattle.std.specs.Prelude.{◌≡◌, ◌≢◌, [], IfOk, IfErr, IfSome};
+ghost use Rattle.tn_loopback.specs.Servers.{IsPromised, RunsServer};
 ghost use Rattle.tn_session.specs.Facts.{job_facts};
 ghost use Rattle.tn_session.specs.Makers.{begins};
 ghost use Rattle.tn_session.specs.Session.{IsRefusal};
+ghost use Rattle.tn_sockets.specs.Logs.{logged};
 ghost use Rattle.tn_term.specs.Welcoming.{too_far_ahead};
 
+use crate::conversed::{Conversed, Ran};
 use crate::events::Event;
-use crate::finished::Finished;
 use crate::settings::SessionOptions;
 use crossbeam_channel::Sender;
 use std::alloc::Global;
 use std::io::Read;
 use std::net::TcpStream;
+use std::snapshot::Snapshot;
 use std::sync::Arc;
 use std::thread;
-use std::thread::JoinHandle;
+use std::thread::{Promise, PromisedHandle};
 use tn_discipline::Settings;
-use tn_session::{Maker, Report, SessionFault, Unwatched, serve_session};
-use tn_sockets::{Attended, Connection, Host, Standing};
+use tn_session::{Maker, Ports, Report, SessionFault, Unwatched, serve_session};
+use tn_sockets::{Attended, Connection, Host, Logged, Standing};
 
 /// A session that is to run over a connection that was accepted.
 #[derive(Drop)]
@@ -44,15 +46,44 @@ where
         self,
         number: usize,
         events: Sender<Event, Global>,
-    ) -> Option<JoinHandle<Finished>> {
+    ) -> Option<PromisedHandle<Ran, SessionSays<M>>>
+        ensures { IfSome result (λ handle. handle.promise.options ≡ self.options) }
+    {
         let rt = self.rt;
-        let work = move || -> Finished {
-            let finished = self.run();
-            let _ = events.send(&rt, Event::Ended(number));
-            finished
+        let promise = SessionSays {
+            jobs: Snapshot::of(&self.jobs),
+            options: self.options,
         };
-        thread::spawn(&rt, work).ok()
+        let work = move || -> Ran
+            ensures { IsPromised (job_facts (begins M.Job.fresh M.gives self.jobs) M.Job.reacts M.Job.steps)
+                (M.left self.jobs) self.options result }
+        {
+            let ran = self.run();
+            let _ = events.send(&rt, Event::Ended(number));
+            ran
+        };
+        match thread::spawn_with(&rt, promise, work) {
+            Ok(handle) => Some(handle),
+            Err(_) => None,
+        }
     }
+}
+
+/// What the thread of a session promises of what it gives back.
+#[derive(Drop)]
+pub(crate) struct SessionSays<M> {
+    pub(crate) jobs: Snapshot<M>,
+    pub(crate) options: SessionOptions,
+}
+
+impl<M: Maker> Promise<Ran> for SessionSays<M> {
+    ghost use Rattle.tn_loopback.specs.Servers.{IsPromised};
+    ghost use Rattle.tn_session.specs.Facts.{job_facts};
+    ghost use Rattle.tn_session.specs.Makers.{begins};
+
+    ghost kept_by = { λ p ran.
+        IsPromised (job_facts (begins M.Job.fresh M.gives p.jobs.value) M.Job.reacts M.Job.steps)
+        (M.left p.jobs.value) p.options ran };
 }
 
 impl<H, M> Session<H, M>
@@ -61,32 +92,32 @@ where
     M: Maker + Drop,
     M::Job: Send + 'static,
 {
-    fn run(self) -> Finished
-        ensures fault { IfErr result.report IsRefusal }
-        ensures ran { IfOk result.report (λ report.
-            RunsServer (job_facts (begins M.Job.fresh M.gives self.jobs) M.Job.reacts M.Job.steps)
-            (M.left self.jobs) self.options report) }
-        ensures in_reach { IfOk result.report (λ report. report.ended ≢ too_far_ahead) }
+    fn run(self) -> Ran
+        ensures fault { IfErr result.ended IsRefusal }
+        ensures ran { IfOk result.ended (RunsServer
+            (job_facts (begins M.Job.fresh M.gives self.jobs) M.Job.reacts M.Job.steps)
+            (M.left self.jobs) self.options) }
+        ensures in_reach { IfOk result.ended (λ conversed. conversed.report.ended ≢ too_far_ahead) }
     {
         match Arc::try_clone(&self.standing) {
             Ok(standing) => {
-                let report = self.converse();
+                let ended = self.converse();
                 let idle = standing.is_idle();
-                Finished { report, idle }
+                Ran { ended, idle }
             },
-            Err(_) => Finished {
-                report: Err(SessionFault::Memory),
+            Err(_) => Ran {
+                ended: Err(SessionFault::Memory),
                 idle: false,
             },
         }
     }
 
-    fn converse(self) -> Result<Report, SessionFault>
+    fn converse(self) -> Result<Conversed, SessionFault>
         ensures fault { IfErr result IsRefusal }
-        ensures ran { IfOk result (λ report.
-            RunsServer (job_facts (begins M.Job.fresh M.gives self.jobs) M.Job.reacts M.Job.steps)
-            (M.left self.jobs) self.options report) }
-        ensures in_reach { IfOk result (λ report. report.ended ≢ too_far_ahead) }
+        ensures ran { IfOk result (RunsServer
+            (job_facts (begins M.Job.fresh M.gives self.jobs) M.Job.reacts M.Job.steps)
+            (M.left self.jobs) self.options) }
+        ensures in_reach { IfOk result (λ conversed. conversed.report.ended ≢ too_far_ahead) }
     {
         let Session {
             rt,
@@ -102,15 +133,16 @@ where
         let Ok((stream, writer)) = Connection::split(stream) else {
             return Err(SessionFault::Start);
         };
-        let mut writer = writer.with_standing(ours);
         let Ok(reader) = Attended::new(rt, stream, theirs, options.idle) else {
             return Err(SessionFault::Start);
         };
-        let report = talk(rt, alloc, reader, &mut writer, options, jobs)?;
+        let mut writer = Logged::new(writer.with_standing(ours));
+        let (report, ports) = talk(rt, alloc, reader, &mut writer, options, jobs)?;
+        let (writer, log) = writer.into_parts();
         if standing.is_hung_up() {
             linger(rt, writer.into_stream(), standing);
         }
-        Ok(report)
+        Ok(Conversed { report, ports, log })
     }
 }
 
@@ -119,29 +151,30 @@ fn talk<H, M>(
     rt: H,
     alloc: Global,
     reader: Attended<H, TcpStream>,
-    writer: &mut Connection<TcpStream>,
+    writer: &mut Logged<Connection<TcpStream>>,
     options: SessionOptions,
     jobs: M,
-) -> Result<Report, SessionFault>
+) -> Result<(Report, Ports), SessionFault>
 where
     H: Host,
     M: Maker + Drop,
     M::Job: Send + 'static,
+    requires new { logged writer.old.log ≡ [] }
     ensures fault { IfErr result IsRefusal }
-    ensures ran { IfOk result (λ report.
-        RunsServer (job_facts (begins M.Job.fresh M.gives jobs) M.Job.reacts M.Job.steps)
-        (M.left jobs) options report) }
-    ensures in_reach { IfOk result (λ report. report.ended ≢ too_far_ahead) }
+    ensures ran { IfOk result (λ r. RunsServer
+        (job_facts (begins M.Job.fresh M.gives jobs) M.Job.reacts M.Job.steps)
+        (M.left jobs) options (record { report = r.0; ports = r.1; log = writer.new.log })) }
+    ensures in_reach { IfOk result (λ r. r.0.ended ≢ too_far_ahead) }
 {
     let Ok(gate) = Arc::new(alloc, Unwatched) else {
         return Err(SessionFault::Memory);
     };
     let settings = Settings::standard();
     let (limit, editing) = (options.line_limit, options.editing);
-    let (report, _ports) = serve_session(
+    let (report, ports) = serve_session(
         rt, alloc, reader, writer, settings, limit, editing, jobs, gate,
     )?;
-    Ok(report)
+    Ok((report, ports))
 }
 
 // Reads what a peer still sends after it was told that no more comes, until it has closed or had its time to.
@@ -154,23 +187,22 @@ fn linger<H: Host>(rt: H, stream: TcpStream, standing: Arc<Standing, Global>) {
 }
 
 /// Runs one session over a connection that was accepted, in threads of its own, until it has ended. `jobs`
-/// makes its jobs.
+/// makes its jobs. What is returned tells contracts all that was read from the connection and written to it.
 pub fn serve_connection<H, M>(
     rt: H,
     alloc: Global,
     stream: TcpStream,
     options: SessionOptions,
     jobs: M,
-) -> Result<Report, SessionFault>
+) -> Result<Conversed, SessionFault>
 where
     H: Host,
     M: Maker + Drop,
     M::Job: Send + 'static,
     ensures fault { IfErr result IsRefusal }
-    ensures ran { IfOk result (λ report.
-        RunsServer (job_facts (begins M.Job.fresh M.gives jobs) M.Job.reacts M.Job.steps)
-        (M.left jobs) options report) }
-    ensures in_reach { IfOk result (λ report. report.ended ≢ too_far_ahead) }
+    ensures ran { IfOk result (RunsServer
+        (job_facts (begins M.Job.fresh M.gives jobs) M.Job.reacts M.Job.steps) (M.left jobs) options) }
+    ensures in_reach { IfOk result (λ conversed. conversed.report.ended ≢ too_far_ahead) }
 {
     let Ok(standing) = Standing::new(alloc) else {
         return Err(SessionFault::Memory);
@@ -183,5 +215,5 @@ where
         jobs,
         standing,
     };
-    session.run().report
+    session.run().ended
 }

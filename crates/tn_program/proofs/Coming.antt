@@ -56,7 +56,7 @@ ran a origin bytes old new (outcome.Served (Ok served)) (serving, e, ends) zero 
     subst (λ a. RunsAsked a origin bytes old new) (sym e) (served, ends.all, ends.unwritten)
 ran a origin bytes old new (outcome.Served (Err f)) h zero = absurd (unserved f zero)
 ran a origin bytes old new (outcome.Connected (Ok r)) (connecting, e, ends) zero =
-    subst (λ a. RunsAsked a origin bytes old new) (sym e) (r.0, r.1, ends.ran, ends.whole)
+    subst (λ a. RunsAsked a origin bytes old new) (sym e) (r, ends.ran, ends.whole)
 ran a origin bytes old new (outcome.Connected (Err f)) h zero = absurd (unconnected f zero)
 ran a origin bytes old new outcome.Untraced h zero = absurd (omega (arith, zero))
 ran a origin bytes old new (outcome.Help ended) h zero = absurd h

@@ -5,6 +5,7 @@ use Rattle.tn_cli.specs.Ends.{EndsDecode, EndsLocal, EndsReplay, EndsWorld}
 use Rattle.tn_cli.specs.declared.fault.CliFault.{CliFault}
 use Rattle.tn_cli.specs.declared.fault.CliFault.TheVariants as fault
 use Rattle.tn_connect.specs.Clients.{RunsClient, foreseen}
+use Rattle.tn_connect.specs.declared.connected.Connected.{Connected}
 use Rattle.tn_connect.specs.declared.fault.ConnectFault.{ConnectFault}
 use Rattle.tn_connect.specs.declared.fault.ConnectFault.TheVariants as connect
 use Rattle.tn_loopback.specs.Ends.{ServesAll}
@@ -17,8 +18,6 @@ use Rattle.tn_program.specs.declared.outcome.Outcome.{Outcome}
 use Rattle.tn_program.specs.declared.outcome.Outcome.TheVariants as outcome
 use Rattle.tn_program.specs.Settings.{window_as}
 use Rattle.tn_roster.specs.Held.{IsLimit}
-use Rattle.tn_session.specs.declared.parties.ClientPorts.{ClientPorts}
-use Rattle.tn_session.specs.declared.parties.Report.{Report}
 use Rattle.tn_streams.specs.Known.{KnownReader}
 use Rattle.tn_connect.specs.declared.settings.Origin.{Origin}
 use Rattle.tn_words.specs.Words.{AskFor, AsksForHelp, AsksForVersion, Refuses, version_line}
@@ -36,10 +35,10 @@ pub record EndsServing (serving : Serving) (ended : Result Served ServeFault)
   pub unwritten : new ≡ old
 
 -- What came of connecting.
-pub record EndsConnecting (connecting : Connecting) (ended : Result (Report × ClientPorts) ConnectFault)
-    (input : KnownReader) (old new : Option (List ℕ)) : Type 0 where
-  pub ran : IfOk ended (λ r. RunsClient (window_as connecting) input old new r.0 r.1)
-  pub whole : IfOk ended (λ r. EndsWhole r.0.ended)
+pub record EndsConnecting (connecting : Connecting) (ended : Result Connected ConnectFault) (input : KnownReader)
+    (old new : Option (List ℕ)) : Type 0 where
+  pub ran : IfOk ended (RunsClient (window_as connecting) input old new)
+  pub whole : IfOk ended (λ r. EndsWhole r.report.ended)
   pub unwritten : OnErr ended (ended ≢ Err connect.Session → new ≡ old)
 
 -- What came of writing the help.

@@ -6,12 +6,11 @@ use Rattle.tn_cli.specs.Playing.{PlaysScript}
 use Rattle.tn_cli.specs.Replay.{Replays}
 use Rattle.tn_cli.specs.Typing.{PrintsKeys}
 use Rattle.tn_connect.specs.Clients.{RunsClient, foreseen}
+use Rattle.tn_connect.specs.declared.connected.Connected.{Connected}
 use Rattle.tn_loopback.specs.Ends.{ServesAll}
 use Rattle.tn_loopback.specs.declared.served.Served.{Served}
 use Rattle.tn_messages.specs.Ending.{EndsWhole}
 use Rattle.tn_program.specs.Settings.{window_as}
-use Rattle.tn_session.specs.declared.parties.ClientPorts.{ClientPorts}
-use Rattle.tn_session.specs.declared.parties.Report.{Report}
 use Rattle.tn_connect.specs.declared.settings.Origin.{Origin}
 use Rattle.tn_words.specs.Words.{AskFor, AsksForHelp, AsksForVersion, version_line}
 use Rattle.tn_words.specs.declared.words.Asked.{Asked}
@@ -27,8 +26,8 @@ RunsAsked Decode origin bytes old new = IfSome bytes (λ stream. Decodes stream 
 RunsAsked World origin bytes old new = IfSome bytes (λ script. PlaysScript script old new)
 RunsAsked (Serve serving) origin bytes old new = (served : Served) × ServesAll serving.count served × (new ≡ old)
 RunsAsked (Connect connecting) origin bytes old new =
-    (report : Report) × (ports : ClientPorts)
-    × RunsClient (window_as connecting) (foreseen origin bytes) old new report ports × EndsWhole report.ended
+    (connected : Connected)
+    × RunsClient (window_as connecting) (foreseen origin bytes) old new connected × EndsWhole connected.report.ended
 
 -- the run that the words ask for, or some text where they ask for help, or the version
 abbrev pub DoesAsAsked : List (List ℕ) → Origin → Option (List ℕ) → Option (List ℕ) → Option (List ℕ) → Type 0

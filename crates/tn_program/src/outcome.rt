@@ -7,9 +7,8 @@ ghost use Rattle.tn_program.specs.Statuses.{status_after_connecting, status_afte
 use std::fmt::Display;
 use std::io::Write;
 use tn_cli::CliFault;
-use tn_connect::ConnectFault;
+use tn_connect::{ConnectFault, Connected};
 use tn_loopback::{ServeFault, Served};
-use tn_session::{ClientPorts, Report};
 
 /// The status of a process whose words were not accepted.
 const USAGE: u8 = 2;
@@ -26,7 +25,7 @@ pub enum Outcome {
     Decode(Result<(), CliFault>),
     World(Result<(), CliFault>),
     Served(Result<Served, ServeFault>),
-    Connected(Result<(Report, ClientPorts), ConnectFault>),
+    Connected(Result<Connected, ConnectFault>),
     /// They ask for a connection with a trace, whose file could not be made; none was made.
     Untraced,
     /// They ask for help; it was written, or that failed.

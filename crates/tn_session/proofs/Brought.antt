@@ -7,6 +7,7 @@ use Rattle.tn_client_core.specs.declared.messages.Origin.TheVariants as origin
 use Rattle.tn_session.proofs.Mailbox.{sender_share}
 use Rattle.tn_session.specs.CoreTurns.{all_told}
 use Rattle.tn_session.specs.Mailbox.{same, from, mail, sender}
+use Rattle.tn_session.specs.Transcripts.{bytes_sent}
 use Rattle.tn_session.specs.Reader.{ReaderSends, Closes}
 use Rattle.tn_session.specs.Reading.{IsEnding, Telling, piece_told, size_told, told_messages, pieces_in}
 use Rattle.tn_session.specs.declared.channels.View.{View}
@@ -15,18 +16,11 @@ use Rattle.tn_session.specs.declared.mail.Sender.{Sender}
 use Rattle.tn_session.specs.declared.mail.Sender.TheVariants.{Net, Desk, Back, Keys}
 use Rattle.tn_streams.specs.Foretelling.{Failures}
 use Rattle.tn_streams.specs.Known.{KnownReader}
+use Rattle.tn_messages.specs.Pieces.{bytes_in}
 use Rattle.tn_messages.specs.declared.messages.Message.{Message}
 use Rattle.tn_messages.specs.declared.messages.Message.TheVariants.{Piece, HangUp, ReadFailed, Take, Said, Refused, Left, Resized}
 
-abbrev piece_bytes : Message → List ℕ
-piece_bytes (Piece piece) = piece
-piece_bytes _ = []
-
-abbrev bytes_of : List Mail → List ℕ
-bytes_of [] = []
-bytes_of (x ∷ xs) = piece_bytes x.message ++ bytes_of xs
-
-keys_bytes : (m : Message) → brought_from origin.Keys origin.Keys m ≡ piece_bytes m
+keys_bytes : (m : Message) → brought_from origin.Keys origin.Keys m ≡ bytes_in m
 keys_bytes (Piece piece) = refl
 keys_bytes HangUp = refl
 keys_bytes ReadFailed = refl
@@ -36,7 +30,7 @@ keys_bytes Refused = refl
 keys_bytes Left = refl
 keys_bytes (Resized size) = refl
 
-net_bytes : (m : Message) → brought_from origin.Net origin.Net m ≡ piece_bytes m
+net_bytes : (m : Message) → brought_from origin.Net origin.Net m ≡ bytes_in m
 net_bytes (Piece piece) = refl
 net_bytes HangUp = refl
 net_bytes ReadFailed = refl
@@ -47,13 +41,13 @@ net_bytes Left = refl
 net_bytes (Resized size) = refl
 
 -- the keys are what Keys sent
-keys_more : (s : Sender) (m : Message) (xs : List Mail) → brought origin.Keys (all_told xs) ≡ bytes_of (from Keys xs) → brought origin.Keys (all_told (mail s m ∷ xs)) ≡ bytes_of (from Keys (mail s m ∷ xs))
+keys_more : (s : Sender) (m : Message) (xs : List Mail) → brought origin.Keys (all_told xs) ≡ bytes_sent (from Keys xs) → brought origin.Keys (all_told (mail s m ∷ xs)) ≡ bytes_sent (from Keys (mail s m ∷ xs))
 keys_more Keys m xs ih = λ i. keys_bytes m i ++ ih i
 keys_more Net m xs ih = ih
 keys_more Desk m xs ih = ih
 keys_more Back m xs ih = ih
 
-keys_all : (xs : List Mail) → brought origin.Keys (all_told xs) ≡ bytes_of (from Keys xs)
+keys_all : (xs : List Mail) → brought origin.Keys (all_told xs) ≡ bytes_sent (from Keys xs)
 keys_all [] = refl
 keys_all (x ∷ xs) = keys_more x.from x.message xs (keys_all xs)
 
@@ -61,7 +55,7 @@ keys_all (x ∷ xs) = keys_more x.from x.message xs (keys_all xs)
 some_mail : (x : Mail) (xs : List Mail) → x ∷ xs ≡ [] → ⊥
 some_mail x xs e = cc
 
-net_more : (s : Sender) (m : Message) (xs : List Mail) → from Desk (mail s m ∷ xs) ≡ [] → from Back (mail s m ∷ xs) ≡ [] → brought origin.Net (all_told xs) ≡ bytes_of (from Net xs) → brought origin.Net (all_told (mail s m ∷ xs)) ≡ bytes_of (from Net (mail s m ∷ xs))
+net_more : (s : Sender) (m : Message) (xs : List Mail) → from Desk (mail s m ∷ xs) ≡ [] → from Back (mail s m ∷ xs) ≡ [] → brought origin.Net (all_told xs) ≡ bytes_sent (from Net xs) → brought origin.Net (all_told (mail s m ∷ xs)) ≡ bytes_sent (from Net (mail s m ∷ xs))
 net_more Net m xs desk back ih = λ i. net_bytes m i ++ ih i
 net_more Keys m xs desk back ih = ih
 net_more Desk m xs desk back ih = absurd (some_mail (mail Desk m) (from Desk xs) desk)
@@ -80,17 +74,17 @@ none_later who x xs e = at_test (same x.from who) refl
     at_test true is = absurd (some_mail x (from who xs) (sym (here is) ∙ e))
     at_test false is = sym (passed is) ∙ e
 
-net_all : (xs : List Mail) → from Desk xs ≡ [] → from Back xs ≡ [] → brought origin.Net (all_told xs) ≡ bytes_of (from Net xs)
+pub net_all : (xs : List Mail) → from Desk xs ≡ [] → from Back xs ≡ [] → brought origin.Net (all_told xs) ≡ bytes_sent (from Net xs)
 net_all [] desk back = refl
 net_all (x ∷ xs) desk back = net_more x.from x.message xs desk back (net_all xs (none_later Desk x xs desk) (none_later Back x xs back))
 
 -- a reader's thread sends its pieces, and nothing else that brings bytes
-told_bytes : (s : Sender) (told : List Telling) (close : List Message) → bytes_of (map (mail s) (told_messages told ++ close)) ≡ concat (pieces_in told) ++ bytes_of (map (mail s) close)
+told_bytes : (s : Sender) (told : List Telling) (close : List Message) → bytes_sent (map (mail s) (told_messages told ++ close)) ≡ concat (pieces_in told) ++ bytes_sent (map (mail s) close)
 told_bytes s [] close = refl
-told_bytes s (piece_told p ∷ told) close = ap (λ (bs : List ℕ). p ++ bs) (told_bytes s told close) ∙ sym (append_assoc p (concat (pieces_in told)) (bytes_of (map (mail s) close)))
+told_bytes s (piece_told p ∷ told) close = ap (λ (bs : List ℕ). p ++ bs) (told_bytes s told close) ∙ sym (append_assoc p (concat (pieces_in told)) (bytes_sent (map (mail s) close)))
 told_bytes s (size_told z ∷ told) close = told_bytes s told close
 
-ending_bytes : (m : Message) (left : Option (List ℕ)) → IsEnding m left → piece_bytes m ≡ []
+ending_bytes : (m : Message) (left : Option (List ℕ)) → IsEnding m left → bytes_in m ≡ []
 ending_bytes (Piece piece) left e = absurd e
 ending_bytes HangUp left e = refl
 ending_bytes ReadFailed left e = refl
@@ -100,9 +94,9 @@ ending_bytes Refused left e = refl
 ending_bytes Left left e = refl
 ending_bytes (Resized s) left e = refl
 
-close_bytes : (s : Sender) (may_stop : Bool) (pieces : List (List ℕ)) (left : Option (List ℕ)) (foretold : Option Failures) (close : List Message) → Closes may_stop pieces left foretold close → bytes_of (map (mail s) close) ≡ []
+close_bytes : (s : Sender) (may_stop : Bool) (pieces : List (List ℕ)) (left : Option (List ℕ)) (foretold : Option Failures) (close : List Message) → Closes may_stop pieces left foretold close → bytes_sent (map (mail s) close) ≡ []
 close_bytes s may_stop pieces left foretold close closes =
-    let B : List Message → List ℕ = λ ms. bytes_of (map (mail s) ms) in
+    let B : List Message → List ℕ = λ ms. bytes_sent (map (mail s) ms) in
     ⊎_elim
     (λ x. ap B x.2 ∙ ap (λ (bs : List ℕ). bs ++ []) (ending_bytes x.0 left x.1.0))
     (λ x. ap B x.2)
@@ -114,11 +108,11 @@ one_list s a b v e f = is_some a b (sym (sender_share s a v e) ∙ sender_share 
     is_some : {A : Type 0} (x y : A) → Some x ≡ Some y → x ≡ y
     is_some x y eq = cc
 
-reader_bytes : (who : Sender) (may_stop : Bool) (reader : KnownReader) (v : View) (mails : List Mail) → ReaderSends who may_stop reader v → v ≡ sender who mails → (left : Option (List ℕ)) × Consumes reader.bytes left (bytes_of mails)
+reader_bytes : (who : Sender) (may_stop : Bool) (reader : KnownReader) (v : View) (mails : List Mail) → ReaderSends who may_stop reader v → v ≡ sender who mails → (left : Option (List ℕ)) × Consumes reader.bytes left (bytes_sent mails)
 reader_bytes who may_stop reader v mails (told, left, close, consumed, closes, is, small, sizes) e =
     let pieces = pieces_in told in
-    let all : bytes_of mails ≡ concat pieces =
-    ap bytes_of (one_list who mails (map (mail who) (told_messages told ++ close)) v e is) ∙ told_bytes who told close
+    let all : bytes_sent mails ≡ concat pieces =
+    ap bytes_sent (one_list who mails (map (mail who) (told_messages told ++ close)) v e is) ∙ told_bytes who told close
     ∙ ap (λ (bs : List ℕ). concat pieces ++ bs) (close_bytes who may_stop pieces left reader.failures close closes) ∙ append-nil (concat pieces) in
     let P : List ℕ → Type 0 = λ bs. Consumes reader.bytes left bs in
     (left, subst P (sym all) consumed)
@@ -127,10 +121,10 @@ pub keys_brought : (reader : KnownReader) (v : View) (handled mails : List Mail)
 keys_brought reader v handled mails sent e is =
     let r = reader_bytes Keys true reader v mails sent e in
     let P : List ℕ → Type 0 = λ bs. Consumes reader.bytes r.0 bs in
-    (r.0, subst P (sym (keys_all handled ∙ ap bytes_of is)) r.1)
+    (r.0, subst P (sym (keys_all handled ∙ ap bytes_sent is)) r.1)
 
 pub net_brought : (reader : KnownReader) (v : View) (handled mails : List Mail) → ReaderSends Net false reader v → v ≡ sender Net mails → from Net handled ≡ mails → from Desk handled ≡ [] → from Back handled ≡ [] → (left : Option (List ℕ)) × Consumes reader.bytes left (brought origin.Net (all_told handled))
 net_brought reader v handled mails sent e is desk back =
     let r = reader_bytes Net false reader v mails sent e in
     let P : List ℕ → Type 0 = λ bs. Consumes reader.bytes r.0 bs in
-    (r.0, subst P (sym (net_all handled desk back ∙ ap bytes_of is)) r.1)
+    (r.0, subst P (sym (net_all handled desk back ∙ ap bytes_sent is)) r.1)

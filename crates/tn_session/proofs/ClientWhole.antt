@@ -10,19 +10,20 @@ use Rattle.tn_client_core.specs.declared.messages.Mark.{Mark}
 use Rattle.tn_client_core.specs.declared.messages.Origin.TheVariants as origin
 use Rattle.tn_client_core.specs.declared.messages.Told.{Told}
 use Rattle.tn_client_core.specs.declared.progress.Progress.{Progress}
-use Rattle.tn_session.proofs.Brought.{keys_brought, net_brought}
+use Rattle.tn_session.proofs.Brought.{keys_brought, net_all, net_brought}
 use Rattle.tn_session.proofs.ClientCauses.{read_cause, write_cause}
 use Rattle.tn_session.proofs.CoreGoing.{unwritten}
 use Rattle.tn_session.proofs.Going.{false_true}
 use Rattle.tn_session.proofs.Lefts.{none_over}
 use Rattle.tn_session.proofs.Mailbox.{all_woven}
 use Rattle.tn_session.proofs.Sent.{reader_sent}
-use Rattle.tn_session.proofs.lemmas.Sessions.{client_transcript, client_reads, as_read, as_written}
+use Rattle.tn_session.proofs.lemmas.Sessions.{client_transcript, client_reads, as_read}
 use Rattle.tn_session.specs.Client.{core_view, AreTwoSettled, IsClientRun, client_report}
 use Rattle.tn_session.specs.CoreTurns.{CoreHandles, all_told}
 use Rattle.tn_session.specs.Facts.{ClientResult}
 use Rattle.tn_session.specs.Mailbox.{Interleaves, from, four, sender, union, nobody, everyone, with_handled, Total}
 use Rattle.tn_session.specs.Reader.{ReaderSends}
+use Rattle.tn_session.specs.Transcripts.{bytes_sent, came_by}
 use Rattle.tn_session.specs.declared.channels.View.{View}
 use Rattle.tn_session.specs.declared.mail.Mail.{Mail}
 use Rattle.tn_session.specs.declared.mail.Sender.TheVariants.{Net, Desk, Back, Keys}
@@ -100,8 +101,6 @@ client_ran core last keys_reader net_reader writer screen pass₀ pass₁ net ke
       messages = acted.goes.whole;
       run = g.0;
       runs = g.1;
-      keys_brought = keys_first;
-      net_brought = net_first;
       in_order = subst (λ (ms : List Told). TakesInOrder ms g.0) acted.goes.whole (in_order window.width window.height window.limit acted.goes.marked g.0 g.1);
       written = acted.goes.bytes;
       unwritten = g.3.0;
@@ -112,7 +111,8 @@ client_ran core last keys_reader net_reader writer screen pass₀ pass₁ net ke
       sent_whole = λ on. all_out acted.goes.marked g.3.0 g.3.2 (λ e. sym on ∙ ap (λ (p : Progress). p.over) (sym g.2.progress) ∙ acted.goes.over e);
       transcript = said.transcript;
       was_read = as_read net_reader.bytes _ _ (client_reads begin acted.goes.marked g.0 acted.goes.bytes said ∙ ap (brought origin.Net) acted.goes.whole) net_first;
-      was_written = as_written writer.before.bytes writer.after.bytes _ _ said.writes acted.goes.wrote;
+      came = client_reads begin acted.goes.marked g.0 acted.goes.bytes said ∙ ap (brought origin.Net) acted.goes.whole ∙ net_all acted.handled (woven Desk) (woven Back) ∙ ap bytes_sent (woven Net) ∙ sym (ap (λ (w : View). came_by w.net) s.0);
+      was_written = said.writes;
       transcribed = said.transcribed;
       keys_read = brought origin.Keys (all_told acted.handled);
       keys_were_read = keys_first;

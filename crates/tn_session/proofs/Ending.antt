@@ -20,6 +20,7 @@ use Rattle.tn_session.specs.Reading.{IsEnding, IsReadCause, max_reads, Telling, 
 use Rattle.tn_session.specs.Session.{Schedule, HearsReader, TakesEntries}
 use Rattle.tn_session.specs.Stepping.{IsClose, step_said}
 use Rattle.tn_session.specs.Talk.{Closes, turns_said, entries_of, ends_done}
+use Rattle.tn_session.specs.Transcripts.{bytes_sent, came_by}
 use Rattle.tn_session.specs.Turns.{messages_of, max_writes}
 use Rattle.tn_session.specs.declared.channels.View.{View}
 use Rattle.tn_session.specs.declared.entries.Hand.{Hand}
@@ -242,6 +243,10 @@ known_left bytes stream (Some rest) c = (rest, c, λ at. at)
 
 -- A SESSION
 
+heard_of_mails : (xs : List Mail) → heard (messages_of xs) ≡ bytes_sent xs
+heard_of_mails [] = refl
+heard_of_mails (x ∷ xs) = ap (λ (l : List ℕ). bytes_in x.message ++ l) (heard_of_mails xs)
+
 module _ {J : Type 0} {facts : JobActs J} {jobs : SessionJobs J} {settings : TermSettings} {table : Jobs} {reader : KnownReader} {writer : KnownWriting} {result : SessionResult}
     (s : Schedule {J = J} facts jobs settings table reader writer result) where
   abbrev pub messages : List Message
@@ -298,6 +303,12 @@ module _ {J : Type 0} {facts : JobActs J} {jobs : SessionJobs J} {settings : Ter
   -- the pieces that were handled are those that were read
   pub all_pieces : heard messages ≡ concat (pieces_in s.read.0)
   all_pieces = ap heard s.messages ∙ nets.bytes ∙ ap heard net_said ∙ net_bytes s.read.0 net_end.0 s.read.1 net_end.1.0
+
+  -- and so those that its pass knows
+  pub came_by_net : heard messages ≡ came_by result.views.net.net
+  came_by_net =
+      ap heard s.messages ∙ nets.bytes ∙ ap (λ (l : List Mail). heard (messages_of l)) (s.woven Net) ∙ heard_of_mails s.from_net
+      ∙ sym (ap (λ (v : View). came_by v.net) s.net_is)
 
   pub heard_of_reader : Hears settings.canon settings.editing messages s.run → (result.report.ended ≡ ended.HangUp → HangsUp jobs.first.0 messages s.run) → HearsReader reader.bytes result.report.ended s.run
   heard_of_reader h hung = record {

@@ -3,9 +3,9 @@ use Rattle.std.proofs.Common.{◌≡◌, ◌⊎◌, ℕ, Bool, true, false, List
 use Rattle.tn_discipline.specs.declared.reads.Entry.{Entry}
 use Rattle.tn_session.specs.declared.entries.Hand.{Hand}
 use Rattle.crossbeam_channel.specs.Fifo.{Pushes, Pops, Forks, Merges, Learns}
-use Rattle.tn_session.specs.Seats.{Kept}
+use Rattle.tn_streams.specs.Seats.{Kept}
 use Rattle.tn_session.specs.EntryChannel.{slot, InOrder, more, put_more, taken_more, no_hand, both_hands, one_of, joined_hands, LeftOver}
-use Rattle.tn_session.proofs.Seats.{or_held, same_held, begins, learns, moves, Cuts, forks, merges}
+use Rattle.tn_streams.proofs.lemmas.Seats.{or_held, same_held, begins, learns, moves, Cuts, forks, merges}
 
 abbrev Item : Type 0
 Item = Option Entry

@@ -5,9 +5,9 @@ use Rattle.tn_session.specs.declared.mail.Sender.TheVariants.{Net, Desk, Back, K
 use Rattle.tn_session.specs.declared.mail.Mail.{Mail}
 use Rattle.tn_session.specs.declared.channels.View.{View}
 use Rattle.crossbeam_channel.specs.Fifo.{Pushes, Pops, Forks, Merges, Learns}
-use Rattle.tn_session.specs.Seats.{Kept}
+use Rattle.tn_streams.specs.Seats.{Kept}
 use Rattle.tn_session.specs.Mailbox.{same, from, Interleaves, share, Woven, add, grown, grown_at, handed, nobody, everyone, union, either, Total, sender, with_handled, four}
-use Rattle.tn_session.proofs.Seats.{or_held, same_held, begins, learns, moves, Cuts, forks, merges}
+use Rattle.tn_streams.proofs.lemmas.Seats.{or_held, same_held, begins, learns, moves, Cuts, forks, merges}
 
 pub same_true : (a b : Sender) → same a b ≡ true → a ≡ b
 same_true Net Net e = refl

@@ -21,7 +21,7 @@ use Rattle.tn_session.specs.Facts.{ClientResult, Window}
 use Rattle.tn_session.specs.Mailbox.{Interleaves, four, sender}
 use Rattle.tn_session.specs.Reader.{ReaderSends}
 use Rattle.tn_session.specs.Reading.{max_reads, pieces_in}
-use Rattle.tn_session.specs.Transcripts.{Exchange, ReadsPrefix, Transcribes, all_read, all_wrote}
+use Rattle.tn_session.specs.Transcripts.{Exchange, ReadsPrefix, Transcribes, all_read, all_wrote, came_by}
 use Rattle.tn_session.specs.Turns.{Tells, max_writes}
 use Rattle.tn_session.specs.declared.channels.View.{View}
 use Rattle.tn_session.specs.declared.client.Mailbox.{Mailbox}
@@ -91,9 +91,7 @@ pub record RunningClient (window : Window) (keys net : KnownReader) (writer scre
   pub messages : map (λ m. m.0) marked ≡ all_told handled
   pub run : Run
   pub runs : Runs (start window.width window.height window.limit) marked run
-  -- what was typed, and the bytes from the network whose items came, are prefixes of what the readers gave
-  pub keys_brought : ReadsPrefix keys.bytes (brought origin.Keys (all_told handled))
-  pub net_brought : ReadsPrefix net.bytes (brought origin.Net (all_told handled))
+  -- what was typed, and the bytes from the network whose items came, are the first of what these messages bring
   pub in_order : TakesInOrder (all_told handled) run
   -- what was written of what it says up to the Left of Keys
   pub written : List ℕ
@@ -103,10 +101,12 @@ pub record RunningClient (window : Window) (keys net : KnownReader) (writer scre
   pub sends : spells (items_said run.sent) ≡ written ++ unwritten
   pub all_sent : all_written marked ≡ true → unwritten ≡ []
   pub sent_whole : run.progress.over ≡ false → unwritten ≡ []
-  -- ITS TRANSCRIPT: what it read is what the reader gave, and what it wrote is what the writer got
+  -- ITS TRANSCRIPT: what it read is what the reader gave and Net sent on, and what it wrote is all that was
+  -- written
   pub transcript : List Exchange
   pub was_read : ReadsPrefix net.bytes (all_read transcript)
-  pub was_written : Appends writer.before.bytes writer.after.bytes (all_wrote transcript)
+  pub came : all_read transcript ≡ came_by result.net.net
+  pub was_written : all_wrote transcript ≡ written
   -- a step for each message
   pub transcribed : Transcribes Turns brings says (start window.width window.height window.limit) marked run
       written transcript

@@ -1,4 +1,3 @@
-pub mod Seats
 pub mod Mailbox
 pub mod EntryChannel
 pub mod Credits

@@ -19,7 +19,7 @@ use Rattle.tn_session.specs.Reader.{ReaderSends}
 use Rattle.tn_session.specs.Reading.{max_reads, pieces_in}
 use Rattle.tn_session.specs.Stepping.{AreSteps}
 use Rattle.tn_session.specs.Talk.{IsJob, IsTalk}
-use Rattle.tn_session.specs.Transcripts.{Exchange, ReadsPrefix, Transcribes, all_read, all_wrote}
+use Rattle.tn_session.specs.Transcripts.{Exchange, ReadsPrefix, Transcribes, all_read, all_wrote, came_by}
 use Rattle.tn_session.specs.Turning.{Holds, IsQueue, ids_of, jobs_of, queue_of}
 use Rattle.tn_session.specs.declared.back.Runner.{Runner}
 use Rattle.tn_session.specs.Turns.{Writes, Tells, max_writes, messages_of}
@@ -192,10 +192,12 @@ pub record RunningSession {J : Type 0} (facts : JobFacts J) (to_make : Option �
   pub by_bytes : TakesEntries settings reader.bytes result.report.ended schedule.taken
   pub entries_taken : List Entry
   pub entries_are : entries_taken ≡ entries_put schedule.taken
-  -- ITS TRANSCRIPT: what it read is what the reader gave, and what it wrote is what the writer got
+  -- ITS TRANSCRIPT: what it read is what the reader gave and Net sent on, and what it wrote is all that was
+  -- written
   pub transcript : List Exchange
   pub was_read : ReadsPrefix reader.bytes (all_read transcript)
-  pub was_written : Appends writer.before.bytes writer.after.bytes (all_wrote transcript)
+  pub came : all_read transcript ≡ came_by result.views.net.net
+  pub was_written : all_wrote transcript ≡ schedule.written
   -- a step for the opening words, and one for each message; it was heard whole where a hang-up ended the session
   pub transcribed : Transcribes OpensOrTurns brings says
       (run_after_opening schedule.wrote_opening (start settings.canon settings.editing jobs))

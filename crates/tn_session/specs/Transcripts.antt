@@ -1,8 +1,10 @@
 -- What can be seen of a session on its connection: step by step, which bytes it read and which it wrote. Read
--- `Exchange`, `all_read` and `all_wrote`; what follows ties them to a run.
-use Rattle.std.specs.Prelude.{◌≡◌, ◌⊎◌, ℕ, Option, List, [], ◌∷◌, ◌++◌, map}
+-- `Exchange`, `all_read`, `all_wrote` and `came_by`; what follows ties them to a run.
+use Rattle.std.specs.Prelude.{◌≡◌, ◌⊎◌, ℕ, Option, Some, None, List, [], ◌∷◌, ◌++◌, map}
 use Rattle.std.specs.Io.KnownBytes.{Consumes}
 use Rattle.std.specs.List.{FoldsTo}
+use Rattle.tn_messages.specs.Pieces.{bytes_in}
+use Rattle.tn_session.specs.declared.mail.Mail.{Mail}
 use Rattle.tn_streams.specs.Prefixes.{IsPrefixOf}
 
 -- A STEP of a session, in the order in which its core took them: the bytes from the network that came in it,
@@ -19,6 +21,15 @@ all_read (x ∷ xs) = x.read ++ all_read xs
 abbrev pub all_wrote : List Exchange → List ℕ
 all_wrote [] = []
 all_wrote (x ∷ xs) = x.wrote ++ all_wrote xs
+
+-- the bytes of the pieces among these mails, and of those that a pass knows
+abbrev pub bytes_sent : List Mail → List ℕ
+bytes_sent [] = []
+bytes_sent (x ∷ xs) = bytes_in x.message ++ bytes_sent xs
+
+abbrev pub came_by : Option (List Mail) → List ℕ
+came_by None = []
+came_by (Some mails) = bytes_sent mails
 
 -- these bytes were read: they are the first of those that the reader gives
 abbrev pub ReadsPrefix : Option (List ℕ) → List ℕ → Type 0

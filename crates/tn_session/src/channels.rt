@@ -1,7 +1,7 @@
 // The rule of the mailbox.
 ghost use Rattle.std.specs.Prelude.{◌≡◌, List, Option, Some, None, [], ◌++◌};
 ghost use Rattle.tn_session.specs.Mailbox.{Woven, share, grown, handed, everyone, nobody, union, Total};
-ghost use Rattle.tn_session.specs.Seats.{Kept};
+ghost use Rattle.tn_streams.specs.Seats.{Kept};
 ghost use Rattle.tn_session.specs.Mailbox as words;
 
 use crate::mail::Mail;

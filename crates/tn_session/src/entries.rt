@@ -1,6 +1,6 @@
 // The channel of entries: one puts and one takes.
 ghost use Rattle.tn_session.specs.EntryChannel.{slot, InOrder, put_more, taken_more, both_hands, no_hand, joined_hands, LeftOver};
-ghost use Rattle.tn_session.specs.Seats.{Kept};
+ghost use Rattle.tn_streams.specs.Seats.{Kept};
 ghost use Rattle.std.specs.Prelude.{◌≡◌, Option, None};
 
 use crossbeam_channel::protocol::{Join, Lesson, Outcome, Protocol, Split};

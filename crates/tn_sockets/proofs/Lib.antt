@@ -1,4 +1,3 @@
-pub mod Seats
 pub mod Queue
 pub mod Writing
 pub mod Passing

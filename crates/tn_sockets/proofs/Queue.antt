@@ -4,10 +4,10 @@ use Rattle.crossbeam_channel.specs.Fifo.{Pushes, Pops, Forks}
 use Rattle.std.specs.Global.{Vec}
 use Rattle.std.specs.Io.KnownBytes.{Appends, Keeps, WriteAppends}
 use Rattle.std.specs.Vec.{vec_items}
-use Rattle.tn_sockets.specs.Seats.{Kept}
+use Rattle.tn_streams.specs.Seats.{Kept}
 use Rattle.tn_sockets.specs.Queue.{slot, InOrder, more, put_more, taken_more, no_hand, both_hands, bytes_of, put_bytes, TakesOn, WritesTaken, WritesAllTaken}
 use Rattle.tn_sockets.specs.declared.pieces.Hand.{Hand}
-use Rattle.tn_sockets.proofs.Seats.{or_held, same_held, begins, moves, Cuts, forks}
+use Rattle.tn_streams.proofs.lemmas.Seats.{or_held, same_held, begins, moves, Cuts, forks}
 use Rattle.tn_sockets.proofs.Writing.{appends_more, appends_kept, appends_none, take_all}
 use Rattle.tn_sockets.specs.Passing.{Begins}
 use Rattle.tn_streams.specs.Prefixes.{IsPrefixOf}

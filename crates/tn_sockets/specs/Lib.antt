@@ -1,3 +1,3 @@
-pub mod Seats
 pub mod Queue
 pub mod Passing
+pub mod Logs

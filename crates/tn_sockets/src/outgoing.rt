@@ -1,7 +1,7 @@
 //! What a client sends goes out in a thread of its own, so that it reads on while the server does not.
 
 ghost use Rattle.std.specs.Option.{ForSome};
-ghost use Rattle.std.specs.Prelude.{◌≢◌, None};
+ghost use Rattle.std.specs.Prelude.{◌≡◌, ◌≢◌, IfOk, None, Some, []};
 ghost use Rattle.crossbeam_channel.specs.Claims.{view, IsSeatAt};
 ghost use Rattle.crossbeam_channel.specs.Ends.{sends_on};
 ghost use Rattle.tn_sockets.specs.Queue.{put_bytes};
@@ -85,6 +85,7 @@ pub fn queue_for<H: Copy, W>(
 ) -> Result<(Outgoing<H>, Sending<H, W>, Throttle<H>), AllocError>
 where
     W: Drop,
+    ensures nothing_yet { IfOk result (λ queue. (view queue.0.pass).put ≡ Some []) }
 {
     let (sender, pieces, mut pass) = bounded_with::<Vec<u8>, Hand, InTurn, Global>(
         alloc, MAX_WRITES,
@@ -121,10 +122,25 @@ where
     Ok((outgoing, sending, throttle))
 }
 
-impl<H> Outgoing<H> {
+impl<H: Drop> Outgoing<H> {
     /// How many bytes wait to be sent.
     pub fn waiting(&self) -> usize {
         self.waiting.bytes()
+    }
+
+    /// No more is written.
+    pub fn end(&mut self)
+        ensures { self.new.pass ≡ self.old.pass }
+    {
+        self.pieces = None;
+    }
+
+    /// The pass in which contracts see all that was put into the queue.
+    pub fn into_pass(self) -> QueuePass
+        ensures { result ≡ self.pass }
+    {
+        let Outgoing { pass, .. } = self;
+        pass
     }
 }
 
@@ -150,9 +166,9 @@ impl<H: Copy + Wait> Write for Outgoing<H> {
     }
 }
 
-impl<H: Copy + Wait> Finish for Outgoing<H> {
+impl<H: Copy + Drop + Wait> Finish for Outgoing<H> {
     fn finish(&mut self) {
-        self.pieces = None;
+        self.end();
     }
 }
 

@@ -1,6 +1,6 @@
 // The queue of what waits to be sent: one puts and one takes.
 ghost use Rattle.tn_sockets.specs.Queue.{slot, InOrder, put_more, taken_more, both_hands, no_hand};
-ghost use Rattle.tn_sockets.specs.Seats.{Kept};
+ghost use Rattle.tn_streams.specs.Seats.{Kept};
 ghost use Rattle.std.specs.Prelude.{◌≡◌, Option, None};
 
 use crossbeam_channel::protocol::{Lesson, Outcome, Protocol, Split};

@@ -5,3 +5,4 @@ pub mod Prefixes
 pub mod Known
 pub mod Sizes
 pub mod Sending
+pub mod Seats

@@ -5,3 +5,4 @@ mod connections;
 mod gateways;
 mod lines;
 mod programs;
+mod wires;

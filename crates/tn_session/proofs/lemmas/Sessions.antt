@@ -1,6 +1,5 @@
 -- The transcript of a session that ran.
 use Rattle.std.proofs.Common.{◌≡◌, inl, ℕ, false, Option, Some, None, List, [], ◌∷◌, ◌++◌, refl, sym, ap, ◌∙◌, subst, map, flat_map, append_assoc, append-nil}
-use Rattle.std.specs.Io.KnownBytes.{Appends}
 use Rattle.std.specs.List.{FoldsTo}
 use Rattle.tn_client.specs.Events as client
 use Rattle.tn_client.specs.Replies as client_says
@@ -123,9 +122,6 @@ client_transcript width height limit marked last written unwritten r said =
 pub client_reads : (first : core_run.Run) (marked : List (Told × core_mark.Mark)) (last : core_run.Run) (written : List ℕ) (t : ClientTranscript first marked last written) → all_read t.transcript ≡ brought origin.Net (map (λ m. m.0) marked)
 client_reads first marked last written t = t.reads ∙ brings_brought marked
 
--- what was read of what a reader gives, and written to a writer
+-- what was read of what a reader gives
 pub as_read : (given : Option (List ℕ)) (bytes all : List ℕ) → all ≡ bytes → ReadsPrefix given bytes → ReadsPrefix given all
 as_read given bytes all e r = subst (λ (l : List ℕ). ReadsPrefix given l) (sym e) r
-
-pub as_written : (old new : Option (List ℕ)) (bytes all : List ℕ) → all ≡ bytes → Appends old new bytes → Appends old new all
-as_written old new bytes all e a = subst (λ (l : List ℕ). Appends old new l) (sym e) a

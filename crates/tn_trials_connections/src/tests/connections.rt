@@ -142,7 +142,8 @@ fn serve_next<H: Host>(
 ) -> Option<(Ended, u64)> {
     let (stream, _) = listener.accept().ok()?;
     let jobs = Answerers::new(0);
-    let report = serve_connection(rt, alloc, stream, options(idle), jobs).ok()?;
+    let conversed = serve_connection(rt, alloc, stream, options(idle), jobs).ok()?;
+    let report = conversed.report;
     Some((report.ended, report.entries))
 }
 

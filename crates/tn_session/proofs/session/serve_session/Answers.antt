@@ -8,11 +8,11 @@ use Rattle.tn_messages.specs.declared.faults.Ended.TheVariants.{HangUp, Fault}
 use Rattle.tn_messages.specs.declared.faults.SessionFault.{SessionFault}
 use Rattle.tn_messages.specs.declared.faults.SessionFault.TheVariants as fault
 use Rattle.tn_session.specs.declared.parties.Report.{Report}
-use Rattle.tn_session.proofs.Ending.{may_come, all_pieces, heard_of_reader, took_all, takes_entries, read_cause, write_cause}
+use Rattle.tn_session.proofs.Ending.{may_come, all_pieces, came_by_net, heard_of_reader, took_all, takes_entries, read_cause, write_cause}
 use Rattle.tn_session.proofs.Makers.{all_fresh, some_are, no_first}
 use Rattle.std.proofs.lemmas.Result.{IfOk-weaker}
 use Rattle.tn_session.proofs.Reach.{never_begun}
-use Rattle.tn_session.proofs.lemmas.Sessions.{server_transcript, server_reads, as_read, as_written}
+use Rattle.tn_session.proofs.lemmas.Sessions.{server_transcript, server_reads, as_read}
 use Rattle.tn_session.proofs.session.serve_session.Goals as goal
 
 pub returns-clause-ran : goal.returns-clause-ran
@@ -52,7 +52,8 @@ returns-clause-ran g c = IfOk-weaker c.run_begun.result _ _ (λ r ran.
       entries_are = refl;
       transcript = said.transcript;
       was_read = as_read _ _ _ (reads ∙ all_pieces s) (s.read.1, s.read.3);
-      was_written = as_written _ _ _ _ said.writes s.appended;
+      came = reads ∙ came_by_net s;
+      was_written = said.writes;
       transcribed = said.transcribed;
       heard_whole = λ e. (hung e).all_heard ∙ sym reads;
       caused = caused;

@@ -1,0 +1,15 @@
+//! A client's session over a connection that ended without a fault.
+
+use tn_session::{ClientPorts, Report};
+use tn_sockets::QueuePass;
+
+/// A client's session over a connection that ended without a fault.
+#[derive(Drop)]
+pub struct Connected {
+    pub report: Report,
+    /// In them contracts see what each of its threads sent, and so all that was read from the connection and
+    /// all keys that were read.
+    pub ports: ClientPorts,
+    /// In it contracts see all that the session wrote: it waited there to be sent.
+    pub queue: QueuePass,
+}

@@ -1,0 +1,55 @@
+//! A writer with a log of what it took.
+
+ghost use Rattle.std.specs.Prelude.{◌≡◌, [], Some};
+ghost use Rattle.tn_sockets.specs.Logs.{logged};
+
+use crate::write_log::WriteLog;
+use std::io;
+use tn_streams::{Drain, Finish};
+
+/// A writer with a log of the bytes that it took, so that contracts see them though it tells nothing itself, as
+/// a socket does.
+#[derive(Drop)]
+pub struct Logged<W> {
+    writer: W,
+    log: WriteLog,
+}
+
+impl<W: Drop> Logged<W> {
+    /// Nothing was written yet.
+    pub fn new(writer: W) -> Logged<W>
+        ensures log { logged result.log ≡ [] }
+        ensures writer { result.writer ≡ writer }
+    {
+        Logged {
+            writer,
+            log: WriteLog::new(),
+        }
+    }
+
+    /// The writer, and the log of what it took.
+    pub fn into_parts(self) -> (W, WriteLog)
+        ensures writer { result.0 ≡ self.writer }
+        ensures log { result.1 ≡ self.log }
+    {
+        let Logged { writer, log } = self;
+        (writer, log)
+    }
+}
+
+impl<W: Finish> Drain for Logged<W> {
+    ghost contents = { λ l. Some (logged l.log) };
+
+    fn write_some(&mut self, buf: &[u8]) -> io::Result<usize> {
+        let count = self.writer.write_some(buf)?;
+        let log = std::mem::replace(&mut self.log, WriteLog::new());
+        self.log = log.then_all(&buf[..count]);
+        Ok(count)
+    }
+}
+
+impl<W: Finish> Finish for Logged<W> {
+    fn finish(&mut self) {
+        self.writer.finish();
+    }
+}
