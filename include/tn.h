@@ -214,7 +214,8 @@ tn_code tn_server_wish(tn_handle *handle, bool local, bool *sent);
  * TN_RESERVED, TN_TAKEN, TN_MEMORY. */
 tn_code tn_server_set_char(tn_handle *handle, uint8_t function, uint16_t value);
 
-/* Sets or clears ECHO, as for a password; the client is told. TN_FAILED, TN_MEMORY. */
+/* Sets or clears the terminal's flag ECHO, and says WILL or WONT ECHO where that is due. A password is hidden only at a
+ * client that has agreed: tn_server_option(handle, true, 1, &state) gives TN_OPTION_YES. TN_FAILED, TN_MEMORY. */
 tn_code tn_server_set_echo(tn_handle *handle, bool on);
 
 /* Asks for what is held at each character of the mask (RFC 1184, section 2.3), of which octets that are left out

@@ -119,7 +119,7 @@ fn run(world: &mut World, events: &[Event]) -> Result<(), Stop>
     }
 }
 
-// Delivers what is in flight until nothing is. Once is enough, unless an end was stopped.
+// Delivers what is in flight until nothing is. One call, of two rounds, is enough, unless an end was stopped.
 fn settle(world: &mut World) -> Result<(), Stop>
     ensures ok { OnOk result (play.Settles world.old world.new) }
     ensures err { OnErr result (play.RefusesToSettle world.old) }

@@ -300,8 +300,8 @@ impl ClientEnd {
         self.line.ahead()
     }
 
-    /// How many bytes the half line has, where the server edits it: with its ISIG set, and with it clear.
-    /// Both are 0 with EDIT.
+    /// How many bytes the half line has that the server edits, as counted here by the roles of a terminal with
+    /// ICRNL set and INLCR and IGNCR clear: with its ISIG set, and with it clear. Both are 0 with EDIT.
     pub fn counts(&self) -> (u16, u16)
         ensures value { result ≡ (self.now.trapped, self.now.plain) }
         ensures stands { (h : History) → LeadsTo h self.now →

@@ -25,8 +25,8 @@ pub fn answers_bounded()
 {}
 
 /// An exchange ends. To what a client answers nobody answers, the server or a peer that sends it back, and it
-/// changes nothing at the server. A peer that sends back what the server answers is silent after as many
-/// rounds as its list has triples, and one more.
+/// changes nothing at the server. A peer that sends back the server's answers, of which the whole table is
+/// none, is silent after as many rounds as its list has triples, and one more.
 pub fn exchanges_end()
     ensures answers { (c s : Characters) (ts : List Triple) → server_answers s (client_answers c ts) ≡ [] }
     ensures table { (c s : Characters) (ts : List Triple) → server_after s (client_answers c ts) ≡ s }

@@ -37,9 +37,9 @@ const KEPT_OPEN: usize = 16;
 
 /// Serves an address, or a name that has one, until so many connections were accepted and all their
 /// sessions have ended. Each connection has a session in threads of its own, with the jobs that the service
-/// makes for it, as long as there are no more of them than the limit; one more is told `full` and closed. A
-/// session does what the contract of `serve_session` says of those jobs, for whatever the connection gives.
-/// One that ends in a fault is reported in one line on `errors`, and changes nothing else.
+/// makes for it, as long as there are no more of them than the limit; one more is told `full` and closed.
+/// One that ends in a fault is reported in one line on `errors`, and changes nothing else. Each is a call of
+/// `serve_connection`; the clauses below only count them.
 pub fn serve<H, V, E>(
     rt: H,
     alloc: Global,

@@ -158,8 +158,9 @@ pub fn dropping_goes_on()
         LeadsTo h old → nvt.IsLetGo old.decoder piece → ¬ StopsWithin old piece fault before after new }
 {}
 
-/// A client that edits nothing, as those of PuTTY, busybox and libtelnet: whatever else it says, the entries
-/// are the local entries of its data bytes, its commands having the roles that they have.
+/// A client that edits nothing, as those of PuTTY, busybox and libtelnet: it acknowledges no EDIT, and neither
+/// it nor the owner changes a special character. Whatever else it says, the entries are the local entries of
+/// its data bytes, its commands having the roles that they have.
 pub fn remote_clients()
     ensures entries { (h : History) → StaysRemote h →
         entries h ≡ entries_of (limit h) (roles_of_items (opening_settings h) (items h)) }
@@ -171,7 +172,8 @@ pub fn remote_clients()
         half h ≡ typed_half (opening_canon h) (keys_of (items h)) }
 {}
 
-/// A client that edits, whoever made it: a line that it sends whole is read as that line.
+/// A client that edits, whoever made it: a line of ordinary bytes that fits, sent whole with a new line behind
+/// it where none was begun, is read as that line.
 pub fn whole_lines()
     ensures entries { (h : History) (bytes : List ℕ) → edits (mode h) ≡ true → half h ≡ [] →
         AreOrdinary (chars h) bytes → length bytes ≤ max_counted (limit h) →

@@ -395,8 +395,8 @@ where
 
 /// Runs a session over a connection: its reader and its writer, a terminal with these settings whose
 /// lines have at most `limit` bytes, edited at one side, and the jobs that `maker` makes. An `Err` is
-/// `Memory`, `Start` or `Channel`, and tells nothing of what was handled; all else ends in the report. It
-/// reads on only while its foreground job keeps up, so no report tells that too many entries waited.
+/// `Memory`, `Start` or `Channel`, and tells nothing of what was handled; all else ends in the report. A piece
+/// is handled only where at most 511 entries wait, so no report tells that too many entries waited.
 pub fn serve_session<R, Rd, W, M, G>(
     rt: R,
     alloc: Global,

@@ -173,6 +173,11 @@ const TYPING: &[(&str, &str)] = &[
         "join; edit; feed fffa220102fff0; keys 031c1a04",
         "sent fffa220106fff0; sent fff4ffeeffed04; shown 031c1a04",
     ),
+    // The end of file is a command with EDIT alone, where an interrupt is an ordinary byte.
+    (
+        "join; feed fffa220101fff0; keys 610304; half",
+        "sent fffa220105fff0; sent 6103ffec; half",
+    ),
     // A client edits lines.
     (
         "join; edit; keys 610304; keys 617f0d; keys 616215630a; keys 1c1a04; keys 254x78; keys 797a; half",

@@ -158,10 +158,11 @@ const SCRIPTS: &[(&str, &str)] = &[
          take; take; take; take; take; take; take; queued",
         "int; int; quit; tstp; text 6103620a; eof; none; 0",
     ),
-    // A pair keeps settings and size.
+    // A pair keeps settings and size. The echo of a new line is one, also without ONLCR.
     (
-        "size; resize 80 24; size; close-at forw2 3b; edited 3b; take; plain-newlines; write 0a; pull 9",
-        "(0, 0); (80, 24); text 3b; 1; 1 lf",
+        "size; resize 80 24; size; close-at forw2 3b; edited 3b; take; plain-newlines; write 0a; pull 9; \
+         keys 0a; pull 9",
+        "(0, 0); (80, 24); text 3b; 1; 1 lf; 1 nl",
     ),
     // A pair shows what fits.
     (

@@ -19,23 +19,31 @@ pub(super) struct Server {
     sent: Vec<u8>,
 }
 
-fn start(alloc: Global, igncr: bool, sent: &mut Vec<u8>) -> Option<ServerEnd> {
+// A server whose terminal has standard settings, but for what this word says.
+fn start(alloc: Global, word: &str, sent: &mut Vec<u8>) -> Option<ServerEnd> {
     let mut settings = Settings::standard();
-    settings.flags.igncr = igncr;
+    match word {
+        "ignoring-returns" => settings.flags.igncr = true,
+        "echoing-newlines" => {
+            settings.flags.echo = false;
+            settings.flags.echonl = true;
+        },
+        _ => {},
+    }
     ServerEnd::start(alloc, settings, Limit::standard(), sent).ok()
 }
 
 impl Stage for Server {
     fn open(alloc: Global) -> Option<Server> {
         let mut sent = Vec::new(alloc);
-        let end = start(alloc, false, &mut sent)?;
+        let end = start(alloc, "opening", &mut sent)?;
         Some(Server { alloc, end, sent })
     }
 
     fn step(&mut self, words: Words<'_>, page: &mut Page) -> bool {
         match words.verb {
             "opening" => page.tell("sent", &mut self.sent),
-            "ignoring-returns" => return self.start_anew(),
+            "ignoring-returns" | "echoing-newlines" => return self.start_anew(words.verb),
             "write" => page.say(&self.end.write(&words.bytes(self.alloc))),
             "half" => page.bytes("half", self.end.half()),
             "mode" => page.say(&self.end.mode()),
@@ -52,8 +60,8 @@ impl Stage for Server {
 }
 
 impl Server {
-    fn start_anew(&mut self) -> bool {
-        match start(self.alloc, true, &mut self.sent) {
+    fn start_anew(&mut self, word: &str) -> bool {
+        match start(self.alloc, word, &mut self.sent) {
             Some(end) => {
                 self.end = end;
                 false
@@ -258,6 +266,11 @@ const EDITING: &[(&str, &str)] = &[
     (
         "ignoring-returns; join; wish local; feed fffa220101fff0; echo off",
         "false",
+    ),
+    // A terminal with ECHONL alone echoes a new line only where the server edits.
+    (
+        "echoing-newlines; join; feed 610d00; pull 9; wish local; feed fffa220107fff0; feed 610d0a; pull 9",
+        "1; sent 0d0a; true; sent fffa220103fff0; 0",
     ),
 ];
 
