@@ -157,6 +157,7 @@ impl<H: Copy + Wait> Finish for Outgoing<H> {
 }
 
 impl<H: Wait> Throttle<H> {
+    // tools/progress: proctype ClientKeys
     /// Waits as long as more waits than the marks, and somebody sends it.
     pub fn wait(&self) {
         for _ in self.rt.forever() {
