@@ -141,6 +141,7 @@ pub struct Heard<H, S> {
     hook: Hook,
 }
 
+// tools/progress: d_gateway.pml, MAKES_STEP
 // Reads what comes, until the session is over.
 fn hear<H: Wait, S: Read>(rt: &H, stream: &mut S, hook: &Hook, buf: &mut [u8]) -> io::Result<usize>
     ensures bound { ReadsAtMost result buf.new }
@@ -195,6 +196,7 @@ pub struct Told<H, S> {
     hook: Hook,
 }
 
+// tools/progress: d_gateway.pml, ANSWERS
 // Writes as much as the stream takes at once, until the session is over and it takes nothing in time.
 fn tell<H: Wait, S: Write>(rt: &H, stream: &mut S, hook: &Hook, buf: &[u8]) -> io::Result<usize>
     ensures bound { WritesAtMost result buf.now }

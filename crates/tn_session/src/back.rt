@@ -88,6 +88,7 @@ fn advance<J: Job>(queue: &mut VecDeque<Runner<J>>, alloc: Global, tostop: bool)
     }
 }
 
+// tools/progress: proctype Back
 /// Runs the jobs in turn, until none of them runs or the flag is set.
 pub(crate) fn run_back<R: Wait, J: Job, G: Gate>(
     rt: &R,

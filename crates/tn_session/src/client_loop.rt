@@ -93,6 +93,7 @@ fn standing_of(progress: Progress) -> Standing
     }
 }
 
+// tools/progress: proctype Core
 /// Handles the mails until both senders have left. `None` where the other end of the mailbox is gone. It
 /// takes eight, since the core, the writer and the screen are lent each by itself.
 pub(crate) fn run_core<R: Wait, W: Finish, S: Drain>(

@@ -38,6 +38,7 @@ fn next_entry<R: Wait>(
     }
 }
 
+// tools/progress: proctype Desk
 /// Asks for entries and lets the job answer them, until the end, a Done or out of memory.
 pub(crate) fn run_desk<R: Wait, J: Job, G: Gate>(
     rt: &R,

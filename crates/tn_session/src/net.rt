@@ -95,6 +95,7 @@ fn is_stopped<G: Gate>(part: &ReaderPart<G>) -> bool
     }
 }
 
+// tools/progress: proctype Net, ClientNet and ClientKeys
 /// Sends the pieces that the reader gives, each for a credit where these are needed, with the sizes that it
 /// tells between them, and then how it ended: after 4,294,967,295 reads as if one had failed. Where there is
 /// a flag and it is set after a piece, it leaves. `None` where the other end is gone.

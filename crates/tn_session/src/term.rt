@@ -185,6 +185,7 @@ pub(crate) fn finish_unless<W: Finish>(closed: bool, writer: &mut W)
     }
 }
 
+// tools/progress: proctype Term
 /// Handles the mails until all senders have left, and gives a credit for the next piece once it is welcome.
 /// `None` where the other end of a channel is gone, or a piece comes that is not welcome: the thread that
 /// reads waits for a credit before each piece, but no rule of the channels says so here.

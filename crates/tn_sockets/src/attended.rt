@@ -192,6 +192,7 @@ impl<H: Clock + Copy + Wait, S: Drop + Read + Closing> Attended<H, S> {
         }
     }
 
+    // tools/progress: proctype Net
     fn read_on(&mut self, buf: &mut [u8]) -> io::Result<usize>
         ensures bound { ReadsAtMost result buf.new }
         ensures gives { GivesNext (S.remaining self.old.stream) (S.remaining self.new.stream) result buf.new }

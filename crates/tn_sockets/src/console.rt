@@ -52,6 +52,7 @@ impl<H: Copy + Print + Wait, K: Read + Drop> Console<H, K> {
         }
     }
 
+    // tools/progress: proctype ClientKeys
     // Waits until a size is told, a key can be read, or the session is over.
     fn wait(&self) -> Ready {
         for _ in self.rt.forever() {

@@ -173,6 +173,7 @@ impl<H: Copy + Drop + Wait> Finish for Outgoing<H> {
 }
 
 impl<H: Wait> Throttle<H> {
+    // tools/progress: proctype ClientKeys
     /// Waits as long as more waits than the marks, and somebody sends it.
     pub fn wait(&self) {
         for _ in self.rt.forever() {

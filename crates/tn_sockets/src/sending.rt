@@ -42,6 +42,7 @@ pub enum Sent {
 }
 
 impl<H: Copy + Wait, W: Drop + Finish> Sending<H, W> {
+    // tools/progress: proctype Sending
     /// Sends all until no more comes, and finishes the writer. Where a write fails the link is ended, since
     /// the other end hears no more. Once the user has left, what still comes is discarded.
     pub fn run(&mut self) -> io::Result<Sent>
