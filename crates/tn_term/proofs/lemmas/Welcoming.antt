@@ -1,7 +1,6 @@
 -- A welcome piece finds room for all entries that it makes.
-use Rattle.std.proofs.Common.{◌≡◌, ⊎_elim, ℕ, ◌≤◌, ◌<◌, Bool, true, false, List, [], ◌∷◌, ◌++◌, length, sym, ap, ◌∙◌, subst, arith, length-append}
+use Rattle.std.proofs.Common.{◌≡◌, ⊎_elim, ℕ, ◌≤◌, ◌<◌, Bool, false, List, ◌∷◌, ◌++◌, length, sym, ap, ◌∙◌, subst, arith, length-append}
 use Rattle.std.specs.Prelude.{All}
-use Rattle.tn_nvt.specs.declared.items.Item.{Item}
 use Rattle.tn_pty.specs.declared.pty.PtyFault.TheVariants as pty
 use Rattle.tn_server.specs.Events.{items}
 use Rattle.tn_server.specs.Lines.{waiting}
@@ -14,7 +13,7 @@ use Rattle.tn_term.specs.Ending.{EndsAt}
 use Rattle.tn_term.specs.Marks.{Turns}
 use Rattle.tn_term.specs.Reaching.{LeadsTo}
 use Rattle.tn_term.specs.Refusing.{RefusesAtItem, IsRefusalCause}
-use Rattle.tn_term.specs.Run.{Run, Reads}
+use Rattle.tn_term.specs.Run.{Run}
 use Rattle.tn_term.specs.Welcoming.{IsWelcome, too_far_ahead}
 use Rattle.tn_term.specs.declared.messages.Mark.{Mark}
 use Rattle.tn_term.specs.declared.messages.Mark.TheVariants as mark
