@@ -1,7 +1,7 @@
 -- What a client end has agreed on with its server: options, special characters, the mode of editing and the
 -- forward mask.
-use Rattle.tn_option.specs.declared.known.TheConstants.{ECHO, NAWS, LINEMODE}
 use Rattle.std.specs.Prelude.{ℕ, Bool, true, false, ◌&&◌, ◌==◌, Option, Some, None, [], ◌∷◌, if◌then◌else◌}
+use Rattle.tn_codes.specs.OptionCodes as option_code
 use Rattle.tn_codes.specs.declared.masks.Mask.{Mask}
 use Rattle.tn_codes.specs.declared.payloads.Payload.{Payload}
 use Rattle.tn_codes.specs.declared.payloads.Payload.TheVariants.{Mode, ForwardOn, ForwardOff, Slc}
@@ -23,19 +23,20 @@ agreement =
     record { us = false ∷ true ∷ true ∷ true ∷ []; them = true ∷ true ∷ false ∷ false ∷ [] }
 
 abbrev pub linemode : Options → Bool
-linemode o = is_yes (state_of o Us LINEMODE)
+linemode o = is_yes (state_of o Us option_code.linemode)
 
 -- the client tells its window's size (RFC 1073)
 abbrev pub tells_size : Options → Bool
-tells_size o = is_yes (state_of o Us NAWS)
+tells_size o = is_yes (state_of o Us option_code.naws)
 
 -- the server echoes (RFC 857)
 abbrev pub is_echoed : Options → Bool
-is_echoed o = is_yes (state_of o Them ECHO)
+is_echoed o = is_yes (state_of o Them option_code.echo)
 
 -- the payload of LINEMODE that an item brings, where LINEMODE is on
 abbrev pub payload_at : Options → Item → Option Payload
-payload_at o (Sub option params) = payload_under ((option == LINEMODE) && linemode o) option params
+payload_at o (Sub option params) =
+    payload_under ((option == option_code.linemode) && linemode o) option params
 payload_at o _ = None
 
 -- the options after an item

@@ -1,6 +1,7 @@
 //! What a client end does with an item that came.
 
 ghost use Rattle.std.specs.Prelude.{◌≡◌, ◌≢◌, ◌⊎◌, ◌≤◌, ◌++◌, ℕ, ◌==◌, ◌&&◌, Some, None, [], length, if◌then◌else◌, OnOk, OnErr};
+ghost use Rattle.tn_codes.specs.OptionCodes as option_code;
 ghost use Rattle.tn_codes.specs.declared.payloads.Payload.TheVariants as payload;
 ghost use Rattle.tn_nvt.specs.Spelling.{spells};
 ghost use Rattle.tn_nvt.specs.declared.items.Item.TheVariants as item;
@@ -187,7 +188,7 @@ impl ClientEnd {
 
     // Payloads of this option are read: it is LINEMODE, and on.
     fn is_read(&self, option: u8) -> bool
-        ensures { result ≡ ((option == LINEMODE) && linemode self.now.options) }
+        ensures { result ≡ ((option == option_code.linemode) && linemode self.now.options) }
     {
         option == LINEMODE && self.options.is_on(Side::Us, LINEMODE)
     }

@@ -1,4 +1,5 @@
 pub mod Codes
+pub mod OptionCodes
 pub mod Masks
 pub mod Payloads
 pub mod PayloadOf

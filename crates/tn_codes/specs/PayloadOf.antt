@@ -7,7 +7,8 @@ use Rattle.tn_codes.specs.declared.payloads.Payload.TheVariants.{Naws, Mode, For
 use Rattle.tn_codes.specs.declared.triples.Triple.{Triple}
 use Rattle.tn_codes.specs.Codes.{verb_code}
 use Rattle.tn_codes.specs.Masks.{filled_octets}
-use Rattle.tn_codes.specs.Payloads.{naws, linemode, mode, forwardmask, slc}
+use Rattle.tn_codes.specs.OptionCodes.{naws, linemode}
+use Rattle.tn_codes.specs.Payloads.{mode, forwardmask, slc}
 
 abbrev pub size_of : List ℕ → Option Payload
 size_of (a ∷ b ∷ c ∷ d ∷ []) = Some (Naws (from_be_bytes w16 (a ∷ b ∷ [])) (from_be_bytes w16 (c ∷ d ∷ [])))

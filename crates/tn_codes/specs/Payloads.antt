@@ -10,13 +10,7 @@ use Rattle.tn_codes.specs.declared.payloads.PayloadFault.TheVariants as fault
 use Rattle.tn_codes.specs.declared.triples.Triple.{Triple}
 use Rattle.tn_codes.specs.Codes.{verb_code}
 use Rattle.tn_codes.specs.Masks.{filled_octets, trimmed_octets}
-
--- the options
-abbrev pub naws : ℕ
-naws = 31
-
-abbrev pub linemode : ℕ
-linemode = 34
+use Rattle.tn_codes.specs.OptionCodes.{naws, linemode}
 
 -- RFC 1184, section 2: the kinds of LINEMODE subnegotiation
 abbrev pub mode : ℕ

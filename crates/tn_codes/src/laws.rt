@@ -3,6 +3,8 @@
 ghost use Rattle.std.specs.Prelude.{◌≡◌, ◌↔◌, ℕ, List, Some};
 ghost use Rattle.tn_codes.specs.Codes.{verb_code, command_code, func_code, level_code};
 ghost use Rattle.tn_codes.specs.Payloads.{Says, IsUnknownOption, IsUnknownSub, HasBadLength};
+ghost use Rattle.tn_codes.specs.OptionCodes as option_code;
+ghost use Rattle.tn_codes.specs.Payloads.{mode, forwardmask, slc};
 ghost use Rattle.tn_codes.specs.Payloads.{option_of, parameters_of, Fits};
 ghost use Rattle.tn_codes.specs.PayloadOf.{payload_of};
 ghost use Rattle.tn_codes.specs.declared.codes.Verb.{Verb};
@@ -13,7 +15,29 @@ ghost use Rattle.tn_codes.specs.declared.codes.Func.{Func};
 ghost use Rattle.tn_codes.specs.declared.codes.Func.TheVariants as func;
 ghost use Rattle.tn_codes.specs.declared.codes.Level.{Level};
 ghost use Rattle.tn_codes.specs.declared.codes.Level.TheVariants as level;
+ghost use Rattle.tn_codes.specs.declared.numbers.TheConstants as constant;
 ghost use Rattle.tn_codes.specs.declared.payloads.Payload.{Payload};
+
+/// The options' constants are the codes that RFC 857, 858, 1073 and 1184 give them.
+pub fn options()
+    ensures echo { constant.ECHO ≡ option_code.echo }
+    ensures suppress_go_ahead { constant.SUPPRESS_GO_AHEAD ≡ option_code.suppress_go_ahead }
+    ensures naws { constant.NAWS ≡ option_code.naws }
+    ensures linemode { constant.LINEMODE ≡ option_code.linemode }
+{}
+
+/// IAC (RFC 854), the kinds of LINEMODE subnegotiation, and the bits of a mask and of a modifier (RFC 1184).
+pub fn numbers()
+    ensures iac { constant.IAC ≡ 255 }
+    ensures mode { constant.MODE ≡ mode }
+    ensures forwardmask { constant.FORWARDMASK ≡ forwardmask }
+    ensures slc { constant.SLC ≡ slc }
+    ensures edit { constant.EDIT ≡ 1 }
+    ensures trapsig { constant.TRAPSIG ≡ 2 }
+    ensures mode_ack { constant.MODE_ACK ≡ 4 }
+    ensures level_bits { constant.LEVEL_BITS ≡ 3 }
+    ensures ack { constant.ACK ≡ 128 }
+{}
 
 /// The words of option negotiation (RFC 854).
 pub fn verbs()

@@ -15,6 +15,10 @@
 
 pub use codes::{Command, Func, Level, Verb};
 pub use masks::Mask;
+pub use numbers::{
+    ACK, ECHO, EDIT, FORWARDMASK, IAC, LEVEL_BITS, LINEMODE, MODE, MODE_ACK, NAWS, SLC,
+    SUPPRESS_GO_AHEAD, TRAPSIG,
+};
 pub use payloads::{Payload, PayloadFault};
 pub use reading::read_payload;
 pub use triples::{Triple, Triples};
@@ -23,6 +27,7 @@ pub use writing::{Few, few_parameters, trimmed_len, triple_parameters, write_pay
 mod codes;
 pub mod laws;
 mod masks;
+mod numbers;
 mod payloads;
 mod reading;
 mod triples;

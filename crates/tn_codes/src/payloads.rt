@@ -4,18 +4,6 @@ use crate::masks::Mask;
 use crate::triples::Triples;
 use thiserror::Error;
 
-/// The options whose subnegotiations have payloads (RFC 1073, RFC 1184).
-pub(crate) const NAWS: u8 = 31;
-
-pub(crate) const LINEMODE: u8 = 34;
-
-/// The kinds of LINEMODE subnegotiation (RFC 1184, section 2).
-pub(crate) const MODE: u8 = 1;
-
-pub(crate) const FORWARDMASK: u8 = 2;
-
-pub(crate) const SLC: u8 = 3;
-
 /// The parameters of one subnegotiation of NAWS or LINEMODE.
 #[derive(Debug, Drop, PartialEq, Eq)]
 pub enum Payload {

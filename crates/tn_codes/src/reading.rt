@@ -4,13 +4,15 @@ ghost use Rattle.std.specs.Prelude.{◌≡◌, ◌≢◌, ◌↔◌, ◌⊎◌, 
 ghost use Rattle.std.specs.Prelude.{IsOk, IfOk, IsErrOf, MatchResult};
 ghost use Rattle.tn_codes.specs.declared.payloads.Payload.{Payload};
 ghost use Rattle.tn_codes.specs.Codes.{verb_code};
-ghost use Rattle.tn_codes.specs.Payloads.{naws, linemode, mode, forwardmask, slc, Says, Tells};
+ghost use Rattle.tn_codes.specs.OptionCodes.{naws, linemode};
+ghost use Rattle.tn_codes.specs.Payloads.{mode, forwardmask, slc, Says, Tells};
 ghost use Rattle.tn_codes.specs.Payloads.{IsUnknownOption, IsUnknownSub, HasBadLength, TakesMemory};
 ghost use Rattle.tn_codes.specs.PayloadOf.{payload_of};
 
 use crate::codes::Verb;
 use crate::masks::Mask;
-use crate::payloads::{FORWARDMASK, LINEMODE, MODE, NAWS, Payload, PayloadFault, SLC};
+use crate::numbers::{FORWARDMASK, LINEMODE, MODE, NAWS, SLC};
+use crate::payloads::{Payload, PayloadFault};
 use crate::triples::{Triple, Triples};
 use std::alloc::Global;
 

@@ -10,7 +10,8 @@ ghost use Rattle.tn_codes.specs.Payloads.{forwardmask, slc, octets_of, max_tripl
 ghost use Rattle.tn_codes.specs.Counted.{listed, HasMany};
 
 use crate::codes::Verb;
-use crate::payloads::{FORWARDMASK, MODE, Payload, SLC};
+use crate::numbers::{FORWARDMASK, MODE, SLC};
+use crate::payloads::Payload;
 use crate::triples::Triple;
 use std::alloc::AllocError;
 

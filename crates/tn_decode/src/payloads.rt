@@ -8,30 +8,22 @@ ghost use Rattle.tn_decode.specs.Texts.{modifier_text, triple_text, triples_word
 use crate::names::{name_of_func, name_of_level};
 use crate::words::{hex_digits, push_bit, push_decimal, push_hex, push_named};
 use std::alloc::{AllocError, Global};
-use tn_codes::{Mask, Payload, PayloadFault, Triple, read_payload};
+use tn_codes::{
+    ACK, EDIT, LEVEL_BITS, MODE_ACK, Mask, Payload, PayloadFault, TRAPSIG, Triple, read_payload,
+};
 
-/// The bits of the mask of MODE (RFC 1184, section 2.2).
-const EDIT: u8 = 1;
-
-const TRAPSIG: u8 = 2;
-
-const MODE_ACK: u8 = 4;
-
+/// The bits of the mask of MODE that no end keeps (RFC 1184, section 2.2).
 const SOFT_TAB: u8 = 8;
 
 const LIT_ECHO: u8 = 16;
 
-/// Those that have no names.
+/// The bits that have no names.
 const HIGH_BITS: u8 = 224;
 
-/// The bits of a modifier (RFC 1184, section 2.4: SLC_LEVELBITS and the flags).
-const LEVEL_BITS: u8 = 3;
-
+/// The bits of a modifier that flush (RFC 1184, section 2.4).
 const FLUSH_OUT: u8 = 32;
 
 const FLUSH_IN: u8 = 64;
-
-const ACK: u8 = 128;
 
 /// Appends what these parameters say, or else their digits, each behind a space.
 pub(crate) fn push_parameters(

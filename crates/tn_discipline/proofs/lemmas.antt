@@ -6,3 +6,4 @@ pub mod Forwards
 pub mod Lines
 pub mod Runs
 pub mod Editing
+pub mod Texts

@@ -1,5 +1,5 @@
 -- What reads of the terminal give (XBD 11.1.6), where a signal doesn't flush the line (NOFLSH, XBD 11.2.5).
-use Rattle.std.specs.Prelude.{ℕ, List, [], ◌∷◌, ◌++◌}
+use Rattle.std.specs.Prelude.{ℕ, ◌≤◌, List, [], ◌∷◌, ◌++◌, length}
 use Rattle.std.specs.List.{flat_map}
 use Rattle.tn_discipline.specs.Admitted.{admitted_roles}
 use Rattle.tn_discipline.specs.Pieces.{Piece, pieces_of}
@@ -19,6 +19,12 @@ signals (_ ∷ roles) = signals roles
 abbrev pub line_of : List ℕ → Entry
 line_of [] = entry.Eof
 line_of (byte ∷ bytes) = entry.Text (byte ∷ bytes)
+
+-- it has at most so many bytes, its closing one among them
+abbrev pub HasAtMost : ℕ → Entry → Type 0
+HasAtMost limit (entry.Text bytes) = length bytes ≤ limit
+HasAtMost limit entry.Eof = Unit {0}
+HasAtMost limit (entry.Signal sig) = Unit {0}
 
 -- a closed piece gives its signals, and then what is kept of it with its closing byte
 abbrev pub piece_entries : Piece → List Entry

@@ -13,7 +13,8 @@ pub enum Symbol {
     Newline,
 }
 
-const BELL: u8 = 7;
+/// What is shown of a byte that the line has no room for.
+pub const BELL: u8 = 7;
 
 const BACKSPACE: u8 = 8;
 

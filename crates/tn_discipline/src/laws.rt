@@ -1,12 +1,12 @@
 //! Laws of the definitions alone.
 
-ghost use Rattle.std.specs.Prelude.{◌≡◌, ◌+◌, ◌<◌, ◌≤◌, ℕ, Option, Some, None, List, [], ◌∷◌, ◌++◌, length};
+ghost use Rattle.std.specs.Prelude.{◌≡◌, ◌+◌, ◌<◌, ◌≤◌, ℕ, Option, Some, None, List, All, [], ◌∷◌, ◌++◌, length};
 ghost use Rattle.tn_codes.specs.declared.codes.Func.{Func};
 ghost use Rattle.tn_discipline.specs.Characters.{Characters, AreAllowed, slot, with_slot, char_fault};
 ghost use Rattle.tn_discipline.specs.Keys.{roles_of, role_of_key, roles_from, literal_role};
 ghost use Rattle.tn_discipline.specs.Admitted.{count_of};
 ghost use Rattle.tn_discipline.specs.Limits.{max_counted};
-ghost use Rattle.tn_discipline.specs.Entries.{half_of, entries_of};
+ghost use Rattle.tn_discipline.specs.Entries.{HasAtMost, half_of, entries_of};
 ghost use Rattle.tn_discipline.specs.Steps.{half_next, gain_next, half_all, gain_all};
 ghost use Rattle.tn_discipline.specs.HalfLine.{HalfLine, line_length, effect_of, line_after, effect_entries};
 ghost use Rattle.tn_discipline.specs.Advancing.{LeadsTo, Advances, DropsExactly, AdvancesFromLine};
@@ -40,6 +40,12 @@ pub fn count_is_length()
     ensures count { (limit : ℕ) (history : List Role) →
         count_of limit history ≡ length (half_of limit history) }
     ensures fits { (limit : ℕ) (history : List Role) → length (half_of limit history) ≤ max_counted limit }
+{}
+
+/// No text has more bytes than a line has at most.
+pub fn texts_fit()
+    ensures { (limit : ℕ) → 1 ≤ limit → (history : List Role) →
+        All (HasAtMost limit) (entries_of limit history) }
 {}
 
 /// One more role: what it leaves and what it gives depend on the half line alone.

@@ -13,7 +13,7 @@
 #![tactic(auto)]
 
 pub use characters::{CharFault, Chars, SPECIAL};
-pub use echo::{Symbol, echo_of, echo_of_role};
+pub use echo::{BELL, Symbol, echo_of, echo_of_role};
 pub use half_line::{Effect, Line};
 pub use keys::{Role, role_of, role_of_literal};
 pub use line_limit::Limit;

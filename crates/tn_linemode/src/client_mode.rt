@@ -3,8 +3,9 @@
 ghost use Rattle.std.specs.Prelude.{◌≡◌};
 ghost use Rattle.tn_linemode.specs.Modes.{client_mask_after, mode_answer};
 
-use crate::masks::{MODE_ACK, Mode, is_acknowledged};
+use crate::masks::{Mode, is_acknowledged};
 use std::marker::Model;
+use tn_codes::MODE_ACK;
 
 /// The client's side of MODE: the mode in force.
 #[derive(Clone, Copy, Debug, PartialEq, Eq)]

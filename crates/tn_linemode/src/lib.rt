@@ -11,9 +11,10 @@
 
 pub use client_mode::ClientMode;
 pub use client_table::ClientTable;
-pub use masks::{EDIT, MODE_ACK, Mode, TRAPSIG};
+pub use masks::Mode;
 pub use server_mode::ServerMode;
 pub use server_table::ServerTable;
+pub use tn_codes::{EDIT, MODE_ACK, TRAPSIG};
 pub use triples::triple_of;
 
 mod answering;

@@ -4,15 +4,7 @@ ghost use Rattle.std.specs.Prelude.{◌≡◌};
 ghost use Rattle.tn_linemode.specs.Modes.{mode_of, is_acknowledged, edits, traps, IsMode};
 
 use std::marker::Model;
-
-/// The client edits lines and sends them whole.
-pub const EDIT: u8 = 1;
-
-/// The client sends its signal characters as commands.
-pub const TRAPSIG: u8 = 2;
-
-/// The mask repeats one that the other end proposed.
-pub const MODE_ACK: u8 = 4;
+use tn_codes::{EDIT, MODE_ACK, TRAPSIG};
 
 /// A mode: whether the client edits lines, and whether it sends its signal characters as commands.
 #[derive(Clone, Copy, Debug, PartialEq, Eq)]

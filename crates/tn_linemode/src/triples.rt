@@ -5,14 +5,8 @@ ghost use Rattle.tn_linemode.specs.Triples.{has_ack, level_of, special_at, wante
 ghost use Rattle.tn_linemode.specs.Exchange.{announcement};
 
 use std::alloc::AllocError;
-use tn_codes::{Func, Level, Triple};
+use tn_codes::{ACK, Func, LEVEL_BITS, Level, Triple};
 use tn_discipline::{Chars, SPECIAL, special_characters};
-
-/// The two low bits of a modifier, which are a level.
-const LEVEL_BITS: u8 = 3;
-
-/// The bit of a modifier that acknowledges a triple of the other end.
-const ACK: u8 = 128;
 
 /// What a triple says, be it an acknowledgement or not.
 #[derive(Clone, Copy, Debug, PartialEq, Eq)]

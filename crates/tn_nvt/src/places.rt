@@ -11,11 +11,11 @@ ghost use Rattle.tn_nvt.specs.Machine.{gathered_of, progress, given_items, HasNo
 ghost use Rattle.tn_nvt.specs.Runs.{KeepsFront, LacksMemory};
 ghost use Rattle.tn_nvt.specs.Sinks.{AreSpecial};
 
-use crate::bytes::{CR, IAC, LF, NUL, SB, SE};
+use crate::bytes::{CR, LF, NUL, SB, SE};
 use crate::items::Item;
 use crate::parameters::Params;
 use std::alloc::{AllocError, Global};
-use tn_codes::{Command, Verb};
+use tn_codes::{Command, IAC, Verb};
 
 /// The most parameters of a subnegotiation; one with more is discarded.
 pub const MAX_PARAMETERS: usize = 512;

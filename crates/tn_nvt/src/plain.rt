@@ -4,8 +4,9 @@ ghost use Rattle.std.specs.Prelude.{◌≡◌, ◌≤◌, ◌<◌, ◌↔◌, le
 ghost use Rattle.tn_nvt.specs.Sinks.{IsPlain, EndsRun};
 ghost use Rattle.tn_nvt.specs.Runs.{HasRun};
 
-use crate::bytes::{CR, IAC};
+use crate::bytes::CR;
 use memchr::memchr2;
+use tn_codes::IAC;
 
 // How many bytes of a run are looked at one by one, which is faster than a search where a run is short.
 const NEAR: usize = 4;

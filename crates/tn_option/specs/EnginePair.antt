@@ -1,6 +1,6 @@
 -- Two ends with all their options, and the words that are on their way between them.
-use Rattle.tn_option.specs.declared.known.TheConstants.{ECHO}
 use Rattle.std.specs.Prelude.{◌≡◌, ◌⊎◌, ℕ, ◌==◌, Bool, true, false, ◌&&◌, Option, None, option_to_list, Result, Ok, Err, List, [], ◌∷◌, ◌++◌}
+use Rattle.tn_codes.specs.OptionCodes as option_code
 use Rattle.tn_codes.specs.declared.codes.Verb.{Verb}
 use Rattle.tn_codes.specs.declared.codes.Verb.TheVariants.{Will, Wont, DoIt, DontIt}
 use Rattle.tn_option.specs.Options.{Options, new_options, options_after_word, reply_to, options_after_wish, answer_to, state_of}
@@ -65,7 +65,7 @@ pub data Talk : Type 0 where
   client_hears : Talk
 
 abbrev pub step_of : Talk → EngineStep
-step_of (wishes_echo on) = ask_here Us ECHO on
+step_of (wishes_echo on) = ask_here Us option_code.echo on
 step_of server_hears = got_here
 step_of client_hears = got_there
 

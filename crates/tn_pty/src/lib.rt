@@ -13,6 +13,6 @@
 //! blocks.
 #![tactic(auto)]
 
-pub use pty::{Input, Pair, PtyFault};
+pub use pty::{Input, Pair, PtyFault, QUEUE_SYMBOLS};
 
 mod pty;

@@ -17,18 +17,15 @@ use std::marker::Model;
 use thiserror::Error;
 use tn_codes::{Command, Func};
 use tn_discipline::{
-    Chars, Effect, Entry, Flags, Limit, Line, Role, Roles, Settings, Sig, Symbol, echo_of_role,
-    role_of_literal,
+    BELL, Chars, Effect, Entry, Flags, Limit, Line, Role, Roles, Settings, Sig, Symbol,
+    echo_of_role, role_of_literal,
 };
 
 /// How many symbols the output queue holds.
-const QUEUE_SYMBOLS: usize = 4096;
+pub const QUEUE_SYMBOLS: usize = 4096;
 
 /// How many entries may wait.
 const MAX_WAITING: usize = 1024;
-
-/// What is shown of a byte that the line has no room for.
-const BELL: u8 = 7;
 
 /// The answer to AYT.
 const YES: [Option<Symbol>; 6] = [

@@ -1,12 +1,17 @@
 -- What waits at a server end is bounded.
-use Rattle.std.proofs.Common.{◌≡◌, ◌≤◌, ◌+◌, nat_le, Bool, true, false, List, ◌++◌, length, map, take, refl, ap, arith, length-append, length-drop, if◌then◌else◌}
+use Rattle.std.proofs.Common.{◌≡◌, ℕ, ◌≤◌, ◌+◌, nat_le, ◌&&◌, Bool, true, false, List, ◌++◌, length, map, take, refl, ap, arith, length-append, length-drop, if◌then◌else◌}
 use Rattle.std.proofs.lemmas.Bool.{leb-true}
+use Rattle.std.specs.Prelude.{All}
 use Rattle.std.proofs.lemmas.List.{length-take, length-map}
+use Rattle.std.proofs.lemmas.List.Elements.{All-drop}
+use Rattle.tn_discipline.proofs.lemmas.Texts.{texts_fit}
+use Rattle.tn_discipline.specs.Entries.{HasAtMost}
+use Rattle.tn_discipline.specs.Limits.{is_limit, standard_limit, max_limit}
 use Rattle.tn_discipline.specs.declared.echo.Symbol.{Symbol}
 use Rattle.tn_linemode.specs.Modes.{edits}
 use Rattle.tn_pty.specs.Terminal.{queue_symbols, max_waiting, fitting_count, output_symbol}
-use Rattle.tn_server.specs.Events.{History, begun, next, got, wrote, pulled}
-use Rattle.tn_server.specs.Lines.{line, waiting}
+use Rattle.tn_server.specs.Events.{History, begun, next, got, wrote, pulled, limit}
+use Rattle.tn_server.specs.Lines.{line, roles, entries, taken_count, waiting}
 use Rattle.tn_server.specs.Screen.{queue, shows}
 use Rattle.tn_server.specs.Terms.{settings, mode, options, echoes}
 use Rattle.tn_server.specs.Calls.{End, LeadsTo}
@@ -30,3 +35,15 @@ queue_fits (next h _) = queue_fits h
 
 pub waiting_fits : (h : History) (end : End) → LeadsTo h end → length end.terminal.entries ≤ max_waiting → length (waiting h) ≤ max_waiting
 waiting_fits h end leads few = omega (arith, few, ap length (waits_are h end leads))
+
+-- a limit is one byte at least
+some_byte : (a b : Bool) (n : ℕ) → nat_le standard_limit n ≡ a → a && b ≡ true → 1 ≤ n
+some_byte true b n is both = omega (arith, leb-true standard_limit n is)
+some_byte false b n is both = cc
+
+pub entries_fit : (h : History) → is_limit (limit h) ≡ true → All (HasAtMost (limit h)) (entries h)
+entries_fit h is =
+    texts_fit (limit h) (some_byte (nat_le standard_limit (limit h)) (nat_le (limit h) max_limit) (limit h) refl is) (roles h)
+
+pub waiting_texts_fit : (h : History) → is_limit (limit h) ≡ true → All (HasAtMost (limit h)) (waiting h)
+waiting_texts_fit h is = All-drop (HasAtMost (limit h)) (taken_count h) (entries h) (entries_fit h is)

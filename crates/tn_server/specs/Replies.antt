@@ -1,6 +1,6 @@
 -- What a server end sends, as items; its bytes are their spellings, one after another.
-use Rattle.tn_option.specs.declared.known.TheConstants.{ECHO}
 use Rattle.std.specs.Prelude.{ℕ, Bool, true, false, not, ◌&&◌, Option, Some, None, Result, Ok, Err, List, [], ◌∷◌, ◌++◌, map, take, if◌then◌else◌}
+use Rattle.tn_codes.specs.OptionCodes as option_code
 use Rattle.tn_codes.specs.declared.codes.Command.TheVariants.{Ga}
 use Rattle.tn_codes.specs.declared.codes.Func.{Func}
 use Rattle.tn_codes.specs.declared.codes.Verb.{Verb}
@@ -45,7 +45,7 @@ abbrev pub new_table_items : Bool → Bool → Characters → List Item
 new_table_items was on c = table_items (on && not was) c
 
 abbrev pub echo_items : Bool → Bool → Options → List Item
-echo_items true wanted o = asked_word_items (answer_to o Us ECHO wanted)
+echo_items true wanted o = asked_word_items (answer_to o Us option_code.echo wanted)
 echo_items false wanted o = []
 
 -- what the server says once the options and perhaps a wish are new, or the flag ECHO was set: the whole
@@ -86,7 +86,13 @@ forward_payload None = ForwardOff
 
 -- DO LINEMODE, DO NAWS, WILL SUPPRESS-GO-AHEAD, DO SUPPRESS-GO-AHEAD, WILL ECHO
 abbrev pub opening : List Item
-opening = Neg verb.DoIt 34 ∷ Neg verb.DoIt 31 ∷ Neg verb.Will 3 ∷ Neg verb.DoIt 3 ∷ Neg verb.Will 1 ∷ []
+opening =
+    Neg verb.DoIt option_code.linemode
+    ∷ Neg verb.DoIt option_code.naws
+    ∷ Neg verb.Will option_code.suppress_go_ahead
+    ∷ Neg verb.DoIt option_code.suppress_go_ahead
+    ∷ Neg verb.Will option_code.echo
+    ∷ []
 
 -- a symbol of the screen is data
 abbrev pub data_of : Symbol → Item

@@ -1,5 +1,4 @@
 -- The symbols of a server end: first in, first out.
-use Rattle.tn_option.specs.declared.known.TheConstants.{SUPPRESS_GO_AHEAD}
 use Rattle.std.specs.Prelude.{ℕ, nat_lt, Bool, false, not, ◌&&◌, ◌||◌, Option, Some, List, [], ◌++◌, length, take, drop, if◌then◌else◌}
 use Rattle.tn_discipline.specs.HalfLine.{HalfLine}
 use Rattle.tn_discipline.specs.declared.echo.Symbol.{Symbol}
@@ -12,6 +11,7 @@ use Rattle.tn_option.specs.declared.q_method.Side.TheVariants.{Us}
 use Rattle.tn_pty.specs.Terminal.{queue_with, fitting_count, output_symbols}
 use Rattle.tn_pty.specs.Typing.{echo_symbols, command_shows}
 use Rattle.tn_server.specs.Events.{got, took, wrote, pulled, History, begun, next}
+use Rattle.tn_codes.specs.OptionCodes as option_code
 use Rattle.tn_codes.specs.declared.payloads.Payload.{Payload}
 use Rattle.tn_codes.specs.declared.payloads.Payload.TheVariants.{Naws}
 use Rattle.tn_server.specs.Terms.{settings, mode, options, echoes, payload_at}
@@ -40,7 +40,7 @@ queue (next h _) = queue h
 
 -- RFC 858: GA is due where nobody waits to be read, unless it is suppressed
 abbrev pub sends_ga : Bool → Options → Bool → Bool
-sends_ga none o due = none && (not (is_yes (state_of o Us SUPPRESS_GO_AHEAD)) && due)
+sends_ga none o due = none && (not (is_yes (state_of o Us option_code.suppress_go_ahead)) && due)
 
 -- no entry waits
 abbrev pub none_waits : History → Bool

@@ -1,6 +1,6 @@
 -- What a server end has agreed on with its client: options, special characters and the mode of editing.
-use Rattle.tn_option.specs.declared.known.TheConstants.{ECHO, SUPPRESS_GO_AHEAD, NAWS, LINEMODE}
 use Rattle.std.specs.Prelude.{ℕ, Bool, true, false, not, ◌&&◌, ◌||◌, Option, Some, None, is_some, [], ◌∷◌, if◌then◌else◌}
+use Rattle.tn_codes.specs.OptionCodes as option_code
 use Rattle.tn_codes.specs.declared.payloads.Payload.{Payload}
 use Rattle.tn_codes.specs.declared.payloads.Payload.TheVariants.{Mode, Slc}
 use Rattle.tn_discipline.specs.Characters.{Characters, with_slot}
@@ -31,18 +31,18 @@ opening_options =
     (options_after_wish
     (options_after_wish
     (options_after_wish
-    (options_after_wish (new_options agreement) Them LINEMODE true)
-    Them NAWS true)
-    Us SUPPRESS_GO_AHEAD true)
-    Them SUPPRESS_GO_AHEAD true)
-    Us ECHO true
+    (options_after_wish (new_options agreement) Them option_code.linemode true)
+    Them option_code.naws true)
+    Us option_code.suppress_go_ahead true)
+    Them option_code.suppress_go_ahead true)
+    Us option_code.echo true
 
 abbrev pub linemode : Options → Bool
-linemode o = is_yes (state_of o Them LINEMODE)
+linemode o = is_yes (state_of o Them option_code.linemode)
 
 -- ECHO of the server (RFC 857)
 abbrev pub echoes : Options → Bool
-echoes o = is_yes (state_of o Us ECHO)
+echoes o = is_yes (state_of o Us option_code.echo)
 
 -- the payload that an item brings, where its option is on at the client's side
 abbrev pub payload_at : Options → Item → Option Payload
@@ -132,7 +132,7 @@ abbrev pub asks_echo : Options → Options → Option ℕ → Bool → Bool
 asks_echo old new told set = changes old new || (is_some told || set)
 
 abbrev pub options_with_echo : Bool → Bool → Options → Options
-options_with_echo true wanted o = options_after_wish o Us ECHO wanted
+options_with_echo true wanted o = options_after_wish o Us option_code.echo wanted
 options_with_echo false wanted o = o
 
 -- the MODE that is sent once these are the options and this is the wish

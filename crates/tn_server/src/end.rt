@@ -1,6 +1,7 @@
 //! The server end: the calls that its owner makes.
 
 ghost use Rattle.std.specs.Prelude.{◌≡◌, ◌≢◌, ◌↔◌, ◌⊎◌, ◌&&◌, not, ℕ, List, true, false, Some, None, Err, [], ◌++◌, ◌∷◌, ◌*◌, length, min, IfOk, IfErr, OnOk, OnErr, IsErrOf, MatchOption, option_copied, slice_get};
+ghost use Rattle.tn_codes.specs.OptionCodes as option_code;
 ghost use Rattle.tn_discipline.specs.Characters.{char_fault};
 ghost use Rattle.tn_nvt.specs.Room.{LacksRoom};
 ghost use Rattle.tn_nvt.specs.Spelling.{spells};
@@ -27,16 +28,14 @@ use crate::wishes::Editing;
 use std::alloc::Global;
 use std::marker::Model;
 use std::mem;
-use tn_codes::{Command, Func, Mask};
+use tn_codes::{Command, Func, IAC, Mask};
 use tn_discipline::{CharFault, Chars, Entry, Limit, Settings, Sig};
 use tn_linemode::ServerTable;
 use tn_nvt::{Decoder, put_cmd};
 use tn_option::{ECHO, LINEMODE, NAWS, QState, SUPPRESS_GO_AHEAD, Side};
 use tn_pty::Pair;
 
-/// RFC 854: what begins an option word, and two of the verbs.
-const IAC: u8 = 255;
-
+/// Two of the verbs (RFC 854).
 const WILL: u8 = 251;
 
 const DO: u8 = 253;
@@ -191,8 +190,8 @@ impl ServerEnd {
 
     // Symbols were pulled since the last GA, and GA is not suppressed.
     fn owes_ga(&self) -> bool
-        ensures { result ≡
-            (not (is_yes (state_of self.now.terms.options Us SUPPRESS_GO_AHEAD)) && self.now.pulled) }
+        ensures { let state = state_of self.now.terms.options Us option_code.suppress_go_ahead in
+            result ≡ (not (is_yes state) && self.now.pulled) }
     {
         !self.terms.options.is_on(Side::Us, SUPPRESS_GO_AHEAD) && self.pulled
     }

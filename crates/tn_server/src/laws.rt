@@ -1,11 +1,12 @@
 //! Laws of the definitions alone.
 
-ghost use Rattle.std.specs.Prelude.{◌≡◌, ◌↔◌, ◌<◌, ◌≤◌, ◌+◌, ◌*◌, ◌∷◌, ◌++◌, ℕ, true, List, All, [], length, map};
+ghost use Rattle.std.specs.Prelude.{◌≡◌, ◌≢◌, ◌↔◌, ◌<◌, ◌≤◌, ◌+◌, ◌*◌, ◌∷◌, ◌++◌, ℕ, true, List, All, [], length, map};
 ghost use Rattle.std.specs.List.{flat_map};
 ghost use Rattle.tn_discipline.specs.Canon.{Canon, typed_entries, typed_half};
-ghost use Rattle.tn_discipline.specs.Entries.{entries_of, half_of};
-ghost use Rattle.tn_discipline.specs.Limits.{max_counted};
+ghost use Rattle.tn_discipline.specs.Entries.{HasAtMost, entries_of, half_of};
+ghost use Rattle.tn_discipline.specs.Limits.{is_limit, max_counted};
 ghost use Rattle.tn_discipline.specs.declared.reads.Entry.TheVariants.{Text};
+ghost use Rattle.tn_codes.specs.OptionCodes as option_code;
 ghost use Rattle.tn_codes.specs.Payloads.{parameters_of};
 ghost use Rattle.tn_codes.specs.declared.payloads.Payload.TheVariants.{Slc};
 ghost use Rattle.tn_codes.specs.declared.triples.Triple.{Triple};
@@ -16,8 +17,8 @@ ghost use Rattle.tn_nvt.specs.declared.items.Item.TheVariants.{Sub};
 ghost use Rattle.tn_nvt.specs.Spelling.{Fits, spells};
 ghost use Rattle.tn_nvt.specs.Feeding as nvt;
 ghost use Rattle.tn_nvt.specs.declared.items.Item.{Item};
-ghost use Rattle.tn_option.specs.declared.known.TheConstants.{LINEMODE};
 ghost use Rattle.tn_pty.specs.Terminal.{output_symbols, queue_symbols, max_waiting};
+ghost use Rattle.tn_pty.specs.declared.pty.PtyFault.TheVariants.{TooFarAhead};
 ghost use Rattle.tn_server.specs.Course.{Course, started, fed, called, stream, in_parts, IsCall, ReadsAs, CourseLeadsTo};
 ghost use Rattle.tn_server.specs.Events.{Event, got, History, begun, items, gets, opening_settings, limit};
 ghost use Rattle.tn_server.specs.Lines.{entries, half, waiting};
@@ -113,6 +114,24 @@ pub fn entries_are_bounded(end: &ServerEnd)
     let _count = end.pair.waiting_count();
 }
 
+/// No text that a history made has more bytes than a line of its end has at most.
+pub fn texts_fit()
+    ensures entries { (h : History) → is_limit (limit h) ≡ true → All (HasAtMost (limit h)) (entries h) }
+    ensures waiting { (h : History) → is_limit (limit h) ≡ true → All (HasAtMost (limit h)) (waiting h) }
+{}
+
+/// A piece of n bytes makes at most n + 1 entries, since its first byte may complete two items. So one of at
+/// most 512 bytes finds room where at most 511 entries wait, and is refused for another cause if at all.
+pub fn pieces_find_room()
+    ensures entries { (c : Course) (h whole : History) (piece : List ℕ) → All (λ b. b < 256) (stream c) →
+        ReadsAs c h → ReadsAs (fed c piece) whole →
+        length (waiting whole) ≤ length (waiting h) + (length piece + 1) }
+    ensures room { (c : Course) (h : History) (old new : End) (piece before after : List ℕ)
+        (fault : ServerFault) → All (λ b. b < 256) (stream c) →
+        CourseLeadsTo c old → ReadsAs c h → length piece ≤ 512 → length (waiting h) ≤ 511 →
+        StopsWithin old piece fault before after new → fault ≢ ServerFault.Pty TooFarAhead }
+{}
+
 /// What an item is answered by at most: an option word by 43 bytes, a subnegotiation by 30 bytes more than it
 /// has itself, and any other by none.
 pub fn replies_bounded()
@@ -127,7 +146,7 @@ pub fn replies_bounded()
 /// in whatever state.
 pub fn answers_are_not_answered()
     ensures { (h : History) (c : Characters) (ts : List Triple) →
-        replies h (got (Sub LINEMODE (parameters_of (Slc (client_answers c ts))))) ≡ [] }
+        replies h (got (Sub option_code.linemode (parameters_of (Slc (client_answers c ts))))) ≡ [] }
 {
     exchanges_end();
 }

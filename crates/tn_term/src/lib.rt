@@ -24,7 +24,7 @@
 
 pub use messages::{Mark, Outcome, Put};
 pub use progress::Progress;
-pub use terminal::Term;
+pub use terminal::{MAX_PIECE, Term};
 
 pub mod laws;
 mod messages;

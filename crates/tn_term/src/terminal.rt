@@ -26,16 +26,14 @@ use std::alloc::Global;
 use tn_discipline::{Entry, Limit, Settings};
 use tn_jobs::{After, JobId, JobState, Table, Verdict, Why, judge};
 use tn_messages::{Ended, Message, SessionFault};
+use tn_pty::QUEUE_SYMBOLS;
 use tn_server::{Editing, ServerEnd, ServerFault};
-
-/// How many symbols a screen holds at most.
-const MAX_SYMBOLS: usize = 4096;
 
 /// How many entries may wait for one more piece to be welcome.
 const MAX_BEFORE_PIECE: usize = 511;
 
 /// How many bytes a welcome piece has at most.
-const MAX_PIECE: usize = 512;
+pub const MAX_PIECE: usize = 512;
 
 /// The terminal of a session.
 #[derive(Drop)]
@@ -76,7 +74,7 @@ fn pull_all(end: &mut ServerEnd, out: &mut Vec<u8>) -> Result<(), ServerFault>
     ensures fault { IfErr result (λ fault. fault ≡ ServerFault.Memory) }
     ensures grows { OnErr result ((h : History) → server.LeadsTo h end.old → SymbolsWait h) }
 {
-    end.pull(MAX_SYMBOLS, out)?;
+    end.pull(QUEUE_SYMBOLS, out)?;
     Ok(())
 }
 
@@ -157,7 +155,7 @@ impl Term {
     {
         let mut rest = text;
         while !rest.is_empty() {
-            let (part, later) = rest.split_at(rest.len().min(MAX_SYMBOLS));
+            let (part, later) = rest.split_at(rest.len().min(QUEUE_SYMBOLS));
             self.show_part(part, out)?;
             rest = later;
         }

@@ -6,12 +6,7 @@ ghost use Rattle.tn_codes.specs.Codes.{verb_code};
 ghost use Rattle.tn_codes.specs.Payloads.{forwardmask, slc, octets_of, max_triples};
 ghost use Rattle.tn_codes.specs.declared.codes.Verb.TheVariants.{DoIt};
 
-use tn_codes::{Mask, Triple, Verb};
-
-/// The kinds of LINEMODE subnegotiation whose parameters vary in number (RFC 1184, section 2).
-const FORWARDMASK: u8 = 2;
-
-const SLC: u8 = 3;
+use tn_codes::{FORWARDMASK, Mask, SLC, Triple, Verb};
 
 /// DO, FORWARDMASK and the octets of a mask.
 const MASK_PARAMETERS: usize = 34;

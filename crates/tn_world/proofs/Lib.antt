@@ -21,6 +21,7 @@ pub mod Saying
 pub mod ServerItems
 pub mod ServerSteps
 pub mod Settled
+pub mod SettledOutput
 pub mod Showing
 pub mod Soundness
 pub mod Stages

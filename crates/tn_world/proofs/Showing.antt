@@ -274,7 +274,7 @@ halts_took old new n fault text s r o server_faults.NotOn e = absurd (subst IsOf
 halts_took old new n fault text s r o (server_faults.Pty f) e = halted old new n fault text s r o (r.halts (subst IsOfItem (sym e) tt))
 halts_took old new n fault text s r o server_faults.Memory e = halted old new n fault text s r o (r.halts (subst IsOfItem (sym e) tt))
 
-refused_grows : (old new : World) (e : Event) (text : List ℕ) → HasPast old → Refusal old e new → IsOutput old text → new.client.failed ≡ false → OutputGrows old e new text
+pub refused_grows : (old new : World) (e : Event) (text : List ℕ) → HasPast old → Refusal old e new → IsOutput old text → new.client.failed ≡ false → OutputGrows old e new text
 refused_grows old new e text s (unchanged is) o runs = same_grows old new e text is o
 refused_grows old new e text s (by_server n fault is r) o runs =
     let t = halts_took old new n fault text s r o fault refl in

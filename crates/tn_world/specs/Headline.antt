@@ -3,8 +3,8 @@
 -- are a prefix of the entries that the typed keys give at a local terminal. They are all of them once nothing
 -- is in flight to the server, if no end has failed, and the line that is not finished is the local
 -- terminal's, too. Read `Headline` at the end first, and then the words that it is made of.
-use Rattle.tn_option.specs.declared.known.TheConstants.{LINEMODE}
 use Rattle.std.specs.Prelude.{◌≡◌, ◌⊎◌, ℕ, Bool, true, false, List, [], ◌∷◌, ◌++◌}
+use Rattle.tn_codes.specs.OptionCodes as option_code
 use Rattle.tn_discipline.specs.Canon.{Canon, typed_entries, typed_half}
 use Rattle.tn_discipline.specs.Characters.{standard_characters}
 use Rattle.tn_discipline.specs.declared.reads.Entry.{Entry}
@@ -38,8 +38,8 @@ IsSteady o = (side : Side) (option : ℕ) → is_in_order (state_of o side optio
 -- LINEMODE is on at both ends, or off at both
 abbrev pub AgreeOnLinemode : Options → Options → Type 0
 AgreeOnLinemode server client =
-    ((state_of server Them LINEMODE ≡ Yes) × (state_of client Us LINEMODE ≡ Yes))
-    ⊎ ((state_of server Them LINEMODE ≡ No) × (state_of client Us LINEMODE ≡ No))
+    ((state_of server Them option_code.linemode ≡ Yes) × (state_of client Us option_code.linemode ≡ Yes))
+    ⊎ ((state_of server Them option_code.linemode ≡ No) × (state_of client Us option_code.linemode ≡ No))
 
 -- Nothing is in flight, and nobody has stopped or failed.
 pub record IsIdle (w : World) : Type 0 where

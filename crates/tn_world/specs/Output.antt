@@ -6,7 +6,7 @@ use Rattle.tn_discipline.specs.declared.echo.Symbol.{Symbol}
 use Rattle.tn_nvt.specs.declared.items.Item.{Item}
 use Rattle.tn_client.specs.Screen.{symbol_shown, item_shown}
 use Rattle.tn_world.specs.Flight.{InFlight}
-use Rattle.tn_world.specs.Worlds.{World, RunsEvent, StopsWithin}
+use Rattle.tn_world.specs.Worlds.{World, RunsEvent, Refuses, StopsWithin}
 use Rattle.tn_world.specs.declared.events.Event.{Event}
 use Rattle.tn_world.specs.declared.events.Event.TheVariants.{ToClient, Pull}
 use Rattle.tn_world.specs.declared.faults.Cause.{Cause}
@@ -51,6 +51,21 @@ OutputGrowsTo old (e ∷ events) new text last =
 
 abbrev pub OutputGrowsAll : World → List Event → World → List ℕ → Type 0
 OutputGrowsAll old events new text = (last : List ℕ) × OutputGrowsTo old events new text last
+
+-- What the terminal's queue took while the world settled is what it adds to this Output.
+pub record OutputSettles (old new : World) (text : List ℕ) : Type 0 where
+  pub symbols : List Symbol
+  pub took : new.server.terminal.queue ≡ old.server.terminal.queue ++ symbols
+  pub output : IsOutput new (text ++ screen symbols)
+
+-- A delivery is refused while it settles: it does so up to this delivery, and with it, unless the client
+-- fails.
+pub record OutputStopsSettling (old : World) (cause : Cause) (new : World) (text : List ℕ) : Type 0 where
+  pub mid : World
+  pub before : OutputSettles old mid text
+  pub delivery : Event
+  pub refuses : Refuses mid delivery cause new
+  pub refused : new.client.failed ≡ false → OutputSettles old new text
 
 -- The event at this place is refused, and each of those before it does so; and so does this one,
 -- unless the client fails.

@@ -1,5 +1,5 @@
 -- Both ends and the two streams between them, and what an event does to them.
-use Rattle.std.specs.Prelude.{◌≡◌, ℕ, ◌<◌, Bool, true, false, min, Option, None, List, [], ◌∷◌, ◌++◌, length, take, drop, MatchOption, option_to_list}
+use Rattle.std.specs.Prelude.{◌≡◌, ◌≢◌, ℕ, ◌<◌, Bool, true, false, min, Option, None, List, [], ◌∷◌, ◌++◌, length, take, drop, MatchOption, option_to_list}
 use Rattle.tn_discipline.specs.Canon.{Canon}
 use Rattle.tn_discipline.specs.declared.reads.Entry.{Entry}
 use Rattle.tn_pty.specs.Terminal.{max_waiting}
@@ -220,12 +220,13 @@ ClientRefusesEvent w (Propose func value) fault =
     (w.client_stopped ≡ false) × ClientRefusesCall w.client (client_calls.proposed func value) fault
 ClientRefusesEvent w e fault = ⊥
 
--- the world needs memory of its own: for a typed key, for the rest of a flight that is cut, for a taken entry
+-- the world needs memory of its own: for a typed key, for the rest of a flight that is cut, for an entry that
+-- waits to be taken
 abbrev pub WantsMemory : World → Event → Type 0
 WantsMemory w (Key key) = w.client_stopped ≡ false
 WantsMemory w (ToServer n) = (w.server_stopped ≡ false) × (n < length w.to_server)
 WantsMemory w (ToClient n) = (w.client_stopped ≡ false) × (n < length w.to_client)
-WantsMemory w Take = Unit {0}
+WantsMemory w Take = w.server.terminal.entries ≢ []
 WantsMemory w e = ⊥
 
 -- the event is refused: where it is no delivery, nothing changes

@@ -1,6 +1,6 @@
 //! Whether a world is at rest.
 
-ghost use Rattle.std.specs.Prelude.{◌≡◌, ◌↔◌, true};
+ghost use Rattle.std.specs.Prelude.{◌≡◌, ◌↔◌, true, []};
 ghost use Rattle.std.specs.List.{list_all};
 ghost use Rattle.tn_world.specs.Headline.{IsSettled, IsSteady, is_in_order, AgreeOnLinemode, AgreeOnMask, IsIdle, IsAgreed, IsUncounted, IsEmpty};
 
@@ -98,6 +98,13 @@ impl World {
         if !self.is_uncounted() {
             return false;
         }
+        self.none_waits()
+    }
+
+    // No entry waits for a job.
+    pub(crate) fn none_waits(&self) -> bool
+        ensures { result ≡ true ↔ (self.now.server.terminal.entries ≡ []) }
+    {
         self.server.waiting(0).is_none()
     }
 

@@ -135,6 +135,10 @@ impl World {
         ensures ok { OnOk result (RunsEvent self.old event.Take self.new) }
         ensures err { IfErr result (λ cause. Refuses self.old event.Take cause self.new) }
     {
+        if self.none_waits() {
+            let _none = self.server.take(&mut self.to_client)?;
+            return Ok(());
+        }
         self.taken.reserve(1)?;
         if let Some(entry) = self.server.take(&mut self.to_client)? {
             self.taken.push_reserved(entry);

@@ -1,8 +1,9 @@
 //! How a world comes to rest.
 
-ghost use Rattle.std.specs.Prelude.{◌≡◌, ◌↔◌, ◌≤◌, true, OnOk, IfErr, length};
+ghost use Rattle.std.specs.Prelude.{◌≡◌, ◌↔◌, ◌≤◌, ℕ, true, false, List, OnOk, IfErr, length};
 ghost use Rattle.tn_discipline.specs.Canon.{Canon};
 ghost use Rattle.tn_world.specs.Headline.{Follows, Headline, NothingInFlight};
+ghost use Rattle.tn_world.specs.Output.{IsOutput, OutputSettles, OutputStopsSettling};
 ghost use Rattle.tn_world.specs.Settling.{IsRound, RefusesRound, Settles, StopsSettling, IsAtRest};
 ghost use Rattle.tn_world.specs.Worlds.{ShowsCause};
 
@@ -21,6 +22,10 @@ impl World {
         ensures causes { IfErr result (λ fault. ShowsCause fault.cause self.new) }
         ensures follows { (canon : Canon) → Follows canon self.old → Follows canon self.new }
         ensures headline { (canon : Canon) → Follows canon self.old → Headline canon self.new }
+        ensures output { OnOk result ((text : List ℕ) → IsOutput self.old text →
+            self.old.client.failed ≡ false → OutputSettles self.old self.new text) }
+        ensures output_before { IfErr result (λ fault. (text : List ℕ) → IsOutput self.old text →
+            self.old.client.failed ≡ false → OutputStopsSettling self.old fault.cause self.new text) }
     {
         // Nothing is done here; the proof begins with what every world keeps.
         let _ = &self.shown;

@@ -1,35 +1,19 @@
 -- A welcome piece finds room for all entries that it makes.
-use Rattle.std.proofs.Common.{◌≡◌, ◌⊎◌, inl, inr, ⊎_elim, ℕ, ◌+◌, ◌≤◌, ◌<◌, Bool, true, false, if◌then◌else◌, List, [], ◌∷◌, ◌++◌, length, drop, refl, sym, ap, ◌∙◌, subst, arith, append_assoc, length-append, length-drop}
-use Rattle.std.specs.Prelude.{All, flat_map}
-use Rattle.std.proofs.lemmas.Bool.Decides.{eqb_tells, leb_tells}
-use Rattle.std.proofs.lemmas.List.{append_cancel_left}
-use Rattle.std.proofs.lemmas.List.Elements.{All-tail}
-use Rattle.tn_discipline.proofs.lemmas.Histories.{entries-all}
-use Rattle.tn_discipline.specs.Admitted.{is_dropped}
-use Rattle.tn_discipline.specs.Entries.{half_of}
-use Rattle.tn_discipline.specs.Keys.{roles_from}
-use Rattle.tn_discipline.specs.Steps.{gain_after, gain_next, gain_all, half_next}
-use Rattle.tn_discipline.specs.declared.keys.Role.{Role}
-use Rattle.tn_discipline.specs.declared.keys.Role.TheVariants as role
-use Rattle.tn_discipline.specs.declared.reads.Entry.{Entry}
-use Rattle.tn_nvt.specs.Spelling.{spelling}
-use Rattle.tn_nvt.specs.Stream.{Segment, spelled, lone_cr, escaped, unread, cut, IsSegment, text, look_ahead, gives, Splits, IsPartial, Reading}
-use Rattle.tn_nvt.specs.declared.items.Item.{Item}
-use Rattle.tn_nvt.specs.declared.items.Item.TheVariants.{Byte, Newline, Cmd, Neg, Sub}
-use Rattle.tn_nvt.proofs.lemmas.Reading.{one_reading, reads_on, has_reading}
-use Rattle.tn_nvt.proofs.lemmas.Sizes.{doubled_some, total, IsWeight, weighs_at_most}
+use Rattle.std.proofs.Common.{◌≡◌, ⊎_elim, ℕ, ◌≤◌, ◌<◌, Bool, false, List, ◌∷◌, ◌++◌, length, sym, ap, ◌∙◌, subst, arith, length-append}
+use Rattle.std.specs.Prelude.{All}
 use Rattle.tn_pty.specs.declared.pty.PtyFault.TheVariants as pty
-use Rattle.tn_server.specs.Events.{History, next, got, items, gets, limit}
-use Rattle.tn_server.specs.Lines.{roles, entries, role_of_item, taken_count, waiting}
+use Rattle.tn_server.specs.Events.{items}
+use Rattle.tn_server.specs.Lines.{waiting}
 use Rattle.tn_server.specs.declared.faults.ServerFault.{ServerFault}
 use Rattle.tn_server.specs.declared.faults.ServerFault.TheVariants.{Pty, Memory}
+use Rattle.tn_server.proofs.lemmas.Room.{completes_few, waits_few}
 use Rattle.tn_wire.specs.Prefixes.{IsRead}
 use Rattle.tn_term.proofs.Ending.{turned}
 use Rattle.tn_term.specs.Ending.{EndsAt}
 use Rattle.tn_term.specs.Marks.{Turns}
 use Rattle.tn_term.specs.Reaching.{LeadsTo}
 use Rattle.tn_term.specs.Refusing.{RefusesAtItem, IsRefusalCause}
-use Rattle.tn_term.specs.Run.{Run, Reads}
+use Rattle.tn_term.specs.Run.{Run}
 use Rattle.tn_term.specs.Welcoming.{IsWelcome, too_far_ahead}
 use Rattle.tn_term.specs.declared.messages.Mark.{Mark}
 use Rattle.tn_term.specs.declared.messages.Mark.TheVariants as mark
@@ -38,185 +22,6 @@ use Rattle.tn_term.specs.declared.terminal.Term.{Term}
 use Rattle.tn_messages.specs.declared.faults.Ended.{Ended}
 use Rattle.tn_messages.specs.declared.messages.Message.{Message}
 use Rattle.tn_messages.specs.declared.messages.Message.TheVariants.{Piece, HangUp, ReadFailed, Take, Said, Refused, Left, Resized}
-
--- LISTS
-
--- of two ways to cut a list, the longer first part begins with the shorter
-begins_with : (a b c d : List ℕ) → a ++ b ≡ c ++ d → length c ≤ length a → (e : List ℕ) × (a ≡ c ++ e)
-begins_with a b [] d e short = (a, refl)
-begins_with [] b (x ∷ c) d e short = absurd (omega (arith, short))
-begins_with (y ∷ a) b (x ∷ c) d e short =
-    let heads : y ≡ x = cc in
-    let tails : a ++ b ≡ c ++ d = cc in
-    let on = begins_with a b c d tails (omega (arith, short)) in
-    (on.0, ap (λ (n : ℕ). n ∷ a) heads ∙ ap (λ (l : List ℕ). x ∷ l) on.1)
-
-all_after : (front rest : List ℕ) → All (λ b. b < 256) (front ++ rest) → All (λ b. b < 256) rest
-all_after [] rest h = h
-all_after (x ∷ front) rest h = all_after front rest (All-tail (λ b. b < 256) x (front ++ rest) h)
-
--- THE ITEMS OF A PIECE
-
--- a stream ends with its rest
-ends_with : (ss : List Segment) (rest stream : List ℕ) → Splits ss rest stream → (front : List ℕ) × (stream ≡ front ++ rest)
-ends_with [] rest stream e = ([], e)
-ends_with (s ∷ ss) rest stream (after, is, e, more) =
-    let on = ends_with ss rest (look_ahead s ++ after) more in
-    (text s ++ on.0, e ∙ ap (λ (l : List ℕ). text s ++ l) on.1 ∙ sym (append_assoc (text s) on.0 rest))
-
-spelled_some : (item : Item) → 1 ≤ length (spelling item)
-spelled_some (Byte b) =
-    elim (eqb_tells b 13) [
-      | inl e ↦ rw e.0 (omega arith)
-      | inr e ↦ rw e.0 (doubled_some b)
-    ]
-spelled_some Newline = omega arith
-spelled_some (Cmd command) = omega arith
-spelled_some (Neg verb option) = omega arith
-spelled_some (Sub option params) = omega arith
-
-text_some : (s : Segment) → 1 ≤ length (text s)
-text_some (spelled item) = spelled_some item
-text_some (lone_cr byte) = omega arith
-text_some (escaped byte) = omega arith
-text_some (unread bytes) = omega arith
-text_some (cut bytes byte) = omega arith
-
--- a segment gives an item, or looks ahead at two bytes
-gives_or_looks : (s : Segment) → length (gives s) + length (look_ahead s) ≤ 2
-gives_or_looks (spelled item) = omega arith
-gives_or_looks (lone_cr byte) = omega arith
-gives_or_looks (escaped byte) = omega arith
-gives_or_looks (unread bytes) = omega arith
-gives_or_looks (cut bytes byte) = omega arith
-
-each_weighs_one : IsWeight (λ item. 1) 1
-each_weighs_one = record { spelled = λ item fits. omega (arith, spelled_some item); alone = omega arith }
-
-total_is_length : (xs : List Item) → total (λ item. 1) xs ≡ length xs
-total_is_length [] = refl
-total_is_length (x ∷ xs) = omega (arith, total_is_length xs)
-
--- a stream has at most as many items as bytes
-items_within : (stream rest : List ℕ) (xs : List Item) → Reading stream xs rest → length xs ≤ length stream
-items_within stream rest xs r = omega (arith, total_is_length xs, weighs_at_most (λ item. 1) 1 each_weighs_one stream rest xs r)
-
--- less than a segment is not a whole one with what it looks ahead at and more
-no_whole : (rest later : List ℕ) (s : Segment) → All (λ b. b < 256) rest → IsPartial rest → IsSegment s → rest ≡ text s ++ (look_ahead s ++ later) → ⊥
-no_whole rest later s bytes partial is e =
-    let left : List ℕ = look_ahead s ++ later in
-    let r = has_reading left (all_after (text s) left (subst (λ (l : List ℕ). All (λ b. b < 256) l) e bytes)) in
-    let short : Reading rest [] rest = record { segments = []; splits = refl; partial = partial; read = refl } in
-    let long : Reading rest (gives s ++ r.0) r.1 = record {
-      segments = s ∷ r.2.segments;
-      splits = (later, is, e, r.2.splits);
-      partial = r.2.partial;
-      read = ap (λ (xs : List Item). gives s ++ xs) r.2.read;
-    } in
-    let same = (one_reading rest rest r.1 [] (gives s ++ r.0) short long).1 in
-    let end = ends_with r.2.segments r.1 left r.2.splits in
-    omega (
-      arith,
-      ap length same,
-      ap length e,
-      length-append (text s) left,
-      ap length end.1,
-      length-append end.0 r.1,
-      text_some s,
-    )
-
--- so the first segment that more bytes complete goes past the rest
-goes_past : (rest more after : List ℕ) (s : Segment) → All (λ b. b < 256) rest → IsPartial rest → IsSegment s → rest ++ more ≡ text s ++ (look_ahead s ++ after) → length rest < length (text s) + length (look_ahead s)
-goes_past rest more after s bytes partial is e =
-    let front : List ℕ = text s ++ look_ahead s in
-    let long : length front ≡ length (text s) + length (look_ahead s) = length-append (text s) (look_ahead s) in
-    let whole : rest ++ more ≡ front ++ after = e ∙ sym (append_assoc (text s) (look_ahead s) after) in
-    elim (leb_tells (length front) (length rest)) [
-      | inl h ↦
-          let start = begins_with rest more front after whole h.1 in
-          absurd (no_whole rest start.0 s bytes partial is (start.1 ∙ append_assoc (text s) (look_ahead s) start.0))
-      | inr h ↦ omega (arith, h.1, long)
-    ]
-
-few_after : (rest more end : List ℕ) (ss : List Segment) → All (λ b. b < 256) rest → IsPartial rest → IsPartial end → Splits ss end (rest ++ more) → length (flat_map gives ss) ≤ length more + 1
-few_after rest more end [] bytes partial last e = omega arith
-few_after rest more end (s ∷ ss) bytes partial last (after, is, e, on) =
-    let left : List ℕ = look_ahead s ++ after in
-    let reading : Reading left (flat_map gives ss) end = record { segments = ss; splits = on; partial = last; read = refl } in
-    omega (
-      arith,
-      length-append (gives s) (flat_map gives ss),
-      items_within left end (flat_map gives ss) reading,
-      gives_or_looks s,
-      goes_past rest more after s bytes partial is e,
-      ap length e,
-      length-append rest more,
-      length-append (text s) left,
-    )
-
--- a piece completes at most one item for each byte, and one more
-pub completes_few : (stream piece : List ℕ) (had xs : List Item) → All (λ b. b < 256) stream → IsRead stream had → IsRead (stream ++ piece) (had ++ xs) → length xs ≤ length piece + 1
-completes_few stream piece had xs bytes start whole =
-    let on = reads_on stream piece start.0 whole.0 had (had ++ xs) start.1 whole.1 in
-    let same : xs ≡ on.0 = append_cancel_left had xs on.0 on.1 in
-    let end = ends_with start.1.segments start.0 stream start.1.splits in
-    let rest_bytes = all_after end.0 start.0 (subst (λ (l : List ℕ). All (λ b. b < 256) l) end.1 bytes) in
-    omega (
-      arith,
-      ap length same,
-      ap length on.2.read,
-      few_after start.0 piece whole.0 on.2.segments rest_bytes start.1.partial on.2.partial on.2.splits,
-    )
-
--- THE ENTRIES OF ITEMS
-
-gained : (half : List ℕ) (r : Role) → length (gain_after half r) ≤ 1
-gained half (role.Signal sig) = omega arith
-gained half role.Nl = omega arith
-gained half (role.Eol byte) = omega arith
-gained half (role.Eol2 byte) = omega arith
-gained half role.Eof = omega arith
-gained half _ = omega arith
-
-gained_unless : (dropped : Bool) (half : List ℕ) (r : Role) → length (if dropped then [] else gain_after half r) ≤ 1
-gained_unless true half r = omega arith
-gained_unless false half r = gained half r
-
-gain_within : (most : ℕ) (half : List ℕ) (rs : List Role) → length (gain_all most half rs) ≤ length rs
-gain_within most half [] = omega arith
-gain_within most half (r ∷ rs) =
-    omega (
-      arith,
-      length-append (gain_next most half r) (gain_all most (half_next most half r) rs),
-      gained_unless (is_dropped most (length half) r) half r,
-      gain_within most (half_next most half r) rs,
-    )
-
-one_role : (r : Role) → length (roles_from r) ≤ 1
-one_role role.Ignored = omega arith
-one_role _ = omega arith
-
--- an item makes at most one entry
-waits_one : (h : History) (item : Item) → length (waiting (next h (got item))) ≤ length (waiting h) + 1
-waits_one h item =
-    let rs : List Role = roles_from (role_of_item h item) in
-    let gain : List Entry = gain_all (limit h) (half_of (limit h) (roles h)) rs in
-    let n : ℕ = taken_count h in
-    let grown : length (waiting (next h (got item))) ≡ length (drop n (entries h ++ gain)) =
-    ap (λ (l : List Entry). length (drop n l)) (entries-all (limit h) (roles h) rs) in
-    omega (
-      arith,
-      grown,
-      length-drop n (entries h ++ gain),
-      length-drop n (entries h),
-      length-append (entries h) gain,
-      gain_within (limit h) (half_of (limit h) (roles h)) rs,
-      one_role (role_of_item h item),
-    )
-
-pub waits_few : (h : History) (xs : List Item) → length (waiting (gets h xs)) ≤ length (waiting h) + length xs
-waits_few h [] = omega arith
-waits_few h (x ∷ xs) = omega (arith, waits_few (next h (got x)) xs, waits_one h x)
 
 -- A WELCOME MESSAGE
 

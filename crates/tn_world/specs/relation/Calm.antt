@@ -1,9 +1,9 @@
 -- What is in flight after a mark, and from the opening on: nothing that turns LINEMODE off or changes a
 -- special character, and nothing that turns it on but where the special characters are the standard ones.
-use Rattle.tn_option.specs.declared.known.TheConstants.{LINEMODE}
 use Rattle.std.specs.Prelude.{◌≡◌, ◌⊎◌, ℕ, ◌==◌, Bool, true, false, Option, Some, None}
 use Rattle.tn_codes.specs.declared.codes.Verb.{Verb}
 use Rattle.tn_codes.specs.declared.codes.Verb.TheVariants.{Will, DoIt}
+use Rattle.tn_codes.specs.OptionCodes as option_code
 use Rattle.tn_codes.specs.PayloadOf.{payload_of}
 use Rattle.tn_codes.specs.declared.payloads.Payload.{Payload}
 use Rattle.tn_codes.specs.declared.payloads.Payload.TheVariants as payload
@@ -32,7 +32,7 @@ abbrev pub TurnsOn : Settings → Verb → Verb → ℕ → Type 0
 TurnsOn s turning verb option = (verb ≡ turning) × (option ≡ 34) × (s.chars ≡ standard_characters)
 
 abbrev pub IsCalmToServer : Settings → Item → Type 0
-IsCalmToServer s (Neg verb option) = ((option == LINEMODE) ≡ false) ⊎ TurnsOn s Will verb option
+IsCalmToServer s (Neg verb option) = ((option == option_code.linemode) ≡ false) ⊎ TurnsOn s Will verb option
 IsCalmToServer s (Sub option params) = SaysCalmly (payload_of option params)
 IsCalmToServer s _ = Unit {0}
 
@@ -45,7 +45,7 @@ AsksCalmly s (Some (payload.Slc triples)) =
 AsksCalmly s _ = Unit {0}
 
 abbrev pub IsCalmToClient : Settings → Item → Type 0
-IsCalmToClient s (Neg verb option) = ((option == LINEMODE) ≡ false) ⊎ TurnsOn s DoIt verb option
+IsCalmToClient s (Neg verb option) = ((option == option_code.linemode) ≡ false) ⊎ TurnsOn s DoIt verb option
 IsCalmToClient s (Sub option params) = AsksCalmly s (payload_of option params)
 IsCalmToClient s _ = Unit {0}
 
@@ -62,7 +62,7 @@ abbrev pub server_item : Item → machine.Item
 server_item (Byte b) = byte b
 server_item Newline = newline
 server_item (Cmd c) = command c
-server_item (Neg verb option) = seen_word (option == LINEMODE)
+server_item (Neg verb option) = seen_word (option == option_code.linemode)
 server_item (Sub option params) = seen_payload (payload_of option params)
 
 -- and to the client
@@ -77,6 +77,6 @@ heard_word true = linemode_asked
 heard_word false = chatter
 
 abbrev pub client_message : Item → Message
-client_message (Neg verb option) = heard_word (option == LINEMODE)
+client_message (Neg verb option) = heard_word (option == option_code.linemode)
 client_message (Sub option params) = heard_payload (payload_of option params)
 client_message _ = chatter

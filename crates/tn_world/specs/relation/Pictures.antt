@@ -1,6 +1,6 @@
 -- The ends as the relation between them sees them, and what stays as it was at a mark.
-use Rattle.tn_option.specs.declared.known.TheConstants.{LINEMODE}
 use Rattle.std.specs.Prelude.{◌≡◌}
+use Rattle.tn_codes.specs.OptionCodes as option_code
 use Rattle.tn_discipline.specs.Canon.{Canon}
 use Rattle.tn_linemode.specs.Modes.{edits}
 use Rattle.tn_option.specs.Options.{state_of}
@@ -65,13 +65,13 @@ IsOffOrOn WantYesOpposite = ⊥
 
 -- LINEMODE does not end; the special characters and every flag but ECHO are as they were
 pub record ServerStays (canon : Canon) (end : server.End) : Type 0 where
-  pub linemode : NeverEnds (state_of end.terms.options Them LINEMODE)
+  pub linemode : NeverEnds (state_of end.terms.options Them option_code.linemode)
   pub chars : end.table ≡ canon.settings.chars
   pub flags : end.terminal.settings.flags
       ≡ record (canon.settings.flags) { echo = end.terminal.settings.flags.echo }
   pub limit : end.terminal.line.limit ≡ canon.limit
 
 pub record ClientStays (canon : Canon) (end : client.End) : Type 0 where
-  pub linemode : IsOffOrOn (state_of end.options Us LINEMODE)
+  pub linemode : IsOffOrOn (state_of end.options Us option_code.linemode)
   pub chars : end.table ≡ canon.settings.chars
   pub limit : end.line.limit ≡ canon.limit

@@ -1,10 +1,8 @@
 use Rattle.std.proofs.Common.{ap, sym, subst, ◌∙◌}
-use Rattle.std.specs.Prelude.{slice_get}
-use Rattle.tn_server.proofs.lemmas.Ends.{waits_are}
 use Rattle.tn_world.specs.Headline.{IsUncounted, IsEmpty}
 use Rattle.tn_world.specs.relation.Machine.{Server}
 use Rattle.tn_world.specs.Worlds.{World}
-use Rattle.tn_world.proofs.Resting.{empty_where, none_waits}
+use Rattle.tn_world.proofs.Resting.{empty_where}
 use Rattle.tn_world.proofs.ServerSteps.{core_at}
 use Rattle.tn_world.proofs.world.World.is_empty.Goals as goal
 
@@ -12,13 +10,13 @@ pub returns : goal.returns
 returns c =
     let h = c.self.invariant.history in
     let stands = c.self.invariant.server in
-    let none = none_waits c.is_none.result c.self.inside.server.terminal.entries c.waiting.result c.is_none.ensures (c.waiting.ensures h stands ∙ ap (λ l. slice_get l 0) (waits_are h c.self.inside.server stands)) in (
+    let same = ap (λ (w : World). w.server.terminal.entries) c.self.view_is in (
       λ t. subst (λ (w : World). IsEmpty w) c.self.view_is (record {
         half = ap (λ (v : Server). v.half) (core_at h c.self.inside.server stands) ∙ sym (c.half.ensures h stands) ∙ empty_where c.is_empty.result c.half.result.now c.is_empty.ensures c.if-not-is_empty.false;
         held = sym c.half-else-not-is_empty.ensures.value ∙ empty_where c.is_empty-else-not-is_empty.result c.half-else-not-is_empty.result.now c.is_empty-else-not-is_empty.ensures c.if-not-is_empty-2.false;
         ahead = sym c.ahead.ensures.value ∙ c.if-ahead-ne0.false;
         counts = subst (λ (w : World). IsUncounted w) (sym c.self.view_is) (c.is_uncounted.ensures.0 c.if-not-is_uncounted.false);
-        waiting = none.0 t;
+        waiting = same ∙ c.none_waits.ensures.0 t;
       }),
-      λ e. none.1 (ap (λ (w : World). w.server.terminal.entries) c.self.view_is ∙ e.waiting),
+      λ e. c.none_waits.ensures.1 e.waiting,
     )

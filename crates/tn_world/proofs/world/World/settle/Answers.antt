@@ -1,6 +1,7 @@
 use Rattle.std.proofs.Common.{◌≡◌, true, false, refl, subst}
 use Rattle.tn_world.proofs.Promise.{headline}
 use Rattle.tn_world.proofs.Settled.{both_rounds, first_stops, one_round, second_stops, settles_follow, settles_rest, stops_cause, stops_follow}
+use Rattle.tn_world.proofs.SettledOutput.{settles_output, stays_output, stops_output}
 use Rattle.tn_world.specs.Past.{HasPast}
 use Rattle.tn_world.specs.Worlds.{World}
 use Rattle.tn_world.proofs.world.World.settle.Goals as goal
@@ -76,3 +77,26 @@ returns-in-Err-round-clause-follows c =
 pub returns-in-Err-round-clause-headline : goal.returns-in-Err-round-clause-headline
 returns-in-Err-round-clause-headline c = λ canon f.
     headline canon c.round-2.new.self (returns-in-Err-round-clause-follows c canon f)
+
+pub returns-then-is_flight_empty-clause-output : goal.returns-then-is_flight_empty-clause-output
+returns-then-is_flight_empty-clause-output c = stays_output c.args.self.now
+
+pub returns-in-Err-clause-output_before : goal.returns-in-Err-clause-output_before
+returns-in-Err-clause-output_before c =
+    stops_output c.args.self.now c.round.new.self c.in-Err.fault.at c.in-Err.fault.cause
+    (subst (λ (w : World). HasPast w) c.self.view_is c.self.invariant) (returns-in-Err-clause-ends c)
+
+pub returns-then-is_flight_empty-2-clause-output : goal.returns-then-is_flight_empty-2-clause-output
+returns-then-is_flight_empty-2-clause-output c =
+    settles_output c.args.self.now c.round.new.self (subst (λ (w : World). HasPast w) c.self.view_is c.self.invariant)
+    (returns-then-is_flight_empty-2-clause-settles c)
+
+pub returns-in-Ok-round-clause-output : goal.returns-in-Ok-round-clause-output
+returns-in-Ok-round-clause-output c =
+    settles_output c.args.self.now c.round-2.new.self (subst (λ (w : World). HasPast w) c.self.view_is c.self.invariant)
+    (returns-in-Ok-round-clause-settles c)
+
+pub returns-in-Err-round-clause-output_before : goal.returns-in-Err-round-clause-output_before
+returns-in-Err-round-clause-output_before c =
+    stops_output c.args.self.now c.round-2.new.self _ c.in-Err-round.fault.cause
+    (subst (λ (w : World). HasPast w) c.self.view_is c.self.invariant) (returns-in-Err-round-clause-ends c)
