@@ -28,11 +28,13 @@ impl Answerers {
 
 impl Maker for Answerers {
     ghost use Rattle.std.specs.Prelude.{Some, ◌+◌};
-    ghost use Rattle.tn_answerer.specs.Answerers.{foreground, background};
+    ghost use Rattle.tn_answerer.specs.Answerers.{foreground, background, GivesJob};
 
     type Job = Answerer;
 
     ghost left = { λ maker. Some (foreground maker.first + background maker.ticks) };
+
+    ghost gives = { λ old job new. GivesJob old job new };
 
     fn next(&mut self, _alloc: Global) -> Result<Option<Answerer>, AllocError> {
         if self.first {

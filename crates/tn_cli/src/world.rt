@@ -14,13 +14,8 @@ use crate::streams::{read_whole, write_whole};
 use std::alloc::{AllocError, Global};
 use tn_discipline::{Limit, Settings};
 use tn_streams::{Drain, Source};
+use tn_words::{USUAL_HEIGHT, USUAL_WIDTH};
 use tn_world::World;
-
-/// How wide the client's window is, in characters.
-const WIDTH: u16 = 80;
-
-/// How high the client's window is, in characters.
-const HEIGHT: u16 = 24;
 
 /// Reads a script of one command a line, runs it in a world that is opened with standard settings, and
 /// writes what the commands print. Nothing is written before the input has ended. Where a line is no
@@ -70,8 +65,8 @@ fn play_lines(
     match World::open(
         alloc,
         Settings::standard(),
-        WIDTH,
-        HEIGHT,
+        USUAL_WIDTH,
+        USUAL_HEIGHT,
         Limit::standard(),
     ) {
         Ok(mut world) => play_in(alloc, &mut world, lines, printed),

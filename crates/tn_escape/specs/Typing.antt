@@ -1,5 +1,5 @@
 -- What is typed at a terminal, of which an escape character makes commands to the client itself.
-use Rattle.std.specs.Prelude.{◌≡◌, ℕ, nat_eq, Bool, true, false, Option, None, Some, List, [], ◌∷◌, if◌then◌else◌}
+use Rattle.std.specs.Prelude.{◌≡◌, ℕ, nat_eq, Bool, true, false, Option, None, Some, List, [], ◌∷◌, ◌++◌, if◌then◌else◌}
 use Rattle.tn_escape.specs.declared.escaping.Command.{Command}
 use Rattle.tn_escape.specs.declared.escaping.Command.TheVariants.{Close, Help, Status, Unknown}
 use Rattle.tn_escape.specs.declared.escaping.Escaping.{Escaping}
@@ -57,3 +57,28 @@ keys_in [] = []
 keys_in (typed.Key byte ∷ taken) = byte ∷ keys_in taken
 keys_in (typed.Command command ∷ taken) = keys_in taken
 keys_in (typed.Nothing ∷ taken) = keys_in taken
+
+-- the commands among what was made of bytes
+abbrev pub commands_in : List Typed → List Command
+commands_in [] = []
+commands_in (typed.Key byte ∷ taken) = commands_in taken
+commands_in (typed.Command command ∷ taken) = command ∷ commands_in taken
+commands_in (typed.Nothing ∷ taken) = commands_in taken
+
+-- the commands among what is typed: one for each byte behind an escape character, if it is not one itself
+abbrev pub commands : Option ℕ → Bool → List ℕ → List Command
+commands character waits [] = []
+commands character false (byte ∷ bytes) = commands character (is_escape character byte) bytes
+commands character true (byte ∷ bytes) =
+    if is_escape character byte then commands character false bytes
+    else command byte ∷ commands character false bytes
+
+-- whether an escape character waits behind all of it
+abbrev pub waits_behind : Option ℕ → Bool → List ℕ → Bool
+waits_behind character waits [] = waits
+waits_behind character waits (byte ∷ bytes) = waits_behind character (waits_after character waits byte) bytes
+
+-- these were obeyed, in order, behind those before them, where that is told
+abbrev pub Obeys : Option (List Command) → List Command → Option (List Command) → Type 0
+Obeys None these new = new ≡ None
+Obeys (Some old) these new = new ≡ Some (old ++ these)

@@ -1,7 +1,7 @@
 //! One typed byte after another.
 
-ghost use Rattle.std.specs.Prelude.{◌≡◌, false};
-ghost use Rattle.tn_escape.specs.Typing.{command, is_escape, reading, waits};
+ghost use Rattle.std.specs.Prelude.{◌≡◌, ◌≤◌, false, List, Option, None, [], ◌∷◌, length, take};
+ghost use Rattle.tn_escape.specs.Typing.{Obeys, command, commands, is_escape, keys, reading, waits, waits_behind};
 
 /// What the user asks the client itself for.
 #[derive(Clone, Copy, Debug, PartialEq, Eq)]
@@ -25,6 +25,17 @@ pub enum Typed {
     Command(Command),
     /// The escape character: the next byte says what for.
     Nothing,
+}
+
+/// Does what the user asks the client itself for.
+pub trait Obey {
+    ghost use Rattle.tn_escape.specs.declared.escaping.Command.{Command};
+
+    // The commands that were obeyed, where that is told.
+    ghost obeyed: { Self → Option (List Command) } = { λ _. None };
+
+    fn obey(&mut self, command: Command)
+        ensures { Obeys (obeyed self.old) (command ∷ []) (obeyed self.new) };
 }
 
 /// Splits what is typed into keys and commands.
@@ -66,6 +77,30 @@ impl Escaping {
             return Typed::Nothing;
         }
         Typed::Key(byte)
+    }
+
+    /// Leaves the keys among these bytes at their front, in order, and has each command obeyed once, in order.
+    /// Returns how many keys there are.
+    pub fn split<O: Obey>(&mut self, bytes: &mut [u8], obeying: &mut O) -> usize
+        ensures room { result ≤ length bytes.new }
+        ensures keys { take result bytes.new ≡ keys self.old.character self.old.waits bytes.old }
+        ensures commands { Obeys (O.obeyed obeying.old) (commands self.old.character self.old.waits bytes.old)
+            (O.obeyed obeying.new) }
+        ensures character { self.new.character ≡ self.old.character }
+        ensures waits { self.new.waits ≡ waits_behind self.old.character self.old.waits bytes.old }
+    {
+        let mut keys = 0;
+        for place in 0..bytes.len() {
+            match self.take(bytes[place]) {
+                Typed::Key(key) => {
+                    bytes[keys] = key;
+                    keys += 1;
+                },
+                Typed::Command(command) => obeying.obey(command),
+                Typed::Nothing => {},
+            }
+        }
+        keys
     }
 
     fn is_escape(&self, byte: u8) -> bool

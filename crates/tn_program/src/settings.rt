@@ -10,7 +10,7 @@ use tn_connect::{Connecting, Origin};
 use tn_gateway::LineEnd;
 use tn_loopback::{Call, Service, Serving, SessionOptions};
 use tn_server::Editing;
-use tn_words::Escape;
+use tn_words::{Escape, USUAL_HEIGHT, USUAL_WIDTH};
 
 /// Gives each session the jobs of `tn serve`.
 #[derive(Clone, Copy, Drop)]
@@ -82,11 +82,6 @@ pub(crate) fn options_of(asked: &tn_words::Serving) -> SessionOptions
     }
 }
 
-/// The width and the height of a window of which no size is known.
-const WIDTH: u16 = 80;
-
-const HEIGHT: u16 = 24;
-
 pub(crate) fn connecting_of(asked: &tn_words::Connecting, origin: Origin) -> Connecting
     ensures window { window_of result ≡ window_as asked.now }
     ensures origin { result.origin ≡ origin }
@@ -95,8 +90,8 @@ pub(crate) fn connecting_of(asked: &tn_words::Connecting, origin: Origin) -> Con
 {
     Connecting {
         port: asked.port,
-        width: asked.width.unwrap_or(WIDTH),
-        height: asked.height.unwrap_or(HEIGHT),
+        width: asked.width.unwrap_or(USUAL_WIDTH),
+        height: asked.height.unwrap_or(USUAL_HEIGHT),
         line_limit: asked.line_limit,
         origin,
         escape: escape_of(asked.escape),

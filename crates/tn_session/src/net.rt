@@ -21,9 +21,7 @@ use std::sync::{Arc, Wait};
 use tn_discipline::Text;
 use tn_messages::Message;
 use tn_streams::{Source, is_interrupted};
-
-/// How many bytes one read asks for.
-const PIECE_BYTES: usize = 512;
+use tn_term::MAX_PIECE;
 
 /// What a read gave.
 #[derive(Drop)]
@@ -39,7 +37,7 @@ fn read_piece<Rd: Source>(reader: &mut Rd, alloc: Global) -> Got
     ensures foretold { IsForetold (Rd.foretold reader.old) (Rd.foretold reader.new) result }
     ensures sizes { Rd.sizes reader.new ≡ Rd.sizes reader.old }
 {
-    let Ok(mut bytes) = Vec::from_elem(alloc, 0u8, PIECE_BYTES) else {
+    let Ok(mut bytes) = Vec::from_elem(alloc, 0u8, MAX_PIECE) else {
         return Got::Last(Message::Refused);
     };
     match reader.read_some(bytes.as_mut_slice()) {

@@ -1,7 +1,10 @@
 //! Standard input as keys: it is waited for, so that a session ends though nobody types, and at a terminal
 //! the user speaks to the client itself behind an escape character.
 
-ghost use Rattle.std.specs.Prelude.{None};
+ghost use Rattle.std.specs.Prelude.{◌≡◌, ◌≤◌, None, length, take};
+ghost use Rattle.std.specs.Io.{ReadsAtMost};
+ghost use Rattle.tn_escape.specs.Typing.{keys};
+ghost use Rattle.tn_sockets.specs.Passing.{GivesKeys};
 
 use crate::keys::Typing;
 use libc::net::{POLLIN, poll};
@@ -9,7 +12,7 @@ use libc::types::pollfd;
 use std::io;
 use std::io::{ErrorKind, Print, Read};
 use std::sync::Wait;
-use tn_escape::{Command, Escaping, Typed};
+use tn_escape::{Command, Escaping, Obey};
 use tn_streams::{Source, WindowSize};
 
 /// The descriptor of standard input (POSIX, `STDIN_FILENO`).
@@ -88,28 +91,51 @@ impl<H: Copy + Print + Wait, K: Read + Drop> Console<H, K> {
 
     // Leaves the keys of the session at the front of the bytes, and does what the others ask for. Returns
     // how many keys there are.
-    fn split(&mut self, bytes: &mut [u8], count: usize) -> usize {
-        let mut keys = 0;
-        for place in 0..count {
-            let Some(byte) = bytes.get(place) else {
-                break;
-            };
-            match self.escaping.take(*byte) {
-                Typed::Key(key) => {
-                    if let Some(slot) = bytes.get_mut(keys) {
-                        *slot = key;
-                        keys += 1;
-                    }
-                },
-                Typed::Command(command) => self.obey(command),
-                Typed::Nothing => {},
-            }
-        }
-        keys
+    fn split(&mut self, bytes: &mut [u8]) -> usize
+        ensures room { result ≤ length bytes.new }
+        ensures keys { take result bytes.new ≡
+            keys self.old.escaping.character self.old.escaping.waits bytes.old }
+        ensures typing { self.new.typing ≡ self.old.typing }
+    {
+        let mut deeds = Deeds {
+            rt: self.rt,
+            typing: &self.typing,
+        };
+        self.escaping.split(bytes, &mut deeds)
     }
 
+    // Reads what is typed. Keys are the next of those that are typed; where there are none, it is as if a signal
+    // had come.
+    fn read_keys(&mut self, buf: &mut [u8]) -> io::Result<usize>
+        ensures bound { ReadsAtMost result buf.new }
+        ensures keys { GivesKeys (K.remaining self.old.typing.keys) (K.remaining self.new.typing.keys)
+            self.old.escaping result buf.new }
+    {
+        let count = self.typing.keys.read(buf)?;
+        if count == 0 {
+            return Ok(0);
+        }
+        let keys = self.split(&mut buf[..count]);
+        if self.typing.link.is_left() {
+            return Ok(0);
+        }
+        if keys == 0 {
+            return Err(io::Error::from(ErrorKind::Interrupted));
+        }
+        Ok(keys)
+    }
+}
+
+// What the user asks the client itself for is done at once.
+#[derive(Drop)]
+struct Deeds<'a, H, K> {
+    rt: H,
+    typing: &'a Typing<H, K>,
+}
+
+impl<'a, H: Copy + Print, K> Obey for Deeds<'a, H, K> {
     // What is shown begins on a line of its own. A line that can't be written is dropped.
-    fn obey(&self, command: Command) {
+    fn obey(&mut self, command: Command) {
         match command {
             Command::Close => self.typing.link.leave(),
             Command::Help => {
@@ -123,7 +149,9 @@ impl<H: Copy + Print + Wait, K: Read + Drop> Console<H, K> {
             },
         }
     }
+}
 
+impl<'a, H: Copy + Print, K> Deeds<'a, H, K> {
     fn show_status(&self) {
         let Typing {
             link,
@@ -180,17 +208,6 @@ impl<H: Copy + Print + Wait, K: Read + Drop> Source for Console<H, K> {
             },
             Ready::Key => {},
         }
-        let count = self.typing.keys.read(buf)?;
-        if count == 0 {
-            return Ok(0);
-        }
-        let keys = self.split(buf, count).min(count);
-        if self.typing.link.is_left() {
-            return Ok(0);
-        }
-        if keys == 0 {
-            return Err(io::Error::from(ErrorKind::Interrupted));
-        }
-        Ok(keys)
+        self.read_keys(buf)
     }
 }

@@ -11,18 +11,8 @@ use std::alloc::Global;
 use std::io;
 use std::io::{ErrorKind, Read};
 use std::sync::{Arc, Wait};
-use tn_codes::Verb;
+use tn_codes::{ECHO, EDIT, LINEMODE, MODE, Verb};
 use tn_nvt::{Decoder, Item};
-
-/// The option by which a server echoes (RFC 857), and by which a client edits (RFC 1184).
-const ECHO: u8 = 1;
-
-const LINEMODE: u8 = 34;
-
-/// The subnegotiation of LINEMODE that says who edits, and its bit for editing at the client.
-const MODE: u8 = 1;
-
-const EDIT: u8 = 1;
 
 // Sees from what the server says who edits and who echoes.
 #[derive(Drop)]

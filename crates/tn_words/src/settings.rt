@@ -7,6 +7,11 @@ ghost use Rattle.tn_words.specs.Escapes.{IsControlOf, WritesEscape};
 use std::alloc::{AllocError, Global};
 use tn_discipline::Limit;
 
+/// The width and the height of a window of which no size is known, in characters.
+pub const USUAL_WIDTH: u16 = 80;
+
+pub const USUAL_HEIGHT: u16 = 24;
+
 /// Where a service is.
 #[derive(Debug, Drop, PartialEq, Eq)]
 pub struct Address {
