@@ -10,7 +10,7 @@ give_up() {
 # Prints the comment at the head of the tool, and ends with status 0, where its first word asks for help.
 answer_help() {
     if [[ ${1-} == -h || ${1-} == --help ]]; then
-        sed -n '2,/^[^#]/s/^# \{0,1\}//p' "$0"
+        sed -n '2,$ { /^#/!q; s/^# \{0,1\}//p }' "$0"
         exit 0
     fi
 }
