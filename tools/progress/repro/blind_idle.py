@@ -23,10 +23,9 @@ def gets_session(port):
 
 
 def main():
-    words = words_of(__doc__, 1)
-    limit = float(words[1]) if words[1:] else 12
+    program, limit = words_of(__doc__, limit=12.0)
     port = free_port()
-    server = subprocess.Popen([words[0], "serve", "--port", str(port), "--limit", "1", "--count", "1000", "--idle", "2"],
+    server = subprocess.Popen([program, "serve", "--port", str(port), "--limit", "1", "--count", "1000", "--idle", "2"],
                               stderr=subprocess.DEVNULL)
     try:
         time.sleep(0.7)

@@ -5,23 +5,20 @@ import socket
 import sys
 import time
 
+sys.path.insert(0, os.path.join(os.path.dirname(os.path.realpath(__file__)), "..", "..", "lib"))
+import basics
 
-def words_of(doc, least):
-    """The words of the command line; prints what this program is for where it is asked for, or where there are too few."""
-    words = sys.argv[1:]
-    if words and words[0] in ("-h", "--help"):
-        print(doc.strip())
-        sys.exit(0)
-    if len(words) < least:
-        print(doc.strip(), file=sys.stderr)
-        sys.exit(2)
-    return words
+free_port = basics.free_port
 
 
-def free_port():
-    with socket.socket() as probe:
-        probe.bind(("127.0.0.1", 0))
-        return probe.getsockname()[1]
+def words_of(head, **numbers):
+    """The words of the command line: a program, and numbers that have these values where they are not given."""
+    words = basics.Words(head)
+    words.add_argument("program", metavar="PROGRAM")
+    for name, value in numbers.items():
+        words.add_argument(name, type=type(value), nargs="?", default=value)
+    asked = vars(words.parse_args())
+    return basics.checked_program(asked["program"]), *(asked[name] for name in numbers)
 
 
 def narrow_listener():

@@ -15,12 +15,10 @@ from common import drain, end, fill, free_port, narrow_listener, places, settle,
 
 
 def main():
-    words = words_of(__doc__, 1)
-    megabytes = float(words[1]) if words[1:] else 5
-    limit = float(words[2]) if words[2:] else 12
+    program, megabytes, limit = words_of(__doc__, megabytes=5.0, limit=12.0)
     listener, port = narrow_listener(), free_port()
     to = "127.0.0.1:%d" % listener.getsockname()[1]
-    server = subprocess.Popen([words[0], "serve", "--port", str(port), "--to", to, "--verbose"], stderr=subprocess.PIPE,
+    server = subprocess.Popen([program, "serve", "--port", str(port), "--to", to, "--verbose"], stderr=subprocess.PIPE,
                               text=True)
     try:
         ended = threading.Event()

@@ -17,13 +17,11 @@ from common import end, narrow_listener, places, words_of
 
 
 def main():
-    words = words_of(__doc__, 1)
-    megabytes = float(words[1]) if words[1:] else 5
-    limit = float(words[2]) if words[2:] else 10
+    program, megabytes, limit = words_of(__doc__, megabytes=5.0, limit=10.0)
     listener = narrow_listener()
     ours, theirs = pty.openpty()
     tty.setraw(theirs)
-    client = subprocess.Popen([words[0], "connect", "--port", str(listener.getsockname()[1])], stdin=theirs,
+    client = subprocess.Popen([program, "connect", "--port", str(listener.getsockname()[1])], stdin=theirs,
                               stdout=subprocess.DEVNULL, stderr=subprocess.DEVNULL, env={**os.environ, "TN_TERMINAL": "1"})
     try:
         server, _ = listener.accept()

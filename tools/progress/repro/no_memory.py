@@ -18,14 +18,13 @@ from common import end, words_of
 
 
 def main():
-    words = words_of(__doc__, 1)
-    limit = float(words[1]) if words[1:] else 10
+    program, limit = words_of(__doc__, limit=10.0)
     listener = socket.create_server(("127.0.0.1", 0))
     with tempfile.TemporaryDirectory() as folder:
         shim, trigger, told = (os.path.join(folder, name) for name in ("fail_malloc.so", "now", "failed"))
         source = os.path.join(os.path.dirname(os.path.abspath(__file__)), "fail_malloc.c")
         subprocess.run(["cc", "-shared", "-fPIC", "-O2", "-o", shim, source, "-ldl"], check=True)
-        client = subprocess.Popen([words[0], "connect", "--port", str(listener.getsockname()[1])], stdin=subprocess.PIPE,
+        client = subprocess.Popen([program, "connect", "--port", str(listener.getsockname()[1])], stdin=subprocess.PIPE,
                                   stdout=subprocess.DEVNULL, stderr=subprocess.DEVNULL,
                                   env={**os.environ, "LD_PRELOAD": shim, "FAIL_IF": trigger, "FAILED": told})
         try:

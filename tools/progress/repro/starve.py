@@ -20,10 +20,7 @@ MAIL = 1024
 
 
 def main():
-    words = words_of(__doc__, 1)
-    program, keys = words[0], int(words[1]) if words[1:] else 50
-    size, pause = (int(words[2]), float(words[3]) / 1000) if words[3:] else (65536, 0)
-    most = int(words[4]) if words[4:] else 256
+    program, keys, size, pause, most = words_of(__doc__, keys=50, size=65_536, pause=0.0, most=256)
     listener, port = socket.create_server(("127.0.0.1", 0)), free_port()
     to = "127.0.0.1:%d" % listener.getsockname()[1]
     server = subprocess.Popen([program, "serve", "--port", str(port), "--to", to], stderr=subprocess.DEVNULL)
@@ -47,7 +44,7 @@ def main():
         began = time.time()
         while time.time() - began < 2:
             user.recv(size)
-            time.sleep(pause)
+            time.sleep(pause / 1000)
         passed, waits = [], []
         for _ in range(keys):
             held = queued(port, user.getsockname()[1])
@@ -61,7 +58,7 @@ def main():
                 if place >= 0:
                     break
                 seen += len(piece)
-                time.sleep(pause)
+                time.sleep(pause / 1000)
             passed.append(max(0, seen + place - held) // MAIL)
             waits.append(time.time() - began)
     finally:
