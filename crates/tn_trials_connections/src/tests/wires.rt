@@ -48,6 +48,26 @@ struct Wire {
     is_carried: bool,
 }
 
+impl Wire {
+    // The server, or the client, has read these bytes.
+    fn came(&mut self, to_server: bool, bytes: &[u8]) {
+        let is_next = if to_server {
+            self.to_server.gives(bytes)
+        } else {
+            self.to_client.gives(bytes)
+        };
+        self.is_carried = self.is_carried && is_next;
+    }
+
+    // The server, or the client, has written these bytes.
+    fn went(&mut self, from_server: bool, bytes: &[u8]) -> Result<(), AllocError> {
+        if from_server {
+            return self.to_client.written.extend_from_slice(bytes);
+        }
+        self.to_server.written.extend_from_slice(bytes)
+    }
+}
+
 /// One end of a connection, each of whose calls is recorded.
 #[derive(Drop)]
 struct End<R> {
@@ -61,14 +81,7 @@ impl<R: Wait> Read for End<R> {
     fn read(&mut self, buf: &mut [u8]) -> io::Result<usize> {
         let count = self.stream.read(buf)?;
         let mut wire = self.wire.lock(&self.rt);
-        let way = if self.serves {
-            &mut wire.to_server
-        } else {
-            &mut wire.to_client
-        };
-        if !way.gives(&buf[..count]) {
-            wire.is_carried = false;
-        }
+        wire.came(self.serves, &buf[..count]);
         Ok(count)
     }
 }
@@ -78,12 +91,7 @@ impl<R: Wait> Write for End<R> {
     fn write(&mut self, buf: &[u8]) -> io::Result<usize> {
         let mut wire = self.wire.lock(&self.rt);
         let count = self.stream.write(buf)?;
-        let way = if self.serves {
-            &mut wire.to_client
-        } else {
-            &mut wire.to_server
-        };
-        way.written.extend_from_slice(&buf[..count])?;
+        wire.went(self.serves, &buf[..count])?;
         Ok(count)
     }
 
