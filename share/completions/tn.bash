@@ -18,19 +18,22 @@ _tn() {
         words='local replay decode world serve connect -h --help -V --version'
     else
         case ${COMP_WORDS[1]} in
-            local) words='-h --help' ;;
-            replay) words='-h --help' ;;
-            decode) words='-h --help' ;;
-            world) words='-h --help' ;;
-            serve) words='--host --port --limit --count --ticks --line --idle --local --verbose --to --crlf -h --help' ;;
-            connect) words='--port --width --height --line --escape --trace -h --help' ;;
+            local)
+                words='-h --help' ;;
+            replay)
+                words='-h --help' ;;
+            decode)
+                words='-h --help' ;;
+            world)
+                words='-h --help' ;;
+            serve)
+                words='--host --port --limit --count --ticks --line --idle --local --verbose --to --crlf -h --help' ;;
+            connect)
+                if [[ $word != -* ]]; then mapfile -t COMPREPLY < <(compgen -A hostname -- "$word"); return; fi
+                words='--port --width --height --line --escape --trace -h --help' ;;
             *) return ;;
         esac
     fi
-    if ((COMP_CWORD > 1)) && [[ ${COMP_WORDS[1]} == connect && $word != -* ]]; then
-        mapfile -t COMPREPLY < <(compgen -A hostname -- "$word")
-    else
-        mapfile -t COMPREPLY < <(compgen -W "$words" -- "$word")
-    fi
+    mapfile -t COMPREPLY < <(compgen -W "$words" -- "$word")
 }
 complete -F _tn tn
