@@ -1,0 +1,39 @@
+# shellcheck shell=bash
+# Completions of tn for bash: written by tools/completions -w from the program's help.
+_tn() {
+    local word=${COMP_WORDS[COMP_CWORD]} before=${COMP_WORDS[COMP_CWORD - 1]} words
+    COMPREPLY=()
+    # A value may stand behind `=`, which is a word of its own.
+    if [[ $word == '=' ]]; then
+        word=
+    elif [[ $before == '=' ]] && ((COMP_CWORD > 2)); then
+        before=${COMP_WORDS[COMP_CWORD - 2]}
+    fi
+    case $before in
+        --trace) mapfile -t COMPREPLY < <(compgen -f -- "$word"); return ;;
+        --host|--to) mapfile -t COMPREPLY < <(compgen -A hostname -- "$word"); return ;;
+        --port|--limit|--count|--ticks|--line|--idle|--width|--height|--escape) return ;;
+    esac
+    if ((COMP_CWORD == 1)); then
+        words='local replay decode world serve connect -h --help -V --version'
+    else
+        case ${COMP_WORDS[1]} in
+            local)
+                words='-h --help' ;;
+            replay)
+                words='-h --help' ;;
+            decode)
+                words='-h --help' ;;
+            world)
+                words='-h --help' ;;
+            serve)
+                words='--host --port --limit --count --ticks --line --idle --local --verbose --to --crlf -h --help' ;;
+            connect)
+                if [[ $word != -* ]]; then mapfile -t COMPREPLY < <(compgen -A hostname -- "$word"); return; fi
+                words='--port --width --height --line --escape --trace -h --help' ;;
+            *) return ;;
+        esac
+    fi
+    mapfile -t COMPREPLY < <(compgen -W "$words" -- "$word")
+}
+complete -F _tn tn
