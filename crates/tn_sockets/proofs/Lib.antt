@@ -1,3 +1,4 @@
 pub mod Queue
 pub mod Writing
 pub mod Passing
+pub mod lemmas
