@@ -1,4 +1,5 @@
 pub mod Mailbox
+pub mod EntryChannel
 pub mod Reading
 pub mod Readers
 pub mod Credits

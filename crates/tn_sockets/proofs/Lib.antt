@@ -1,4 +1,3 @@
 pub mod Queue
 pub mod Writing
 pub mod Passing
-pub mod lemmas

@@ -1,4 +1,3 @@
 pub mod Queue
 pub mod Passing
 pub mod Logs
-pub mod Ends

@@ -1,30 +1,25 @@
 //! What a client sends goes out in a thread of its own, so that it reads on while the server does not.
 
-ghost use Rattle.std.specs.Prelude.{◌≡◌, IfOk, List, None, Some, [], option_map};
+ghost use Rattle.std.specs.Option.{ForSome};
+ghost use Rattle.std.specs.Prelude.{◌≡◌, ◌≢◌, IfOk, None, Some, []};
 ghost use Rattle.crossbeam_channel.specs.Claims.{view, IsSeatAt};
 ghost use Rattle.crossbeam_channel.specs.Ends.{sends_on};
-ghost use Rattle.tn_queue.specs.Queue.{LeftOver, joined_hands, putter, taker};
-ghost use Rattle.tn_sockets.specs.Ends.{AreSeats, IsNew};
-ghost use Rattle.tn_sockets.specs.Queue.{Piece as PieceT, PiecePass as PassT, count_behind, has_end, put_bytes};
+ghost use Rattle.tn_sockets.specs.Queue.{put_bytes};
 
 use crate::link::Link;
-use crate::pieces::{
-    CutTaker, Hand, InTurn, JoinHands, Piece, PiecePass, PieceReceiver, PieceSender, Puts, Queue,
-    Takes,
-};
+use crate::pieces::{CutTaker, Hand, InTurn, Puts, QueuePass, QueueSender};
 use crate::sending::Sending;
 use crate::trace::{Direction, Trace};
-use crossbeam_channel::{Receiver, Sender, bounded, bounded_with};
+use crossbeam_channel::{Receiver, bounded, bounded_with};
 use std::alloc::{AllocError, Global};
 use std::io;
 use std::io::{ErrorKind, Write};
-use std::marker::PhantomData;
 use std::sync::atomic::{AtomicUsize, Ordering};
 use std::sync::{Arc, Wait};
 use tn_streams::Finish;
 
-/// How many writes of a session wait at most, and their end. A piece of keys makes one write, and at most 66
-/// pieces are on their way once no more keys are read, so that keys alone never fill it.
+/// How many writes of a session wait at most. A piece of keys makes one write, and at most 66 pieces are on
+/// their way once no more keys are read, so that keys alone never fill it.
 const MAX_WRITES: usize = 256;
 
 /// With more writes or more bytes than these waiting, no more keys are read.
@@ -59,34 +54,17 @@ impl Waiting {
     }
 }
 
-/// Both ends of a queue, and their passes.
+/// What a session writes: it waits for the thread that sends it.
 #[derive(Drop)]
-pub struct NewQueue {
-    pub(crate) to: PieceSender,
-    pub(crate) from: PieceReceiver,
-    pub(crate) pass: PiecePass,
-    pub(crate) taker: PiecePass,
-    waiting: Arc<Waiting, Global>,
-    sent: Sender<(), Global>,
-}
-
-/// What a session writes: it waits for the thread that sends it. `Q` is the queue, for contracts.
-#[derive(Drop)]
-pub struct Outgoing<H, Q: Queue> {
+pub struct Outgoing<H> {
     rt: H,
     alloc: Global,
-    to: PieceSender,
-    pass: PiecePass,
-    // The end was put.
-    finished: bool,
+    pieces: Option<QueueSender>,
+    pass: QueuePass,
     waiting: Arc<Waiting, Global>,
     trace: Trace<H>,
-    at: PhantomData<Q>,
-    ghost seated: { IsSeatAt (sends_on to) pass },
-    ghost one: { (p : PassT) → Q.seats p → IsSeatAt (sends_on to) p },
-    ghost alone: { (view pass).taken ≡ None },
-    ghost ends: { option_map has_end (view pass).put ≡ Some finished },
-    ghost last: { count_behind (view pass).put ≡ 0 },
+    ghost seated: { ForSome pieces (λ to. IsSeatAt (sends_on to) pass) },
+    ghost puts: { (view pass).put ≢ None },
 }
 
 /// Lets keys be read once little waits.
@@ -97,14 +75,22 @@ pub struct Throttle<H> {
     sent: Receiver<(), Global>,
 }
 
-/// A queue that is new, and what lets keys be read as it empties.
-pub fn new_queue<H: Copy>(rt: H, alloc: Global) -> Result<(NewQueue, Throttle<H>), AllocError>
-    ensures { IfOk result (λ r. IsNew r.0) }
+/// The three sides of what goes out by this writer over this link.
+pub fn queue_for<H: Copy, W>(
+    rt: H,
+    alloc: Global,
+    writer: W,
+    link: Arc<Link, Global>,
+    trace: Trace<H>,
+) -> Result<(Outgoing<H>, Sending<H, W>, Throttle<H>), AllocError>
+where
+    W: Drop,
+    ensures nothing_yet { IfOk result (λ queue. (view queue.0.pass).put ≡ Some []) }
 {
-    let (to, from, mut pass) = bounded_with::<Piece, Hand<Piece>, InTurn, Global>(
+    let (sender, pieces, mut pass) = bounded_with::<Vec<u8>, Hand, InTurn, Global>(
         alloc, MAX_WRITES,
     )?;
-    let taker = to.another::<CutTaker>(&mut pass);
+    let taker = sender.another::<CutTaker>(&mut pass);
     let (sent, throttled) = bounded(alloc, 1)?;
     let waiting = Waiting {
         writes: AtomicUsize::new(0),
@@ -116,112 +102,60 @@ pub fn new_queue<H: Copy>(rt: H, alloc: Global) -> Result<(NewQueue, Throttle<H>
         waiting: Arc::try_clone(&waiting)?,
         sent: throttled,
     };
-    let queue = NewQueue {
-        to,
-        from,
-        pass,
-        taker,
-        waiting,
+    let sending = Sending {
+        rt,
+        writer,
+        pieces,
+        pass: taker,
+        waiting: Arc::try_clone(&waiting)?,
         sent,
+        link,
     };
-    Ok((queue, throttle))
+    let outgoing = Outgoing {
+        rt,
+        alloc,
+        pieces: Some(sender),
+        pass,
+        waiting,
+        trace,
+    };
+    Ok((outgoing, sending, throttle))
 }
 
-impl NewQueue {
-    /// What a session writes to, and what sends that by this writer over this link.
-    pub fn sides<H: Copy, W, Q: Queue>(
-        self,
-        rt: H,
-        alloc: Global,
-        writer: W,
-        link: Arc<Link, Global>,
-        trace: Trace<H>,
-    ) -> Result<(Outgoing<H, Q>, Sending<H, W, Q>), AllocError>
-    where
-        W: Drop,
-        requires new { IsNew self }
-        requires seats { AreSeats Q.seats self }
-        ensures put { IfOk result (λ sides. view sides.0.pass ≡ putter []) }
-        ensures taken { IfOk result (λ sides. view sides.1.pass ≡ taker []) }
-        ensures writer { IfOk result (λ sides. sides.1.writer ≡ writer) }
-    {
-        let waiting = Arc::try_clone(&self.waiting)?;
-        let NewQueue {
-            to,
-            from,
-            pass,
-            taker,
-            waiting: theirs,
-            sent,
-        } = self;
-        let sending = Sending {
-            rt,
-            writer,
-            from,
-            pass: taker,
-            waiting: theirs,
-            sent,
-            link,
-            at: PhantomData,
-        };
-        let outgoing = Outgoing {
-            rt,
-            alloc,
-            to,
-            pass,
-            finished: false,
-            waiting,
-            trace,
-            at: PhantomData,
-        };
-        Ok((outgoing, sending))
-    }
-}
-
-impl<H: Copy + Wait, Q: Queue> Outgoing<H, Q> {
+impl<H: Drop> Outgoing<H> {
     /// How many bytes wait to be sent.
     pub fn waiting(&self) -> usize {
         self.waiting.bytes()
     }
 
-    /// Puts the end, unless it was put.
+    /// No more is written.
     pub fn end(&mut self)
-        ensures { put_bytes (view self.new.pass) ≡ put_bytes (view self.old.pass) }
+        ensures { self.new.pass ≡ self.old.pass }
     {
-        if self.finished {
-            return;
-        }
-        if self.to.send_as::<Puts, H>(&self.rt, &mut self.pass, None).is_ok() {
-            self.finished = true;
-        }
+        self.pieces = None;
     }
 
-    /// Joins the pass of the one that took what was put here, so that their lists are compared.
-    pub fn settle(self, taker: PiecePass) -> PiecePass
-        requires seat { Q.seats taker }
-        ensures both { view result ≡ joined_hands (view self.pass) (view taker) }
-        ensures left { (items : List PieceT) × LeftOver (view result) items }
-        ensures last { count_behind (view self.pass).put ≡ 0 }
+    /// The pass in which contracts see all that was put into the queue.
+    pub fn into_pass(self) -> QueuePass
+        ensures { result ≡ self.pass }
     {
-        let Outgoing { to, mut pass, .. } = self;
-        to.absorb::<JoinHands>(&mut pass, taker);
-        to.learn_as::<Takes>(&mut pass);
+        let Outgoing { pass, .. } = self;
         pass
     }
 }
 
-impl<H: Copy + Wait, Q: Queue> Write for Outgoing<H, Q> {
+impl<H: Copy + Wait> Write for Outgoing<H> {
     ghost contents = { λ outgoing. put_bytes (view outgoing.pass) };
 
     fn write(&mut self, buf: &[u8]) -> io::Result<usize> {
-        if self.finished {
+        let Some(pieces) = &self.pieces else {
             return Err(io::Error::from(ErrorKind::BrokenPipe));
-        }
+        };
         let mut piece = Vec::new(self.alloc);
         piece.extend_from_slice(buf)?;
         self.waiting.add(buf.len());
         self.trace.note(Direction::Went, buf);
-        match self.to.send_as::<Puts, H>(&self.rt, &mut self.pass, Some(piece)) {
+        match pieces.send_as::<Puts, H>(&self.rt, &mut self.pass, piece) {
             Ok(()) => Ok(buf.len()),
             Err(_) => Err(io::Error::from(ErrorKind::BrokenPipe)),
         }
@@ -232,7 +166,7 @@ impl<H: Copy + Wait, Q: Queue> Write for Outgoing<H, Q> {
     }
 }
 
-impl<H: Copy + Wait, Q: Queue> Finish for Outgoing<H, Q> {
+impl<H: Copy + Drop + Wait> Finish for Outgoing<H> {
     fn finish(&mut self) {
         self.end();
     }
