@@ -8,7 +8,7 @@
 #ifndef QLESS
 #define QLESS 0
 #endif
-#define Q (MARK + M + 2 - QLESS)	/* how many writes wait at most: MAX_WRITES, 256 */
+#define Q (MARK + M + 3 - QLESS)	/* how many writes wait at most, and their end: MAX_WRITES, 256 */
 #endif
 #ifndef SCREEN
 #define SCREEN 1	/* how many units the screen's pipe holds */
@@ -19,8 +19,8 @@
 
 chan user = [1] of { byte };	/* standard input: keys, and 0 for the key that leaves */
 bool user_ended;		/* its end */
-chan pieces = [Q] of { byte, byte };	/* the writes that wait: so many units, and the last one */
-bool pieces_up = true;		/* Outgoing has its sender */
+chan pieces = [Q] of { byte, byte };	/* the writes that wait: so many units, and the last one; none of both is the end */
+bool pieces_up = true;		/* Outgoing has not put the end */
 bool sending_up = true;		/* Sending has its receiver */
 chan sent = [1] of { bit };	/* tells Throttle that something was sent */
 byte writes;			/* Waiting */
@@ -179,11 +179,17 @@ inline note() {
 	fi
 }
 
+#define IS_END (n == 0 && u == 0)
+
 proctype Sending() {
 	byte n = 0, u = 0;
 	bool ok = true;
 	do
 	:: atomic { nempty(pieces) -> pieces?n,u; ok = true;
+		if
+		:: IS_END -> goto ends
+		:: !IS_END
+		fi;
 		do						/* send_whole */
 		:: n > 0 && ok -> put_unit(C2S, KEY, ok); n--
 		:: n == 0 && u != 0 && ok -> put_unit(C2S, u, ok); u = 0
@@ -195,16 +201,34 @@ proctype Sending() {
 		:: ok
 		fi;
 		note()
-	:: atomic { empty(pieces) && !pieces_up -> goto ends }
 	od;
 fails:	note();
 	do							/* discard: all that still comes */
-	:: atomic { nempty(pieces) -> pieces?n,u }; note()
-	:: atomic { empty(pieces) && !pieces_up -> break }
+	:: atomic { nempty(pieces) -> pieces?n,u;
+		if
+		:: IS_END -> goto ends
+		:: !IS_END
+		fi };
+		note()
 	od;
 ends:	fin[C2S] = true;					/* finish */
 out:	true;
 	atomic { n = 0; u = 0; ok = 0; sending_up = false; sending_done = true }
+}
+
+/* Outgoing::end: the end is put behind all writes, once, where somebody takes it */
+inline put_end() {
+	if
+	:: pieces_up ->
+#ifdef NOBLOCK
+		assert(len(pieces) < Q || !sending_up);	/* nor does it wait to put the end */
+#endif
+		if
+		:: atomic { sending_up && nfull(pieces) -> pieces!0,0; pieces_up = false }
+		:: atomic { !sending_up -> pieces_up = false }
+		fi
+	:: !pieces_up
+	fi
 }
 
 /* Core: client.rt run, client_loop.rt run_core, machine.rt handle, then connecting.rt talk_and_send */
@@ -215,9 +239,8 @@ proctype Core() {
 	/* run: each thread may fail to start */
 	if
 	:: atomic { run ClientNet(); run ClientKeys() }
-	:: atomic { MAY_FAIL -> FAIL; pieces_up = false; c_net_done = true; c_keys_done = true; c_over = true; goto joined }
-	:: atomic { MAY_FAIL -> FAIL; run ClientNet(); pieces_up = false; box_up[CLI] = false; c_keys_done = true; c_over = true;
-		goto joined }
+	:: atomic { MAY_FAIL -> FAIL; c_net_done = true; c_keys_done = true; c_over = true; goto finishes }
+	:: atomic { MAY_FAIL -> FAIL; run ClientNet(); box_up[CLI] = false; c_keys_done = true; c_over = true; goto finishes }
 	fi;
 	do
 	:: lefts >= 2 -> break
@@ -315,13 +338,13 @@ shows:		/* what is shown */
 		:: !(c_over || c_at_end) || c_stop
 		fi;
 		if
-		:: atomic { (c_over || c_closed) && !closed -> pieces_up = false; closed = true }
+		:: (c_over || c_closed) && !closed -> put_end(); closed = true
 		:: !(c_over || c_closed) || closed
 		fi;
 next:		true
 	od;
-	pieces_up = false;					/* finish_unless */
-joined:	c_net_done && c_keys_done;
+finishes:	put_end();					/* finish_unless, or end */
+	c_net_done && c_keys_done;
 	sending_done;
 	/* the connection is closed */
 	atomic { fin[C2S] = true; deaf[S2C] = true; client_done = true }

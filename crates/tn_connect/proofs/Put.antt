@@ -1,16 +1,15 @@
 -- What a client's session put into its queue, which held nothing.
-use Rattle.std.proofs.Common.{◌≡◌, ℕ, List, [], Option, Some, None, option_map, Result, Ok, Err, IfOk, subst, sym}
-use Rattle.std.specs.Global.{Vec}
-use Rattle.crossbeam_channel.specs.Claims.{Pass, view}
-use Rattle.tn_connect.specs.Clients.{RunsClient, connected}
+use Rattle.std.proofs.Common.{◌≡◌, ℕ, List, [], Option, Some, None, Result, Ok, Err, IfOk, subst, sym}
+use Rattle.crossbeam_channel.specs.Claims.{view}
+use Rattle.tn_connect.specs.Clients.{RunsClient, RunsWriting}
 use Rattle.tn_connect.specs.declared.connected.Connected.{Connected}
 use Rattle.tn_messages.specs.declared.faults.SessionFault.{SessionFault}
+use Rattle.tn_queue.specs.Queue.{putter}
 use Rattle.tn_session.specs.Client.{RunningClient}
 use Rattle.tn_session.specs.Facts.{Window, client_result}
 use Rattle.tn_session.specs.declared.parties.ClientPorts.{ClientPorts}
 use Rattle.tn_session.specs.declared.parties.Report.{Report}
-use Rattle.tn_sockets.specs.Queue.{bytes_of, put_bytes}
-use Rattle.tn_sockets.specs.declared.pieces.Hand.{Hand}
+use Rattle.tn_sockets.specs.Queue.{PieceHand, PiecePass, put_bytes}
 use Rattle.tn_streams.specs.Known.{KnownReader, KnownWriting}
 
 abbrev pub writing : Option (List ℕ) → Option (List ℕ) → KnownWriting
@@ -20,17 +19,24 @@ abbrev pub unforeseen : KnownReader
 unforeseen = record { bytes = None; failures = None; sizes = Some [] }
 
 module _ (window : Window) (keys : KnownReader) (seen now : Option (List ℕ)) where
-  pub runs : (put : Option (List (Vec ℕ))) (queue : Pass (Vec ℕ) Hand) → put ≡ Some [] → (r : Result (Report × ClientPorts) SessionFault)
-      → IfOk r (λ r. RunningClient window keys unforeseen (writing (option_map bytes_of put) (put_bytes (view queue))) (writing seen now) (client_result r.0 r.1))
-      → IfOk r (λ r. RunsClient window keys seen now (connected r.0 r.1 queue))
-  runs put queue e (Err x) h = tt
-  runs put queue e (Ok x) h =
-      subst (λ (o : Option (List (Vec ℕ))). RunningClient window keys unforeseen (writing (option_map bytes_of o) (put_bytes (view queue))) (writing seen now) (client_result x.0 x.1)) e h
+  pub runs : (old : PieceHand) (put : Option (List ℕ)) → old ≡ putter [] → (r : Result (Report × ClientPorts) SessionFault)
+      → IfOk r (λ r. RunningClient window keys unforeseen (writing (put_bytes old) put) (writing seen now) (client_result r.0 r.1))
+      → IfOk r (λ r. RunsWriting window keys seen now put r.0 r.1)
+  runs old put e (Err x) h = tt
+  runs old put e (Ok x) h =
+      subst (λ (v : PieceHand). RunningClient window keys unforeseen (writing (put_bytes v) put) (writing seen now) (client_result x.0 x.1)) e h
+
+  -- the queue has what was put
+  pub still : (put queue : Option (List ℕ)) → queue ≡ put → (r : Result (Report × ClientPorts) SessionFault)
+      → IfOk r (λ r. RunsWriting window keys seen now put r.0 r.1) → IfOk r (λ r. RunsWriting window keys seen now queue r.0 r.1)
+  still put queue e r h =
+      let P : Option (List ℕ) → Type 0 = λ o. IfOk r (λ r. RunsWriting window keys seen now o r.0 r.1) in
+      subst P (sym e) h
 
   -- of a session that is over
-  pub gives : (ended : Result (Report × ClientPorts) SessionFault) (queue : Pass (Vec ℕ) Hand) (r : Connected) → ended ≡ Ok (r.report, r.ports) → r.queue ≡ queue
-      → IfOk ended (λ r. RunsClient window keys seen now (connected r.0 r.1 queue)) → RunsClient window keys seen now r
+  pub gives : (ended : Result (Report × ClientPorts) SessionFault) (queue : PiecePass) (r : Connected) → ended ≡ Ok (r.report, r.ports) → r.queue ≡ queue
+      → IfOk ended (λ r. RunsWriting window keys seen now (put_bytes (view queue)) r.0 r.1) → RunsClient window keys seen now r
   gives ended queue r e same h =
-      let P : Result (Report × ClientPorts) SessionFault → Type 0 = λ x. IfOk x (λ u. RunsClient window keys seen now (connected u.0 u.1 queue)) in
-      let one : RunsClient window keys seen now (connected r.report r.ports queue) = subst P e h in
-      subst (λ (q : Pass (Vec ℕ) Hand). RunsClient window keys seen now (connected r.report r.ports q)) (sym same) one
+      let P : Result (Report × ClientPorts) SessionFault → Type 0 = λ x. IfOk x (λ u. RunsWriting window keys seen now (put_bytes (view queue)) u.0 u.1) in
+      let one : RunsWriting window keys seen now (put_bytes (view queue)) r.report r.ports = subst P e h in
+      subst (λ (q : PiecePass). RunsWriting window keys seen now (put_bytes (view q)) r.report r.ports) (sym same) one

@@ -1,7 +1,6 @@
 -- Which session a client runs over a connection.
 use Rattle.std.specs.Prelude.{ℕ, Option, Some, None, List, []}
-use Rattle.std.specs.Global.{Vec}
-use Rattle.crossbeam_channel.specs.Claims.{Pass, view}
+use Rattle.crossbeam_channel.specs.Claims.{view}
 use Rattle.tn_connect.specs.declared.connected.Connected.{Connected}
 use Rattle.tn_connect.specs.declared.settings.Connecting.{Connecting}
 use Rattle.tn_connect.specs.declared.settings.Origin.{Origin}
@@ -11,7 +10,6 @@ use Rattle.tn_session.specs.Facts.{Window, client_result}
 use Rattle.tn_session.specs.declared.parties.ClientPorts.{ClientPorts}
 use Rattle.tn_session.specs.declared.parties.Report.{Report}
 use Rattle.tn_sockets.specs.Queue.{put_bytes}
-use Rattle.tn_sockets.specs.declared.pieces.Hand.{Hand}
 use Rattle.tn_streams.specs.Known.{KnownReader}
 
 abbrev pub window_of : Connecting → Window
@@ -25,19 +23,17 @@ foreseen Reader bytes = record { bytes = bytes; failures = None; sizes = Some []
 foreseen Input bytes = record { bytes = None; failures = None; sizes = None }
 foreseen Terminal bytes = record { bytes = None; failures = None; sizes = None }
 
--- A client's session ran with these keys and this screen, before and after it, and gave back this. Of what the
--- connection brings nothing was known before, but that it tells no size; all that was read from it stands in the
--- ports, and all that the session wrote in the queue.
+-- A client's session ran with these keys and this screen, before and after it, wrote these bytes, and gave back this.
+-- Of what the connection brings nothing was known before, but that it tells no size; all that was read from it stands
+-- in the ports.
+abbrev pub RunsWriting : Window → KnownReader → Option (List ℕ) → Option (List ℕ) → Option (List ℕ) → Report → ClientPorts → Type 0
+RunsWriting window keys seen now written report ports =
+    RunningClient window keys (record { bytes = None; failures = None; sizes = Some [] })
+    (record { before = record { bytes = Some []; calls = None }; after = record { bytes = written; calls = None } })
+    (record { before = record { bytes = seen; calls = None }; after = record { bytes = now; calls = None } })
+    (client_result report ports)
+
+-- the same, of what it gave back: all that it wrote was put into the queue
 abbrev pub RunsClient : Window → KnownReader → Option (List ℕ) → Option (List ℕ) → Connected → Type 0
 RunsClient window keys seen now connected =
-    RunningClient window keys (record { bytes = None; failures = None; sizes = Some [] })
-    (record {
-      before = record { bytes = Some []; calls = None };
-      after = record { bytes = put_bytes (view connected.queue); calls = None };
-    })
-    (record { before = record { bytes = seen; calls = None }; after = record { bytes = now; calls = None } })
-    (client_result connected.report connected.ports)
-
--- a session, and the queue that it wrote to
-abbrev pub connected : Report → ClientPorts → Pass (Vec ℕ) Hand → Connected
-connected report ports queue = record { report = report; ports = ports; queue = queue }
+    RunsWriting window keys seen now (put_bytes (view connected.queue)) connected.report connected.ports

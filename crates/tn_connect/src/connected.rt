@@ -1,7 +1,7 @@
 //! A client's session over a connection that ended without a fault.
 
 use tn_session::{ClientPorts, Report};
-use tn_sockets::QueuePass;
+use tn_sockets::{PiecePass, WriteLog};
 
 /// A client's session over a connection that ended without a fault.
 #[derive(Drop)]
@@ -11,5 +11,9 @@ pub struct Connected {
     /// all keys that were read.
     pub ports: ClientPorts,
     /// In it contracts see all that the session wrote: it waited there to be sent.
-    pub queue: QueuePass,
+    pub queue: PiecePass,
+    /// All that the connection took of it.
+    pub log: WriteLog,
+    /// Whether it took all. Where the user left before, it may have taken less.
+    pub all_sent: bool,
 }

@@ -1,87 +1,112 @@
 //! `tn connect`: a client's session over a connection.
 
-ghost use Rattle.std.specs.Prelude.{◌≡◌, ◌≢◌, Ok, Err, Some, [], false, IsOk, IfOk, IfErr, OnErr};
+ghost use Rattle.std.specs.Prelude.{◌≡◌, ◌≢◌, [], Err, IfErr, IfOk, IsOk, Ok, OnErr, Some, false, true};
 ghost use Rattle.crossbeam_channel.specs.Claims.{view};
-ghost use Rattle.tn_connect.specs.Clients.{RunsClient, connected, foreseen, window_of};
+ghost use Rattle.crossbeam_channel.specs.Ends.{sends_on};
+ghost use Rattle.tn_connect.specs.Clients.{RunsClient, RunsWriting, foreseen, window_of};
 ghost use Rattle.tn_connect.specs.Faults.{IsOfNetwork};
+ghost use Rattle.tn_connect.specs.Sent.{TookWhatWasWritten};
 ghost use Rattle.tn_messages.specs.Ending.{EndsWhole};
+ghost use Rattle.tn_queue.specs.Queue.{putter};
+ghost use Rattle.tn_sockets.specs.Ends.{IsNew};
+ghost use Rattle.tn_sockets.specs.Logs.{logged};
+ghost use Rattle.tn_sockets.specs.Queue.{IsNamed, IsSent, put_bytes};
+ghost use Rattle.tn_sockets.specs.declared.sending.Sent.TheVariants.{Whole};
 ghost use Rattle.tn_streams.specs.Known.{known_reader};
 
 use crate::connected::Connected;
 use crate::fault::ConnectFault;
 use crate::reaching::reach;
+use crate::sending::{Delivered, Sender};
 use crate::settings::{Connecting, Notes, Origin};
 use std::alloc::Global;
 use std::fs::File;
+use std::io;
 use std::io::{Read, Write};
+use std::marker::Brand;
 use std::net::{Net, TcpListener, TcpStream};
 use std::sync::Arc;
-use std::{io, thread};
 use tn_session::{ClientPorts, Ended, Report, SessionFault, Unwatched, client_session};
 use tn_sockets::{
-    Connection, Console, Host, Incoming, Keys, Link, Outgoing, QueuePass, Sending, Sent, Sizes,
-    Throttle, Trace, Typing, queue_for,
+    Connection, Console, Host, Incoming, Keys, Link, Logged, NewQueue, Outgoing, PiecePass, Queue, Sent,
+    Sizes, Trace, Typing, WriteLog, new_queue,
 };
 use tn_streams::Source;
 
-// A connection's two directions, of which the second is sent by a thread of its own.
+// A connection that stands, and what it shares with the rest of the client.
 #[derive(Drop)]
-struct Wires<H> {
-    incoming: Incoming<H, TcpStream>,
-    outgoing: Outgoing<H>,
-    sending: Sending<H, Connection<TcpStream>>,
+struct Opened<H> {
+    stream: TcpStream,
+    link: Arc<Link, Global>,
+    trace: Trace<H>,
+    queue: NewQueue,
 }
 
-// A session that is over, how its sending ended, how many bytes were not sent, and the queue of what it wrote.
+// A connection's two directions, of which the second is sent by a thread of its own.
+#[derive(Drop)]
+struct Wires<H, Q: Queue> {
+    incoming: Incoming<H, TcpStream>,
+    outgoing: Outgoing<H, Q>,
+    sender: Sender<H, Q>,
+}
+
+// A session that is over, how its sending ended, how many bytes were not sent, the queue of what it wrote, and
+// the log of what the connection took.
 #[derive(Drop)]
 struct Talked {
     ended: Result<(Report, ClientPorts), SessionFault>,
     sent: io::Result<Sent>,
     unsent: usize,
-    queue: QueuePass,
+    queue: PiecePass,
+    log: WriteLog,
 }
 
-// Lays out a connection's two directions. Keys are read as the throttle lets them.
-fn wire<H: Host>(
+// Lays out a connection's two directions.
+fn wire<H: Host, Q: Queue>(
     rt: H,
     alloc: Global,
-    stream: TcpStream,
-    link: &Arc<Link, Global>,
-    trace: &Trace<H>,
+    opened: Opened<H>,
     origin: Origin,
-) -> Result<(Wires<H>, Throttle<H>), ConnectFault>
+) -> Result<Wires<H, Q>, ConnectFault>
+    requires new { IsNew opened.queue }
+    requires named { IsNamed Q.table Q.key (sends_on opened.queue.to) }
     ensures fault { IfErr result IsOfNetwork }
-    ensures nothing_yet { IfOk result (λ r. (view r.0.outgoing.pass).put ≡ Some []) }
+    ensures nothing_yet { IfOk result (λ wires. view wires.outgoing.pass ≡ putter []) }
 {
+    let Opened {
+        stream,
+        link,
+        trace,
+        queue,
+    } = opened;
     let (reader, writer) = Connection::split(stream)?;
     link.attach(&rt, reader.try_clone()?);
-    let sent = Arc::try_clone(link)?;
-    let (outgoing, sending, throttle) = queue_for(rt, alloc, writer, sent, trace.try_clone()?)?;
+    let sent = Arc::try_clone(&link)?;
     let is_watched = origin == Origin::Terminal;
-    let read = Arc::try_clone(link)?;
-    let incoming = Incoming::new(alloc, reader, read, trace.try_clone()?, is_watched);
-    let wires = Wires {
+    let incoming = Incoming::new(alloc, reader, link, trace.try_clone()?, is_watched);
+    let (outgoing, sending) = queue.sides(rt, alloc, Logged::new(writer), sent, trace)?;
+    let sender = Sender { sending };
+    Ok(Wires {
         incoming,
         outgoing,
-        sending,
-    };
-    Ok((wires, throttle))
+        sender,
+    })
 }
 
 // Runs a session over a connection's two directions, with these keys and this screen.
-fn talk<H: Host, K: Source + Drop + Send + 'static, S: Write>(
+fn talk<H: Host, K: Source + Drop + Send + 'static, S: Write, Q: Queue>(
     rt: H,
     alloc: Global,
     incoming: Incoming<H, TcpStream>,
-    outgoing: &mut Outgoing<H>,
+    outgoing: &mut Outgoing<H, Q>,
     keys: K,
     screen: &mut S,
     connecting: Connecting,
 ) -> Result<(Report, ClientPorts), SessionFault>
-    requires nothing_yet { (view outgoing.old.pass).put ≡ Some [] }
+    requires nothing_yet { view outgoing.old.pass ≡ putter [] }
     ensures ran { IfOk result (λ r.
-        RunsClient (window_of connecting) (known_reader K.remaining K.foretold K.sizes keys)
-        (S.contents screen.old) (S.contents screen.new) (connected r.0 r.1 outgoing.new.pass)) }
+        RunsWriting (window_of connecting) (known_reader K.remaining K.foretold K.sizes keys)
+        (S.contents screen.old) (S.contents screen.new) (put_bytes (view outgoing.new.pass)) r.0 r.1) }
 {
     let Ok(gate) = Arc::new(alloc, Unwatched) else {
         return Err(SessionFault::Memory);
@@ -94,19 +119,19 @@ fn talk<H: Host, K: Source + Drop + Send + 'static, S: Write>(
 }
 
 // The same, with the keys of a reader.
-fn talk_from<H: Host, K: Read + Drop + Send + 'static, S: Write>(
+fn talk_from<H: Host, K: Read + Drop + Send + 'static, S: Write, Q: Queue>(
     rt: H,
     alloc: Global,
     incoming: Incoming<H, TcpStream>,
-    outgoing: &mut Outgoing<H>,
+    outgoing: &mut Outgoing<H, Q>,
     typing: Typing<H, K>,
     screen: &mut S,
     connecting: Connecting,
 ) -> Result<(Report, ClientPorts), SessionFault>
-    requires nothing_yet { (view outgoing.old.pass).put ≡ Some [] }
+    requires nothing_yet { view outgoing.old.pass ≡ putter [] }
     ensures ran { IfOk result (λ r.
-        RunsClient (window_of connecting) (foreseen connecting.origin (K.remaining typing.keys))
-        (S.contents screen.old) (S.contents screen.new) (connected r.0 r.1 outgoing.new.pass)) }
+        RunsWriting (window_of connecting) (foreseen connecting.origin (K.remaining typing.keys))
+        (S.contents screen.old) (S.contents screen.new) (put_bytes (view outgoing.new.pass)) r.0 r.1) }
 {
     let origin = connecting.origin;
     match origin {
@@ -125,32 +150,36 @@ fn talk_from<H: Host, K: Read + Drop + Send + 'static, S: Write>(
     }
 }
 
-// Runs a session over a connection's two directions, of which a thread of its own sends the second.
-fn talk_and_send<H: Host, K: Read + Drop + Send + 'static, S: Write>(
+// Runs a session over a connection that stands, of which a thread of its own sends what the session writes.
+fn talk_and_send<
+    H: Host,
+    K: Read + Drop + Send + 'static,
+    S: Write,
+    Q: Queue + Send + 'static,
+>(
     rt: H,
     alloc: Global,
-    wires: Wires<H>,
+    opened: Opened<H>,
     typing: Typing<H, K>,
     screen: &mut S,
     connecting: Connecting,
 ) -> Result<Talked, ConnectFault>
-    requires nothing_yet { (view wires.outgoing.pass).put ≡ Some [] }
+    requires new { IsNew opened.queue }
+    requires named { IsNamed Q.table Q.key (sends_on opened.queue.to) }
     ensures ran { IfOk result (λ talked. IfOk talked.ended (λ r.
-        RunsClient (window_of connecting) (foreseen connecting.origin (K.remaining typing.keys))
-        (S.contents screen.old) (S.contents screen.new) (connected r.0 r.1 talked.queue))) }
+        RunsWriting (window_of connecting) (foreseen connecting.origin (K.remaining typing.keys))
+        (S.contents screen.old) (S.contents screen.new) (put_bytes (view talked.queue)) r.0 r.1)) }
+    ensures sent { IfOk result (λ talked.
+        IsSent (put_bytes (view talked.queue)) (talked.sent ≡ Ok Whole) (logged talked.log)) }
     ensures unshown { OnErr result (S.contents screen.new ≡ S.contents screen.old) }
     ensures fault { IfErr result IsOfNetwork }
 {
     let Wires {
         incoming,
         mut outgoing,
-        sending,
-    } = wires;
-    let send = move || -> io::Result<Sent> {
-        let mut sending = sending;
-        sending.run()
-    };
-    let Ok(sending) = thread::spawn(&rt, send) else {
+        sender,
+    } = wire::<H, Q>(rt, alloc, opened, connecting.origin)?;
+    let Some(sending) = sender.start(rt) else {
         return Err(ConnectFault::Memory);
     };
     let ended = talk_from(
@@ -163,21 +192,22 @@ fn talk_and_send<H: Host, K: Read + Drop + Send + 'static, S: Write>(
         connecting,
     );
     outgoing.end();
-    let sent = sending.join(&rt);
+    let Delivered { sent, log, taker } = sending.join(&rt);
     let unsent = outgoing.waiting();
-    let queue = outgoing.into_pass();
+    let queue = outgoing.settle(taker);
     Ok(Talked {
         ended,
         sent,
         unsent,
         queue,
+        log,
     })
 }
 
 /// Connects to a host, an address or a name, and runs a client's session over the connection, with these
 /// keys and this screen, until the server has closed or the user leaves. What a session that ends without a
-/// fault returns tells contracts all that was read from the connection and written to it. Of a fault the causes
-/// are noted.
+/// fault returns tells contracts all that was read from the connection, all that the session wrote, and what the
+/// connection took of it. Of a fault the causes are noted.
 pub fn connect<
     H: Host + Net<Listener = TcpListener, Stream = TcpStream>,
     K: Read + Drop + Send + 'static,
@@ -193,6 +223,7 @@ pub fn connect<
 ) -> Result<Connected, ConnectFault>
     ensures ran { IfOk result (RunsClient (window_of connecting) (foreseen connecting.origin (K.remaining keys))
         (S.contents screen.old) (S.contents screen.new)) }
+    ensures sent { IfOk result TookWhatWasWritten }
     ensures whole { IfOk result (λ connected. EndsWhole connected.report.ended) }
     ensures unshown { OnErr result (result ≢ Err ConnectFault.Session →
         S.contents screen.new ≡ S.contents screen.old) }
@@ -205,7 +236,7 @@ pub fn connect<
     } = notes;
     let stream = reach(&rt, host, connecting.port, causes)?;
     let trace = Trace::new(rt, alloc, trace)?;
-    let (wires, throttle) = wire(rt, alloc, stream, &link, &trace, connecting.origin)?;
+    let (queue, throttle) = new_queue(rt, alloc)?;
     let typing = Typing {
         keys,
         throttle,
@@ -216,7 +247,13 @@ pub fn connect<
         height: connecting.height,
         sizes: Sizes::new(sizes),
     };
-    let talked = talk_and_send(rt, alloc, wires, typing, screen, connecting)?;
+    let opened = Opened {
+        stream,
+        link: Arc::try_clone(&link)?,
+        trace: trace.try_clone()?,
+        queue,
+    };
+    let talked = talk_and_send::<H, K, S, Brand>(rt, alloc, opened, typing, screen, connecting)?;
     note_talked(causes, &talked, &link);
     if !trace.end() {
         let _ = writeln!(causes, "tn: the trace is not whole");
@@ -235,6 +272,7 @@ fn note_talked(causes: &mut Vec<u8>, talked: &Talked, link: &Link) {
 // The result of a session that is over. Where its sending failed it is a fault, unless its user has left.
 fn result_of(talked: Talked, is_left: bool) -> Result<Connected, ConnectFault>
     ensures ran { IfOk result (λ r. (talked.ended ≡ Ok (r.report, r.ports)) × (r.queue ≡ talked.queue)) }
+    ensures log { IfOk result (λ r. (r.log ≡ talked.log) × (r.all_sent ≡ true → talked.sent ≡ Ok Whole)) }
     ensures whole { IfOk result (λ r. EndsWhole r.report.ended) }
     ensures sent { IfOk result (λ _. is_left ≡ false → IsOk talked.sent) }
     ensures fault { IfErr result (λ fault. fault ≡ ConnectFault.Session) }
@@ -243,17 +281,28 @@ fn result_of(talked: Talked, is_left: bool) -> Result<Connected, ConnectFault>
         ended,
         sent,
         queue,
+        log,
         ..
     } = talked;
     let (report, ports) = if_whole(ended)?;
     if sent.is_err() && !is_left {
         return Err(ConnectFault::Session);
     }
+    let all_sent = is_whole(&sent);
     Ok(Connected {
         report,
         ports,
         queue,
+        log,
+        all_sent,
     })
+}
+
+// Whether all was sent.
+fn is_whole(sent: &io::Result<Sent>) -> bool
+    ensures { result ≡ true → sent.now ≡ Ok Whole }
+{
+    matches!(sent, Ok(Sent::Whole))
 }
 
 // The fault that a session ended in, if it did.

@@ -18,4 +18,5 @@ mod connected;
 mod connecting;
 mod fault;
 mod reaching;
+mod sending;
 mod settings;

@@ -23,6 +23,9 @@ all_held : (after : Option (List ℕ)) (bytes : List ℕ) → Appends (Some []) 
 all_held None bytes a = absurd a
 all_held (Some xs) bytes a = ap Some (sym a)
 
+is_some : {A : Type 0} {a b : A} → Some a ≡ Some b → a ≡ b
+is_some e = cc
+
 module _ {J : Type 0} (facts : JobFacts J) (headline : Headline facts) (p : Programs facts) where
   abbrev served : Served facts (terminal_of p.options).canon
   served = record { editing = p.options.editing; to_make = p.to_make; reader = socket; writer = wrote p.conversed.log; result = session_result p.conversed.report p.conversed.ports; ran = p.served }
@@ -48,12 +51,17 @@ module _ {J : Type 0} (facts : JobFacts J) (headline : Headline facts) (p : Prog
       let reads = headline (terminal_of p.options).canon served client refl carried in
       record { prefix = reads.prefix; all = λ s c whole. reads.all (record { server = s; client = c; whole = whole }) }
 
+  put : Some (all_wrote p.joined.transcript) ≡ put_bytes (view p.connected.queue)
+  put = ap Some p.joined.was_written ∙ all_held (put_bytes (view p.connected.queue)) p.joined.written p.joined.appended
+
   theirs : AreTheirs p
   theirs = record {
     server_read = p.served.came;
     server_wrote = p.served.was_written ∙ sym p.served.schedule.appended;
     client_read = p.joined.came;
-    client_wrote = ap Some p.joined.was_written ∙ all_held (put_bytes (view p.connected.queue)) p.joined.written p.joined.appended;
+    client_wrote = put;
+    client_sent = p.sent.first (all_wrote p.joined.transcript) (sym put);
+    client_sent_all = λ all. sym (is_some (put ∙ p.sent.all all));
   }
 
   pub reads_what_is_typed : p.connecting.line_limit ≡ p.options.line_limit → IsCarried served.ran.transcript p.joined.transcript → ReadsWhatIsTyped p

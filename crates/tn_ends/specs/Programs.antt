@@ -1,8 +1,9 @@
 -- The headline over the two programs: of what `serve_connection` and `connect` return. Read `HeadlineOfPrograms` at
 -- the end first.
-use Rattle.std.specs.Prelude.{◌≡◌, ℕ, Option, Some, List}
+use Rattle.std.specs.Prelude.{◌≡◌, ℕ, true, Option, Some, List}
 use Rattle.crossbeam_channel.specs.Claims.{view}
 use Rattle.tn_connect.specs.Clients.{RunsClient, window_of}
+use Rattle.tn_connect.specs.Sent.{TookWhatWasWritten}
 use Rattle.tn_connect.specs.declared.connected.Connected.{Connected}
 use Rattle.tn_connect.specs.declared.settings.Connecting.{Connecting}
 use Rattle.tn_discipline.specs.Canon.{typed_entries}
@@ -31,6 +32,7 @@ pub record Programs {J : Type 0} (facts : JobFacts J) : Type 0 where
   pub now : Option (List ℕ)
   pub connected : Connected
   pub joined : RunsClient (window_of connecting) keys seen now connected
+  pub sent : TookWhatWasWritten connected
 
 -- what each read from its connection and wrote to it
 abbrev pub server_transcript : {J : Type 0} {facts : JobFacts J} → Programs facts → List Exchange
@@ -39,13 +41,16 @@ server_transcript p = p.served.transcript
 abbrev pub client_transcript : {J : Type 0} {facts : JobFacts J} → Programs facts → List Exchange
 client_transcript p = p.joined.transcript
 
--- These are of THEIR connection: each read what its thread read from there; what the server wrote was taken by the
--- connection, as its log has it, and what the client wrote waited in its queue for the thread that sends.
+-- These are of THEIR connection: each read what its thread read from there. What the server wrote was taken by the
+-- connection, as its log has it. What the client wrote waited in its queue for the thread that sends; the connection
+-- took the first of it, and all of it where `connect` tells so.
 pub record AreTheirs {J : Type 0} {facts : JobFacts J} (p : Programs facts) : Type 0 where
   pub server_read : all_read (server_transcript p) ≡ came_by (view p.conversed.ports.net).net
   pub server_wrote : all_wrote (server_transcript p) ≡ logged p.conversed.log
   pub client_read : all_read (client_transcript p) ≡ came_by (view p.connected.ports.net).net
   pub client_wrote : Some (all_wrote (client_transcript p)) ≡ put_bytes (view p.connected.queue)
+  pub client_sent : IsPrefixOf (logged p.connected.log) (all_wrote (client_transcript p))
+  pub client_sent_all : p.connected.all_sent ≡ true → logged p.connected.log ≡ all_wrote (client_transcript p)
 
 -- what the job took, and what one local terminal gives for the keys that were read
 abbrev pub taken : {J : Type 0} {facts : JobFacts J} → Programs facts → List Entry

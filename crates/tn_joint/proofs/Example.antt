@@ -33,7 +33,7 @@ use Rattle.tn_server.specs.declared.wishes.Editing.{Editing}
 use Rattle.tn_session.proofs.lemmas.Sessions.{server_transcript, server_reads, client_transcript, client_reads}
 use Rattle.tn_session.specs.Client as of_client
 use Rattle.tn_session.specs.Client.{RunningClient}
-use Rattle.tn_session.specs.EntryChannel.{putter, taker}
+use Rattle.tn_queue.specs.Queue.{putter, taker}
 use Rattle.tn_session.specs.Facts.{SessionJobs, SessionResult, TermSettings, ClientResult, Window}
 use Rattle.tn_session.specs.Mailbox.{from, four, mail, nobody, sender}
 use Rattle.tn_session.specs.Reader.{ReaderSends}

@@ -15,7 +15,7 @@ use Rattle.tn_session.proofs.Mailbox.{sender_share}
 use Rattle.tn_session.proofs.Readers.{closes_ending}
 use Rattle.tn_session.specs.Facts.{JobActs, SessionJobs, SessionResult, TermSettings}
 use Rattle.tn_session.specs.Mailbox.{same, from, sender, mail}
-use Rattle.tn_session.specs.EntryChannel.{taker}
+use Rattle.tn_queue.specs.Queue.{taker}
 use Rattle.tn_session.specs.Reading.{IsEnding, IsReadCause, max_reads, Telling, piece_told, size_told, told_messages, pieces_in}
 use Rattle.tn_session.specs.Session.{Schedule, HearsReader, TakesEntries}
 use Rattle.tn_session.specs.Stepping.{IsClose, step_said}
@@ -23,7 +23,7 @@ use Rattle.tn_session.specs.Talk.{Closes, turns_said, entries_of, ends_done}
 use Rattle.tn_session.specs.Transcripts.{bytes_sent, came_by}
 use Rattle.tn_session.specs.Turns.{messages_of, max_writes}
 use Rattle.tn_session.specs.declared.channels.View.{View}
-use Rattle.tn_session.specs.declared.entries.Hand.{Hand}
+use Rattle.tn_session.specs.EntryChannel.{EntryHand}
 use Rattle.tn_session.specs.declared.mail.Mail.{Mail}
 use Rattle.tn_session.specs.declared.mail.Sender.{Sender}
 use Rattle.tn_session.specs.declared.mail.Sender.TheVariants.{Net, Desk, Back, Keys}
@@ -194,7 +194,7 @@ not_done id (t ∷ []) more e k = k.1.0 e refl
 not_done id (t ∷ u ∷ us) more e k = not_done id (u ∷ us) more e k.1.1
 
 -- and the desk left because the end came
-at_end_of : (id : JobId) (turns : List (Entry × Reaction)) (v : View) (w : Hand) → Closes id turns v w → ((ms : List Message) → v ≡ sender Desk (map (mail Desk) ms) → AllKeepOn id.0 ms) → w ≡ taker (entries_of turns ++ None ∷ [])
+at_end_of : (id : JobId) (turns : List (Entry × Reaction)) (v : View) (w : EntryHand) → Closes id turns v w → ((ms : List Message) → v ≡ sender Desk (map (mail Desk) ms) → AllKeepOn id.0 ms) → w ≡ taker (entries_of turns ++ None ∷ [])
 at_end_of id turns v w c keeps =
     ⊎_elim
     (λ x. x.1)
@@ -330,7 +330,7 @@ module _ {J : Type 0} {facts : JobActs J} {jobs : SessionJobs J} {settings : Ter
       let is : result.views.took ≡ taker (entries_of turns ++ None ∷ []) = at_end_of jobs.first turns result.views.desk result.views.took s.talked.5 (λ ms e. subst (AllKeepOn jobs.first.0) (messages_from Desk result.views.desk s.from_desk s.handled ms s.desk_is e (s.woven Desk)) keeps) in
       let given_entries = map (λ t. t.0) turns in
       let took_is : s.taken ≡ map (λ e. Some e) given_entries ++ None ∷ [] =
-      some_is s.taken _ (ap (λ (h : Hand). h.taken) (sym s.took_is ∙ is)) ∙ ap (λ (es : List (Option Entry)). es ++ None ∷ []) (entries_given turns) in
+      some_is s.taken _ (ap (λ (h : EntryHand). h.taken) (sym s.took_is ∙ is)) ∙ ap (λ (es : List (Option Entry)). es ++ None ∷ []) (entries_given turns) in
       let puts : s.run.puts ≡ map (λ e. Some e) given_entries ++ None ∷ s.took_first.0 =
       sym s.took_first.1 ∙ ap (λ (es : List (Option Entry)). es ++ s.took_first.0) took_is ∙ append_assoc (map (λ e. Some e) given_entries) (None ∷ []) s.took_first.0 in
       ap entries_put took_is ∙ put_given given_entries ∙ u.all_put given_entries s.took_first.0 puts

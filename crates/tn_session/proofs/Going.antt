@@ -7,8 +7,8 @@ use Rattle.tn_discipline.specs.declared.reads.Entry.{Entry}
 use Rattle.tn_nvt.specs.Spelling.{spells}
 use Rattle.tn_server.specs.Replies.{items_said}
 use Rattle.tn_session.specs.Turns.{Writes, Tells, max_writes, TurnsMessage, GoesOn, left_one, lefts_of, messages_of}
-use Rattle.tn_session.specs.EntryChannel.{putter}
-use Rattle.tn_session.specs.declared.entries.Hand.{Hand}
+use Rattle.tn_queue.specs.Queue.{putter}
+use Rattle.tn_session.specs.EntryChannel.{EntryHand}
 use Rattle.tn_session.specs.declared.mail.Mail.{Mail}
 use Rattle.tn_streams.proofs.lemmas.Telling.{accounts_none, accounts_well, accounts_both}
 use Rattle.tn_streams.specs.Known.{KnownWriter, KnownWriting}
@@ -113,17 +113,17 @@ writes_as b d x y bytes others f e h =
     let Q : Bool → Type 0 = λ u. Writes u x y bytes in
     subst P e (subst Q f h)
 
-abbrev pub Puts : Hand → List (Option Entry) → Hand → Type 0
+abbrev pub Puts : EntryHand → List (Option Entry) → EntryHand → Type 0
 Puts v ps w = (l : List (Option Entry)) → v ≡ putter l → w ≡ putter (l ++ ps)
 
-pub puts_two : (v u w : Hand) (ps qs : List (Option Entry)) → Puts v ps u → Puts u qs w → Puts v (ps ++ qs) w
+pub puts_two : (v u w : EntryHand) (ps qs : List (Option Entry)) → Puts v ps u → Puts u qs w → Puts v (ps ++ qs) w
 puts_two v u w ps qs one two l e = two (l ++ ps) (one l e) ∙ ap putter (append_assoc l ps qs)
 
 all_told : (written : Bool) (m : Mark) (a b : Option Calls) → no_write_failed m ≡ true → Tells written a b → Tells (no_write_failed m) a b
 all_told written m a b well told = subst (λ (w : Bool). Tells w a b) (sym well) (accounts_well max_writes written a b told)
 
 -- all was written, or the message was refused
-pub turned_on : (written : Bool) (m : Mark) (old new : Term) (message : Message) (bytes : List ℕ) (writer : KnownWriting) (v w : Hand) (put last : Put) → (written || not (is_whole m)) ≡ true → no_write_failed m ≡ true → Writes written writer.before.bytes writer.after.bytes bytes → Tells written writer.before.calls writer.after.calls → IsTurn m old message bytes put last new → Puts v (puts_of put ++ puts_of last) w → TurnsMessage old message writer v w new
+pub turned_on : (written : Bool) (m : Mark) (old new : Term) (message : Message) (bytes : List ℕ) (writer : KnownWriting) (v w : EntryHand) (put last : Put) → (written || not (is_whole m)) ≡ true → no_write_failed m ≡ true → Writes written writer.before.bytes writer.after.bytes bytes → Tells written writer.before.calls writer.after.calls → IsTurn m old message bytes put last new → Puts v (puts_of put ++ puts_of last) w → TurnsMessage old message writer v w new
 turned_on true m old new message bytes writer v w put last e well h told t p = record { mark = m; bytes = bytes; put = put; last = last; wrote = h; tells = all_told true m writer.before.calls writer.after.calls well told; turn = t; puts = p }
 turned_on false m old new message bytes writer v w put last e well h told t p = record {
   mark = m;
@@ -142,7 +142,7 @@ whole_mark mark.WriteFailed e = absurd (false_true e)
 whole_mark (mark.Refused f put) e = absurd (false_true e)
 
 -- a write failed
-pub turned_off : (written : Bool) (m : Mark) (old mid new : Term) (message : Message) (bytes : List ℕ) (writer : KnownWriting) (v w : Hand) (put other last : Put) → (written || not (is_whole m)) ≡ false → Writes written writer.before.bytes writer.after.bytes bytes → Tells written writer.before.calls writer.after.calls → (bytes ≡ [] → written ≡ true) → IsTurn m old message bytes put other mid → (is_whole m ≡ true → other ≡ Nothing) → ((c : Run) → LeadsTo c mid → LeadsTo (fail fault.Write c) new) → ((c : Run) → LeadsTo c mid → (fail fault.Write c).puts ≡ c.puts ++ puts_of last) → new.progress.over ≡ true → Puts v (puts_of put ++ puts_of last) w → TurnsMessage old message writer v w new
+pub turned_off : (written : Bool) (m : Mark) (old mid new : Term) (message : Message) (bytes : List ℕ) (writer : KnownWriting) (v w : EntryHand) (put other last : Put) → (written || not (is_whole m)) ≡ false → Writes written writer.before.bytes writer.after.bytes bytes → Tells written writer.before.calls writer.after.calls → (bytes ≡ [] → written ≡ true) → IsTurn m old message bytes put other mid → (is_whole m ≡ true → other ≡ Nothing) → ((c : Run) → LeadsTo c mid → LeadsTo (fail fault.Write c) new) → ((c : Run) → LeadsTo c mid → (fail fault.Write c).puts ≡ c.puts ++ puts_of last) → new.progress.over ≡ true → Puts v (puts_of put ++ puts_of last) w → TurnsMessage old message writer v w new
 turned_off true m old mid new message bytes writer v w put other last e h told some t unsaid leads puts over p = absurd (true_false e)
 turned_off false m old mid new message bytes writer v w put other last e h told some t unsaid leads puts over p =
     let is_all = not-false (is_whole m) e in
@@ -202,7 +202,7 @@ and_false false b e = inl refl
 abbrev pub from_to : KnownWriter → KnownWriter → KnownWriting
 from_to x y = record { before = x; after = y }
 
-pub going_on : (a b d : Term) (ms : List Message) (m : Message) (x y z : KnownWriter) (puts : List (Option Entry)) (v w : Hand) → GoesOn a ms (from_to x y) puts b → (t : TurnsMessage b m (from_to y z) v w d) → GoesOn a (ms ++ m ∷ []) (from_to x z) (puts ++ (puts_of t.put ++ puts_of t.last)) d
+pub going_on : (a b d : Term) (ms : List Message) (m : Message) (x y z : KnownWriter) (puts : List (Option Entry)) (v w : EntryHand) → GoesOn a ms (from_to x y) puts b → (t : TurnsMessage b m (from_to y z) v w d) → GoesOn a (ms ++ m ∷ []) (from_to x z) (puts ++ (puts_of t.put ++ puts_of t.last)) d
 going_on a b d ms m x y z puts v w one t = record {
   marked = one.marked ++ (m, t.mark) ∷ [];
   whole = map-push one.marked (m, t.mark) ms one.whole;
@@ -264,7 +264,7 @@ messages-push : (xs : List Mail) (x : Mail) → messages_of (xs ++ x ∷ []) ≡
 messages-push [] x = refl
 messages-push (y ∷ ys) x = ap (λ (ms : List Message). y.message ∷ ms) (messages-push ys x)
 
-pub going_next : (a b d : Term) (xs : List Mail) (x : Mail) (u y w z : KnownWriter) (puts : List (Option Entry)) (v h : Hand) → Keeps w.bytes z.bytes → z.calls ≡ w.calls → GoesOn a (messages_of xs) (from_to u y) puts b → (t : TurnsMessage b x.message (from_to y w) v h d) → GoesOn a (messages_of (xs ++ x ∷ [])) (from_to u z) (puts ++ (puts_of t.put ++ puts_of t.last)) d
+pub going_next : (a b d : Term) (xs : List Mail) (x : Mail) (u y w z : KnownWriter) (puts : List (Option Entry)) (v h : EntryHand) → Keeps w.bytes z.bytes → z.calls ≡ w.calls → GoesOn a (messages_of xs) (from_to u y) puts b → (t : TurnsMessage b x.message (from_to y w) v h d) → GoesOn a (messages_of (xs ++ x ∷ [])) (from_to u z) (puts ++ (puts_of t.put ++ puts_of t.last)) d
 going_next a b d xs x u y w z puts v h k told one t =
     let more = puts ++ (puts_of t.put ++ puts_of t.last) in
     let P : List Message → Type 0 = λ ms. GoesOn a ms (from_to u z) more d in

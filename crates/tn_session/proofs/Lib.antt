@@ -1,5 +1,4 @@
 pub mod Mailbox
-pub mod EntryChannel
 pub mod Reading
 pub mod Readers
 pub mod Credits

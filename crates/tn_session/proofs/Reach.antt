@@ -9,7 +9,7 @@ use Rattle.tn_discipline.specs.declared.reads.Entry.{Entry}
 use Rattle.std.specs.Prelude.{Option}
 use Rattle.tn_session.specs.Session.{IsOpening}
 use Rattle.tn_session.specs.Turns.{GoesOn, TurnsMessage, StaysInReach}
-use Rattle.tn_session.specs.declared.entries.Hand.{Hand}
+use Rattle.tn_session.specs.EntryChannel.{EntryHand}
 use Rattle.tn_streams.specs.Known.{KnownWriting}
 use Rattle.tn_term.proofs.lemmas.Welcoming.{stays_in_reach}
 use Rattle.tn_term.specs.Marks.{run_after_opening}
@@ -25,7 +25,7 @@ ended_as c t at = ap (λ (p : Progress). p.ended) at.progress
 pub reach_start : (t : Term) → StaysInReach t t.progress.ended
 reach_start t c at e = sym (ended_as c t at) ∙ e
 
-pub reach_next : (a b d : Term) (ms : List Message) (m : Message) (w u : KnownWriting) (puts : List (Option Entry)) (v h : Hand) → GoesOn a ms w puts b → TurnsMessage b m u v h d → ((c : Run) → LeadsTo c b → IsWelcome c m) → StaysInReach a b.progress.ended → StaysInReach a d.progress.ended
+pub reach_next : (a b d : Term) (ms : List Message) (m : Message) (w u : KnownWriting) (puts : List (Option Entry)) (v h : EntryHand) → GoesOn a ms w puts b → TurnsMessage b m u v h d → ((c : Run) → LeadsTo c b → IsWelcome c m) → StaysInReach a b.progress.ended → StaysInReach a d.progress.ended
 reach_next a b d ms m w u puts v h goes turn welcome reach c at e =
     let p = goes.leads c at in
     let q = turn.turn.leads p.0 p.2 in

@@ -16,7 +16,7 @@ use Rattle.tn_session.proofs.Sent.{NoLeft, Sent, no_left-append, sent_by, reader
 use Rattle.tn_session.specs.Facts.{JobActs, SessionJobs, SessionResult, SessionViews}
 use Rattle.tn_session.specs.Joining.{handler, AreSettled}
 use Rattle.tn_session.specs.Mailbox.{from, sender, union, nobody, everyone, with_handled, mail, Total}
-use Rattle.tn_session.specs.EntryChannel.{putter, taker, joined_hands, both_hands, no_hand, LeftOver}
+use Rattle.tn_queue.specs.Queue.{putter, taker, joined_hands, both_hands, no_hand, LeftOver}
 use Rattle.tn_session.specs.Reader.{ReaderSends}
 use Rattle.tn_session.specs.Session.{IsOpening, IsRun, report_of}
 use Rattle.tn_session.specs.Stepping.{BackJobs, AreSteps, step_said}
@@ -24,7 +24,7 @@ use Rattle.tn_session.specs.Talk.{IsJob, IsTalk, Closes, turns_said}
 use Rattle.tn_session.specs.Turning.{Holds, queue_of}
 use Rattle.tn_session.specs.Turns.{HandlesAll, Writes, max_writes}
 use Rattle.tn_session.specs.declared.channels.View.{View}
-use Rattle.tn_session.specs.declared.entries.Hand.{Hand}
+use Rattle.tn_session.specs.EntryChannel.{EntryHand}
 use Rattle.tn_session.specs.declared.mail.Mail.{Mail}
 use Rattle.tn_session.specs.declared.mail.Sender.TheVariants.{Net, Desk, Back}
 use Rattle.tn_streams.proofs.lemmas.Telling.{accounts_both}
@@ -41,10 +41,10 @@ all_joined : (v n d e p q r : View) (h a b c : List Mail) → v ≡ handler h �
 all_joined v n d e p q r h a b c ev en ed ee ep eq er =
     er ∙ (λ i. union ((eq ∙ (λ j. union ((ep ∙ (λ k. union (ev k) (en k))) j) (ed j))) i) (ee i))
 
-both_joined : (v w u : Hand) (p t : List (Option Entry)) → v ≡ putter p → w ≡ taker t → u ≡ joined_hands v w → u ≡ record { put = Some p; taken = Some t }
+both_joined : (v w u : EntryHand) (p t : List (Option Entry)) → v ≡ putter p → w ≡ taker t → u ≡ joined_hands v w → u ≡ record { put = Some p; taken = Some t }
 both_joined v w u p t ev ew eu = eu ∙ (λ i. joined_hands (ev i) (ew i))
 
-pub settles : (pass net desk back : View) (hand took : Hand) (p₁ p₂ p₃ p₄ n' p₅ d' p₆ b' t' : View) (j k l m : Hand)
+pub settles : (pass net desk back : View) (hand took : EntryHand) (p₁ p₂ p₃ p₄ n' p₅ d' p₆ b' t' : View) (j k l m : EntryHand)
     → p₁ ≡ union pass net → p₂ ≡ union p₁ desk → p₃ ≡ union p₂ back → p₄ ≡ p₃ → (items : List Mail) × Total p₃ items
     → j ≡ joined_hands hand took → k ≡ j → (items : List (Option Entry)) × LeftOver j items
     → n' ≡ record nobody { net = p₄.net } → p₅ ≡ record p₄ { net = None }
@@ -63,10 +63,10 @@ settles pass net desk back hand took p₁ p₂ p₃ p₄ n' p₅ d' p₆ b' t' j
       ed ∙ ap (λ (v : View). record nobody { desk = v.desk }) fifth,
       eb ∙ ap (λ (v : View). record nobody { back = v.back }) sixth,
       et ∙ ap (λ (v : View). record v { back = None }) sixth,
-      el ∙ ap (λ (v : Hand). record v { taken = None }) kept,
-      em ∙ ap (λ (v : Hand). record no_hand { taken = v.taken }) kept,
+      el ∙ ap (λ (v : EntryHand). record v { taken = None }) kept,
+      em ∙ ap (λ (v : EntryHand). record no_hand { taken = v.taken }) kept,
       all_woven p₃ h a b c [] whole held,
-      (rest.0, rest.1 x t (ap (λ (v : Hand). v.put) both) (ap (λ (v : Hand). v.taken) both)),
+      (rest.0, rest.1 x t (ap (λ (v : EntryHand). v.put) both) (ap (λ (v : EntryHand). v.taken) both)),
     )
 
 turns_stay : (id : JobId) (turns : List (Entry × Reaction)) → NoLeft (turns_said id turns)
@@ -77,12 +77,12 @@ steps_stay : (ss : List (JobId × Reaction)) → NoLeft (map step_said ss)
 steps_stay [] = tt
 steps_stay (s ∷ ss) = (refl, steps_stay ss)
 
-pub record DeskSent (v : View) (w : Hand) : Type 0 where
+pub record DeskSent (v : View) (w : EntryHand) : Type 0 where
   pub sent : Sent Desk v
   pub taken : List (Option Entry)
   pub took : w ≡ taker taken
 
-pub desk_sent : {J : Type 0} (id : JobId) (fresh : J → Type 0) (reacts : J → Entry → Reaction → J → Type 0) (v : View) (w : Hand) → IsTalk {J = J} id fresh reacts v w → DeskSent v w
+pub desk_sent : {J : Type 0} (id : JobId) (fresh : J → Type 0) (reacts : J → Entry → Reaction → J → Type 0) (v : View) (w : EntryHand) → IsTalk {J = J} id fresh reacts v w → DeskSent v w
 desk_sent id fresh reacts v w talked = closed talked.0 talked.5
   where
     closed : (turns : List (Entry × Reaction)) → Closes id turns v w → DeskSent v w
@@ -128,7 +128,7 @@ same_history true canon editing jobs = refl
 same_history false canon editing jobs = refl
 
 -- all of a session that ran
-pub scheduled : {J : Type 0} (facts : JobActs J) (jobs : SessionJobs J) (words : List ℕ) (reader : KnownReader) (x y z : KnownWriter) (term mid last : Term) (pass₀ : View) (hand₀ : Hand) (ended : SessionViews) (result : SessionResult)
+pub scheduled : {J : Type 0} (facts : JobActs J) (jobs : SessionJobs J) (words : List ℕ) (reader : KnownReader) (x y z : KnownWriter) (term mid last : Term) (pass₀ : View) (hand₀ : EntryHand) (ended : SessionViews) (result : SessionResult)
     → pass₀ ≡ handler [] → hand₀ ≡ putter [] → IsOpening term words (from_to x y) mid → HandlesAll mid pass₀ ended.term hand₀ ended.put (from_to y z) last
     → ReaderSends Net false reader ended.net → IsTalk {J = J} jobs.first (IsJob jobs.job) facts.reacts ended.desk ended.took → AreSteps {J = J} (Holds jobs.queue) facts.steps (queue_of jobs.tostop jobs.queue) ended.back
     → AreSettled ended result.views → result.report ≡ report_of last.progress
@@ -175,7 +175,7 @@ scheduled {J} facts jobs words reader x y z term mid last pass₀ hand₀ ended 
       taken = ds.taken;
       took_is = all.5;
       took_first = (all.7.0, all.7.1 ∙ sym puts);
-      talked = subst (λ (u : View × Hand). IsTalk {J = J} jobs.first (IsJob jobs.job) facts.reacts u.0 u.1) (λ i. ((ds.sent.is ∙ sym all.1) i, (ds.took ∙ sym all.5) i)) talked;
+      talked = subst (λ (u : View × EntryHand). IsTalk {J = J} jobs.first (IsJob jobs.job) facts.reacts u.0 u.1) (λ i. ((ds.sent.is ∙ sym all.1) i, (ds.took ∙ sym all.5) i)) talked;
       stepped = subst B (bs.is ∙ sym all.2) stepped;
       report_is = er ∙ ap report_of g.2.progress;
     }
@@ -191,5 +191,5 @@ ready_views v₀ v₁ v₂ v₃ n d k e₀ e₁ en e₂ ed e₃ ek =
       ek ∙ ap (λ (v : View). record nobody { back = v.back }) a₂,
     )
 
-pub ready_hands : (v₀ v₁ t : Hand) → v₀ ≡ both_hands → v₁ ≡ record v₀ { taken = None } → t ≡ record no_hand { taken = v₀.taken } → (v₁ ≡ putter []) × (t ≡ taker [])
-ready_hands v₀ v₁ t e₀ e₁ et = (e₁ ∙ ap (λ (v : Hand). record v { taken = None }) e₀, et ∙ ap (λ (v : Hand). record no_hand { taken = v.taken }) e₀)
+pub ready_hands : (v₀ v₁ t : EntryHand) → v₀ ≡ both_hands → v₁ ≡ record v₀ { taken = None } → t ≡ record no_hand { taken = v₀.taken } → (v₁ ≡ putter []) × (t ≡ taker [])
+ready_hands v₀ v₁ t e₀ e₁ et = (e₁ ∙ ap (λ (v : EntryHand). record v { taken = None }) e₀, et ∙ ap (λ (v : EntryHand). record no_hand { taken = v.taken }) e₀)

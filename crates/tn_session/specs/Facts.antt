@@ -8,7 +8,7 @@ use Rattle.tn_jobs.specs.declared.reactions.Reaction.{Reaction}
 use Rattle.tn_server.specs.declared.wishes.Editing.{Editing}
 use Rattle.tn_session.specs.declared.back.Runner.{Runner}
 use Rattle.tn_session.specs.declared.channels.View.{View}
-use Rattle.tn_session.specs.declared.entries.Hand.{Hand}
+use Rattle.tn_session.specs.EntryChannel.{EntryHand}
 use Rattle.tn_session.specs.declared.parties.ClientPorts.{ClientPorts}
 use Rattle.tn_session.specs.declared.parties.Ports.{Ports}
 use Rattle.tn_session.specs.declared.parties.Report.{Report}
@@ -49,8 +49,8 @@ pub record SessionViews : Type 0 where
   pub desk : View
   pub back : View
   pub term : View
-  pub put : Hand
-  pub took : Hand
+  pub put : EntryHand
+  pub took : EntryHand
 
 abbrev pub views_of : Ports → SessionViews
 views_of ports =

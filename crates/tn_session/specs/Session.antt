@@ -13,7 +13,7 @@ use Rattle.tn_session.specs.Facts.{JobActs, JobFacts, SessionJobs, SessionResult
 use Rattle.tn_session.specs.Jobs.{Numbered}
 use Rattle.tn_streams.specs.Prefixes.{IsPrefixOf}
 use Rattle.tn_session.specs.Mailbox.{Interleaves, four, sender}
-use Rattle.tn_session.specs.EntryChannel.{putter, taker}
+use Rattle.tn_queue.specs.Queue.{putter, taker}
 use Rattle.tn_session.specs.Makers.{AreAll}
 use Rattle.tn_session.specs.Reader.{ReaderSends}
 use Rattle.tn_session.specs.Reading.{max_reads, pieces_in}

@@ -9,8 +9,8 @@ use Rattle.tn_messages.specs.declared.messages.Message.TheVariants.{Take, Said, 
 use Rattle.tn_session.specs.declared.mail.Sender.TheVariants.{Desk}
 use Rattle.tn_jobs.specs.declared.verdicts.After.TheVariants.{Done}
 use Rattle.tn_session.specs.declared.channels.View.{View}
-use Rattle.tn_session.specs.declared.entries.Hand.{Hand}
-use Rattle.tn_session.specs.EntryChannel.{taker}
+use Rattle.tn_session.specs.EntryChannel.{EntryHand}
+use Rattle.tn_queue.specs.Queue.{taker}
 use Rattle.tn_session.specs.Mailbox.{mail, sender}
 
 -- an entry, and what the job answered
@@ -37,7 +37,7 @@ abbrev pub desk_sends : List Message → View
 desk_sends messages = sender Desk (map (mail Desk) messages)
 
 -- how it ended: the end came, the job was done, or the job found no memory
-abbrev pub Closes : JobId → List (Entry × Reaction) → View → Hand → Type 0
+abbrev pub Closes : JobId → List (Entry × Reaction) → View → EntryHand → Type 0
 Closes id turns v w =
     ((v ≡ desk_sends (turns_said id turns ++ Take ∷ Left ∷ [])) × (w ≡ taker (entries_of turns ++ None ∷ [])))
     ⊎ ((v ≡ desk_sends (turns_said id turns ++ Left ∷ [])) × (w ≡ taker (entries_of turns)) × ends_done turns)
@@ -49,7 +49,7 @@ abbrev pub IsJob : {J : Type 0} → J → J → Type 0
 IsJob job other = other ≡ job
 
 -- it asked before each thing that it took, and answered each entry from the job's state, which began so
-abbrev pub IsTalk : {J : Type 0} → JobId → (J → Type 0) → (J → Entry → Reaction → J → Type 0) → View → Hand
+abbrev pub IsTalk : {J : Type 0} → JobId → (J → Type 0) → (J → Entry → Reaction → J → Type 0) → View → EntryHand
     → Type 0
 IsTalk {J} id began reacts v w =
     (turns : List (Entry × Reaction)) × (first : J) × (last : J)

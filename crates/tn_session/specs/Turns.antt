@@ -5,9 +5,9 @@ use Rattle.tn_discipline.specs.declared.reads.Entry.{Entry}
 use Rattle.tn_nvt.specs.Spelling.{spells}
 use Rattle.tn_server.specs.Replies.{items_said}
 use Rattle.tn_session.specs.Mailbox.{with_handled}
-use Rattle.tn_session.specs.EntryChannel.{putter}
+use Rattle.tn_queue.specs.Queue.{putter}
 use Rattle.tn_session.specs.declared.channels.View.{View}
-use Rattle.tn_session.specs.declared.entries.Hand.{Hand}
+use Rattle.tn_session.specs.EntryChannel.{EntryHand}
 use Rattle.tn_session.specs.declared.mail.Mail.{Mail}
 use Rattle.tn_streams.specs.Known.{KnownWriting}
 use Rattle.tn_streams.specs.Telling.{Calls, AccountsFor}
@@ -37,7 +37,7 @@ abbrev pub Tells : Bool → Option Calls → Option Calls → Type 0
 Tells well before after = AccountsFor max_writes well before after
 
 -- one message with its mark: what was written of what it sends, and what was put
-pub record TurnsMessage (old : Term) (message : Message) (writer : KnownWriting) (v w : Hand) (new : Term)
+pub record TurnsMessage (old : Term) (message : Message) (writer : KnownWriting) (v w : EntryHand) (new : Term)
     : Type 0 where
   pub mark : Mark
   pub bytes : List ℕ
@@ -84,7 +84,7 @@ StaysInReach old ended =
     (c : Run) → LeadsTo c old → ended ≡ too_far_ahead → c.progress.ended ≡ too_far_ahead
 
 -- what the terminal did: of the views and the writer before and after
-pub record HandlesAll (old : Term) (v w : View) (before_hand after_hand : Hand) (writer : KnownWriting)
+pub record HandlesAll (old : Term) (v w : View) (before_hand after_hand : EntryHand) (writer : KnownWriting)
     (new : Term) : Type 0 where
   pub handled : List Mail
   pub puts : List (Option Entry)

@@ -5,7 +5,7 @@ ghost use Rattle.crossbeam_channel.specs.Claims.{view, IsSeatAt};
 ghost use Rattle.crossbeam_channel.specs.Ends.{sends_on, receives_on};
 ghost use Rattle.tn_discipline.specs.declared.reads.Entry.{Entry as EntryT};
 ghost use Rattle.tn_session.specs.Mailbox.{sender};
-ghost use Rattle.tn_session.specs.EntryChannel.{taker};
+ghost use Rattle.tn_queue.specs.Queue.{taker};
 ghost use Rattle.tn_session.specs.Talk.{IsJob, IsTalk};
 ghost use Rattle.tn_session.specs.declared.mail.Sender.TheVariants.{Desk};
 

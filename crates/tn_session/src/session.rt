@@ -6,7 +6,7 @@ ghost use Rattle.crossbeam_channel.specs.Ends.{sends_on, receives_on};
 ghost use Rattle.tn_session.specs.Facts.{job_acts, job_facts, session_result};
 ghost use Rattle.tn_session.specs.Joining.{IsReady, handler};
 ghost use Rattle.tn_session.specs.Makers.{AreAll, GivesJobs, IsMakerFault, begins};
-ghost use Rattle.tn_session.specs.EntryChannel.{putter};
+ghost use Rattle.tn_queue.specs.Queue.{putter};
 ghost use Rattle.tn_session.specs.Session.{IsBegun, IsOpening, IsRun, IsRefusal, IsOfThreads, RunsOn, RunningSession, report_of};
 ghost use Rattle.tn_session.specs.Turning.{IsQueue, ids_of, jobs_of};
 ghost use Rattle.tn_session.specs.Turns.{StaysInReach};
@@ -66,7 +66,7 @@ fn make_channels(alloc: Global) -> Result<Channels, AllocError>
     let net_to = to.try_clone()?;
     let desk_to = to.try_clone()?;
     let back_to = to.try_clone()?;
-    let (put, take, mut hand) = bounded_with::<Option<Entry>, Hand, InTurn, Global>(
+    let (put, take, mut hand) = bounded_with::<Option<Entry>, Hand<Option<Entry>>, InTurn, Global>(
         alloc, ENTRIES,
     )?;
     let (give, credits, mut credit) = bounded_with::<Credit, Tally, Freely, Global>(

@@ -1,3 +1,4 @@
-pub mod Queue
+pub mod Queued
 pub mod Writing
 pub mod Passing
+pub mod lemmas

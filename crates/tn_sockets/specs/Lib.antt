@@ -1,3 +1,4 @@
 pub mod Queue
 pub mod Passing
 pub mod Logs
+pub mod Ends

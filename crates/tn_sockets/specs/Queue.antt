@@ -1,57 +1,96 @@
--- The rule of the queue of what waits to be sent.
-use Rattle.std.specs.Prelude.{◌≡◌, ℕ, Bool, true, false, List, Option, Some, None, option_map, [], ◌∷◌, ◌++◌}
+-- The queue of what waits to be sent. Its rule is that of `tn_queue`: what was taken, and then what it holds, is what
+-- was put.
+use Rattle.std.specs.Prelude.{◌≡◌, ℕ, Bool, true, false, List, Option, Some, None, option_map, [], ◌∷◌, ◌++◌, length}
 use Rattle.std.specs.Global.{Vec}
 use Rattle.std.specs.Io.KnownBytes.{Appends}
 use Rattle.std.specs.Vec.{vec_items}
-use Rattle.tn_sockets.specs.declared.pieces.Hand.{Hand}
+use Rattle.atomic_table.specs.Seated.{TableId}
+use Rattle.atomic_table.specs.declared.badge.Badge.{Badge}
+use Rattle.crossbeam_channel.specs.Claims.{Pass, no_key}
+use Rattle.crossbeam_channel.specs.declared.flavors.array.Key.{Key}
+use Rattle.crossbeam_channel.specs.declared.flavors.array.Rows.{Rows}
+use Rattle.tn_queue.specs.declared.Hand.{Hand}
 use Rattle.tn_streams.specs.Prefixes.{IsPrefixOf}
 
--- true is the role of the one that puts, false of the one that takes
-abbrev pub slot : Hand → Bool → Option (List (Vec ℕ))
-slot v true = v.put
-slot v false = v.taken
+-- what is put: some bytes, or the end
+abbrev pub Piece : Type 0
+Piece = Option (Vec ℕ)
 
--- what was taken, and then what the queue holds, is what was put
-abbrev pub InOrder : List (Vec ℕ) → (Bool → List (Vec ℕ)) → Type 0
-InOrder items held = held false ++ items ≡ held true
+abbrev pub Pieces : Type 0
+Pieces = List Piece
 
-abbrev pub more : {A : Type 0} → Option (List A) → A → Option (List A)
-more None x = None
-more (Some l) x = Some (l ++ x ∷ [])
+abbrev pub PieceHand : Type 0
+PieceHand = Hand Piece
 
-abbrev pub put_more : Hand → Vec ℕ → Hand
-put_more v x = record v { put = more v.put x }
+abbrev pub PiecePass : Type 0
+PiecePass = Pass Piece PieceHand
 
-abbrev pub taken_more : Hand → Vec ℕ → Hand
-taken_more v x = record v { taken = more v.taken x }
+-- what names a queue's channel: its table, and its key
+abbrev pub PieceTable : Type 0
+PieceTable = TableId
 
-abbrev pub no_hand : Hand
-no_hand = record { put = None; taken = None }
+abbrev pub PieceKey : Type 0
+PieceKey = Badge (Key Piece)
 
-abbrev pub both_hands : Hand
-both_hands = record { put = Some []; taken = Some [] }
+abbrev pub no_name : PieceKey
+no_name = no_key
+
+-- this is the channel that they name
+abbrev pub IsNamed : {S Q M L A : Type 0} → PieceTable → PieceKey → Rows (Badge (Key Piece)) S Q M (Key Piece) L A → Type 0
+IsNamed table key c = (c.stamps.shared.table_id ≡ table) × (c.stamps.shared.key ≡ key)
+
+-- a pass that is seated there
+abbrev pub IsSeatIn : PieceTable → PieceKey → PiecePass → Type 0
+IsSeatIn table key pass = (pass.table_id ≡ table) × (pass.me.0.of ≡ key) × (pass.me.1 ≡ [])
 
 -- the bytes of these pieces
-abbrev pub bytes_of : List (Vec ℕ) → List ℕ
+abbrev pub bytes_of : Pieces → List ℕ
 bytes_of [] = []
-bytes_of (piece ∷ pieces) = vec_items piece ++ bytes_of pieces
+bytes_of (Some piece ∷ pieces) = vec_items piece ++ bytes_of pieces
+bytes_of (None ∷ pieces) = bytes_of pieces
+
+-- what stands behind the first end, which is nothing where there is none
+abbrev pub behind_end : Pieces → Pieces
+behind_end [] = []
+behind_end (Some piece ∷ pieces) = behind_end pieces
+behind_end (None ∷ pieces) = pieces
+
+abbrev pub has_end : Pieces → Bool
+has_end [] = false
+has_end (Some piece ∷ pieces) = has_end pieces
+has_end (None ∷ pieces) = true
 
 -- the bytes of all that was put, where the pass is of the one that puts
-abbrev pub put_bytes : Hand → Option (List ℕ)
+abbrev pub put_bytes : PieceHand → Option (List ℕ)
 put_bytes v = option_map bytes_of v.put
 
+-- how many pieces stand behind the end
+abbrev pub count_behind : Option Pieces → ℕ
+count_behind None = 0
+count_behind (Some pieces) = length (behind_end pieces)
+
 -- these pieces were taken
-abbrev pub TakesOn : Hand → List (Vec ℕ) → Hand → Type 0
-TakesOn v pieces w = (l : List (Vec ℕ)) → v.taken ≡ Some l → w.taken ≡ Some (l ++ pieces)
+abbrev pub TakesOn : PieceHand → Pieces → PieceHand → Type 0
+TakesOn v pieces w = (l : Pieces) → v.taken ≡ Some l → w.taken ≡ Some (l ++ pieces)
 
 -- a writer that held the old bytes holds the new ones: of the bytes of what was taken from one view to the
 -- other it was given the first, each once and in their order
-abbrev pub WritesTaken : Hand → Hand → Option (List ℕ) → Option (List ℕ) → Type 0
+abbrev pub WritesTaken : PieceHand → PieceHand → Option (List ℕ) → Option (List ℕ) → Type 0
 WritesTaken v w old new =
-    (pieces : List (Vec ℕ)) × (written : List ℕ) × TakesOn v pieces w
+    (pieces : Pieces) × (written : List ℕ) × TakesOn v pieces w
     × IsPrefixOf written (bytes_of pieces) × Appends old new written
 
 -- the same, and it was given all
-abbrev pub WritesAllTaken : Hand → Hand → Option (List ℕ) → Option (List ℕ) → Type 0
+abbrev pub WritesAllTaken : PieceHand → PieceHand → Option (List ℕ) → Option (List ℕ) → Type 0
 WritesAllTaken v w old new =
-    (pieces : List (Vec ℕ)) × TakesOn v pieces w × Appends old new (bytes_of pieces)
+    (pieces : Pieces) × TakesOn v pieces w × Appends old new (bytes_of pieces)
+
+-- the same, of all pieces up to the end, which was taken last
+abbrev pub WritesToTheEnd : PieceHand → PieceHand → Option (List ℕ) → Option (List ℕ) → Type 0
+WritesToTheEnd v w old new =
+    (pieces : Pieces) × TakesOn v (pieces ++ None ∷ []) w × Appends old new (bytes_of pieces)
+
+-- Of a queue that was new: a log has the first of the bytes that were put, and all of them where the end was sent.
+pub record IsSent (put : Option (List ℕ)) (whole : Type 0) (logged : List ℕ) : Type 0 where
+  pub first : (bytes : List ℕ) → put ≡ Some bytes → IsPrefixOf logged bytes
+  pub all : whole → put ≡ Some logged

@@ -3,7 +3,8 @@
 //!
 //! ```
 //! let (reader, writer) = Connection::split(stream)?;
-//! let (outgoing, mut sending, throttle) = queue_for(rt, alloc, writer, link, trace)?;
+//! let (queue, throttle) = new_queue(rt, alloc)?;
+//! let (outgoing, mut sending) = queue.sides::<H, W, Brand>(rt, alloc, writer, link, trace)?;
 //! let sent = sending.run()?; // in a thread of its own
 //! ```
 //!
@@ -21,8 +22,8 @@ pub use incoming::Incoming;
 pub use keys::{Keys, Typing};
 pub use link::Link;
 pub use logged::Logged;
-pub use outgoing::{Outgoing, Throttle, queue_for};
-pub use pieces::{Hand, InTurn, QueuePass, QueueReceiver, QueueSender};
+pub use outgoing::{NewQueue, Outgoing, Throttle, new_queue};
+pub use pieces::{Piece, PiecePass, PieceReceiver, PieceSender, Queue};
 pub use screen::Screen;
 pub use sending::{Sending, Sent};
 pub use sizes::Sizes;

@@ -1,25 +1,30 @@
 //! What a client sends goes out in a thread of its own, so that it reads on while the server does not.
 
-ghost use Rattle.std.specs.Option.{ForSome};
-ghost use Rattle.std.specs.Prelude.{◌≡◌, ◌≢◌, IfOk, None, Some, []};
+ghost use Rattle.std.specs.Prelude.{◌≡◌, IfOk, None, OnErr, OnOk, Some, false, option_map, []};
 ghost use Rattle.crossbeam_channel.specs.Claims.{view, IsSeatAt};
 ghost use Rattle.crossbeam_channel.specs.Ends.{sends_on};
-ghost use Rattle.tn_sockets.specs.Queue.{put_bytes};
+ghost use Rattle.tn_queue.specs.Queue.{put_more, putter, taker};
+ghost use Rattle.tn_sockets.specs.Ends.{IsNew, IsSettled};
+ghost use Rattle.tn_sockets.specs.Queue.{IsNamed, IsSeatIn, count_behind, has_end, put_bytes};
 
 use crate::link::Link;
-use crate::pieces::{CutTaker, Hand, InTurn, Puts, QueuePass, QueueSender};
+use crate::pieces::{
+    CutTaker, Hand, InTurn, JoinHands, Piece, PiecePass, PieceReceiver, PieceSender, Puts, Queue,
+    Takes,
+};
 use crate::sending::Sending;
 use crate::trace::{Direction, Trace};
-use crossbeam_channel::{Receiver, bounded, bounded_with};
+use crossbeam_channel::{Receiver, Sender, bounded, bounded_with};
 use std::alloc::{AllocError, Global};
 use std::io;
 use std::io::{ErrorKind, Write};
+use std::marker::PhantomData;
 use std::sync::atomic::{AtomicUsize, Ordering};
 use std::sync::{Arc, Wait};
 use tn_streams::Finish;
 
-/// How many writes of a session wait at most. A piece of keys makes one write, and at most 66 pieces are on
-/// their way once no more keys are read, so that keys alone never fill it.
+/// How many writes of a session wait at most, and their end. A piece of keys makes one write, and at most 66
+/// pieces are on their way once no more keys are read, so that keys alone never fill it.
 const MAX_WRITES: usize = 256;
 
 /// With more writes or more bytes than these waiting, no more keys are read.
@@ -54,17 +59,34 @@ impl Waiting {
     }
 }
 
-/// What a session writes: it waits for the thread that sends it.
+/// Both ends of a queue, and their passes.
 #[derive(Drop)]
-pub struct Outgoing<H> {
+pub struct NewQueue {
+    pub(crate) to: PieceSender,
+    pub(crate) from: PieceReceiver,
+    pub(crate) pass: PiecePass,
+    pub(crate) taker: PiecePass,
+    waiting: Arc<Waiting, Global>,
+    sent: Sender<(), Global>,
+}
+
+/// What a session writes: it waits for the thread that sends it. `Q` is the queue, for contracts.
+#[derive(Drop)]
+pub struct Outgoing<H, Q: Queue> {
     rt: H,
     alloc: Global,
-    pieces: Option<QueueSender>,
-    pass: QueuePass,
+    to: PieceSender,
+    pass: PiecePass,
+    // The end was put.
+    finished: bool,
     waiting: Arc<Waiting, Global>,
     trace: Trace<H>,
-    ghost seated: { ForSome pieces (λ to. IsSeatAt (sends_on to) pass) },
-    ghost puts: { (view pass).put ≢ None },
+    at: PhantomData<Q>,
+    ghost seated: { IsSeatAt (sends_on to) pass },
+    ghost named: { IsNamed Q.table Q.key (sends_on to) },
+    ghost alone: { (view pass).taken ≡ None },
+    ghost ends: { option_map has_end (view pass).put ≡ Some finished },
+    ghost last: { count_behind (view pass).put ≡ 0 },
 }
 
 /// Lets keys be read once little waits.
@@ -75,22 +97,14 @@ pub struct Throttle<H> {
     sent: Receiver<(), Global>,
 }
 
-/// The three sides of what goes out by this writer over this link.
-pub fn queue_for<H: Copy, W>(
-    rt: H,
-    alloc: Global,
-    writer: W,
-    link: Arc<Link, Global>,
-    trace: Trace<H>,
-) -> Result<(Outgoing<H>, Sending<H, W>, Throttle<H>), AllocError>
-where
-    W: Drop,
-    ensures nothing_yet { IfOk result (λ queue. (view queue.0.pass).put ≡ Some []) }
+/// A queue that is new, and what lets keys be read as it empties.
+pub fn new_queue<H: Copy>(rt: H, alloc: Global) -> Result<(NewQueue, Throttle<H>), AllocError>
+    ensures { IfOk result (λ r. IsNew r.0) }
 {
-    let (sender, pieces, mut pass) = bounded_with::<Vec<u8>, Hand, InTurn, Global>(
+    let (to, from, mut pass) = bounded_with::<Piece, Hand<Piece>, InTurn, Global>(
         alloc, MAX_WRITES,
     )?;
-    let taker = sender.another::<CutTaker>(&mut pass);
+    let taker = to.another::<CutTaker>(&mut pass);
     let (sent, throttled) = bounded(alloc, 1)?;
     let waiting = Waiting {
         writes: AtomicUsize::new(0),
@@ -102,63 +116,124 @@ where
         waiting: Arc::try_clone(&waiting)?,
         sent: throttled,
     };
-    let sending = Sending {
-        rt,
-        writer,
-        pieces,
-        pass: taker,
-        waiting: Arc::try_clone(&waiting)?,
-        sent,
-        link,
-    };
-    let outgoing = Outgoing {
-        rt,
-        alloc,
-        pieces: Some(sender),
+    let queue = NewQueue {
+        to,
+        from,
         pass,
+        taker,
         waiting,
-        trace,
+        sent,
     };
-    Ok((outgoing, sending, throttle))
+    Ok((queue, throttle))
 }
 
-impl<H: Drop> Outgoing<H> {
+impl NewQueue {
+    /// What a session writes to, and what sends that by this writer over this link.
+    pub fn sides<H: Copy, W, Q: Queue>(
+        self,
+        rt: H,
+        alloc: Global,
+        writer: W,
+        link: Arc<Link, Global>,
+        trace: Trace<H>,
+    ) -> Result<(Outgoing<H, Q>, Sending<H, W, Q>), AllocError>
+    where
+        W: Drop,
+        requires new { IsNew self }
+        requires named { IsNamed Q.table Q.key (sends_on self.to) }
+        ensures put { IfOk result (λ sides. view sides.0.pass ≡ putter []) }
+        ensures taken { IfOk result (λ sides. view sides.1.pass ≡ taker []) }
+        ensures writer { IfOk result (λ sides. sides.1.writer ≡ writer) }
+    {
+        let waiting = Arc::try_clone(&self.waiting)?;
+        let NewQueue {
+            to,
+            from,
+            pass,
+            taker,
+            waiting: theirs,
+            sent,
+        } = self;
+        let sending = Sending {
+            rt,
+            writer,
+            from,
+            pass: taker,
+            waiting: theirs,
+            sent,
+            link,
+            at: PhantomData,
+        };
+        let outgoing = Outgoing {
+            rt,
+            alloc,
+            to,
+            pass,
+            finished: false,
+            waiting,
+            trace,
+            at: PhantomData,
+        };
+        Ok((outgoing, sending))
+    }
+}
+
+impl<H: Copy + Wait, Q: Queue> Outgoing<H, Q> {
     /// How many bytes wait to be sent.
     pub fn waiting(&self) -> usize {
         self.waiting.bytes()
     }
 
-    /// No more is written.
+    /// Puts the end, unless it was put.
     pub fn end(&mut self)
-        ensures { self.new.pass ≡ self.old.pass }
+        ensures { put_bytes (view self.new.pass) ≡ put_bytes (view self.old.pass) }
     {
-        self.pieces = None;
+        if !self.finished {
+            let _ = self.put(None);
+        }
     }
 
-    /// The pass in which contracts see all that was put into the queue.
-    pub fn into_pass(self) -> QueuePass
-        ensures { result ≡ self.pass }
+    // Puts this, where the other side is there to take it.
+    fn put(&mut self, piece: Piece) -> io::Result<()>
+        requires open { self.old.finished ≡ false }
+        ensures put { OnOk result (view self.new.pass ≡ put_more (view self.old.pass) piece) }
+        ensures kept { OnErr result (view self.new.pass ≡ view self.old.pass) }
     {
-        let Outgoing { pass, .. } = self;
+        let ends = piece.is_none();
+        match self.to.send_as::<Puts, H>(&self.rt, &mut self.pass, piece) {
+            Ok(()) => {
+                self.finished = ends;
+                Ok(())
+            },
+            Err(_) => Err(io::Error::from(ErrorKind::BrokenPipe)),
+        }
+    }
+
+    /// Joins the pass of the one that took what was put here, so that their lists are compared.
+    pub fn settle(self, taker: PiecePass) -> PiecePass
+        requires seat { IsSeatIn Q.table Q.key taker }
+        ensures { IsSettled (view self.pass) (view taker) (view result) }
+    {
+        let Outgoing { to, mut pass, .. } = self;
+        to.absorb::<JoinHands>(&mut pass, taker);
+        to.learn_as::<Takes>(&mut pass);
         pass
     }
 }
 
-impl<H: Copy + Wait> Write for Outgoing<H> {
+impl<H: Copy + Wait, Q: Queue> Write for Outgoing<H, Q> {
     ghost contents = { λ outgoing. put_bytes (view outgoing.pass) };
 
     fn write(&mut self, buf: &[u8]) -> io::Result<usize> {
-        let Some(pieces) = &self.pieces else {
+        if self.finished {
             return Err(io::Error::from(ErrorKind::BrokenPipe));
-        };
+        }
         let mut piece = Vec::new(self.alloc);
         piece.extend_from_slice(buf)?;
         self.waiting.add(buf.len());
         self.trace.note(Direction::Went, buf);
-        match pieces.send_as::<Puts, H>(&self.rt, &mut self.pass, piece) {
-            Ok(()) => Ok(buf.len()),
-            Err(_) => Err(io::Error::from(ErrorKind::BrokenPipe)),
-        }
+        self.put(Some(piece))?;
+        Ok(buf.len())
     }
 
     fn flush(&mut self) -> io::Result<()> {
@@ -166,7 +241,7 @@ impl<H: Copy + Wait> Write for Outgoing<H> {
     }
 }
 
-impl<H: Copy + Drop + Wait> Finish for Outgoing<H> {
+impl<H: Copy + Wait, Q: Queue> Finish for Outgoing<H, Q> {
     fn finish(&mut self) {
         self.end();
     }

@@ -1,55 +1,60 @@
 //! What waits is sent, by a thread of its own.
 
 ghost use Rattle.std.specs.Prelude.{◌≡◌, ◌≢◌, ℕ, List, None, IfOk, IfSome, OnOk, OnErr, true};
-ghost use Rattle.std.specs.Global.{Vec as VecT};
 ghost use Rattle.std.specs.Io.KnownBytes.{Appends};
 ghost use Rattle.crossbeam_channel.specs.Claims.{view, IsSeatAt};
 ghost use Rattle.crossbeam_channel.specs.Ends.{receives_on};
-ghost use Rattle.tn_sockets.specs.Queue.{TakesOn, WritesTaken, WritesAllTaken, taken_more};
+ghost use Rattle.tn_queue.specs.Queue.{taken_more};
+ghost use Rattle.tn_sockets.specs.Queue.{Piece as PieceT, IsNamed, IsSeatIn, TakesOn, WritesTaken, WritesToTheEnd};
 ghost use Rattle.tn_sockets.specs.Passing.{Begins};
 
 use crate::link::Link;
 use crate::outgoing::Waiting;
-use crate::pieces::{QueuePass, QueueReceiver, Takes};
+use crate::pieces::{Piece, PiecePass, PieceReceiver, Queue, Takes};
 use crossbeam_channel::Sender;
 use std::alloc::Global;
 use std::io;
 use std::io::ErrorKind;
+use std::marker::PhantomData;
 use std::sync::{Arc, Wait};
 use tn_streams::{Drain, Finish, is_interrupted};
 
 /// Sends what waits.
 #[derive(Drop)]
-pub struct Sending<H, W> {
+pub struct Sending<H, W, Q: Queue> {
     pub(crate) rt: H,
     pub(crate) writer: W,
-    pub(crate) pieces: QueueReceiver,
-    pub(crate) pass: QueuePass,
+    pub(crate) from: PieceReceiver,
+    pub(crate) pass: PiecePass,
     pub(crate) waiting: Arc<Waiting, Global>,
     pub(crate) sent: Sender<(), Global>,
     pub(crate) link: Arc<Link, Global>,
-    ghost seated: { IsSeatAt (receives_on pieces) pass },
+    pub(crate) at: PhantomData<Q>,
+    ghost seated: { IsSeatAt (receives_on from) pass },
+    ghost named: { IsNamed Q.table Q.key (receives_on from) },
     ghost takes: { (view pass).taken ≢ None },
 }
 
-/// What became of all that waited.
+/// What became of all that was put.
 #[derive(Clone, Copy, Debug, PartialEq, Eq)]
 pub enum Sent {
-    /// It was sent.
+    /// It was sent, up to its end.
     Whole,
     /// The user has left: what came after a write that failed was discarded.
     Left,
+    /// The other side is gone, and put no end.
+    Cut,
 }
 
-impl<H: Copy + Wait, W: Drop + Finish> Sending<H, W> {
+impl<H: Copy + Wait, W: Drop + Finish, Q: Queue> Sending<H, W, Q> {
     // tools/progress: proctype Sending
-    /// Sends all until no more comes, and finishes the writer. Where a write fails the link is ended, since
-    /// the other end hears no more. Once the user has left, what still comes is discarded.
+    /// Sends all up to the end, and finishes the writer. Where a write fails the link is ended, since the other
+    /// end hears no more. Once the user has left, what still comes is discarded.
     pub fn run(&mut self) -> io::Result<Sent>
         ensures sent { WritesTaken (view self.old.pass) (view self.new.pass)
             (W.contents self.old.writer) (W.contents self.new.writer) }
         ensures whole { IfOk result (λ sent. sent ≡ Sent.Whole →
-            WritesAllTaken (view self.old.pass) (view self.new.pass)
+            WritesToTheEnd (view self.old.pass) (view self.new.pass)
             (W.contents self.old.writer) (W.contents self.new.writer)) }
     {
         let rt = self.rt;
@@ -57,30 +62,44 @@ impl<H: Copy + Wait, W: Drop + Finish> Sending<H, W> {
             let Some(piece) = self.next() else {
                 break;
             };
-            if let Err(error) = send_whole(&mut self.writer, &piece) {
+            let Some(bytes) = piece else {
+                self.writer.finish();
+                return Ok(Sent::Whole);
+            };
+            if let Err(error) = send_whole(&mut self.writer, &bytes) {
                 if !self.link.is_left() {
                     self.link.hang_up();
                     return Err(error);
                 }
-                self.note(piece.len());
+                self.note(bytes.len());
                 self.discard();
                 self.writer.finish();
                 return Ok(Sent::Left);
             }
-            self.note(piece.len());
+            self.note(bytes.len());
         }
         self.writer.finish();
-        Ok(Sent::Whole)
+        Ok(Sent::Cut)
     }
 
-    // Waits for the next piece. `None` where no more comes.
-    fn next(&mut self) -> Option<Vec<u8>>
+    /// The writer, and the pass in which contracts see all that was taken.
+    pub fn into_parts(self) -> (W, PiecePass)
+        ensures writer { result.0 ≡ self.writer }
+        ensures pass { result.1 ≡ self.pass }
+        ensures seat { IsSeatIn Q.table Q.key result.1 }
+    {
+        let Sending { writer, pass, .. } = self;
+        (writer, pass)
+    }
+
+    // Waits for what comes next. `None` where the other side is gone.
+    fn next(&mut self) -> Option<Piece>
         ensures writer { self.new.writer ≡ self.old.writer }
         ensures took { IfSome result (λ piece.
             view self.new.pass ≡ taken_more (view self.old.pass) piece) }
         ensures none { result ≡ None → view self.new.pass ≡ view self.old.pass }
     {
-        match self.pieces.recv_as::<Takes, H>(&self.rt, &mut self.pass) {
+        match self.from.recv_as::<Takes, H>(&self.rt, &mut self.pass) {
             Ok(piece) => Some(piece),
             Err(_) => None,
         }
@@ -89,14 +108,17 @@ impl<H: Copy + Wait, W: Drop + Finish> Sending<H, W> {
     // Takes all that still comes.
     fn discard(&mut self)
         ensures writer { self.new.writer ≡ self.old.writer }
-        ensures took { (pieces : List (VecT ℕ)) × TakesOn (view self.old.pass) pieces (view self.new.pass) }
+        ensures took { (pieces : List PieceT) × TakesOn (view self.old.pass) pieces (view self.new.pass) }
     {
         let rt = self.rt;
         for _ in rt.forever() {
             let Some(piece) = self.next() else {
                 return;
             };
-            self.note(piece.len());
+            let Some(bytes) = piece else {
+                return;
+            };
+            self.note(bytes.len());
         }
     }
 

@@ -1,6 +1,6 @@
 use Rattle.std.proofs.Common.{◌∷◌, [], ◌++◌, refl, ap, ◌∙◌, sym, inl, inr, Option}
 use Rattle.tn_discipline.specs.declared.reads.Entry.{Entry}
-use Rattle.tn_session.specs.EntryChannel.{taker}
+use Rattle.tn_queue.specs.Queue.{taker}
 use Rattle.tn_session.specs.Talk.{desk_sends, entries_of}
 use Rattle.tn_session.proofs.Readers.{said, said_two, said_three, role}
 use Rattle.tn_session.specs.declared.mail.Sender.TheVariants.{Desk}

@@ -3,7 +3,7 @@ use Rattle.crossbeam_channel.specs.Claims.{view, IsSeatAt}
 use Rattle.crossbeam_channel.specs.Ends.{sends_on, receives_on}
 use Rattle.tn_discipline.specs.declared.reads.Entry.{Entry}
 use Rattle.tn_jobs.specs.declared.reactions.Reaction.{Reaction}
-use Rattle.tn_session.specs.EntryChannel.{taker}
+use Rattle.tn_queue.specs.Queue.{taker}
 use Rattle.tn_session.specs.Talk.{Answers, desk_sends, turns_said, entries_of}
 use Rattle.tn_session.proofs.desk.run_desk.Given as goal
 

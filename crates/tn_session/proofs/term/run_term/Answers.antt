@@ -1,6 +1,6 @@
 use Rattle.std.proofs.Common.{false, ap, refl, sym, ◌∙◌, [], ◌∷◌, ◌++◌, Option, List, arith, append-nil, length}
 use Rattle.crossbeam_channel.specs.Claims.{view}
-use Rattle.tn_session.specs.EntryChannel.{putter}
+use Rattle.tn_queue.specs.Queue.{putter}
 use Rattle.tn_session.specs.declared.mail.Mail.{Mail}
 use Rattle.tn_term.specs.Run.{puts_of}
 use Rattle.tn_term.specs.declared.progress.Progress.{Progress}

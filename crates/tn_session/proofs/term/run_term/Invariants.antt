@@ -4,7 +4,7 @@ use Rattle.crossbeam_channel.specs.Ends.{sends_on, receives_on}
 use Rattle.tn_discipline.specs.declared.reads.Entry.{Entry}
 use Rattle.tn_session.specs.Credits.{owed_one, pieces_among}
 use Rattle.tn_session.specs.Mailbox.{with_handled}
-use Rattle.tn_session.specs.EntryChannel.{putter}
+use Rattle.tn_queue.specs.Queue.{putter}
 use Rattle.tn_session.specs.Turns.{GoesOn, StaysInReach, lefts_of, messages_of}
 use Rattle.tn_session.specs.declared.mail.Mail.{Mail}
 use Rattle.tn_streams.specs.Known.{known_writing}

@@ -1,10 +1,9 @@
 use Rattle.std.proofs.Common.{◌≡◌, ℕ, List}
-use Rattle.std.specs.Global.{Vec}
 use Rattle.crossbeam_channel.specs.Claims.{view}
-use Rattle.tn_sockets.specs.Queue.{TakesOn}
+use Rattle.tn_sockets.specs.Queue.{Piece, TakesOn}
 use Rattle.tn_sockets.proofs.sending.Sending.discard.Given as goal
 
 abbrev pub invariant-loop : goal.invariant-loop
 invariant-loop g l =
     (goal.iterator-loop g).can_next l.iterator' × (goal.iterator-loop g).is_finite l.iterator'
-    × (l.self.writer ≡ l.fn.self.writer) × ((pieces : List (Vec ℕ)) × TakesOn (view l.fn.self.pass) pieces (view l.self.pass))
+    × (l.self.writer ≡ l.fn.self.writer) × ((pieces : List Piece) × TakesOn (view l.fn.self.pass) pieces (view l.self.pass))

@@ -1,0 +1,22 @@
+-- What a connection took of what a session wrote.
+use Rattle.std.specs.Prelude.{◌≡◌, true, Ok, Some, []}
+use Rattle.crossbeam_channel.specs.Claims.{view}
+use Rattle.tn_connect.specs.declared.connected.Connected.{Connected}
+use Rattle.tn_connect.specs.declared.sending.Delivered.{Delivered}
+use Rattle.tn_queue.specs.Queue.{taker}
+use Rattle.tn_sockets.specs.Logs.{logged}
+use Rattle.tn_sockets.specs.Queue.{IsSeatIn, IsSent, PieceKey, PieceTable, WritesTaken, WritesToTheEnd, put_bytes}
+use Rattle.tn_sockets.specs.declared.sending.Sent.TheVariants.{Whole}
+
+-- what was taken from the queue with this table and this key was written to the connection
+pub record IsDelivered (table : PieceTable) (key : PieceKey) (delivered : Delivered) : Type 0 where
+  pub seat : IsSeatIn table key delivered.taker
+  pub sent : WritesTaken (taker []) (view delivered.taker) (Some []) (Some (logged delivered.log))
+  pub whole : delivered.sent ≡ Ok Whole
+      → WritesToTheEnd (taker []) (view delivered.taker) (Some []) (Some (logged delivered.log))
+
+-- Of the bytes that the session wrote the connection took the first, each once and in their order, and all of them
+-- where the session tells so.
+abbrev pub TookWhatWasWritten : Connected → Type 0
+TookWhatWasWritten connected =
+    IsSent (put_bytes (view connected.queue)) (connected.all_sent ≡ true) (logged connected.log)
