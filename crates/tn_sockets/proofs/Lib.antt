@@ -2,3 +2,4 @@ pub mod Queued
 pub mod Writing
 pub mod Passing
 pub mod lemmas
+pub mod Digits

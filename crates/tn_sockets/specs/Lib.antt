@@ -2,3 +2,4 @@ pub mod Queue
 pub mod Passing
 pub mod Logs
 pub mod Ends
+pub mod Sizes

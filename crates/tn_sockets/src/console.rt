@@ -3,8 +3,11 @@
 
 ghost use Rattle.std.specs.Prelude.{◌≡◌, ◌≤◌, None, length, take};
 ghost use Rattle.std.specs.Io.{ReadsAtMost};
+ghost use Rattle.std.specs.Io.KnownBytes.{ReadConsumes};
 ghost use Rattle.tn_escape.specs.Typing.{keys};
 ghost use Rattle.tn_sockets.specs.Passing.{GivesKeys};
+ghost use Rattle.tn_streams.specs.Foretelling.{ForetellsCall};
+ghost use Rattle.tn_streams.specs.Telling.{CountsRead, TellsCall};
 
 use crate::keys::Typing;
 use libc::net::{POLLIN, poll};
@@ -81,7 +84,9 @@ impl<H: Copy + Print + Wait, K: Read + Drop> Console<H, K> {
     }
 
     // A size is said between two reads.
-    fn take_size(&mut self) {
+    fn take_size(&mut self)
+        ensures keys { self.new.typing.keys ≡ self.old.typing.keys }
+    {
         if let Some(size) = self.typing.sizes.read() {
             self.typing.width = size.width;
             self.typing.height = size.height;
@@ -194,11 +199,20 @@ fn place_of(is_here: bool) -> &'static str {
 impl<H: Copy + Print + Wait, K: Read + Drop> Source for Console<H, K> {
     ghost sizes = { λ _. None };
 
-    fn resized(&mut self) -> Option<WindowSize> {
+    fn resized(&mut self) -> Option<WindowSize>
+        ensures size { result ≡ self.old.resized }
+    {
         self.resized.take()
     }
 
-    fn read_some(&mut self, buf: &mut [u8]) -> io::Result<usize> {
+    fn read_some(&mut self, buf: &mut [u8]) -> io::Result<usize>
+        ensures bound { ReadsAtMost result buf.new }
+        ensures bytes { ReadConsumes None None result buf.new }
+        ensures tells { TellsCall (CountsRead result) None None }
+        ensures foretells { ForetellsCall result None None }
+        ensures keys { GivesKeys (K.remaining self.old.typing.keys) (K.remaining self.new.typing.keys)
+            self.old.escaping result buf.new }
+    {
         self.typing.throttle.wait();
         match self.wait() {
             Ready::Over => return Ok(0),

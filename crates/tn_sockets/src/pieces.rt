@@ -1,9 +1,8 @@
 // The queue of what waits to be sent, of which `None` is the end: one puts and one takes.
 
+use std::marker::Brand;
 pub use tn_queue::{Hand, InTurn};
 pub(crate) use tn_queue::{CutTaker, JoinHands, Puts, Takes};
-
-use std::marker::Brand;
 use tn_queue::{QueuePass, QueueReceiver, QueueSender};
 
 /// What is put: some bytes, or the end.

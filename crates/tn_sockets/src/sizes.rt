@@ -1,12 +1,19 @@
 //! The sizes of the window, as whoever set the terminal tells them.
 
+ghost use Rattle.std.specs.Prelude.{◌≡◌, IfOk, IfSome, List, Some, ℕ};
+ghost use Rattle.std.specs.Io.KnownBytes.{Consumes};
+ghost use Rattle.tn_sockets.specs.Sizes.{IsTold, number_of, with_digit};
+
 use std::fs::File;
-use std::io::Read;
+use std::io;
+use std::io::{ErrorKind, Read};
 use std::os::fd::AsRawFd;
-use std::str;
 use tn_streams::WindowSize;
 
-/// How many bytes are read at once: 21 lines of 12, so that no line is cut.
+/// How many bytes a line has.
+const LINE: usize = 12;
+
+/// How many bytes are read at once: 21 lines, so that no line is cut.
 const LINES: usize = 252;
 
 /// The descriptor that `poll` passes over (POSIX).
@@ -35,10 +42,9 @@ impl Sizes {
 
     /// The last of the sizes that were told since the last look. A pipe that has ended is looked at no more.
     pub(crate) fn read(&mut self) -> Option<WindowSize> {
-        let mut lines = [0; LINES];
-        match self.pipe.as_mut()?.read(&mut lines) {
-            Ok(count @ 1..) => size_of(&lines[..count]),
-            _ => {
+        match last_told(self.pipe.as_mut()?) {
+            Ok(size) => size,
+            Err(_) => {
                 self.pipe = None;
                 None
             },
@@ -46,12 +52,49 @@ impl Sizes {
     }
 }
 
+// The size in the last line that this pipe gives, if that is one.
+fn last_told<P: Read>(pipe: &mut P) -> io::Result<Option<WindowSize>>
+    ensures { IfOk result (λ told. IfSome told (λ size. (lines : List ℕ)
+        × Consumes (P.remaining pipe.old) (P.remaining pipe.new) lines × IsTold size lines)) }
+{
+    let mut lines = [0; LINES];
+    let count = pipe.read(&mut lines)?;
+    if count == 0 {
+        return Err(io::Error::from(ErrorKind::UnexpectedEof));
+    }
+    Ok(size_of(&lines[..count]))
+}
+
 // The size in the last of these lines.
-fn size_of(lines: &[u8]) -> Option<WindowSize> {
-    let line = str::from_utf8(lines).ok()?.lines().last()?;
-    let (width, height) = line.trim().split_once(' ')?;
-    Some(WindowSize {
-        width: width.parse().ok()?,
-        height: height.trim().parse().ok()?,
-    })
+fn size_of(lines: &[u8]) -> Option<WindowSize>
+    ensures { IfSome result (λ size. IsTold size lines.now) }
+{
+    let start = lines.len().checked_sub(LINE)?;
+    let line = &lines[start..];
+    let width = read_number(&line[..5])?;
+    let height = read_number(&line[6..11])?;
+    Some(WindowSize { width, height })
+}
+
+// The number that these characters are: digits, and spaces before or behind them.
+fn read_number(characters: &[u8]) -> Option<u16>
+    ensures { IfSome result (λ number. number_of characters.now ≡ Some number) }
+{
+    let mut number = 0;
+    for character in characters {
+        number = add_digit(number, *character)?;
+    }
+    Some(number)
+}
+
+fn add_digit(number: u16, character: u8) -> Option<u16>
+    ensures { IfSome result (λ more. with_digit number character ≡ Some more) }
+{
+    match character {
+        b' ' => Some(number),
+        b'0'..=b'9' => number
+            .checked_mul(10)?
+            .checked_add(u16::from(character - b'0')),
+        _ => None,
+    }
 }
