@@ -1,8 +1,12 @@
 -- Which session a client runs over a connection.
-use Rattle.std.specs.Prelude.{ℕ, Option, Some, None, List, []}
+use Rattle.std.specs.Prelude.{ℕ, Option, Some, None, List, [], Result, Ok, Err, IsOk}
 use Rattle.std.specs.Global.{Vec}
+use Rattle.std.specs.declared.io.Error.{Error}
+use Rattle.std.specs.declared.net.tcp.TcpStream.{TcpStream}
 use Rattle.crossbeam_channel.specs.Claims.{Pass, view}
 use Rattle.tn_connect.specs.declared.connected.Connected.{Connected}
+use Rattle.tn_connect.specs.declared.fault.ConnectFault.{ConnectFault}
+use Rattle.tn_connect.specs.declared.fault.ConnectFault.TheVariants.{Network, Session, Memory}
 use Rattle.tn_connect.specs.declared.settings.Connecting.{Connecting}
 use Rattle.tn_connect.specs.declared.settings.Origin.{Origin}
 use Rattle.tn_connect.specs.declared.settings.Origin.TheVariants.{Reader, Input, Terminal}
@@ -41,3 +45,15 @@ RunsClient window keys seen now connected =
 -- a session, and the queue that it wrote to
 abbrev pub connected : Report → ClientPorts → Pass (Vec ℕ) Hand → Connected
 connected report ports queue = record { report = report; ports = ports; queue = queue }
+
+-- where a session ran, or was to, there was a connection
+abbrev pub NeedsConnection : {A : Type 0} → Result A ConnectFault → Result TcpStream Error → Type 0
+NeedsConnection (Ok connected) reached = IsOk reached
+NeedsConnection (Err Session) reached = IsOk reached
+NeedsConnection (Err Network) reached = Unit {0}
+NeedsConnection (Err Memory) reached = Unit {0}
+
+-- it was asked for a connection, and this came of it
+abbrev pub ConnectsBy : {A : Type 0} → (Result TcpStream Error → Type 0) → Result A ConnectFault → Type 0
+ConnectsBy reaches result =
+    (reached : Result TcpStream Error) × reaches reached × NeedsConnection result reached

@@ -17,5 +17,4 @@ pub use tn_sockets::{Host, Link, Screen};
 mod connected;
 mod connecting;
 mod fault;
-mod reaching;
 mod settings;
