@@ -1,7 +1,11 @@
 -- Which session a client runs over a connection.
-use Rattle.std.specs.Prelude.{ℕ, Option, Some, None, List, []}
+use Rattle.std.specs.Prelude.{ℕ, Option, Some, None, List, [], Result, Ok, Err, IsOk}
+use Rattle.std.specs.declared.io.Error.{Error}
+use Rattle.std.specs.declared.net.tcp.TcpStream.{TcpStream}
 use Rattle.crossbeam_channel.specs.Claims.{view}
 use Rattle.tn_connect.specs.declared.connected.Connected.{Connected}
+use Rattle.tn_connect.specs.declared.fault.ConnectFault.{ConnectFault}
+use Rattle.tn_connect.specs.declared.fault.ConnectFault.TheVariants.{Network, Session, Memory}
 use Rattle.tn_connect.specs.declared.settings.Connecting.{Connecting}
 use Rattle.tn_connect.specs.declared.settings.Origin.{Origin}
 use Rattle.tn_connect.specs.declared.settings.Origin.TheVariants.{Reader, Input, Terminal}
@@ -37,3 +41,15 @@ RunsWriting window keys seen now written report ports =
 abbrev pub RunsClient : Window → KnownReader → Option (List ℕ) → Option (List ℕ) → Connected → Type 0
 RunsClient window keys seen now connected =
     RunsWriting window keys seen now (put_bytes (view connected.queue)) connected.report connected.ports
+
+-- where a session ran, or was to, there was a connection
+abbrev pub NeedsConnection : {A : Type 0} → Result A ConnectFault → Result TcpStream Error → Type 0
+NeedsConnection (Ok connected) reached = IsOk reached
+NeedsConnection (Err Session) reached = IsOk reached
+NeedsConnection (Err Network) reached = Unit {0}
+NeedsConnection (Err Memory) reached = Unit {0}
+
+-- it was asked for a connection, and this came of it
+abbrev pub ConnectsBy : {A : Type 0} → (Result TcpStream Error → Type 0) → Result A ConnectFault → Type 0
+ConnectsBy reaches result =
+    (reached : Result TcpStream Error) × reaches reached × NeedsConnection result reached

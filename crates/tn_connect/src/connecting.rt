@@ -3,10 +3,11 @@
 ghost use Rattle.std.specs.Prelude.{◌≡◌, ◌≢◌, [], Err, IfErr, IfOk, IsOk, Ok, OnErr, Some, false, true};
 ghost use Rattle.crossbeam_channel.specs.Claims.{view};
 ghost use Rattle.crossbeam_channel.specs.Ends.{sends_on};
-ghost use Rattle.tn_connect.specs.Clients.{RunsClient, RunsWriting, foreseen, window_of};
+ghost use Rattle.tn_connect.specs.Clients.{ConnectsBy, RunsClient, RunsWriting, foreseen, window_of};
 ghost use Rattle.tn_connect.specs.Faults.{IsOfNetwork};
 ghost use Rattle.tn_connect.specs.Sent.{TookWhatWasWritten};
 ghost use Rattle.tn_messages.specs.Ending.{EndsWhole};
+ghost use Rattle.tn_network.specs.Asked.{Reaches};
 ghost use Rattle.tn_queue.specs.Queue.{putter};
 ghost use Rattle.tn_sockets.specs.Ends.{IsNew};
 ghost use Rattle.tn_sockets.specs.Logs.{logged};
@@ -16,7 +17,6 @@ ghost use Rattle.tn_streams.specs.Known.{known_reader};
 
 use crate::connected::Connected;
 use crate::fault::ConnectFault;
-use crate::reaching::reach;
 use crate::sending::{Delivered, Sender};
 use crate::settings::{Connecting, Notes, Origin};
 use std::alloc::Global;
@@ -24,8 +24,9 @@ use std::fs::File;
 use std::io;
 use std::io::{Read, Write};
 use std::marker::Brand;
-use std::net::{Net, TcpListener, TcpStream};
+use std::net::TcpStream;
 use std::sync::Arc;
+use tn_network::{Network, reach};
 use tn_session::{ClientPorts, Ended, Report, SessionFault, Unwatched, client_session};
 use tn_sockets::{
     Connection, Console, Host, Incoming, Keys, Link, Logged, NewQueue, Outgoing, PiecePass, Queue, Sent,
@@ -208,14 +209,45 @@ fn talk_and_send<
 /// keys and this screen, until the server has closed or the user leaves. What a session that ends without a
 /// fault returns tells contracts all that was read from the connection, all that the session wrote, and what the
 /// connection took of it. Of a fault the causes are noted.
-pub fn connect<
-    H: Host + Net<Listener = TcpListener, Stream = TcpStream>,
-    K: Read + Drop + Send + 'static,
-    S: Write,
->(
+pub fn connect<H: Host + Network, K: Read + Drop + Send + 'static, S: Write>(
     rt: H,
     alloc: Global,
     host: &str,
+    connecting: Connecting,
+    keys: K,
+    screen: &mut S,
+    notes: Notes<'_>,
+) -> Result<Connected, ConnectFault>
+    ensures ran { IfOk result (RunsClient (window_of connecting) (foreseen connecting.origin (K.remaining keys))
+        (S.contents screen.old) (S.contents screen.new)) }
+    ensures sent { IfOk result TookWhatWasWritten }
+    ensures whole { IfOk result (λ connected. EndsWhole connected.report.ended) }
+    ensures unshown { OnErr result (result ≢ Err ConnectFault.Session →
+        S.contents screen.new ≡ S.contents screen.old) }
+    ensures reached { ConnectsBy (Reaches (H.finds rt host.now connecting.port) (H.dials rt)) result }
+{
+    let Notes {
+        trace,
+        sizes,
+        causes,
+        link,
+    } = notes;
+    let stream = reach(&rt, host, connecting.port, causes)?;
+    let notes = Notes {
+        trace,
+        sizes,
+        causes,
+        link,
+    };
+    connect_over(rt, alloc, host, stream, connecting, keys, screen, notes)
+}
+
+// The same, over a connection to this host.
+fn connect_over<H: Host, K: Read + Drop + Send + 'static, S: Write>(
+    rt: H,
+    alloc: Global,
+    host: &str,
+    stream: TcpStream,
     connecting: Connecting,
     keys: K,
     screen: &mut S,
@@ -234,7 +266,6 @@ pub fn connect<
         causes,
         link,
     } = notes;
-    let stream = reach(&rt, host, connecting.port, causes)?;
     let trace = Trace::new(rt, alloc, trace)?;
     let (queue, throttle) = new_queue(rt, alloc)?;
     let typing = Typing {

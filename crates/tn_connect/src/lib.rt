@@ -17,6 +17,5 @@ pub use tn_sockets::{Host, Link, Screen};
 mod connected;
 mod connecting;
 mod fault;
-mod reaching;
 mod sending;
 mod settings;

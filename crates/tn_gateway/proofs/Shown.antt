@@ -1,5 +1,5 @@
 -- What was shown, one step after another.
-use Rattle.std.proofs.Common.{◌≡◌, ◌≢◌, ◌⊎◌, inl, inr, ⊎_elim, ℕ, ◌+◌, ◌<◌, List, [], ◌∷◌, ◌++◌, Option, Some, None, Err, refl, sym, ap, ◌∙◌, subst, map, append_assoc, arith}
+use Rattle.std.proofs.Common.{◌≡◌, ◌≢◌, ◌⊎◌, inl, inr, ⊎_elim, ℕ, List, [], ◌∷◌, ◌++◌, Option, Some, None, Err, refl, sym, ap, ◌∙◌, subst, append_assoc, arith}
 use Rattle.std.specs.Io.KnownBytes.{Consumes, IsAtEnd}
 use Rattle.std.specs.IoError.{error_kind}
 use Rattle.std.specs.List.{FoldsTo}
@@ -7,7 +7,7 @@ use Rattle.std.specs.declared.io.Error.{Error}
 use Rattle.std.specs.declared.io.ErrorKind.TheVariants.{Interrupted}
 use Rattle.tn_gateway.specs.Joining.{Steps}
 use Rattle.tn_gateway.specs.Showing.{IsToFail, Shows, giving}
-use Rattle.tn_gateway.specs.Talks.{EndsAtLast, ShowsAll, ShowsTalk, texts_of}
+use Rattle.tn_gateway.specs.Talks.{EndsAtLast, ShowsTalk, texts_of}
 use Rattle.tn_gateway.specs.declared.joining.Gateway.{Gateway}
 use Rattle.tn_gateway.specs.declared.joining.Gateway.TheVariants as side
 use Rattle.tn_gateway.specs.declared.showing.Showing.{Showing}

@@ -1,13 +1,13 @@
 -- What went to the service, one entry after another.
-use Rattle.std.proofs.Common.{◌≡◌, ◌≢◌, ℕ, Bool, true, false, List, [], ◌∷◌, ◌++◌, Option, refl, sym, ap, ◌∙◌, subst, map}
-use Rattle.std.specs.Io.KnownBytes.{Appends, Keeps}
+use Rattle.std.proofs.Common.{◌≡◌, ◌≢◌, ℕ, Bool, true, false, List, [], ◌∷◌, ◌++◌, Option, refl, sym, ◌∙◌, subst, map}
+use Rattle.std.specs.Io.KnownBytes.{Appends}
 use Rattle.tn_discipline.specs.declared.reads.Entry.{Entry}
 use Rattle.tn_discipline.specs.declared.reads.Entry.TheVariants.{Text, Eof, Signal}
 use Rattle.tn_discipline.specs.declared.reads.Sig.TheVariants.{Int, Quit, Tstp}
 use Rattle.tn_gateway.proofs.Written.{kept_appends, keeps_on, keeps_same, writes_more, stops_more, tells_more}
 use Rattle.tn_gateway.specs.Joining.{Reacts}
 use Rattle.tn_gateway.specs.Lines.{line_sent}
-use Rattle.tn_gateway.specs.Sending.{Goes, WritesNothing, ended, way_after}
+use Rattle.tn_gateway.specs.Sending.{Goes, WritesNothing, way_after}
 use Rattle.tn_gateway.specs.Talks.{SendsAll, SendsTalk, due, goes_well}
 use Rattle.tn_gateway.specs.declared.joining.Gateway.{Gateway}
 use Rattle.tn_gateway.specs.declared.joining.Gateway.TheVariants as side

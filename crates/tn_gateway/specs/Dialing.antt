@@ -1,5 +1,12 @@
--- What a service says and is told, where it was reached.
-use Rattle.std.specs.Prelude.{ℕ, List, [], Option, Some, None}
+-- How a service is reached, and what it says and is told where it was.
+use Rattle.std.specs.Prelude.{◌≡◌, ℕ, List, [], Option, Some, None, Result, Ok, IfSome}
+use Rattle.std.specs.declared.io.Error.{Error}
+use Rattle.std.specs.declared.net.tcp.TcpStream.{TcpStream}
+
+-- it was asked for a connection, and the one that there is came of that
+abbrev pub IsReached : (Result TcpStream Error → Type 0) → Option TcpStream → Type 0
+IsReached reaches told =
+    (reached : Result TcpStream Error) × reaches reached × IfSome told (λ stream. reached ≡ Ok stream)
 
 -- the bytes that are left to hear: those of the stream, or these words where there is none
 abbrev pub bytes_left : {S : Type 0} → (S → Option (List ℕ)) → Option S → List ℕ → Option (List ℕ)

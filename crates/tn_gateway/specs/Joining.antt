@@ -5,6 +5,7 @@ use Rattle.tn_gateway.specs.Sending.{SendsEntry, silent}
 use Rattle.tn_gateway.specs.Showing.{Shows}
 use Rattle.tn_gateway.specs.declared.joining.Gateway.{Gateway}
 use Rattle.tn_gateway.specs.declared.joining.Gateway.TheVariants as side
+use Rattle.tn_gateway.specs.declared.line_ends.LineEnd.{LineEnd}
 use Rattle.tn_gateway.specs.declared.makers.Gateways.{Gateways}
 use Rattle.tn_gateway.specs.declared.sending.Way.TheVariants.{Open}
 use Rattle.tn_jobs.specs.declared.reactions.Reaction.{Reaction}
@@ -29,6 +30,19 @@ left_to_make None None = 0
 abbrev pub GivesSide : {R W : Type 0} → ℕ → Gateway R W → Type 0
 GivesSide left (side.Sends sending) = Unit {0}
 GivesSide left (side.Shows showing) = left ≡ 1
+
+-- it has the reader or the writer that was there for it, and this line end
+abbrev pub GivesPart : {R W : Type 0} → Option R → Option W → LineEnd → Gateway R W → Type 0
+GivesPart reader writer line_end (side.Sends sending) =
+    (writer ≡ Some sending.writer) × (sending.line_end ≡ line_end)
+GivesPart reader writer line_end (side.Shows showing) = reader ≡ Some showing.reader
+
+-- where its connection was still to be made, such a writer is its, and this line end
+abbrev pub GivesReached : {R W A : Type 0} → (W → Type 0) → LineEnd → Option A → Gateway R W → Type 0
+GivesReached reached line_end (Some hook) (side.Sends sending) =
+    reached sending.writer × (sending.line_end ≡ line_end)
+GivesReached reached line_end (Some hook) (side.Shows showing) = Unit {0}
+GivesReached reached line_end None job = Unit {0}
 
 abbrev pub IsFresh : {R W : Type 0} → Gateway R W → Type 0
 IsFresh (side.Sends sending) = sending.way ≡ Open

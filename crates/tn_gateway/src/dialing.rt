@@ -2,9 +2,10 @@
 
 ghost use Rattle.std.specs.Io.{ReadsAtMost, WritesAtMost};
 ghost use Rattle.std.specs.Io.KnownBytes.{ReadConsumes, WriteAppends};
-ghost use Rattle.std.specs.Prelude.{◌≡◌, ◌+◌, None, IfOk};
-ghost use Rattle.tn_gateway.specs.Dialing.{bytes_left, bytes_held};
+ghost use Rattle.std.specs.Prelude.{◌≡◌, ◌+◌, None, IfOk, IfSome, IsSome, option_map, string_bytes};
+ghost use Rattle.tn_gateway.specs.Dialing.{IsReached, bytes_left, bytes_held};
 ghost use Rattle.tn_gateway.specs.Joining.{count};
+ghost use Rattle.tn_network.specs.Asked.{Reaches};
 ghost use Rattle.tn_sockets.specs.Passing.{HandsOn};
 
 use crate::joining::Gateway;
@@ -13,9 +14,10 @@ use crate::makers::Gateways;
 use std::alloc::{AllocError, Global};
 use std::io;
 use std::io::{ErrorKind, Read, Write};
-use std::net::{Net, Shutdown, TcpListener, TcpStream};
+use std::net::{Shutdown, TcpStream};
 use std::sync::Wait;
 use std::time::Duration;
+use tn_network::{Network, reach};
 use tn_session::{Finish, Maker};
 use tn_sockets::{Closing, Hook};
 
@@ -28,22 +30,15 @@ const LOOKS: u32 = 20;
 /// What a user is told in place of what the service says.
 const UNREACHED: &[u8] = b"the service cannot be reached\n";
 
-/// What a thread of a session needs of the network: a network names its types, and what it sends to a thread
-/// may rest on no bound that does.
-pub trait Dial {
-    /// Both halves of a connection to a service.
-    fn dial(&self, host: &str, port: u16) -> io::Result<(TcpStream, TcpStream)>;
-}
-
-impl<H: Net<Listener = TcpListener, Stream = TcpStream>> Dial for H {
-    fn dial(&self, host: &str, port: u16) -> io::Result<(TcpStream, TcpStream)> {
-        let stream = TcpStream::connect(self, (host, port))?;
-        stream.set_nodelay(true)?;
-        stream.set_read_timeout(Some(Duration::from_millis(LOOK)))?;
-        stream.set_write_timeout(Some(Duration::from_millis(LOOK)))?;
-        let heard = stream.try_clone()?;
-        Ok((heard, stream))
-    }
+// Both halves of a connection, of which each call waits for a short time.
+fn halves(stream: TcpStream) -> io::Result<(TcpStream, TcpStream)>
+    ensures { IfOk result (λ halves. halves.1 ≡ stream) }
+{
+    stream.set_nodelay(true)?;
+    stream.set_read_timeout(Some(Duration::from_millis(LOOK)))?;
+    stream.set_write_timeout(Some(Duration::from_millis(LOOK)))?;
+    let heard = stream.try_clone()?;
+    Ok((heard, stream))
 }
 
 /// Makes the jobs of one session that is joined to a line service: it connects to it for the first of them.
@@ -60,9 +55,11 @@ pub struct Joiner<H> {
 impl<H> Joiner<H> {
     /// Jobs that are joined to the service at this host and port, and hang up by this hook where it ends.
     pub fn new(rt: H, host: String, port: u16, line_end: LineEnd, hook: Hook) -> Joiner<H>
+        ensures rt { result.rt ≡ rt }
         ensures host { result.host ≡ host }
         ensures port { result.port ≡ port }
         ensures line_end { result.line_end ≡ line_end }
+        ensures new { IsSome result.hook }
     {
         Joiner {
             rt,
@@ -75,18 +72,34 @@ impl<H> Joiner<H> {
     }
 }
 
-impl<H: Copy + Dial + Wait> Joiner<H> {
+impl<H: Copy + Network + Wait> Joiner<H> {
+    // Both halves of a connection to the service, or none where it is not reached.
+    fn dial(&self, alloc: Global) -> Option<(TcpStream, TcpStream)>
+        ensures { IsReached (Reaches (H.finds self.now.rt (string_bytes self.now.host) self.now.port)
+            (H.dials self.now.rt)) (option_map (λ halves. halves.1) result) }
+    {
+        let mut causes = Vec::new(alloc);
+        match reach(&self.rt, self.host.as_str(), self.port, &mut causes) {
+            Ok(stream) => halves(stream).ok(),
+            Err(_) => None,
+        }
+    }
+
     fn join(
         &self,
+        alloc: Global,
         hook: Hook,
     ) -> Result<Gateways<Heard<H, TcpStream>, Told<H, TcpStream>>, AllocError>
         ensures both { IfOk result (λ jobs. count jobs.writer + count jobs.reader ≡ 2) }
         ensures line_end { IfOk result (λ jobs. jobs.line_end ≡ self.now.line_end) }
+        ensures reached { IfOk result (λ jobs. IfSome jobs.writer (λ told. IsReached
+            (Reaches (H.finds self.now.rt (string_bytes self.now.host) self.now.port) (H.dials self.now.rt))
+            told.stream)) }
     {
         let rt = self.rt;
-        let (heard, told) = match rt.dial(self.host.as_str(), self.port) {
-            Ok((heard, told)) => (Some(heard), Some(told)),
-            Err(_) => (None, None),
+        let (heard, told) = match self.dial(alloc) {
+            Some((heard, told)) => (Some(heard), Some(told)),
+            None => (None, None),
         };
         hook.hold();
         let writer = Told {
@@ -104,22 +117,26 @@ impl<H: Copy + Dial + Wait> Joiner<H> {
     }
 }
 
-impl<H: Copy + Dial + Wait> Maker for Joiner<H> {
-    ghost use Rattle.std.specs.Prelude.{Some};
-    ghost use Rattle.tn_gateway.specs.Joining.{GivesSide, left_to_make};
+impl<H: Copy + Network + Wait> Maker for Joiner<H> {
+    ghost use Rattle.std.specs.Prelude.{Some, string_bytes};
+    ghost use Rattle.tn_gateway.specs.Dialing.{IsReached};
+    ghost use Rattle.tn_gateway.specs.Joining.{GivesReached, GivesSide, left_to_make};
+    ghost use Rattle.tn_network.specs.Asked.{Reaches};
 
     type Job = Gateway<Heard<H, TcpStream>, Told<H, TcpStream>>;
 
     ghost left = { λ joiner. Some (left_to_make joiner.hook joiner.jobs) };
 
-    ghost gives = { λ old job new. GivesSide (left_to_make old.hook old.jobs) job };
+    ghost gives = { λ old job new. GivesSide (left_to_make old.hook old.jobs) job
+        × GivesReached (λ told. IsReached (Reaches (H.finds old.rt (string_bytes old.host) old.port)
+        (H.dials old.rt)) told.stream) old.line_end old.hook job };
 
     fn next(
         &mut self,
         alloc: Global,
     ) -> Result<Option<Gateway<Heard<H, TcpStream>, Told<H, TcpStream>>>, AllocError> {
         if let Some(hook) = self.hook.take() {
-            self.jobs = Some(self.join(hook)?);
+            self.jobs = Some(self.join(alloc, hook)?);
         }
         match &mut self.jobs {
             Some(jobs) => {

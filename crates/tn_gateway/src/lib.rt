@@ -11,7 +11,7 @@
 //! does by its hook.
 #![tactic(auto)]
 
-pub use dialing::{Dial, Heard, Joiner, Told};
+pub use dialing::{Heard, Joiner, Told};
 pub use joining::Gateway;
 pub use line_ends::LineEnd;
 pub use makers::Gateways;

@@ -36,13 +36,14 @@ impl<R, W> Gateways<R, W> {
 
 impl<R: Source + Drop, W: Finish + Drop> Maker for Gateways<R, W> {
     ghost use Rattle.std.specs.Prelude.{Some, ◌+◌};
-    ghost use Rattle.tn_gateway.specs.Joining.{GivesSide, count};
+    ghost use Rattle.tn_gateway.specs.Joining.{GivesPart, GivesSide, count};
 
     type Job = Gateway<R, W>;
 
     ghost left = { λ maker. Some (count maker.writer + count maker.reader) };
 
-    ghost gives = { λ old job new. GivesSide (count old.writer + count old.reader) job };
+    ghost gives = { λ old job new. GivesSide (count old.writer + count old.reader) job
+        × GivesPart old.reader old.writer old.line_end job };
 
     fn next(&mut self, _alloc: Global) -> Result<Option<Gateway<R, W>>, AllocError> {
         if let Some(writer) = self.writer.take() {

@@ -1,5 +1,6 @@
 -- The sessions that a server counts.
 use Rattle.std.specs.Prelude.{◌≡◌, ℕ, ◌+◌, Option, List, length}
+use Rattle.std.specs.declared.net.tcp.TcpStream.{TcpStream}
 use Rattle.tn_discipline.specs.Limits.{standard_limit}
 use Rattle.tn_discipline.specs.declared.reads.Entry.{Entry}
 use Rattle.tn_jobs.specs.declared.reactions.Reaction.{Reaction}
@@ -20,24 +21,40 @@ abbrev pub facts_of : {M J : Type 0} → (J → Type 0) → (M → J → M → T
     → (J → Reaction → J → Type 0) → M → JobFacts J
 facts_of fresh gives reacts steps jobs = job_facts (begins fresh gives jobs) reacts steps
 
--- Of makers of jobs: what is known of the jobs of each, and how many it tells are to come.
-module _ {M J : Type 0} (facts : M → JobFacts J) (left : M → Option ℕ) (options : SessionOptions) where
+-- What is known of a server: of the jobs that a maker gives and how many are to come, the options of its sessions,
+-- which makers its service gives them, and what a connection that gets no session was told.
+pub record ServerFacts (M J : Type 0) : Type 1 where
+  pub facts : M → JobFacts J
+  pub left : M → Option ℕ
+  pub options : SessionOptions
+  pub made : M → Type 0
+  pub turned : TcpStream → Type 0
+
+abbrev pub server_of : {M J : Type 0} → (M → JobFacts J) → (M → Option ℕ) → SessionOptions → (M → Type 0)
+    → (TcpStream → Type 0) → ServerFacts M J
+server_of facts left options made turned =
+    record { facts = facts; left = left; options = options; made = made; turned = turned }
+
+module _ {M J : Type 0} (server : ServerFacts M J) where
   -- a session that was joined: what made its jobs, and what its thread gave back
   pub record Joined : Type 0 where
     pub jobs : M
+    pub made : ∥ server.made jobs ∥₁
     pub ran : Ran
-    pub promised : IsPromised (facts jobs) (left jobs) options ran
+    pub promised : IsPromised (server.facts jobs) (server.left jobs) server.options ran
 
-  -- so many sessions were joined that ended whole; of those that were faulted, each was joined or could not be
-  -- started
-  pub record CountsSessions (whole faulted : ℕ) : Type 0 where
+  -- So many sessions were joined that ended whole; of those that were faulted, each was joined or could not be
+  -- started; of those that were refused, each connection was told so.
+  pub record CountsSessions (whole faulted refused : ℕ) : Type 0 where
     pub whole_ones : List ((joined : Joined) × IsWhole (finished_as joined.ran))
     pub faulted_ones : List ((joined : Joined) × ¬ IsWhole (finished_as joined.ran))
     pub unstarted : ℕ
+    pub refused_ones : List ((stream : TcpStream) × server.turned stream)
     pub whole_is : whole ≡ length whole_ones
     pub faulted_is : faulted ≡ length faulted_ones + unstarted
+    pub refused_is : refused ≡ length refused_ones
 
--- one more session, or none, is counted so: where the old counts are of sessions, the new are
-abbrev pub StillCounts : {M J : Type 0} → (M → JobFacts J) → (M → Option ℕ) → SessionOptions → ℕ → ℕ → ℕ → ℕ → Type 0
-StillCounts facts left options whole faulted whole' faulted' =
-    CountsSessions facts left options whole faulted → CountsSessions facts left options whole' faulted'
+  -- one more session, or none, is counted so: where the old counts are of sessions, the new are
+  abbrev pub StillCounts : ℕ → ℕ → ℕ → ℕ → ℕ → ℕ → Type 0
+  StillCounts whole faulted refused whole' faulted' refused' =
+      CountsSessions whole faulted refused → CountsSessions whole' faulted' refused'

@@ -1,4 +1,5 @@
 pub mod Ends
 pub mod Faults
+pub mod Services
 pub mod Servers
 pub mod Counted

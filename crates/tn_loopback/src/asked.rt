@@ -1,16 +1,28 @@
-//! Which options the sessions of one server have, for contracts.
+//! What the sessions of one server are to be, for contracts.
 
 use std::marker::Brand;
 
-/// A server that is open, for contracts: the options that it was asked to give each of its sessions.
-pub(crate) trait Asked {
+/// A server that is open, for contracts: what it was asked for, of each of its sessions and each connection
+/// that gets none.
+pub(crate) trait Asked<M> {
+    ghost use Rattle.std.specs.declared.net.tcp.TcpStream.{TcpStream};
     ghost use Rattle.tn_loopback.specs.declared.settings.SessionOptions.{SessionOptions};
 
     ghost options: { SessionOptions };
+
+    // its service makes such jobs
+    ghost made: { M → Type 0 };
+
+    // such a connection was told that there is no room
+    ghost turned: { TcpStream → Type 0 };
 }
 
-impl Asked for Brand {
+impl<M> Asked<M> for Brand {
     ghost use Rattle.tn_loopback.specs.Counted.{no_options};
 
     ghost options = { no_options };
+
+    ghost made = { λ _. Unit {0} };
+
+    ghost turned = { λ _. Unit {0} };
 }

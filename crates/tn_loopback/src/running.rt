@@ -1,7 +1,7 @@
 //! The sessions that are started and not yet joined, and how the earlier ones ended.
 
 ghost use Rattle.std.specs.Prelude.{◌≡◌, ◌<◌, ◌≤◌, ◌+◌, ◌-◌, ◌^◌, true, IfSome, vec_len, vec_capacity};
-ghost use Rattle.tn_loopback.specs.Counted.{StillCounts, facts_of};
+ghost use Rattle.tn_loopback.specs.Counted.{StillCounts, facts_of, server_of};
 ghost use Rattle.tn_roster.specs.Held.{held_count};
 
 use crate::asked::Asked;
@@ -12,6 +12,7 @@ use crate::session::SessionSays;
 use std::alloc::Global;
 use std::io::Write;
 use std::marker::PhantomData;
+use std::net::TcpStream;
 use std::thread::{PromisedHandle, Threads};
 use tn_jobs::Job;
 use tn_roster::Roster;
@@ -19,29 +20,30 @@ use tn_session::Maker;
 
 // A started session, and its number. Its thread promises what it gives back, under the options that were asked for.
 #[derive(Drop)]
-pub(crate) struct Started<M: Maker, O: Asked> {
+pub(crate) struct Started<M: Maker, O: Asked<M>> {
     number: usize,
     session: PromisedHandle<Ran, SessionSays<M>>,
     under: PhantomData<O>,
     ghost asked: { session.promise.options ≡ O.options },
+    ghost made: { ∥ O.made session.promise.jobs.value ∥₁ },
 }
 
 /// The sessions that are started and not yet joined, and counts of how the other connections ended.
 #[derive(Drop)]
-pub(crate) struct Running<J: Job, M: Maker<Job = J>, O: Asked> {
+pub(crate) struct Running<J: Job, M: Maker<Job = J>, O: Asked<M>> {
     pub(crate) started: Vec<Started<M, O>>,
     pub(crate) accepted: u32,
     pub(crate) whole: u32,
     pub(crate) faulted: u32,
-    refused: u32,
+    pub(crate) refused: u32,
     ghost counted: { vec_len started + whole + faulted + refused ≡ accepted },
 }
 
-impl<J: Job, M: Maker<Job = J>, O: Asked> Running<J, M, O> {
+impl<J: Job, M: Maker<Job = J>, O: Asked<M>> Running<J, M, O> {
     pub(crate) fn new(alloc: Global) -> Running<J, M, O>
         ensures accepted { result.accepted ≡ 0 }
         ensures none { vec_len result.started ≡ 0 }
-        ensures counts { (result.whole ≡ 0) × (result.faulted ≡ 0) }
+        ensures counts { (result.whole ≡ 0) × (result.faulted ≡ 0) × (result.refused ≡ 0) }
     {
         Running {
             started: Vec::new(alloc),
@@ -61,7 +63,8 @@ impl<J: Job, M: Maker<Job = J>, O: Asked> Running<J, M, O> {
     /// Whether there is room for one more session. False when out of memory.
     pub(crate) fn has_room(&mut self) -> bool
         ensures accepted { self.new.accepted ≡ self.old.accepted }
-        ensures counts { (self.new.whole ≡ self.old.whole) × (self.new.faulted ≡ self.old.faulted) }
+        ensures counts { (self.new.whole ≡ self.old.whole) × (self.new.faulted ≡ self.old.faulted)
+            × (self.new.refused ≡ self.old.refused) }
         ensures same { vec_len self.new.started ≡ vec_len self.old.started }
         ensures room { result ≡ true → vec_len self.new.started < vec_capacity self.new.started }
     {
@@ -84,8 +87,9 @@ impl<J: Job, M: Maker<Job = J>, O: Asked> Running<J, M, O> {
         ensures accepted { self.new.accepted ≡ self.old.accepted }
         ensures some { IfSome result (λ _. vec_len self.new.started + 1 ≡ vec_len self.old.started) }
         ensures fewer { vec_len self.new.started ≤ vec_len self.old.started }
-        ensures each { StillCounts (facts_of J.fresh M.gives J.reacts J.steps) M.left O.options
-            self.old.whole self.old.faulted self.new.whole self.new.faulted }
+        ensures each { StillCounts
+            (server_of (facts_of J.fresh M.gives J.reacts J.steps) M.left O.options O.made O.turned)
+            self.old.whole self.old.faulted self.old.refused self.new.whole self.new.faulted self.new.refused }
     {
         let place = self.place_of(number)?;
         Some(self.join_at(rt, place))
@@ -95,8 +99,9 @@ impl<J: Job, M: Maker<Job = J>, O: Asked> Running<J, M, O> {
         requires { place < vec_len self.old.started }
         ensures accepted { self.new.accepted ≡ self.old.accepted }
         ensures joined { vec_len self.new.started + 1 ≡ vec_len self.old.started }
-        ensures each { StillCounts (facts_of J.fresh M.gives J.reacts J.steps) M.left O.options
-            self.old.whole self.old.faulted self.new.whole self.new.faulted }
+        ensures each { StillCounts
+            (server_of (facts_of J.fresh M.gives J.reacts J.steps) M.left O.options O.made O.turned)
+            self.old.whole self.old.faulted self.old.refused self.new.whole self.new.faulted self.new.refused }
     {
         let Started { session, .. } = self.started.swap_remove(place);
         let ran = session.join(rt);
@@ -112,11 +117,13 @@ impl<J: Job, M: Maker<Job = J>, O: Asked> Running<J, M, O> {
     /// Counts an accepted connection, and keeps its session, which was started.
     pub(crate) fn keep(&mut self, number: usize, session: PromisedHandle<Ran, SessionSays<M>>)
         requires asked { session.promise.options ≡ O.options }
+        requires made { O.made session.promise.jobs.value }
         requires room { vec_len self.old.started < vec_capacity self.old.started }
         requires more { self.old.accepted < 2 ^ 32 - 1 }
         ensures accepted { self.new.accepted ≡ self.old.accepted + 1 }
         ensures one { vec_len self.new.started ≡ vec_len self.old.started + 1 }
-        ensures counts { (self.new.whole ≡ self.old.whole) × (self.new.faulted ≡ self.old.faulted) }
+        ensures counts { (self.new.whole ≡ self.old.whole) × (self.new.faulted ≡ self.old.faulted)
+            × (self.new.refused ≡ self.old.refused) }
     {
         self.started.push_reserved(Started {
             number,
@@ -131,20 +138,24 @@ impl<J: Job, M: Maker<Job = J>, O: Asked> Running<J, M, O> {
         requires { self.old.accepted < 2 ^ 32 - 1 }
         ensures accepted { self.new.accepted ≡ self.old.accepted + 1 }
         ensures same { vec_len self.new.started ≡ vec_len self.old.started }
-        ensures each { StillCounts (facts_of J.fresh M.gives J.reacts J.steps) M.left O.options
-            self.old.whole self.old.faulted self.new.whole self.new.faulted }
+        ensures each { StillCounts
+            (server_of (facts_of J.fresh M.gives J.reacts J.steps) M.left O.options O.made O.turned)
+            self.old.whole self.old.faulted self.old.refused self.new.whole self.new.faulted self.new.refused }
     {
         self.faulted += 1;
         self.accepted += 1;
     }
 
-    /// Counts an accepted connection that got no session.
-    pub(crate) fn refuse(&mut self, _roster: &Roster)
+    /// Counts an accepted connection that got no session, and was told so.
+    pub(crate) fn refuse(&mut self, _roster: &Roster, _told: &TcpStream)
         requires full { held_count _roster.now ≡ _roster.now.limit }
+        requires told { O.turned _told.now }
         requires more { self.old.accepted < 2 ^ 32 - 1 }
         ensures accepted { self.new.accepted ≡ self.old.accepted + 1 }
         ensures same { vec_len self.new.started ≡ vec_len self.old.started }
-        ensures counts { (self.new.whole ≡ self.old.whole) × (self.new.faulted ≡ self.old.faulted) }
+        ensures each { StillCounts
+            (server_of (facts_of J.fresh M.gives J.reacts J.steps) M.left O.options O.made O.turned)
+            self.old.whole self.old.faulted self.old.refused self.new.whole self.new.faulted self.new.refused }
     {
         self.refused += 1;
         self.accepted += 1;
@@ -153,8 +164,9 @@ impl<J: Job, M: Maker<Job = J>, O: Asked> Running<J, M, O> {
     /// Joins all sessions, and reports each that ended in a fault.
     pub(crate) fn join_all<R: Threads, E: Write>(mut self, rt: &R, errors: &mut E) -> Served
         ensures accepted { result.accepted ≡ self.accepted }
-        ensures each { StillCounts (facts_of J.fresh M.gives J.reacts J.steps) M.left O.options
-            self.whole self.faulted result.whole result.faulted }
+        ensures each { StillCounts
+            (server_of (facts_of J.fresh M.gives J.reacts J.steps) M.left O.options O.made O.turned)
+            self.whole self.faulted self.refused result.whole result.faulted result.refused }
     {
         while !self.started.is_empty() {
             let finished = self.join_at(rt, 0);

@@ -1,5 +1,8 @@
 //! What a server does for its users.
 
+ghost use Rattle.std.specs.Prelude.{IfOk};
+ghost use Rattle.tn_loopback.specs.Services.{StillMakes};
+
 use crate::call::Call;
 use crate::finished::Finished;
 use std::alloc::{AllocError, Global};
@@ -14,11 +17,18 @@ pub trait Service {
 
     type Jobs: Maker<Job = Self::Job> + Drop + Send + 'static;
 
+    // What makes the jobs of a session, from here on.
+    ghost makes: { Self → Self.Jobs → Type 0 } = { λ _ _. Unit {0} };
+
     /// What makes the jobs of the session of this connection. Out of memory, the connection is closed and
     /// counts as a session that ended in a fault.
-    fn session(&mut self, alloc: Global, call: Call) -> Result<Self::Jobs, AllocError>;
+    fn session(&mut self, alloc: Global, call: Call) -> Result<Self::Jobs, AllocError>
+        ensures makes { IfOk result (λ jobs. makes self.old jobs) }
+        ensures still { StillMakes makes self.old self.new };
 
     /// The session with this number has ended so, and its threads are joined; or none of its threads could be
     /// started. It comes once for each session whose jobs were to be made, before its number is given again.
-    fn ended(&mut self, _number: usize, _finished: &Finished) {}
+    fn ended(&mut self, _number: usize, _finished: &Finished)
+        ensures { StillMakes makes self.old self.new }
+    {}
 }

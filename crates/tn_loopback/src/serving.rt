@@ -1,8 +1,10 @@
 //! Each connection has a session in threads of its own.
 
 ghost use Rattle.std.specs.Prelude.{◌≡◌, ◌<◌, ◌≤◌, ◌+◌, ◌^◌, ◌-◌, true, IfOk, IfSome, IsErrOf, vec_len};
-ghost use Rattle.tn_loopback.specs.Counted.{CountsSessions, StillCounts, facts_of};
+ghost use Rattle.tn_loopback.specs.Counted.{CountsSessions, StillCounts, facts_of, server_of};
 ghost use Rattle.tn_loopback.specs.Ends.{ServesAll};
+ghost use Rattle.tn_loopback.specs.Services.{MakesOnly, StillMakes, TurnsAway, WasTurnedAway};
+ghost use Rattle.tn_network.specs.Asked.{Accepts, Listens};
 ghost use Rattle.tn_roster.specs.Held.{IsLimit, held_count};
 
 use crate::acceptor::Acceptor;
@@ -22,9 +24,9 @@ use std::alloc::Global;
 use std::collections::VecDeque;
 use std::io::Write;
 use std::marker::Brand;
-use std::net::{Net, Shutdown, SocketAddr, TcpListener, TcpStream};
-use std::thread;
+use std::net::{SocketAddr, TcpListener, TcpStream};
 use std::thread::PromisedHandle;
+use tn_network::Network;
 use tn_roster::{Roster, note};
 use tn_sockets::{Hook, Host, Standing};
 
@@ -39,7 +41,7 @@ const KEPT_OPEN: usize = 16;
 /// sessions have ended. Each connection has a session in threads of its own, with the jobs that the service
 /// makes for it, as long as there are no more of them than the limit; one more is told `full` and closed.
 /// One that ends in a fault is reported in one line on `errors`, and changes nothing else. Each is a call of
-/// `serve_connection`; the clauses below only count them.
+/// `serve_connection`; the clauses below count them, and say what the network was asked for.
 pub fn serve<H, V, E>(
     rt: H,
     alloc: Global,
@@ -50,20 +52,23 @@ pub fn serve<H, V, E>(
     errors: &mut E,
 ) -> Result<Served, ServeFault>
 where
-    H: Host + Net<Listener = TcpListener, Stream = TcpStream>,
+    H: Host + Network,
     V: Service + Drop,
     E: Write,
     ensures all { IfOk result (ServesAll serving.count) }
-    ensures each { IfOk result (λ served. CountsSessions (facts_of V.Job.fresh V.Jobs.gives V.Job.reacts V.Job.steps)
-        V.Jobs.left serving.options served.whole served.faulted) }
+    ensures each { IfOk result (λ served. CountsSessions (server_of
+        (facts_of V.Job.fresh V.Jobs.gives V.Job.reacts V.Job.steps) V.Jobs.left serving.options
+        (V.makes service) (WasTurnedAway (H.dismisses rt))) served.whole served.faulted served.refused) }
+    ensures listened { Listens (H.listens rt host.now port) (H.shares rt) (H.accepts rt)
+        (λ (served : Served). served.accepted) result }
     ensures limit { IsErrOf result ServeFault.Limit → ¬ IsLimit serving.sessions }
 {
-    let listener = TcpListener::bind(&rt, (host, port))?;
+    let listener = rt.listen(host, port)?;
     serve_on(rt, alloc, &listener, serving, service, errors)
 }
 
 /// The same, over an existing listener.
-pub fn serve_on<H: Host, V: Service + Drop, E: Write>(
+pub fn serve_on<H: Host + Network, V: Service + Drop, E: Write>(
     rt: H,
     alloc: Global,
     listener: &TcpListener,
@@ -72,8 +77,10 @@ pub fn serve_on<H: Host, V: Service + Drop, E: Write>(
     errors: &mut E,
 ) -> Result<Served, ServeFault>
     ensures all { IfOk result (ServesAll serving.count) }
-    ensures each { IfOk result (λ served. CountsSessions (facts_of V.Job.fresh V.Jobs.gives V.Job.reacts V.Job.steps)
-        V.Jobs.left serving.options served.whole served.faulted) }
+    ensures each { IfOk result (λ served. CountsSessions (server_of
+        (facts_of V.Job.fresh V.Jobs.gives V.Job.reacts V.Job.steps) V.Jobs.left serving.options
+        (V.makes service) (WasTurnedAway (H.dismisses rt))) served.whole served.faulted served.refused) }
+    ensures accepted { IfOk result (λ served. Accepts (H.shares rt listener.now) (H.accepts rt) served.accepted) }
     ensures limit { IsErrOf result ServeFault.Limit → ¬ IsLimit serving.sessions }
     ensures bad_limit { (¬ IsLimit serving.sessions) → IsErrOf result ServeFault.Limit }
 {
@@ -81,7 +88,7 @@ pub fn serve_on<H: Host, V: Service + Drop, E: Write>(
 }
 
 // The same, for contracts that know the options of its sessions.
-fn serve_as<H: Host, V: Service + Drop, E: Write, O: Asked>(
+fn serve_as<H: Host + Network, V: Service + Drop, E: Write, O: Asked<V::Jobs>>(
     rt: H,
     alloc: Global,
     listener: &TcpListener,
@@ -90,9 +97,13 @@ fn serve_as<H: Host, V: Service + Drop, E: Write, O: Asked>(
     errors: &mut E,
 ) -> Result<Served, ServeFault>
     requires asked { serving.options ≡ O.options }
+    requires makes { MakesOnly V.makes service O.made }
+    requires turns { TurnsAway (H.dismisses rt) O.turned }
     ensures all { IfOk result (ServesAll serving.count) }
-    ensures each { IfOk result (λ served. CountsSessions (facts_of V.Job.fresh V.Jobs.gives V.Job.reacts V.Job.steps)
-        V.Jobs.left O.options served.whole served.faulted) }
+    ensures each { IfOk result (λ served. CountsSessions (server_of
+        (facts_of V.Job.fresh V.Jobs.gives V.Job.reacts V.Job.steps) V.Jobs.left O.options O.made O.turned)
+        served.whole served.faulted served.refused) }
+    ensures accepted { IfOk result (λ served. Accepts (H.shares rt listener.now) (H.accepts rt) served.accepted) }
     ensures limit { IsErrOf result ServeFault.Limit → ¬ IsLimit serving.sessions }
     ensures bad_limit { (¬ IsLimit serving.sessions) → IsErrOf result ServeFault.Limit }
 {
@@ -104,12 +115,12 @@ fn serve_as<H: Host, V: Service + Drop, E: Write, O: Asked>(
     }
     let acceptor = Acceptor {
         rt,
-        listener: listener.try_clone()?,
+        listener: rt.share(listener)?,
         events: sender.clone()?,
         count,
         verbose: serving.verbose,
     };
-    let Ok(acceptor) = thread::spawn(&rt, move || acceptor.run()) else {
+    let Some(acceptor) = acceptor.start() else {
         return Err(ServeFault::Memory);
     };
     let mut open: Open<H, V, O> = Open {
@@ -127,8 +138,8 @@ fn serve_as<H: Host, V: Service + Drop, E: Write, O: Asked>(
     let Open { running, .. } = open;
     let served = running.join_all(&rt, errors);
     drop(receiver);
-    acceptor.join(&rt);
-    if served.accepted() != count {
+    let accepted = acceptor.join(&rt);
+    if served.accepted() != count || accepted != count {
         return Err(ServeFault::Network);
     }
     Ok(served)
@@ -136,7 +147,7 @@ fn serve_as<H: Host, V: Service + Drop, E: Write, O: Asked>(
 
 /// A server that is open: which sessions run, by number, and how those before them ended.
 #[derive(Drop)]
-struct Open<H, V: Service, O: Asked> {
+struct Open<H, V: Service, O: Asked<V::Jobs>> {
     rt: H,
     alloc: Global,
     serving: Serving,
@@ -151,11 +162,14 @@ struct Open<H, V: Service, O: Asked> {
     ghost asked: { serving.options ≡ O.options },
 }
 
-impl<H: Host, V: Service, O: Asked> Open<H, V, O> {
+impl<H: Host + Network, V: Service, O: Asked<V::Jobs>> Open<H, V, O> {
     fn serve_all<E: Write>(&mut self, events: &Receiver<Event, Global>, errors: &mut E)
-        ensures each { StillCounts (facts_of V.Job.fresh V.Jobs.gives V.Job.reacts V.Job.steps)
-            V.Jobs.left O.options self.old.running.whole self.old.running.faulted
-            self.new.running.whole self.new.running.faulted }
+        requires makes { MakesOnly V.makes self.old.service O.made }
+        requires turns { TurnsAway (H.dismisses self.old.rt) O.turned }
+        ensures each { StillCounts (server_of
+            (facts_of V.Job.fresh V.Jobs.gives V.Job.reacts V.Job.steps) V.Jobs.left O.options O.made O.turned)
+            self.old.running.whole self.old.running.faulted self.old.running.refused
+            self.new.running.whole self.new.running.faulted self.new.running.refused }
     {
         let rt = self.rt;
         for _ in rt.forever() {
@@ -180,9 +194,14 @@ impl<H: Host, V: Service, O: Asked> Open<H, V, O> {
 
     // Starts a session over a connection that came, or turns it away where the session limit is reached.
     fn admit<E: Write>(&mut self, stream: TcpStream, peer: &SocketAddr, errors: &mut E)
-        ensures each { StillCounts (facts_of V.Job.fresh V.Jobs.gives V.Job.reacts V.Job.steps)
-            V.Jobs.left O.options self.old.running.whole self.old.running.faulted
-            self.new.running.whole self.new.running.faulted }
+        requires makes { MakesOnly V.makes self.old.service O.made }
+        requires turns { TurnsAway (H.dismisses self.old.rt) O.turned }
+        ensures each { StillCounts (server_of
+            (facts_of V.Job.fresh V.Jobs.gives V.Job.reacts V.Job.steps) V.Jobs.left O.options O.made O.turned)
+            self.old.running.whole self.old.running.faulted self.old.running.refused
+            self.new.running.whole self.new.running.faulted self.new.running.refused }
+        ensures makes { StillMakes V.makes self.old.service self.new.service }
+        ensures rt { self.new.rt ≡ self.old.rt }
     {
         if self.running.accepted >= self.serving.count {
             return;
@@ -192,8 +211,9 @@ impl<H: Host, V: Service, O: Asked> Open<H, V, O> {
             note(&self.rt, &entered);
         }
         let Ok(number) = entered else {
-            self.turn_away(stream);
-            return self.running.refuse(&self.roster);
+            let told = self.rt.dismiss(stream, b"full\r\n");
+            self.running.refuse(&self.roster, &told);
+            return self.keep_open(told);
         };
         if self.serving.verbose {
             note_peer(&self.rt, number, peer);
@@ -215,15 +235,21 @@ impl<H: Host, V: Service, O: Asked> Open<H, V, O> {
         number: usize,
         peer: SocketAddr,
     ) -> Option<PromisedHandle<Ran, SessionSays<V::Jobs>>>
+        requires makes { MakesOnly V.makes self.old.service O.made }
         ensures asked { IfSome result (λ handle. handle.promise.options ≡ O.options) }
+        ensures made { IfSome result (λ handle. O.made handle.promise.jobs.value) }
         ensures running { self.new.running ≡ self.old.running }
         ensures roster { self.new.roster ≡ self.old.roster }
+        ensures makes { StillMakes V.makes self.old.service self.new.service }
+        ensures rt { self.new.rt ≡ self.old.rt }
     {
         let events = self.events.clone().ok()?;
         let standing = Standing::new(self.alloc).ok()?;
         let hook = Hook::new(&standing).ok()?;
         let call = Call { number, peer, hook };
-        let jobs = self.service.session(self.alloc, call).ok()?;
+        let Ok(jobs) = self.service.session(self.alloc, call) else {
+            return None;
+        };
         let session = Session {
             rt: self.rt,
             alloc: self.alloc,
@@ -241,9 +267,12 @@ impl<H: Host, V: Service, O: Asked> Open<H, V, O> {
 
     // The session with this number has ended, and its number is free.
     fn end<E: Write>(&mut self, number: usize, errors: &mut E)
-        ensures each { StillCounts (facts_of V.Job.fresh V.Jobs.gives V.Job.reacts V.Job.steps)
-            V.Jobs.left O.options self.old.running.whole self.old.running.faulted
-            self.new.running.whole self.new.running.faulted }
+        ensures each { StillCounts (server_of
+            (facts_of V.Job.fresh V.Jobs.gives V.Job.reacts V.Job.steps) V.Jobs.left O.options O.made O.turned)
+            self.old.running.whole self.old.running.faulted self.old.running.refused
+            self.new.running.whole self.new.running.faulted self.new.running.refused }
+        ensures makes { StillMakes V.makes self.old.service self.new.service }
+        ensures rt { self.new.rt ≡ self.old.rt }
     {
         let Some(finished) = self.running.join(&self.rt, number) else {
             return;
@@ -256,13 +285,12 @@ impl<H: Host, V: Service, O: Asked> Open<H, V, O> {
         tell_if_faulted(&finished, errors);
     }
 
-    // Tells a connection that there is no room. The longest of those kept open is closed for it.
-    fn turn_away(&mut self, mut stream: TcpStream)
+    // Keeps a connection open that was told that there is no room. The longest of those is closed for it.
+    fn keep_open(&mut self, stream: TcpStream)
         ensures running { self.new.running ≡ self.old.running }
-        ensures roster { self.new.roster ≡ self.old.roster }
+        ensures service { self.new.service ≡ self.old.service }
+        ensures rt { self.new.rt ≡ self.old.rt }
     {
-        let _ = stream.write_all(b"full\r\n");
-        let _ = stream.shutdown(Shutdown::Write);
         if self.turned_away.len() >= KEPT_OPEN {
             self.turned_away.pop_front();
         }

@@ -47,7 +47,8 @@ where
         number: usize,
         events: Sender<Event, Global>,
     ) -> Option<PromisedHandle<Ran, SessionSays<M>>>
-        ensures { IfSome result (λ handle. handle.promise.options ≡ self.options) }
+        ensures options { IfSome result (λ handle. handle.promise.options ≡ self.options) }
+        ensures jobs { IfSome result (λ handle. handle.promise.jobs.value ≡ self.jobs) }
     {
         let rt = self.rt;
         let promise = SessionSays {

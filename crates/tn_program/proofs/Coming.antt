@@ -7,6 +7,7 @@ use Rattle.tn_connect.specs.declared.fault.ConnectFault.{ConnectFault}
 use Rattle.tn_connect.specs.declared.fault.ConnectFault.TheVariants as connect
 use Rattle.tn_loopback.specs.declared.fault.ServeFault.{ServeFault}
 use Rattle.tn_loopback.specs.declared.fault.ServeFault.TheVariants as serve
+use Rattle.tn_network.specs.Asked.{Asking}
 use Rattle.tn_program.specs.Outcomes.{ComesOf, ComesOfRun, ComesOfNoRun}
 use Rattle.tn_program.specs.Runs.{DoesAsAsked, RunsAsked}
 use Rattle.tn_program.specs.Statuses.{status_of, status_of_connecting, status_of_serving}
@@ -42,48 +43,48 @@ unconnected connect.Memory zero = omega (arith, zero)
 
 -- the run that was asked for
 
-ran : (a : Asked) (origin : Origin) (bytes : Option (List ℕ)) (old new : Option (List ℕ)) (came : Outcome) → ComesOfRun a origin bytes old new came
-    → status_of came ≡ 0 → RunsAsked a origin bytes old new
-ran a origin bytes old new (outcome.Local (Ok done)) (e, ends) zero = subst (λ a. RunsAsked a origin bytes old new) (sym e) ends.run.ok
-ran a origin bytes old new (outcome.Local (Err f)) h zero = absurd (faulted f zero)
-ran a origin bytes old new (outcome.Replay (Ok done)) (e, ends) zero = subst (λ a. RunsAsked a origin bytes old new) (sym e) ends.run.ok
-ran a origin bytes old new (outcome.Replay (Err f)) h zero = absurd (faulted f zero)
-ran a origin bytes old new (outcome.Decode (Ok done)) (e, ends) zero = subst (λ a. RunsAsked a origin bytes old new) (sym e) ends.run.ok
-ran a origin bytes old new (outcome.Decode (Err f)) h zero = absurd (faulted f zero)
-ran a origin bytes old new (outcome.World (Ok done)) (e, ends) zero = subst (λ a. RunsAsked a origin bytes old new) (sym e) ends.run.ok
-ran a origin bytes old new (outcome.World (Err f)) h zero = absurd (faulted f zero)
-ran a origin bytes old new (outcome.Served (Ok served)) (serving, e, ends) zero =
-    subst (λ a. RunsAsked a origin bytes old new) (sym e) (served, ends.all, ends.unwritten)
-ran a origin bytes old new (outcome.Served (Err f)) h zero = absurd (unserved f zero)
-ran a origin bytes old new (outcome.Connected (Ok r)) (connecting, e, ends) zero =
-    subst (λ a. RunsAsked a origin bytes old new) (sym e) (r, ends.ran, ends.whole)
-ran a origin bytes old new (outcome.Connected (Err f)) h zero = absurd (unconnected f zero)
-ran a origin bytes old new outcome.Untraced h zero = absurd (omega (arith, zero))
-ran a origin bytes old new (outcome.Help ended) h zero = absurd h
-ran a origin bytes old new (outcome.Version ended) h zero = absurd h
-ran a origin bytes old new (outcome.Usage detail) h zero = absurd h
-ran a origin bytes old new outcome.Memory h zero = absurd h
+ran : (network : Asking) (a : Asked) (origin : Origin) (bytes : Option (List ℕ)) (old new : Option (List ℕ)) (came : Outcome) → ComesOfRun network a origin bytes old new came
+    → status_of came ≡ 0 → RunsAsked network a origin bytes old new
+ran network a origin bytes old new (outcome.Local (Ok done)) (e, ends) zero = subst (λ a. RunsAsked network a origin bytes old new) (sym e) ends.run.ok
+ran network a origin bytes old new (outcome.Local (Err f)) h zero = absurd (faulted f zero)
+ran network a origin bytes old new (outcome.Replay (Ok done)) (e, ends) zero = subst (λ a. RunsAsked network a origin bytes old new) (sym e) ends.run.ok
+ran network a origin bytes old new (outcome.Replay (Err f)) h zero = absurd (faulted f zero)
+ran network a origin bytes old new (outcome.Decode (Ok done)) (e, ends) zero = subst (λ a. RunsAsked network a origin bytes old new) (sym e) ends.run.ok
+ran network a origin bytes old new (outcome.Decode (Err f)) h zero = absurd (faulted f zero)
+ran network a origin bytes old new (outcome.World (Ok done)) (e, ends) zero = subst (λ a. RunsAsked network a origin bytes old new) (sym e) ends.run.ok
+ran network a origin bytes old new (outcome.World (Err f)) h zero = absurd (faulted f zero)
+ran network a origin bytes old new (outcome.Served (Ok served)) (serving, e, ends) zero =
+    subst (λ a. RunsAsked network a origin bytes old new) (sym e) (served, ends.all, ends.listened, ends.unwritten)
+ran network a origin bytes old new (outcome.Served (Err f)) h zero = absurd (unserved f zero)
+ran network a origin bytes old new (outcome.Connected (Ok r)) (connecting, e, ends) zero =
+    subst (λ a. RunsAsked network a origin bytes old new) (sym e) (r, ends.ran, ends.whole, ends.reached)
+ran network a origin bytes old new (outcome.Connected (Err f)) h zero = absurd (unconnected f zero)
+ran network a origin bytes old new outcome.Untraced h zero = absurd (omega (arith, zero))
+ran network a origin bytes old new (outcome.Help ended) h zero = absurd h
+ran network a origin bytes old new (outcome.Version ended) h zero = absurd h
+ran network a origin bytes old new (outcome.Usage detail) h zero = absurd h
+ran network a origin bytes old new outcome.Memory h zero = absurd h
 
 -- or the help or the version
 
-helped : (words : List (List ℕ)) (origin : Origin) (bytes : Option (List ℕ)) (old new : Option (List ℕ)) (came : Outcome)
-    → ComesOfNoRun words old new came → status_of came ≡ 0 → DoesAsAsked words origin bytes old new
-helped words origin bytes old new (outcome.Help (Ok done)) (asks, ends) zero = inr (inl (asks, ends.ok))
-helped words origin bytes old new (outcome.Help (Err f)) h zero = absurd (faulted f zero)
-helped words origin bytes old new (outcome.Version (Ok done)) (asks, ends) zero = inr (inr (asks, ends.ok))
-helped words origin bytes old new (outcome.Version (Err f)) h zero = absurd (faulted f zero)
-helped words origin bytes old new (outcome.Usage (Some detail)) h zero = absurd (omega (arith, zero))
-helped words origin bytes old new (outcome.Usage None) h zero = absurd h
-helped words origin bytes old new outcome.Memory h zero = absurd (omega (arith, zero))
-helped words origin bytes old new (outcome.Local ended) h zero = absurd h
-helped words origin bytes old new (outcome.Replay ended) h zero = absurd h
-helped words origin bytes old new (outcome.Decode ended) h zero = absurd h
-helped words origin bytes old new (outcome.World ended) h zero = absurd h
-helped words origin bytes old new (outcome.Served ended) h zero = absurd h
-helped words origin bytes old new (outcome.Connected ended) h zero = absurd h
-helped words origin bytes old new outcome.Untraced h zero = absurd h
+helped : (network : Asking) (words : List (List ℕ)) (origin : Origin) (bytes : Option (List ℕ)) (old new : Option (List ℕ)) (came : Outcome)
+    → ComesOfNoRun words old new came → status_of came ≡ 0 → DoesAsAsked network words origin bytes old new
+helped network words origin bytes old new (outcome.Help (Ok done)) (asks, ends) zero = inr (inl (asks, ends.ok))
+helped network words origin bytes old new (outcome.Help (Err f)) h zero = absurd (faulted f zero)
+helped network words origin bytes old new (outcome.Version (Ok done)) (asks, ends) zero = inr (inr (asks, ends.ok))
+helped network words origin bytes old new (outcome.Version (Err f)) h zero = absurd (faulted f zero)
+helped network words origin bytes old new (outcome.Usage (Some detail)) h zero = absurd (omega (arith, zero))
+helped network words origin bytes old new (outcome.Usage None) h zero = absurd h
+helped network words origin bytes old new outcome.Memory h zero = absurd (omega (arith, zero))
+helped network words origin bytes old new (outcome.Local ended) h zero = absurd h
+helped network words origin bytes old new (outcome.Replay ended) h zero = absurd h
+helped network words origin bytes old new (outcome.Decode ended) h zero = absurd h
+helped network words origin bytes old new (outcome.World ended) h zero = absurd h
+helped network words origin bytes old new (outcome.Served ended) h zero = absurd h
+helped network words origin bytes old new (outcome.Connected ended) h zero = absurd h
+helped network words origin bytes old new outcome.Untraced h zero = absurd h
 
-pub does : (words : List (List ℕ)) (origin : Origin) (bytes : Option (List ℕ)) (old new : Option (List ℕ)) (came : Outcome)
-    → status_of came ≡ 0 → ComesOf words origin bytes old new came → DoesAsAsked words origin bytes old new
-does words origin bytes old new came zero (inl (a, asks, h)) = inl (a, asks, ran a origin bytes old new came h zero)
-does words origin bytes old new came zero (inr h) = helped words origin bytes old new came h zero
+pub does : (network : Asking) (words : List (List ℕ)) (origin : Origin) (bytes : Option (List ℕ)) (old new : Option (List ℕ)) (came : Outcome)
+    → status_of came ≡ 0 → ComesOf network words origin bytes old new came → DoesAsAsked network words origin bytes old new
+does network words origin bytes old new came zero (inl (a, asks, h)) = inl (a, asks, ran network a origin bytes old new came h zero)
+does network words origin bytes old new came zero (inr h) = helped network words origin bytes old new came h zero

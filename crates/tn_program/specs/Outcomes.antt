@@ -1,10 +1,10 @@
 -- What comes of the words of a command line.
-use Rattle.std.specs.Prelude.{◌≡◌, ◌≢◌, ◌⊎◌, ⊤, ℕ, Option, Some, None, Result, Err, OnOk, OnErr, IfOk, IfErr, IsErrOf, List}
+use Rattle.std.specs.Prelude.{◌≡◌, ◌≢◌, ◌⊎◌, ⊤, ℕ, Option, Some, None, Result, Err, OnOk, OnErr, IfOk, IfErr, IsErrOf, List, string_bytes}
 use Rattle.std.specs.Io.KnownBytes.{Appends}
 use Rattle.tn_cli.specs.Ends.{EndsDecode, EndsLocal, EndsReplay, EndsWorld}
 use Rattle.tn_cli.specs.declared.fault.CliFault.{CliFault}
 use Rattle.tn_cli.specs.declared.fault.CliFault.TheVariants as fault
-use Rattle.tn_connect.specs.Clients.{RunsClient, foreseen}
+use Rattle.tn_connect.specs.Clients.{ConnectsBy, RunsClient, foreseen}
 use Rattle.tn_connect.specs.declared.connected.Connected.{Connected}
 use Rattle.tn_connect.specs.declared.fault.ConnectFault.{ConnectFault}
 use Rattle.tn_connect.specs.declared.fault.ConnectFault.TheVariants as connect
@@ -13,10 +13,11 @@ use Rattle.tn_loopback.specs.declared.fault.ServeFault.{ServeFault}
 use Rattle.tn_loopback.specs.declared.fault.ServeFault.TheVariants as serve
 use Rattle.tn_loopback.specs.declared.served.Served.{Served}
 use Rattle.tn_messages.specs.Ending.{EndsWhole}
+use Rattle.tn_network.specs.Asked.{Asking, Listens, Reaches}
 use Rattle.tn_program.specs.Statuses.{status_of}
 use Rattle.tn_program.specs.declared.outcome.Outcome.{Outcome}
 use Rattle.tn_program.specs.declared.outcome.Outcome.TheVariants as outcome
-use Rattle.tn_program.specs.Settings.{window_as}
+use Rattle.tn_program.specs.Settings.{UnlessMemory, window_as}
 use Rattle.tn_roster.specs.Held.{IsLimit}
 use Rattle.tn_streams.specs.Known.{KnownReader}
 use Rattle.tn_connect.specs.declared.settings.Origin.{Origin}
@@ -28,17 +29,20 @@ use Rattle.tn_words.specs.declared.words.Asked.TheVariants as asked
 use Rattle.tn_words.specs.declared.words.WordsFault.TheVariants as words_fault
 
 -- What came of serving.
-pub record EndsServing (serving : Serving) (ended : Result Served ServeFault)
+pub record EndsServing (network : Asking) (serving : Serving) (ended : Result Served ServeFault)
     (old new : Option (List ℕ)) : Type 0 where
   pub all : IfOk ended (ServesAll serving.count)
+  pub listened : UnlessMemory ended (Listens (network.listens (string_bytes serving.host) serving.port)
+      network.shares network.accepts (λ (served : Served). served.accepted) ended)
   pub limit : IsErrOf ended serve.Limit → ¬ IsLimit serving.sessions
   pub unwritten : new ≡ old
 
 -- What came of connecting.
-pub record EndsConnecting (connecting : Connecting) (ended : Result Connected ConnectFault) (input : KnownReader)
+pub record EndsConnecting (network : Asking) (connecting : Connecting) (ended : Result Connected ConnectFault) (input : KnownReader)
     (old new : Option (List ℕ)) : Type 0 where
   pub ran : IfOk ended (RunsClient (window_as connecting) input old new)
   pub whole : IfOk ended (λ r. EndsWhole r.report.ended)
+  pub reached : ConnectsBy (Reaches (network.finds (string_bytes connecting.host) connecting.port) network.dials) ended
   pub unwritten : OnErr ended (ended ≢ Err connect.Session → new ≡ old)
 
 -- What came of writing the help.
@@ -52,22 +56,22 @@ pub record EndsVersion (ended : Result ⊤ CliFault) (old new : Option (List ℕ
   pub fault : IfErr ended (λ f. f ≡ fault.Write)
 
 -- what was asked for was run, and this came of it
-abbrev pub ComesOfRun : Asked → Origin → Option (List ℕ) → Option (List ℕ) → Option (List ℕ) → Outcome → Type 0
-ComesOfRun a origin bytes old new (outcome.Local ended) = (a ≡ asked.Local) × EndsLocal ended bytes old new
-ComesOfRun a origin bytes old new (outcome.Replay ended) = (a ≡ asked.Replay) × EndsReplay ended bytes old new
-ComesOfRun a origin bytes old new (outcome.Decode ended) = (a ≡ asked.Decode) × EndsDecode ended bytes old new
-ComesOfRun a origin bytes old new (outcome.World ended) = (a ≡ asked.World) × EndsWorld ended bytes old new
-ComesOfRun a origin bytes old new (outcome.Served ended) =
-    (serving : Serving) × (a ≡ asked.Serve serving) × EndsServing serving ended old new
-ComesOfRun a origin bytes old new (outcome.Connected ended) =
+abbrev pub ComesOfRun : Asking → Asked → Origin → Option (List ℕ) → Option (List ℕ) → Option (List ℕ) → Outcome → Type 0
+ComesOfRun network a origin bytes old new (outcome.Local ended) = (a ≡ asked.Local) × EndsLocal ended bytes old new
+ComesOfRun network a origin bytes old new (outcome.Replay ended) = (a ≡ asked.Replay) × EndsReplay ended bytes old new
+ComesOfRun network a origin bytes old new (outcome.Decode ended) = (a ≡ asked.Decode) × EndsDecode ended bytes old new
+ComesOfRun network a origin bytes old new (outcome.World ended) = (a ≡ asked.World) × EndsWorld ended bytes old new
+ComesOfRun network a origin bytes old new (outcome.Served ended) =
+    (serving : Serving) × (a ≡ asked.Serve serving) × EndsServing network serving ended old new
+ComesOfRun network a origin bytes old new (outcome.Connected ended) =
     (connecting : Connecting) × (a ≡ asked.Connect connecting)
-    × EndsConnecting connecting ended (foreseen origin bytes) old new
-ComesOfRun a origin bytes old new outcome.Untraced =
+    × EndsConnecting network connecting ended (foreseen origin bytes) old new
+ComesOfRun network a origin bytes old new outcome.Untraced =
     (connecting : Connecting) × (a ≡ asked.Connect connecting) × (connecting.trace ≢ None) × (new ≡ old)
-ComesOfRun a origin bytes old new (outcome.Help ended) = ⊥
-ComesOfRun a origin bytes old new (outcome.Version ended) = ⊥
-ComesOfRun a origin bytes old new (outcome.Usage detail) = ⊥
-ComesOfRun a origin bytes old new outcome.Memory = ⊥
+ComesOfRun network a origin bytes old new (outcome.Help ended) = ⊥
+ComesOfRun network a origin bytes old new (outcome.Version ended) = ⊥
+ComesOfRun network a origin bytes old new (outcome.Usage detail) = ⊥
+ComesOfRun network a origin bytes old new outcome.Memory = ⊥
 
 -- nothing was run: the words ask for help or for the version, or are not accepted, or memory ran out
 abbrev pub ComesOfNoRun : List (List ℕ) → Option (List ℕ) → Option (List ℕ) → Outcome → Type 0
@@ -86,14 +90,14 @@ ComesOfNoRun words old new (outcome.Connected ended) = ⊥
 ComesOfNoRun words old new outcome.Untraced = ⊥
 
 -- this came of the words: the run that they ask for, or none
-abbrev pub ComesOf : List (List ℕ) → Origin → Option (List ℕ) → Option (List ℕ) → Option (List ℕ) → Outcome → Type 0
-ComesOf words origin bytes old new came =
-    ((a : Asked) × AskFor words a × ComesOfRun a origin bytes old new came) ⊎ ComesOfNoRun words old new came
+abbrev pub ComesOf : Asking → List (List ℕ) → Origin → Option (List ℕ) → Option (List ℕ) → Option (List ℕ) → Outcome → Type 0
+ComesOf network words origin bytes old new came =
+    ((a : Asked) × AskFor words a × ComesOfRun network a origin bytes old new came) ⊎ ComesOfNoRun words old new came
 
 -- the status of what came of the words
-abbrev pub EndsWith : List (List ℕ) → Origin → Option (List ℕ) → Option (List ℕ) → Option (List ℕ) → ℕ → Type 0
-EndsWith words origin bytes old new status =
-    (came : Outcome) × ComesOf words origin bytes old new came × (status ≡ status_of came)
+abbrev pub EndsWith : Asking → List (List ℕ) → Origin → Option (List ℕ) → Option (List ℕ) → Option (List ℕ) → ℕ → Type 0
+EndsWith network words origin bytes old new status =
+    (came : Outcome) × ComesOf network words origin bytes old new came × (status ≡ status_of came)
 
 -- they ask for no run, for no help and not for the version
 abbrev pub AskForNothing : List (List ℕ) → Type 0

@@ -1,37 +1,50 @@
 -- What a run of the program writes.
-use Rattle.std.specs.Prelude.{◌≡◌, ℕ, ◌⊎◌, Option, IfSome, List}
+use Rattle.std.specs.Prelude.{◌≡◌, ℕ, ◌⊎◌, Option, IfSome, List, Result, Ok, string_bytes}
 use Rattle.std.specs.Io.KnownBytes.{Appends}
 use Rattle.tn_cli.specs.Decode.{Decodes}
 use Rattle.tn_cli.specs.Playing.{PlaysScript}
 use Rattle.tn_cli.specs.Replay.{Replays}
 use Rattle.tn_cli.specs.Typing.{PrintsKeys}
-use Rattle.tn_connect.specs.Clients.{RunsClient, foreseen}
+use Rattle.tn_connect.specs.Clients.{ConnectsBy, RunsClient, foreseen}
 use Rattle.tn_connect.specs.declared.connected.Connected.{Connected}
+use Rattle.tn_connect.specs.declared.fault.ConnectFault.{ConnectFault}
 use Rattle.tn_loopback.specs.Ends.{ServesAll}
+use Rattle.tn_loopback.specs.declared.fault.ServeFault.{ServeFault}
 use Rattle.tn_loopback.specs.declared.served.Served.{Served}
 use Rattle.tn_messages.specs.Ending.{EndsWhole}
+use Rattle.tn_network.specs.Asked.{Asking, Listens, Reaches}
 use Rattle.tn_program.specs.Settings.{window_as}
 use Rattle.tn_connect.specs.declared.settings.Origin.{Origin}
 use Rattle.tn_words.specs.Words.{AskFor, AsksForHelp, AsksForVersion, version_line}
 use Rattle.tn_words.specs.declared.words.Asked.{Asked}
 use Rattle.tn_words.specs.declared.words.Asked.TheVariants.{Local, Replay, Decode, World, Serve, Connect}
 
+-- where it went well
+abbrev ok : Served → Result Served ServeFault
+ok served = Ok served
+
+abbrev ran : Connected → Result Connected ConnectFault
+ran connected = Ok connected
+
 -- Where the reader tells its bytes and the writer what it holds, the run has appended what was asked for.
 -- Where it served, as many connections were accepted as were asked for, and nothing was written; where it
 -- connected, a client's session ran with these keys and this screen, and ended in no fault.
-abbrev pub RunsAsked : Asked → Origin → Option (List ℕ) → Option (List ℕ) → Option (List ℕ) → Type 0
-RunsAsked Local origin bytes old new = IfSome bytes (λ keys. PrintsKeys keys old new)
-RunsAsked Replay origin bytes old new = IfSome bytes (λ stream. Replays stream old new)
-RunsAsked Decode origin bytes old new = IfSome bytes (λ stream. Decodes stream old new)
-RunsAsked World origin bytes old new = IfSome bytes (λ script. PlaysScript script old new)
-RunsAsked (Serve serving) origin bytes old new = (served : Served) × ServesAll serving.count served × (new ≡ old)
-RunsAsked (Connect connecting) origin bytes old new =
+abbrev pub RunsAsked : Asking → Asked → Origin → Option (List ℕ) → Option (List ℕ) → Option (List ℕ) → Type 0
+RunsAsked network Local origin bytes old new = IfSome bytes (λ keys. PrintsKeys keys old new)
+RunsAsked network Replay origin bytes old new = IfSome bytes (λ stream. Replays stream old new)
+RunsAsked network Decode origin bytes old new = IfSome bytes (λ stream. Decodes stream old new)
+RunsAsked network World origin bytes old new = IfSome bytes (λ script. PlaysScript script old new)
+RunsAsked network (Serve serving) origin bytes old new = (served : Served) × ServesAll serving.count served
+    × Listens (network.listens (string_bytes serving.host) serving.port) network.shares network.accepts
+    (λ (served : Served). served.accepted) (ok served) × (new ≡ old)
+RunsAsked network (Connect connecting) origin bytes old new =
     (connected : Connected)
     × RunsClient (window_as connecting) (foreseen origin bytes) old new connected × EndsWhole connected.report.ended
+    × ConnectsBy (Reaches (network.finds (string_bytes connecting.host) connecting.port) network.dials) (ran connected)
 
 -- the run that the words ask for, or some text where they ask for help, or the version
-abbrev pub DoesAsAsked : List (List ℕ) → Origin → Option (List ℕ) → Option (List ℕ) → Option (List ℕ) → Type 0
-DoesAsAsked words origin bytes old new =
-    ((asked : Asked) × AskFor words asked × RunsAsked asked origin bytes old new)
+abbrev pub DoesAsAsked : Asking → List (List ℕ) → Origin → Option (List ℕ) → Option (List ℕ) → Option (List ℕ) → Type 0
+DoesAsAsked network words origin bytes old new =
+    ((asked : Asked) × AskFor words asked × RunsAsked network asked origin bytes old new)
     ⊎ (AsksForHelp words × ((help : List ℕ) × Appends old new help))
     ⊎ (AsksForVersion words × Appends old new version_line)

@@ -1,13 +1,19 @@
 -- What was asked for, as sessions over connections take it.
-use Rattle.std.specs.Prelude.{ℕ, Bool, true, false, Option, None, Some, unwrap_or}
+use Rattle.std.specs.Prelude.{◌≡◌, ℕ, Bool, true, false, Option, None, Some, IsSome, unwrap_or, List, Result, Ok, Err, string_bytes}
+use Rattle.tn_answerer.specs.declared.answerers.Answerers.{Answerers}
+use Rattle.tn_gateway.specs.declared.dialing.Joiner.{Joiner}
 use Rattle.tn_gateway.specs.declared.line_ends.LineEnd.{LineEnd}
 use Rattle.tn_gateway.specs.declared.line_ends.LineEnd.TheVariants.{CrLf, Lf}
+use Rattle.tn_loopback.specs.declared.fault.ServeFault.{ServeFault}
+use Rattle.tn_loopback.specs.declared.fault.ServeFault.TheVariants.{Network, Memory, Limit as BadLimit}
+use Rattle.tn_loopback.specs.declared.settings.SessionOptions.{SessionOptions}
 use Rattle.tn_server.specs.declared.wishes.Editing.{Editing}
 use Rattle.tn_server.specs.declared.wishes.Editing.TheVariants.{Local, Remote}
 use Rattle.tn_session.specs.Facts.{Window}
 use Rattle.tn_words.specs.declared.settings.Connecting.{Connecting}
 use Rattle.tn_words.specs.declared.settings.Escape.{Escape}
 use Rattle.tn_words.specs.declared.settings.Escape.TheVariants as escape
+use Rattle.tn_words.specs.declared.settings.Serving.{Serving}
 
 abbrev pub editing_as : Bool → Editing
 editing_as true = Local
@@ -16,6 +22,31 @@ editing_as false = Remote
 abbrev pub line_end_as : Bool → LineEnd
 line_end_as true = CrLf
 line_end_as false = Lf
+
+-- out of memory nothing may have been asked for
+abbrev pub UnlessMemory : {A : Type 0} → Result A ServeFault → Type 0 → Type 0
+UnlessMemory (Ok done) asked = asked
+UnlessMemory (Err Network) asked = asked
+UnlessMemory (Err BadLimit) asked = asked
+UnlessMemory (Err Memory) asked = Unit {0}
+
+abbrev pub options_as : Serving → SessionOptions
+options_as asked =
+    record { line_limit = asked.line_limit; editing = editing_as asked.local; idle = asked.idle }
+
+-- the jobs are still to be made, and the one in the background ticks so often
+pub record AnswersAsAsked (count : ℕ) (jobs : Answerers) : Type 0 where
+  pub first : jobs.first ≡ true
+  pub ticks : jobs.ticks ≡ count
+
+-- the jobs are still to be joined, over this network, to the service at this host and port, with this line end
+pub record JoinsAsAsked {H : Type 0} (network : H) (name : List ℕ) (number : ℕ) (end : LineEnd) (jobs : Joiner H)
+    : Type 0 where
+  pub new : IsSome jobs.hook
+  pub rt : jobs.rt ≡ network
+  pub host : string_bytes jobs.host ≡ name
+  pub port : jobs.port ≡ number
+  pub line_end : jobs.line_end ≡ end
 
 -- a window of which no size is given has 80 characters and 24 lines
 abbrev pub window_as : Connecting → Window

@@ -15,7 +15,7 @@ pub use seat::Seat;
 pub use serving::Joining;
 pub use settings::Answering;
 pub use tn_connect::{Link, Origin, Screen};
-pub use tn_gateway::Dial;
+pub use tn_network::Network;
 
 mod outcome;
 mod program;

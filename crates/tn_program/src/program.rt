@@ -2,6 +2,7 @@
 
 ghost use Rattle.std.specs.Prelude.{◌≡◌, ◌≢◌, ◌⊎◌, None, IfErr, IfOk, IsOk, OnErr, map, string_bytes};
 ghost use Rattle.std.specs.IoError.{error_kind};
+ghost use Rattle.tn_network.specs.Asked.{asking};
 ghost use Rattle.tn_program.specs.Outcomes.{ComesOf, ComesOfRun, EndsVersion, EndsWith, AskForNothing};
 ghost use Rattle.tn_program.specs.Runs.{DoesAsAsked};
 
@@ -13,10 +14,9 @@ use std::alloc::{AllocError, Global};
 use std::fs::{File, Files};
 use std::io;
 use std::io::{ErrorKind, Read, Write};
-use std::net::{Net, TcpListener, TcpStream};
 use tn_cli::{CliFault, run_decode, run_local, run_replay, run_world};
 use tn_connect::{Host, Notes, connect};
-use tn_gateway::Dial;
+use tn_network::Network;
 use tn_words::{Asked, Connecting, VERSION_LINE, WordsFault, read_words};
 
 /// Runs what the words of the command line ask for, where they could be read. The program's name is the
@@ -24,7 +24,7 @@ use tn_words::{Asked, Connecting, VERSION_LINE, WordsFault, read_words};
 /// (`EndsWith`). A fault is reported in one line on `errors`, and behind it what is wrong with words, or why;
 /// a line that cannot be written is dropped. Of a seat at standard input nothing is known beforehand.
 pub fn run_words<
-    H: Dial + Host + Files<File = File> + Net<Listener = TcpListener, Stream = TcpStream>,
+    H: Network + Host + Files<File = File>,
     R: Read + Drop + Send + 'static,
     W: Write,
     E: Write,
@@ -40,11 +40,13 @@ pub fn run_words<
     ensures memory { IfErr words (λ error. error_kind error ≡ ErrorKind.OutOfMemory → result ≡ 1) }
     ensures usage { IfErr words (λ error. error_kind error ≢ ErrorKind.OutOfMemory → result ≡ 2) }
     ensures unwritten { OnErr words (W.contents writer.new ≡ W.contents writer.old) }
-    ensures done { result ≡ 0 → IfOk words (λ words. DoesAsAsked (map string_bytes words.items)
-        seat.origin (R.remaining seat.reader)
+    ensures done { result ≡ 0 → IfOk words (λ words. DoesAsAsked
+        (asking (H.listens rt) (H.shares rt) (H.accepts rt) (H.finds rt) (H.dials rt))
+        (map string_bytes words.items) seat.origin (R.remaining seat.reader)
         (W.contents writer.old) (W.contents writer.new)) }
-    ensures ended { IfOk words (λ words. EndsWith (map string_bytes words.items)
-        seat.origin (R.remaining seat.reader)
+    ensures ended { IfOk words (λ words. EndsWith
+        (asking (H.listens rt) (H.shares rt) (H.accepts rt) (H.finds rt) (H.dials rt))
+        (map string_bytes words.items) seat.origin (R.remaining seat.reader)
         (W.contents writer.old) (W.contents writer.new) result) }
     // 1 when out of memory
     ensures refused { IfOk words (λ words. AskForNothing (map string_bytes words.items) →
@@ -60,7 +62,7 @@ pub fn run_words<
 /// The same without the status and the lines: returns what comes of the words, and appends the causes of a
 /// fault, a line each.
 pub fn outcome_of_words<
-    H: Dial + Host + Files<File = File> + Net<Listener = TcpListener, Stream = TcpStream>,
+    H: Network + Host + Files<File = File>,
     R: Read + Drop + Send + 'static,
     W: Write,
     E: Write,
@@ -78,8 +80,9 @@ pub fn outcome_of_words<
     ensures usage { IfErr words (λ error. error_kind error ≢ ErrorKind.OutOfMemory →
         result ≡ Outcome.Usage None) }
     ensures unwritten { OnErr words (W.contents writer.new ≡ W.contents writer.old) }
-    ensures comes { IfOk words (λ words. ComesOf (map string_bytes words.items)
-        seat.origin (R.remaining seat.reader)
+    ensures comes { IfOk words (λ words. ComesOf
+        (asking (H.listens rt) (H.shares rt) (H.accepts rt) (H.finds rt) (H.dials rt))
+        (map string_bytes words.items) seat.origin (R.remaining seat.reader)
         (W.contents writer.old) (W.contents writer.new) result) }
 {
     match words {
@@ -101,7 +104,7 @@ fn refusal(kind: ErrorKind) -> Outcome
 }
 
 fn run_strings<
-    H: Dial + Host + Files<File = File> + Net<Listener = TcpListener, Stream = TcpStream>,
+    H: Network + Host + Files<File = File>,
     R: Read + Drop + Send + 'static,
     W: Write,
     E: Write,
@@ -114,7 +117,8 @@ fn run_strings<
     errors: &mut E,
     causes: &mut Vec<u8>,
 ) -> Outcome
-    ensures { ComesOf (map string_bytes words.now) seat.origin (R.remaining seat.reader)
+    ensures { ComesOf (asking (H.listens rt) (H.shares rt) (H.accepts rt) (H.finds rt) (H.dials rt))
+        (map string_bytes words.now) seat.origin (R.remaining seat.reader)
         (W.contents writer.old) (W.contents writer.new) result }
 {
     match texts_of(alloc, words) {
@@ -134,7 +138,7 @@ fn texts_of<'a>(alloc: Global, words: &'a [String]) -> Result<Vec<&'a str>, Allo
 }
 
 fn run_texts<
-    H: Dial + Host + Files<File = File> + Net<Listener = TcpListener, Stream = TcpStream>,
+    H: Network + Host + Files<File = File>,
     R: Read + Drop + Send + 'static,
     W: Write,
     E: Write,
@@ -147,7 +151,8 @@ fn run_texts<
     errors: &mut E,
     causes: &mut Vec<u8>,
 ) -> Outcome
-    ensures { ComesOf (map (λ word. word.now) words.now) seat.origin (R.remaining seat.reader)
+    ensures { ComesOf (asking (H.listens rt) (H.shares rt) (H.accepts rt) (H.finds rt) (H.dials rt))
+        (map (λ word. word.now) words.now) seat.origin (R.remaining seat.reader)
         (W.contents writer.old) (W.contents writer.new) result }
 {
     match read_words(alloc, words) {
@@ -172,7 +177,7 @@ fn write_version<W: Write>(writer: &mut W) -> Result<(), CliFault>
 }
 
 fn run_asked<
-    H: Dial + Host + Files<File = File> + Net<Listener = TcpListener, Stream = TcpStream>,
+    H: Network + Host + Files<File = File>,
     R: Read + Drop + Send + 'static,
     W: Write,
     E: Write,
@@ -185,7 +190,8 @@ fn run_asked<
     errors: &mut E,
     causes: &mut Vec<u8>,
 ) -> Outcome
-    ensures { ComesOfRun asked seat.origin (R.remaining seat.reader)
+    ensures { ComesOfRun (asking (H.listens rt) (H.shares rt) (H.accepts rt) (H.finds rt) (H.dials rt))
+        asked seat.origin (R.remaining seat.reader)
         (W.contents writer.old) (W.contents writer.new) result }
 {
     match asked {
@@ -198,11 +204,7 @@ fn run_asked<
     }
 }
 
-fn run_connect<
-    H: Host + Files<File = File> + Net<Listener = TcpListener, Stream = TcpStream>,
-    R: Read + Drop + Send + 'static,
-    W: Write,
->(
+fn run_connect<H: Network + Host + Files<File = File>, R: Read + Drop + Send + 'static, W: Write>(
     rt: H,
     alloc: Global,
     asked: Connecting,
@@ -210,7 +212,8 @@ fn run_connect<
     writer: &mut W,
     causes: &mut Vec<u8>,
 ) -> Outcome
-    ensures { ComesOfRun (Asked.Connect asked) seat.origin (R.remaining seat.reader)
+    ensures { ComesOfRun (asking (H.listens rt) (H.shares rt) (H.accepts rt) (H.finds rt) (H.dials rt))
+        (Asked.Connect asked) seat.origin (R.remaining seat.reader)
         (W.contents writer.old) (W.contents writer.new) result }
 {
     let Ok(trace) = open_trace(&rt, &asked, causes) else {

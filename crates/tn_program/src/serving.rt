@@ -1,15 +1,23 @@
 //! `tn serve`: its own job, or a line service that each session is joined to.
 
-ghost use Rattle.std.specs.Prelude.{IfOk, IsErrOf};
+ghost use Rattle.std.specs.Prelude.{◌≡◌, None, IfOk, IfSome, IsErrOf, string_bytes};
+ghost use Rattle.tn_loopback.specs.Counted.{CountsSessions, facts_of, server_of};
 ghost use Rattle.tn_loopback.specs.Ends.{ServesAll};
+ghost use Rattle.tn_loopback.specs.Services.{WasTurnedAway};
+ghost use Rattle.tn_network.specs.Asked.{Listens};
+ghost use Rattle.tn_program.specs.Settings.{AnswersAsAsked, JoinsAsAsked, UnlessMemory, line_end_as, options_as};
 ghost use Rattle.tn_roster.specs.Held.{IsLimit};
 
 use crate::settings::{answering_of, line_end_of, serving_of};
 use std::alloc::{AllocError, Global};
 use std::io::Write;
-use std::net::{Net, TcpListener, TcpStream};
-use tn_gateway::{Dial, Gateway, Heard, Joiner, LineEnd, Told};
+use std::net::TcpStream;
+use tn_answerer::{Answerer, Answerers};
+use tn_gateway::{Gateway, Heard, Joiner, LineEnd, Told};
+use tn_jobs::Job;
 use tn_loopback::{Call, Host, ServeFault, Served, Service, serve};
+use tn_network::Network;
+use tn_session::Maker;
 
 /// Serves as was asked for.
 pub(crate) fn serve_asked<H, E>(
@@ -19,9 +27,26 @@ pub(crate) fn serve_asked<H, E>(
     errors: &mut E,
 ) -> Result<Served, ServeFault>
 where
-    H: Dial + Host + Net<Listener = TcpListener, Stream = TcpStream>,
+    H: Host + Network,
     E: Write,
     ensures all { IfOk result (ServesAll asked.now.count) }
+    ensures listened { UnlessMemory result (Listens (H.listens rt (string_bytes asked.now.host) asked.now.port)
+        (H.shares rt) (H.accepts rt) (λ (served : Served). served.accepted) result) }
+
+    // its own job, as often as was asked for
+    ensures answers { asked.now.to ≡ None → IfOk result (λ served. CountsSessions (server_of (facts_of
+        ⟦<Answerer as Job>⟧.fresh ⟦<Answerers as Maker>⟧.gives ⟦<Answerer as Job>⟧.reacts
+        ⟦<Answerer as Job>⟧.steps) ⟦<Answerers as Maker>⟧.left (options_as asked.now)
+        (AnswersAsAsked asked.now.ticks) (WasTurnedAway (H.dismisses rt)))
+        served.whole served.faulted served.refused) }
+
+    // jobs that are joined to the service that was asked for
+    ensures joins { IfSome asked.now.to (λ to. IfOk result (λ served. CountsSessions (server_of (facts_of
+        ⟦<Gateway<Heard<H, TcpStream>, Told<H, TcpStream>> as Job>⟧.fresh ⟦<Joiner<H> as Maker>⟧.gives
+        ⟦<Gateway<Heard<H, TcpStream>, Told<H, TcpStream>> as Job>⟧.reacts
+        ⟦<Gateway<Heard<H, TcpStream>, Told<H, TcpStream>> as Job>⟧.steps) ⟦<Joiner<H> as Maker>⟧.left
+        (options_as asked.now) (JoinsAsAsked rt (string_bytes to.host) to.port (line_end_as asked.now.crlf))
+        (WasTurnedAway (H.dismisses rt))) served.whole served.faulted served.refused)) }
     ensures limit { IsErrOf result ServeFault.Limit → ¬ IsLimit asked.now.sessions }
 {
     let serving = serving_of(asked);
@@ -47,10 +72,15 @@ pub struct Joining<H> {
     pub line_end: LineEnd,
 }
 
-impl<H: Dial + Host> Service for Joining<H> {
+impl<H: Host + Network> Service for Joining<H> {
+    ghost use Rattle.std.specs.Prelude.{string_bytes};
+    ghost use Rattle.tn_program.specs.Settings.{JoinsAsAsked};
+
     type Job = Gateway<Heard<H, TcpStream>, Told<H, TcpStream>>;
 
     type Jobs = Joiner<H>;
+
+    ghost makes = { λ j jobs. JoinsAsAsked j.rt (string_bytes j.host) j.port j.line_end jobs };
 
     fn session(&mut self, alloc: Global, call: Call) -> Result<Joiner<H>, AllocError> {
         let host = String::from_str(alloc, self.host.as_str())?;

@@ -2,7 +2,7 @@
 
 ghost use Rattle.std.specs.Prelude.{◌≡◌};
 ghost use Rattle.tn_connect.specs.Clients.{window_of};
-ghost use Rattle.tn_program.specs.Settings.{editing_as, escape_as, line_end_as, window_as};
+ghost use Rattle.tn_program.specs.Settings.{escape_as, line_end_as, options_as, window_as};
 
 use std::alloc::{AllocError, Global};
 use tn_answerer::{Answerer, Answerers};
@@ -20,9 +20,13 @@ pub struct Answering {
 }
 
 impl Service for Answering {
+    ghost use Rattle.tn_program.specs.Settings.{AnswersAsAsked};
+
     type Job = Answerer;
 
     type Jobs = Answerers;
+
+    ghost makes = { λ a jobs. AnswersAsAsked a.ticks jobs };
 
     fn session(&mut self, _alloc: Global, _call: Call) -> Result<Answerers, AllocError> {
         Ok(Answerers::new(self.ticks))
@@ -34,9 +38,7 @@ pub(crate) fn serving_of(asked: &tn_words::Serving) -> Serving
     ensures sessions { result.sessions ≡ asked.now.sessions }
     ensures count { result.count ≡ asked.now.count }
     ensures verbose { result.verbose ≡ asked.now.verbose }
-    ensures line_limit { result.options.line_limit ≡ asked.now.line_limit }
-    ensures editing { result.options.editing ≡ editing_as asked.now.local }
-    ensures idle { result.options.idle ≡ asked.now.idle }
+    ensures options { result.options ≡ options_as asked.now }
 {
     Serving {
         sessions: asked.sessions,
@@ -66,9 +68,7 @@ pub(crate) fn line_end_of(asked: &tn_words::Serving) -> LineEnd
 
 // What is the same of all sessions that were asked for.
 pub(crate) fn options_of(asked: &tn_words::Serving) -> SessionOptions
-    ensures line_limit { result.line_limit ≡ asked.now.line_limit }
-    ensures editing { result.editing ≡ editing_as asked.now.local }
-    ensures idle { result.idle ≡ asked.now.idle }
+    ensures { result ≡ options_as asked.now }
 {
     let editing = if asked.local {
         Editing::Local

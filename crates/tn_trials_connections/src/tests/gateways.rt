@@ -9,13 +9,13 @@ use std::thread;
 use std::thread::JoinHandle;
 use tn_gateway::LineEnd;
 use tn_loopback::{Host, Serving, serve_on};
-use tn_program::{Dial, Joining};
+use tn_program::{Joining, Network};
 
 // Serves one connection, joined to the service at this port. Returns the thread, which tells whether all went
 // well, and a client of it.
 fn join<H>(rt: H, alloc: Global, port: u16) -> Result<(JoinHandle<bool>, TcpStream), Fail>
 where
-    H: Dial + Host + Net<Listener = TcpListener, Stream = TcpStream>,
+    H: Network + Host + Net<Listener = TcpListener, Stream = TcpStream>,
 {
     let listener = TcpListener::bind(&rt, (Ipv4Addr::LOCALHOST, 0))?;
     let client = TcpStream::connect(&rt, listener.local_addr()?)?;

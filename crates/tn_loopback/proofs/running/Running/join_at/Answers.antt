@@ -1,6 +1,6 @@
 use Rattle.std.proofs.Common.{◌≡◌, subst, sym}
 use Rattle.tn_loopback.proofs.Counting.{one_whole, one_faulted}
-use Rattle.tn_loopback.specs.Counted.{Joined, StillCounts, facts_of}
+use Rattle.tn_loopback.specs.Counted.{Joined, StillCounts, facts_of, server_of}
 use Rattle.tn_loopback.specs.Servers.{IsPromised}
 use Rattle.tn_loopback.specs.declared.settings.SessionOptions.{SessionOptions}
 use Rattle.tn_loopback.proofs.running.Running.join_at.Goals.{then-is_whole, else-is_whole}
@@ -8,18 +8,17 @@ use Rattle.tn_loopback.proofs.running.Running.join_at.Goals as goal
 
 pub returns-clause-each : goal.returns-clause-each
 returns-clause-each g c =
-    let facts = facts_of g.J.Job.fresh g.M.Maker.gives g.J.Job.reacts g.J.Job.steps in
-    let left = g.M.Maker.left in
-    let options = g.O.Asked.options in
+    let server = server_of (facts_of g.J.Job.fresh g.M.Maker.gives g.J.Job.reacts g.J.Job.steps) g.M.Maker.left g.O.Asked.options g.O.Asked.made g.O.Asked.turned in
     let old = c.args.self.now in
     let promise = c.swap_remove-session.result.session.promise in
     let jobs = promise.jobs.value in
-    let joined : Joined facts left options = record {
+    let joined : Joined server = record {
       jobs = jobs;
+      made = c.swap_remove-session.result.made;
       ran = c.join-ran.result;
-      promised = subst (λ (o : SessionOptions). IsPromised (facts jobs) (left jobs) o c.join-ran.result) c.swap_remove-session.result.asked c.join-ran.ensures;
+      promised = subst (λ (o : SessionOptions). IsPromised (server.facts jobs) (server.left jobs) o c.join-ran.result) c.swap_remove-session.result.asked c.join-ran.ensures;
     } in
     elim c.if-is_whole.branch [
-      | then-is_whole w ↦ rw w.self-is (one_whole facts left options old.whole old.faulted joined c.finished-finished.result c.finished-finished.ensures (c.is_whole.ensures.whole w.if-is_whole.true))
-      | else-is_whole w ↦ rw w.self-is (one_faulted facts left options old.whole old.faulted joined c.finished-finished.result c.finished-finished.ensures (c.is_whole.ensures.faulted w.if-is_whole.false))
+      | then-is_whole w ↦ rw w.self-is (one_whole server old.whole old.faulted old.refused joined c.finished-finished.result c.finished-finished.ensures (c.is_whole.ensures.whole w.if-is_whole.true))
+      | else-is_whole w ↦ rw w.self-is (one_faulted server old.whole old.faulted old.refused joined c.finished-finished.result c.finished-finished.ensures (c.is_whole.ensures.faulted w.if-is_whole.false))
     ]

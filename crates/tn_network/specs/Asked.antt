@@ -1,0 +1,51 @@
+-- What was asked of a network, by several calls of it.
+use Rattle.std.specs.Prelude.{◌≡◌, ℕ, zero, suc, List, Contains, Result, Ok, IfOk}
+use Rattle.std.specs.Net.ToAddrs.{HostAddrs, host_addrs}
+use Rattle.std.specs.declared.io.Error.{Error}
+use Rattle.std.specs.declared.net.socket_addr.SocketAddr.{SocketAddr}
+use Rattle.std.specs.declared.net.tcp.TcpListener.{TcpListener}
+use Rattle.std.specs.declared.net.tcp.TcpStream.{TcpStream}
+
+-- The addresses of a host were asked for; where there is a connection, one of them was asked for it.
+abbrev pub Reaches : (Result HostAddrs Error → Type 0) → (SocketAddr → Result TcpStream Error → Type 0)
+    → Result TcpStream Error → Type 0
+Reaches finds dials result =
+    (found : Result HostAddrs Error) × finds found
+    × IfOk result (λ stream. (addresses : HostAddrs) × (found ≡ Ok addresses) × (address : SocketAddr)
+    × Contains (host_addrs addresses) address × dials address (Ok stream))
+
+-- each connection of a number below this one was accepted
+abbrev pub AcceptsAll : (ℕ → Result (TcpStream × SocketAddr) Error → Type 0) → ℕ → Type 0
+AcceptsAll accepts zero = Unit {0}
+AcceptsAll accepts (suc count) =
+    AcceptsAll accepts count × ((came : TcpStream × SocketAddr) × accepts count (Ok came))
+
+-- of one listener, which is shared, so many connections were accepted
+abbrev pub Accepts : (Result TcpListener Error → Type 0)
+    → (TcpListener → ℕ → Result (TcpStream × SocketAddr) Error → Type 0) → ℕ → Type 0
+Accepts shares accepts count =
+    (listener : TcpListener) × shares (Ok listener) × AcceptsAll (accepts listener) count
+
+-- A listener was asked for; where all went well, so many connections of it were accepted.
+abbrev pub Listens : {A E : Type 0} → (Result TcpListener Error → Type 0)
+    → (TcpListener → Result TcpListener Error → Type 0)
+    → (TcpListener → ℕ → Result (TcpStream × SocketAddr) Error → Type 0) → (A → ℕ) → Result A E → Type 0
+Listens listens shares accepts count_of result =
+    (bound : Result TcpListener Error) × listens bound
+    × IfOk result (λ done. (listener : TcpListener) × (bound ≡ Ok listener)
+    × Accepts (shares listener) accepts (count_of done))
+
+-- What is known of one network: what each of its calls gives evidence of.
+pub record Asking : Type 1 where
+  pub listens : List ℕ → ℕ → Result TcpListener Error → Type 0
+  pub shares : TcpListener → Result TcpListener Error → Type 0
+  pub accepts : TcpListener → ℕ → Result (TcpStream × SocketAddr) Error → Type 0
+  pub finds : List ℕ → ℕ → Result HostAddrs Error → Type 0
+  pub dials : SocketAddr → Result TcpStream Error → Type 0
+
+abbrev pub asking : (List ℕ → ℕ → Result TcpListener Error → Type 0)
+    → (TcpListener → Result TcpListener Error → Type 0)
+    → (TcpListener → ℕ → Result (TcpStream × SocketAddr) Error → Type 0)
+    → (List ℕ → ℕ → Result HostAddrs Error → Type 0) → (SocketAddr → Result TcpStream Error → Type 0) → Asking
+asking listens shares accepts finds dials =
+    record { listens = listens; shares = shares; accepts = accepts; finds = finds; dials = dials }

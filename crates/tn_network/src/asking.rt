@@ -1,0 +1,96 @@
+//! What is asked of a network.
+
+use std::io;
+use std::io::Write;
+use std::net::{HostAddrs, Net, Shutdown, SocketAddr, TcpListener, TcpStream, ToSocketAddrs};
+
+/// A network, as it is asked. Each relation holds of what was asked in a call, and of its answer; nothing else
+/// gives one. A thread may rest on this trait: it names no types of the network.
+pub trait Network {
+    ghost use Rattle.std.specs.Prelude.{ℕ, List, Result};
+    ghost use Rattle.std.specs.declared.io.Error.{Error};
+    ghost use Rattle.std.specs.declared.net.socket_addr.SocketAddr.{SocketAddr};
+    ghost use Rattle.std.specs.declared.net.tcp.TcpListener.{TcpListener};
+    ghost use Rattle.std.specs.declared.net.tcp.TcpStream.{TcpStream};
+    ghost use Rattle.std.specs.Net.ToAddrs.{HostAddrs};
+
+    // a listener at this host and this port
+    ghost listens: { Self → List ℕ → ℕ → Result TcpListener Error → Type 0 };
+
+    // one more handle of the same listener
+    ghost shares: { Self → TcpListener → Result TcpListener Error → Type 0 };
+
+    // the connection of this number, counted from 0, of this listener
+    ghost accepts: { Self → TcpListener → ℕ → Result (TcpStream × SocketAddr) Error → Type 0 };
+
+    // a connection is told these words and that no more comes
+    ghost dismisses: { Self → TcpStream → List ℕ → TcpStream → Type 0 };
+
+    // the addresses of this host, with this port
+    ghost finds: { Self → List ℕ → ℕ → Result HostAddrs Error → Type 0 };
+
+    // a connection to this address
+    ghost dials: { Self → SocketAddr → Result TcpStream Error → Type 0 };
+
+    /// Listens at a host, an address or a name that has one.
+    fn listen(&self, host: &str, port: u16) -> io::Result<TcpListener>
+        ensures { listens self.now host.now port result };
+
+    fn share(&self, listener: &TcpListener) -> io::Result<TcpListener>
+        ensures { shares self.now listener.now result };
+
+    /// Waits for the connection of this number, and for whom it is from.
+    fn accept(&self, listener: &TcpListener, number: u32) -> io::Result<(TcpStream, SocketAddr)>
+        ensures { accepts self.now listener.now number result };
+
+    /// Tells a connection these words, and that no more comes. It is not closed. Where it takes them not, they
+    /// are dropped.
+    fn dismiss(&self, stream: TcpStream, words: &[u8]) -> TcpStream
+        ensures { dismisses self.now stream words.now result };
+
+    fn find(&self, host: &str, port: u16) -> io::Result<HostAddrs>
+        ensures { finds self.now host.now port result };
+
+    fn dial(&self, address: SocketAddr) -> io::Result<TcpStream>
+        ensures { dials self.now address result };
+}
+
+impl<H: Net<Listener = TcpListener, Stream = TcpStream>> Network for H {
+    ghost listens = { λ _ _ _ _. Unit {0} };
+
+    ghost shares = { λ _ _ _. Unit {0} };
+
+    ghost accepts = { λ _ _ _ _. Unit {0} };
+
+    ghost dismisses = { λ _ _ _ _. Unit {0} };
+
+    ghost finds = { λ _ _ _ _. Unit {0} };
+
+    ghost dials = { λ _ _ _. Unit {0} };
+
+    fn listen(&self, host: &str, port: u16) -> io::Result<TcpListener> {
+        TcpListener::bind(self, (host, port))
+    }
+
+    fn share(&self, listener: &TcpListener) -> io::Result<TcpListener> {
+        listener.try_clone()
+    }
+
+    fn accept(&self, listener: &TcpListener, _number: u32) -> io::Result<(TcpStream, SocketAddr)> {
+        listener.accept()
+    }
+
+    fn dismiss(&self, mut stream: TcpStream, words: &[u8]) -> TcpStream {
+        let _ = stream.write_all(words);
+        let _ = stream.shutdown(Shutdown::Write);
+        stream
+    }
+
+    fn find(&self, host: &str, port: u16) -> io::Result<HostAddrs> {
+        (host, port).to_socket_addrs(self)
+    }
+
+    fn dial(&self, address: SocketAddr) -> io::Result<TcpStream> {
+        TcpStream::connect(self, address)
+    }
+}

@@ -1,0 +1,41 @@
+//! A connection to a host.
+
+ghost use Rattle.tn_network.specs.Asked.{Reaches};
+
+use crate::asking::Network;
+use std::io;
+use std::io::{ErrorKind, Write};
+use std::net::TcpStream;
+
+/// Connects to a host, an address or a name: of its addresses, to the first that takes a connection. Where
+/// none does, `causes` gets a line for each.
+pub fn reach<N: Network>(
+    net: &N,
+    host: &str,
+    port: u16,
+    causes: &mut Vec<u8>,
+) -> io::Result<TcpStream>
+    ensures { Reaches (N.finds net.now host.now port) (N.dials net.now) result }
+{
+    let addresses = match net.find(host, port) {
+        Ok(addresses) => addresses,
+        Err(error) => {
+            let _ = writeln!(causes, "tn: {}: {}", host, error);
+            return Err(error);
+        },
+    };
+    let mut last = io::Error::from(ErrorKind::NotFound);
+    for address in addresses {
+        match net.dial(address) {
+            Ok(stream) => {
+                causes.clear();
+                return Ok(stream);
+            },
+            Err(error) => {
+                let _ = writeln!(causes, "tn: {}: {}", address, error);
+                last = error;
+            },
+        }
+    }
+    Err(last)
+}

@@ -1,0 +1,44 @@
+-- It is served as was asked for.
+use Rattle.std.proofs.Common.{◌≡◌, ℕ, List, Option, Result, Ok, Err, IfOk, IsErrAnd, subst}
+use Rattle.std.specs.declared.net.tcp.TcpStream.{TcpStream}
+use Rattle.tn_answerer.specs.declared.answerers.Answerers.{Answerers}
+use Rattle.tn_gateway.specs.declared.dialing.Joiner.{Joiner}
+use Rattle.tn_gateway.specs.declared.line_ends.LineEnd.{LineEnd}
+use Rattle.tn_loopback.specs.Counted.{CountsSessions, server_of}
+use Rattle.tn_loopback.specs.declared.fault.ServeFault.{ServeFault}
+use Rattle.tn_loopback.specs.declared.fault.ServeFault.TheVariants.{Network, Memory, Limit}
+use Rattle.tn_loopback.specs.declared.served.Served.{Served}
+use Rattle.tn_loopback.specs.declared.settings.SessionOptions.{SessionOptions}
+use Rattle.tn_program.specs.Settings.{AnswersAsAsked, JoinsAsAsked, UnlessMemory}
+use Rattle.tn_session.specs.Facts.{JobFacts}
+
+pub always : {A : Type 0} (result : Result A ServeFault) (P : Type 0) → P → UnlessMemory result P
+always (Ok done) P asked = asked
+always (Err Network) P asked = asked
+always (Err Limit) P asked = asked
+always (Err Memory) P asked = tt
+
+pub unless : {A : Type 0} (result : Result A ServeFault) (P : Type 0) → IsErrAnd result (λ fault. fault ≡ Memory) → UnlessMemory result P
+unless (Ok done) P is = absurd is
+unless (Err Memory) P is = tt
+unless (Err Network) P is = let bad = is in cc
+unless (Err Limit) P is = let bad = is in cc
+
+-- what was counted of sessions with such options and such jobs
+abbrev pub Counted : {M J : Type 0} → (M → JobFacts J) → (M → Option ℕ) → (TcpStream → Type 0) → Result Served ServeFault
+    → SessionOptions → (M → Type 0) → Type 0
+Counted facts left turned result options made =
+    IfOk result (λ served. CountsSessions (server_of facts left options made turned) served.whole served.faulted served.refused)
+
+pub answers : {J : Type 0} (facts : Answerers → JobFacts J) (left : Answerers → Option ℕ) (turned : TcpStream → Type 0) (result : Result Served ServeFault) (options options' : SessionOptions) (ticks ticks' : ℕ) → options ≡ options' → ticks ≡ ticks'
+    → Counted facts left turned result options (AnswersAsAsked ticks) → Counted facts left turned result options' (AnswersAsAsked ticks')
+answers facts left turned result options options' ticks ticks' so often counted =
+    subst (λ (o : SessionOptions). Counted facts left turned result o (AnswersAsAsked ticks')) so
+    (subst (λ (n : ℕ). Counted facts left turned result options (AnswersAsAsked n)) often counted)
+
+pub joins : {H J : Type 0} (facts : Joiner H → JobFacts J) (left : Joiner H → Option ℕ) (turned : TcpStream → Type 0) (result : Result Served ServeFault) (rt : H) (port : ℕ) (options options' : SessionOptions) (name name' : List ℕ) (ends ends' : LineEnd) → options ≡ options' → name ≡ name' → ends ≡ ends'
+    → Counted facts left turned result options (JoinsAsAsked rt name port ends) → Counted facts left turned result options' (JoinsAsAsked rt name' port ends')
+joins facts left turned result rt port options options' name name' ends ends' so named ended counted =
+    subst (λ (o : SessionOptions). Counted facts left turned result o (JoinsAsAsked rt name' port ends')) so
+    (subst (λ (n : List ℕ). Counted facts left turned result options (JoinsAsAsked rt n port ends')) named
+    (subst (λ (e : LineEnd). Counted facts left turned result options (JoinsAsAsked rt name port e)) ended counted))
