@@ -1,0 +1,161 @@
+"""SVG pictures, and a negotiation as a ladder: both ends, what each says from top to bottom, and what came of each option."""
+import html
+import re
+
+STYLE = """
+text { font-family: sans-serif; font-size: 13px; fill: #1f2328 }
+.page { fill: #ffffff }
+.small { font-size: 10px; fill: #59636e }
+.code { font-family: monospace; font-size: 12px }
+.box { fill: #f6f8fa; stroke: #818b98 }
+.law { fill: #fbefff; stroke: #8250df }
+.side { fill: none; stroke: #818b98; stroke-dasharray: 3 2 }
+.line { fill: none; stroke: #818b98 }
+.tip { fill: #818b98 }
+.edits { fill: none; stroke: #bf8700; stroke-width: 7 }
+@media (prefers-color-scheme: dark) {
+text { fill: #e6edf3 }
+.page { fill: #0d1117 }
+.small { fill: #9198a1 }
+.box { fill: #151b23; stroke: #6e7681 }
+.law { fill: #271052; stroke: #ab7df8 }
+.side, .line { stroke: #6e7681 }
+.tip { fill: #6e7681 }
+.edits { stroke: #d29922 }
+}
+"""
+
+class Picture:
+    """An SVG picture, drawn from back to front."""
+
+    def __init__(self, title):
+        self.title, self.parts, self.width, self.height = title, [], 0, 0
+
+    def text(self, x, y, text, kind="", anchor="middle"):
+        self.parts.append(f'<text x="{x:g}" y="{y:g}" class="{kind}" text-anchor="{anchor}">{html.escape(text)}</text>')
+
+    def box(self, x, y, width, height, kind):
+        self.parts.append(f'<rect x="{x:g}" y="{y:g}" width="{width:g}" height="{height:g}" rx="4" class="{kind}"/>')
+
+    def path(self, path, kind="line"):
+        self.parts.append(f'<path d="{path}" class="{kind}"/>')
+
+    def __str__(self):
+        head = (f'<svg xmlns="http://www.w3.org/2000/svg" viewBox="0 0 {self.width:g} {self.height:g}" '
+                f'width="{self.width:g}" height="{self.height:g}" role="img">')
+        page = f'<rect width="{self.width:g}" height="{self.height:g}" class="page"/>'
+        return "\n".join([head, f"<title>{html.escape(self.title)}</title>", f"<style>{STYLE}</style>", page, *self.parts, "</svg>", ""])
+
+
+class Option:
+    """What was said of an option at one end: by that end itself, and by the other."""
+
+    def __init__(self):
+        self.own, self.other = None, None
+
+    def hear(self, is_own, says):
+        # A refusal is a first word against; a word against what was on turns it off.
+        old = self.own if is_own else self.other
+        new = "on" if says else "off" if old in ("on", "off") else "refused"
+        self.own, self.other = (new, self.other) if is_own else (self.own, new)
+
+    def state(self, end, peer):
+        if "refused" in (self.own, self.other):
+            return f"refused by the {end if self.own == 'refused' else peer}"
+        if self.own == self.other == "on":
+            return "on"
+        return "off" if "off" in (self.own, self.other) else f"not answered by the {peer if self.own else end}"
+
+
+def option_states(events):
+    """A line for each option that was negotiated, and for each end at which it was."""
+    options = {}
+    for kind, texts, *_ in events:
+        if kind not in ("to-client", "to-server"):
+            continue
+        speaker, hearer = ("server", "client") if kind == "to-client" else ("client", "server")
+        for text in texts:
+            if found := re.fullmatch(r"(?:IAC )?(WILL|WONT|DO|DONT) (\S+)", text):
+                is_own = found[1] in ("WILL", "WONT")
+                end = speaker if is_own else hearer
+                option = options.setdefault((found[2], end), Option())
+                option.hear(is_own, found[1] in ("WILL", "DO"))
+    for (name, end), option in options.items():
+        yield f"{name} at the {end}: {option.state(end, 'server' if end == 'client' else 'client')}"
+
+
+LEFT, RIGHT, LINE = 170, 500, 16
+
+
+class Ladder:
+    """The rungs of a picture, from the top on, and from where to where an end edits."""
+
+    def __init__(self, picture):
+        self.picture, self.y, self.begin, self.bands, self.marks = picture, 56, {}, [], []
+
+    def text(self, *words):
+        self.marks.append(lambda: self.picture.text(*words))
+
+    def beside(self, kind, texts):
+        """What a user or a job does."""
+        x, anchor = (LEFT - 12, "end") if kind == "user" else (RIGHT + 12, "start")
+        for at, text in enumerate(texts):
+            self.text(x, self.y + at * LINE + 4, text, "", anchor)
+        self.y += LINE * len(texts) + 6
+
+    def arrow(self, kind, texts, time=""):
+        """What arrives."""
+        self.y += 4
+        for at, text in enumerate(texts):
+            self.text((LEFT + RIGHT) / 2, self.y + at * LINE, text, "code")
+        self.y += LINE * len(texts) - 8
+        y, (source, target) = self.y, (RIGHT, LEFT) if kind == "to-client" else (LEFT, RIGHT)
+        way = 1 if target > source else -1
+        if time:
+            self.text(LEFT - 12, y + 4, time, "small", "end")
+        self.marks.append(lambda: self.picture.path(f"M{source} {y:g}H{target}"))
+        self.marks.append(lambda: self.picture.path(f"M{target} {y:g}l{-9 * way} -4v8z", "tip"))
+        for text in texts:
+            self.hear_mode(target, text)
+        self.y += 24
+
+    def hear_mode(self, end, text):
+        """An end edits, or takes bytes as edited, from the MODE that it hears on."""
+        if not text.removeprefix("IAC ").startswith("SB LINEMODE MODE"):
+            return
+        if "EDIT" in text.split():
+            self.begin.setdefault(end, self.y)
+            self.y += 14
+        elif end in self.begin:
+            self.bands.append((end, self.begin.pop(end), self.y))
+
+    def draw_ends(self):
+        bands = self.bands + [(x, start, self.y) for x, start in self.begin.items()]
+        for x, text in ((LEFT, "client, and its user"), (RIGHT, "server, and its job")):
+            self.picture.text(x, 24, text)
+            self.picture.path(f"M{x} 34V{self.y:g}")
+        for x, start, stop in bands:
+            self.picture.path(f"M{x} {start:g}V{stop:g}", "edits")
+            words, anchor, at = (("the client edits",), "end", x - 12) if x == LEFT else (("bytes are taken", "as edited"), "start", x + 12)
+            for place, word in enumerate(words):
+                self.picture.text(at, start + 20 + place * 13, word, "small", anchor)
+
+
+def ladder_picture(title, events):
+    """Draws events: who does what, as `user` or `job`, or what arrives where, as `to-client` or `to-server`, and when."""
+    picture = Picture(title)
+    ladder = Ladder(picture)
+    for kind, texts, *time in events:
+        if kind in ("user", "job"):
+            ladder.beside(kind, texts)
+        else:
+            ladder.arrow(kind, texts, *time)
+    ladder.draw_ends()
+    for mark in ladder.marks:
+        mark()
+    y = ladder.y + 26
+    for line in option_states(events):
+        picture.text((LEFT + RIGHT) / 2, y, line, "small")
+        y += 14
+    picture.width, picture.height = LEFT + RIGHT, y
+    return picture
