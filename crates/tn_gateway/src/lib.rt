@@ -17,6 +17,7 @@ pub use line_ends::LineEnd;
 pub use makers::Gateways;
 pub use sending::{Sending, Way};
 pub use showing::Showing;
+pub use writing::write_whole;
 
 mod dialing;
 mod joining;

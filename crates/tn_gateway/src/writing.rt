@@ -1,4 +1,4 @@
-//! Bytes are written to the service, as far as its writer takes them.
+//! Bytes are written as far as a writer takes them.
 
 ghost use Rattle.std.specs.Prelude.{◌≡◌};
 ghost use Rattle.tn_session.specs.Turns.{Tells, Writes};
@@ -6,7 +6,7 @@ ghost use Rattle.tn_session.specs.Turns.{Tells, Writes};
 use tn_streams::{Drain, is_interrupted};
 
 /// Writes these bytes, or the first of them where a write fails. A write that takes none has failed.
-pub(crate) fn write_whole<W: Drain>(writer: &mut W, bytes: &[u8]) -> bool
+pub fn write_whole<W: Drain>(writer: &mut W, bytes: &[u8]) -> bool
     ensures writes { Writes result (W.contents writer.old) (W.contents writer.new) bytes.now }
     ensures tells { Tells result (W.told writer.old) (W.told writer.new) }
 {

@@ -1,5 +1,5 @@
 -- Where the status is 0, what was asked for was done.
-use Rattle.std.proofs.Common.{◌≡◌, ℕ, inl, inr, Option, Some, None, List, Result, Ok, Err, IfOk, sym, subst, arith}
+use Rattle.std.proofs.Common.{◌≡◌, ◌⊎◌, ℕ, inl, inr, refl, Option, Some, None, List, Result, Ok, Err, IfOk, sym, subst, arith}
 use Rattle.tn_cli.specs.Faults as cli
 use Rattle.tn_cli.specs.declared.fault.CliFault.{CliFault}
 use Rattle.tn_cli.specs.declared.fault.CliFault.TheVariants.{Read, TooLong, Script, World, Write, Memory}
@@ -8,7 +8,7 @@ use Rattle.tn_connect.specs.declared.fault.ConnectFault.TheVariants as connect
 use Rattle.tn_loopback.specs.declared.fault.ServeFault.{ServeFault}
 use Rattle.tn_loopback.specs.declared.fault.ServeFault.TheVariants as serve
 use Rattle.tn_network.specs.Asked.{Asking}
-use Rattle.tn_program.specs.Outcomes.{ComesOf, ComesOfRun, ComesOfNoRun}
+use Rattle.tn_program.specs.Outcomes.{AskForNothing, ComesOf, ComesOfRun, ComesOfNoRun}
 use Rattle.tn_program.specs.Runs.{DoesAsAsked, RunsAsked}
 use Rattle.tn_program.specs.Statuses.{status_of, status_of_connecting, status_of_serving}
 use Rattle.tn_program.specs.declared.outcome.Outcome.{Outcome}
@@ -88,3 +88,30 @@ pub does : (network : Asking) (words : List (List ℕ)) (origin : Origin) (bytes
     → status_of came ≡ 0 → ComesOf network words origin bytes old new came → DoesAsAsked network words origin bytes old new
 does network words origin bytes old new came zero (inl (a, asks, h)) = inl (a, asks, ran network a origin bytes old new came h zero)
 does network words origin bytes old new came zero (inr h) = helped network words origin bytes old new came h zero
+
+-- of words that ask for nothing comes that they are not accepted, or that memory ran out, and nothing is written
+
+unrun : (words : List (List ℕ)) (old new : Option (List ℕ)) (came : Outcome) → AskForNothing words → ComesOfNoRun words old new came
+    → ((status_of came ≡ 2) ⊎ (status_of came ≡ 1)) × (new ≡ old)
+unrun words old new (outcome.Help ended) nothing h = absurd (nothing.1 h.0)
+unrun words old new (outcome.Version ended) nothing h = absurd (nothing.2 h.0)
+unrun words old new (outcome.Usage (Some detail)) nothing h = (inl refl, h.1)
+unrun words old new (outcome.Usage None) nothing h = absurd h
+unrun words old new outcome.Memory nothing h = (inr refl, h)
+unrun words old new (outcome.Local ended) nothing h = absurd h
+unrun words old new (outcome.Replay ended) nothing h = absurd h
+unrun words old new (outcome.Decode ended) nothing h = absurd h
+unrun words old new (outcome.World ended) nothing h = absurd h
+unrun words old new (outcome.Served ended) nothing h = absurd h
+unrun words old new (outcome.Connected ended) nothing h = absurd h
+unrun words old new outcome.Untraced nothing h = absurd h
+
+comes_of_nothing : (network : Asking) (words : List (List ℕ)) (origin : Origin) (bytes : Option (List ℕ)) (old new : Option (List ℕ)) (came : Outcome)
+    → AskForNothing words → ComesOf network words origin bytes old new came → ((status_of came ≡ 2) ⊎ (status_of came ≡ 1)) × (new ≡ old)
+comes_of_nothing network words origin bytes old new came nothing (inl (a, asks, h)) = absurd (nothing.0 a asks)
+comes_of_nothing network words origin bytes old new came nothing (inr h) = unrun words old new came nothing h
+
+pub refused : (network : Asking) (words : List (List ℕ)) (origin : Origin) (bytes : Option (List ℕ)) (old new : Option (List ℕ)) (came : Outcome) (status : ℕ)
+    → status ≡ status_of came → ComesOf network words origin bytes old new came → AskForNothing words → ((status ≡ 2) ⊎ (status ≡ 1)) × (new ≡ old)
+refused network words origin bytes old new came status is comes nothing =
+    subst (λ (s : ℕ). ((s ≡ 2) ⊎ (s ≡ 1)) × (new ≡ old)) (sym is) (comes_of_nothing network words origin bytes old new came nothing comes)

@@ -2,3 +2,4 @@ pub mod Outcomes
 pub mod Runs
 pub mod Settings
 pub mod Statuses
+pub mod Told

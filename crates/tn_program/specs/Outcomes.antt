@@ -94,10 +94,11 @@ abbrev pub ComesOf : Asking → List (List ℕ) → Origin → Option (List ℕ)
 ComesOf network words origin bytes old new came =
     ((a : Asked) × AskFor words a × ComesOfRun network a origin bytes old new came) ⊎ ComesOfNoRun words old new came
 
--- the status of what came of the words
-abbrev pub EndsWith : Asking → List (List ℕ) → Origin → Option (List ℕ) → Option (List ℕ) → Option (List ℕ) → ℕ → Type 0
-EndsWith network words origin bytes old new status =
-    (came : Outcome) × ComesOf network words origin bytes old new came × (status ≡ status_of came)
+-- the status of what came of the words, of which this was told
+abbrev pub EndsWith : Asking → List (List ℕ) → Origin → Option (List ℕ) → Option (List ℕ) → Option (List ℕ)
+    → (Outcome → Type 0) → ℕ → Type 0
+EndsWith network words origin bytes old new told status =
+    (came : Outcome) × ComesOf network words origin bytes old new came × told came × (status ≡ status_of came)
 
 -- they ask for no run, for no help and not for the version
 abbrev pub AskForNothing : List (List ℕ) → Type 0

@@ -17,6 +17,7 @@ pub use settings::Answering;
 pub use tn_connect::{Link, Origin, Screen};
 pub use tn_network::Network;
 
+mod lines;
 mod outcome;
 mod program;
 mod seat;

@@ -1,21 +1,20 @@
 //! What comes of the words of a command line, and its status.
 
-ghost use Rattle.std.specs.Prelude.{◌≡◌};
+ghost use Rattle.std.specs.Prelude.{◌≡◌, ◌++◌, IfOk, codes, decimal};
 ghost use Rattle.tn_cli.specs.Faults.{status_after};
 ghost use Rattle.tn_program.specs.Statuses.{status_after_connecting, status_after_serving, status_of};
+ghost use Rattle.tn_program.specs.Told.{TellsAll, TellsSome, line, text_of, text_of_connecting, text_of_run, text_of_serving};
+ghost use Rattle.tn_streams.specs.Known.{known_writing};
 
-use std::fmt::Display;
-use std::io::Write;
+use std::alloc::{AllocError, Global};
 use tn_cli::CliFault;
 use tn_connect::{ConnectFault, Connected};
+use tn_gateway::write_whole;
 use tn_loopback::{ServeFault, Served};
+use tn_streams::Drain;
 
 /// The status of a process whose words were not accepted.
 const USAGE: u8 = 2;
-
-/// What is told of words that could not be read.
-const UNREAD: &str =
-    "error: a word of the command line is not text\n\nFor more information, try '--help'.\n";
 
 /// What comes of the words of a command line: what the run that they ask for returned, or why none was run.
 #[derive(Drop)]
@@ -58,23 +57,59 @@ impl Outcome {
         }
     }
 
-    /// Reports a fault in one line on `errors`; behind it stands what is wrong with words. A line that
-    /// cannot be written is dropped.
-    pub(crate) fn tell<E: Write>(&self, errors: &mut E) {
+    /// Tells a fault in one line on `errors`, behind it what is wrong with words, and then the causes; out of
+    /// memory for that, this is told. What cannot be written is dropped.
+    pub(crate) fn tell<E: Drain>(&self, alloc: Global, causes: &[u8], errors: &mut E)
+        ensures { TellsAll self.now causes.now (known_writing E.contents E.told errors.old errors.new) }
+    {
+        if self.status() != 0 {
+            return self.tell_some(alloc, causes, errors);
+        }
+        if !causes.is_empty() {
+            self.tell_some(alloc, causes, errors);
+        }
+    }
+
+    fn tell_some<E: Drain>(&self, alloc: Global, causes: &[u8], errors: &mut E)
+        ensures { TellsSome self.now causes.now (known_writing E.contents E.told errors.old errors.new) }
+    {
+        match self.said(alloc, causes) {
+            Ok(said) => {
+                write_whole(errors, &said);
+            },
+            Err(_) => {
+                write_whole(errors, b"tn: memory\n");
+            },
+        }
+    }
+
+    fn said(&self, alloc: Global, causes: &[u8]) -> Result<Vec<u8>, AllocError>
+        ensures { IfOk result (λ said. said.items ≡ text_of self.now ++ causes.now) }
+    {
+        let mut said = self.text(alloc)?;
+        said.extend_from_slice(causes)?;
+        Ok(said)
+    }
+
+    fn text(&self, alloc: Global) -> Result<Vec<u8>, AllocError>
+        ensures { IfOk result (λ text. text.items ≡ text_of self.now) }
+    {
         match self {
-            Outcome::Local(Err(fault)) => tell(errors, fault),
-            Outcome::Replay(Err(fault)) => tell(errors, fault),
-            Outcome::Decode(Err(fault)) => tell(errors, fault),
-            Outcome::World(Err(fault)) => tell(errors, fault),
-            Outcome::Served(Err(fault)) => tell(errors, fault),
-            Outcome::Connected(Err(fault)) => tell(errors, fault),
-            Outcome::Untraced => tell(errors, &CliFault::Write),
-            Outcome::Help(Err(fault)) => tell(errors, fault),
-            Outcome::Version(Err(fault)) => tell(errors, fault),
-            Outcome::Usage(Some(detail)) => tell_usage(errors, detail.as_str()),
-            Outcome::Usage(None) => tell_usage(errors, UNREAD),
-            Outcome::Memory => tell(errors, &CliFault::Memory),
-            _ => {},
+            Outcome::Local(ended) => text_of_run(alloc, ended),
+            Outcome::Replay(ended) => text_of_run(alloc, ended),
+            Outcome::Decode(ended) => text_of_run(alloc, ended),
+            Outcome::World(ended) => text_of_run(alloc, ended),
+            Outcome::Served(ended) => text_of_serving(alloc, ended),
+            Outcome::Connected(ended) => text_of_connecting(alloc, ended),
+            Outcome::Untraced => line(alloc, b"write"),
+            Outcome::Help(ended) => text_of_run(alloc, ended),
+            Outcome::Version(ended) => text_of_run(alloc, ended),
+            Outcome::Usage(Some(detail)) => usage(alloc, detail.as_str()),
+            Outcome::Usage(None) => usage(
+                alloc,
+                "error: a word of the command line is not text\n\nFor more information, try '--help'.\n",
+            ),
+            Outcome::Memory => line(alloc, b"memory"),
         }
     }
 }
@@ -108,11 +143,74 @@ fn after_connecting<T>(ended: &Result<T, ConnectFault>) -> u8
     }
 }
 
-fn tell<E: Write, F: Display>(errors: &mut E, fault: &F) {
-    let _ = writeln!(errors, "tn: {fault}");
+// One line, which tells this.
+fn line(alloc: Global, word: &[u8]) -> Result<Vec<u8>, AllocError>
+    ensures { IfOk result (λ text. text.items ≡ line word.now) }
+{
+    joined(alloc, b"tn: ", word, b"\n")
 }
 
-fn tell_usage<E: Write>(errors: &mut E, detail: &str) {
-    tell(errors, &"usage");
-    let _ = errors.write_all(detail.as_bytes());
+fn usage(alloc: Global, detail: &str) -> Result<Vec<u8>, AllocError>
+    ensures { IfOk result (λ text. text.items ≡ line (codes "usage") ++ detail.now) }
+{
+    let mut text = line(alloc, b"usage")?;
+    text.extend_from_slice(detail.as_bytes())?;
+    Ok(text)
+}
+
+fn numbered(alloc: Global, number: usize, words: &[u8]) -> Result<Vec<u8>, AllocError>
+    ensures { IfOk result (λ text. text.items ≡ line (codes "line " ++ decimal number ++ words.now)) }
+{
+    let number = number.to_string(alloc)?;
+    let word = joined(alloc, b"line ", number.as_bytes(), words)?;
+    line(alloc, &word)
+}
+
+fn joined(alloc: Global, first: &[u8], second: &[u8], third: &[u8]) -> Result<Vec<u8>, AllocError>
+    ensures { IfOk result (λ all. all.items ≡ first.now ++ second.now ++ third.now) }
+{
+    let mut all = Vec::new(alloc);
+    all.extend_from_slice(first)?;
+    all.extend_from_slice(second)?;
+    all.extend_from_slice(third)?;
+    Ok(all)
+}
+
+fn text_of_run(alloc: Global, ended: &Result<(), CliFault>) -> Result<Vec<u8>, AllocError>
+    ensures { IfOk result (λ text. text.items ≡ text_of_run ended.now) }
+{
+    match ended {
+        Ok(()) => Ok(Vec::new(alloc)),
+        Err(CliFault::Read) => line(alloc, b"read"),
+        Err(CliFault::TooLong) => line(alloc, b"input too long"),
+        Err(CliFault::Script(number)) => numbered(alloc, *number, b": bad command"),
+        Err(CliFault::World(number)) => numbered(alloc, *number, b": refused"),
+        Err(CliFault::Write) => line(alloc, b"write"),
+        Err(CliFault::Memory) => line(alloc, b"memory"),
+    }
+}
+
+fn text_of_serving(alloc: Global, ended: &Result<Served, ServeFault>) -> Result<Vec<u8>, AllocError>
+    ensures { IfOk result (λ text. text.items ≡ text_of_serving ended.now) }
+{
+    match ended {
+        Ok(_) => Ok(Vec::new(alloc)),
+        Err(ServeFault::Network) => line(alloc, b"network"),
+        Err(ServeFault::Limit) => line(alloc, b"bad limit"),
+        Err(ServeFault::Memory) => line(alloc, b"memory"),
+    }
+}
+
+fn text_of_connecting<T>(
+    alloc: Global,
+    ended: &Result<T, ConnectFault>,
+) -> Result<Vec<u8>, AllocError>
+    ensures { IfOk result (λ text. text.items ≡ text_of_connecting ended.now) }
+{
+    match ended {
+        Ok(_) => Ok(Vec::new(alloc)),
+        Err(ConnectFault::Network) => line(alloc, b"network"),
+        Err(ConnectFault::Session) => line(alloc, b"session"),
+        Err(ConnectFault::Memory) => line(alloc, b"memory"),
+    }
 }

@@ -5,7 +5,9 @@ ghost use Rattle.std.specs.IoError.{error_kind};
 ghost use Rattle.tn_network.specs.Asked.{asking};
 ghost use Rattle.tn_program.specs.Outcomes.{ComesOf, ComesOfRun, EndsVersion, EndsWith, AskForNothing};
 ghost use Rattle.tn_program.specs.Runs.{DoesAsAsked};
+ghost use Rattle.tn_program.specs.Told.{IsConnecting, IsTold, UnlessConnected, UnlessServed};
 
+use crate::lines::Lines;
 use crate::outcome::Outcome;
 use crate::seat::Seat;
 use crate::serving::serve_asked;
@@ -17,17 +19,18 @@ use std::io::{ErrorKind, Read, Write};
 use tn_cli::{CliFault, run_decode, run_local, run_replay, run_world};
 use tn_connect::{Host, Notes, connect};
 use tn_network::Network;
+use tn_streams::Drain;
 use tn_words::{Asked, Connecting, VERSION_LINE, WordsFault, read_words};
 
 /// Runs what the words of the command line ask for, where they could be read. The program's name is the
 /// first of them. Returns the status to end with: 0 where that was done, and else the status of its fault
-/// (`EndsWith`). A fault is reported in one line on `errors`, and behind it what is wrong with words, or why;
-/// a line that cannot be written is dropped. Of a seat at standard input nothing is known beforehand.
+/// (`EndsWith`). A fault is told in one line on `errors`, and behind it what is wrong with words, or why; what
+/// cannot be written is dropped. Of a seat at standard input nothing is known beforehand.
 pub fn run_words<
     H: Network + Host + Files<File = File>,
     R: Read + Drop + Send + 'static,
     W: Write,
-    E: Write,
+    E: Drain,
 >(
     rt: H,
     alloc: Global,
@@ -47,15 +50,15 @@ pub fn run_words<
     ensures ended { IfOk words (λ words. EndsWith
         (asking (H.listens rt) (H.shares rt) (H.accepts rt) (H.finds rt) (H.dials rt))
         (map string_bytes words.items) seat.origin (R.remaining seat.reader)
-        (W.contents writer.old) (W.contents writer.new) result) }
+        (W.contents writer.old) (W.contents writer.new)
+        (IsTold E.contents E.told errors.old errors.new) result) }
     // 1 when out of memory
     ensures refused { IfOk words (λ words. AskForNothing (map string_bytes words.items) →
         ((result ≡ 2) ⊎ (result ≡ 1)) × (W.contents writer.new ≡ W.contents writer.old)) }
 {
     let mut causes = Vec::new(alloc);
     let outcome = outcome_of_words(rt, alloc, words, seat, writer, errors, &mut causes);
-    outcome.tell(errors);
-    let _ = errors.write_all(&causes);
+    outcome.tell(alloc, &causes, errors);
     outcome.status()
 }
 
@@ -65,7 +68,7 @@ pub fn outcome_of_words<
     H: Network + Host + Files<File = File>,
     R: Read + Drop + Send + 'static,
     W: Write,
-    E: Write,
+    E: Drain,
 >(
     rt: H,
     alloc: Global,
@@ -84,6 +87,8 @@ pub fn outcome_of_words<
         (asking (H.listens rt) (H.shares rt) (H.accepts rt) (H.finds rt) (H.dials rt))
         (map string_bytes words.items) seat.origin (R.remaining seat.reader)
         (W.contents writer.old) (W.contents writer.new) result) }
+    ensures quiet { UnlessServed result (errors.new ≡ errors.old) }
+    ensures uncaused { UnlessConnected result (causes.new.items ≡ causes.old.items) }
 {
     match words {
         Ok(words) => run_strings(rt, alloc, &words, seat, writer, errors, causes),
@@ -107,7 +112,7 @@ fn run_strings<
     H: Network + Host + Files<File = File>,
     R: Read + Drop + Send + 'static,
     W: Write,
-    E: Write,
+    E: Drain,
 >(
     rt: H,
     alloc: Global,
@@ -117,9 +122,11 @@ fn run_strings<
     errors: &mut E,
     causes: &mut Vec<u8>,
 ) -> Outcome
-    ensures { ComesOf (asking (H.listens rt) (H.shares rt) (H.accepts rt) (H.finds rt) (H.dials rt))
+    ensures comes { ComesOf (asking (H.listens rt) (H.shares rt) (H.accepts rt) (H.finds rt) (H.dials rt))
         (map string_bytes words.now) seat.origin (R.remaining seat.reader)
         (W.contents writer.old) (W.contents writer.new) result }
+    ensures quiet { UnlessServed result (errors.new ≡ errors.old) }
+    ensures uncaused { UnlessConnected result (causes.new.items ≡ causes.old.items) }
 {
     match texts_of(alloc, words) {
         Ok(texts) => run_texts(rt, alloc, &texts, seat, writer, errors, causes),
@@ -141,7 +148,7 @@ fn run_texts<
     H: Network + Host + Files<File = File>,
     R: Read + Drop + Send + 'static,
     W: Write,
-    E: Write,
+    E: Drain,
 >(
     rt: H,
     alloc: Global,
@@ -151,9 +158,11 @@ fn run_texts<
     errors: &mut E,
     causes: &mut Vec<u8>,
 ) -> Outcome
-    ensures { ComesOf (asking (H.listens rt) (H.shares rt) (H.accepts rt) (H.finds rt) (H.dials rt))
+    ensures comes { ComesOf (asking (H.listens rt) (H.shares rt) (H.accepts rt) (H.finds rt) (H.dials rt))
         (map (λ word. word.now) words.now) seat.origin (R.remaining seat.reader)
         (W.contents writer.old) (W.contents writer.new) result }
+    ensures quiet { UnlessServed result (errors.new ≡ errors.old) }
+    ensures uncaused { UnlessConnected result (causes.new.items ≡ causes.old.items) }
 {
     match read_words(alloc, words) {
         Ok(asked) => return run_asked(rt, alloc, asked, seat, writer, errors, causes),
@@ -180,7 +189,7 @@ fn run_asked<
     H: Network + Host + Files<File = File>,
     R: Read + Drop + Send + 'static,
     W: Write,
-    E: Write,
+    E: Drain,
 >(
     rt: H,
     alloc: Global,
@@ -190,16 +199,18 @@ fn run_asked<
     errors: &mut E,
     causes: &mut Vec<u8>,
 ) -> Outcome
-    ensures { ComesOfRun (asking (H.listens rt) (H.shares rt) (H.accepts rt) (H.finds rt) (H.dials rt))
+    ensures comes { ComesOfRun (asking (H.listens rt) (H.shares rt) (H.accepts rt) (H.finds rt) (H.dials rt))
         asked seat.origin (R.remaining seat.reader)
         (W.contents writer.old) (W.contents writer.new) result }
+    ensures quiet { UnlessServed result (errors.new ≡ errors.old) }
+    ensures uncaused { UnlessConnected result (causes.new.items ≡ causes.old.items) }
 {
     match asked {
         Asked::Local => Outcome::Local(run_local(alloc, &mut seat, writer)),
         Asked::Replay => Outcome::Replay(run_replay(alloc, &mut seat, writer)),
         Asked::Decode => Outcome::Decode(run_decode(alloc, &mut seat, writer)),
         Asked::World => Outcome::World(run_world(alloc, &mut seat, writer)),
-        Asked::Serve(asked) => Outcome::Served(serve_asked(rt, alloc, &asked, errors)),
+        Asked::Serve(asked) => Outcome::Served(serve_asked(rt, alloc, &asked, &mut Lines(errors))),
         Asked::Connect(asked) => run_connect(rt, alloc, asked, seat, writer, causes),
     }
 }
@@ -212,9 +223,10 @@ fn run_connect<H: Network + Host + Files<File = File>, R: Read + Drop + Send + '
     writer: &mut W,
     causes: &mut Vec<u8>,
 ) -> Outcome
-    ensures { ComesOfRun (asking (H.listens rt) (H.shares rt) (H.accepts rt) (H.finds rt) (H.dials rt))
+    ensures comes { ComesOfRun (asking (H.listens rt) (H.shares rt) (H.accepts rt) (H.finds rt) (H.dials rt))
         (Asked.Connect asked) seat.origin (R.remaining seat.reader)
         (W.contents writer.old) (W.contents writer.new) result }
+    ensures connects { IsConnecting result }
 {
     let Ok(trace) = open_trace(&rt, &asked, causes) else {
         return Outcome::Untraced;

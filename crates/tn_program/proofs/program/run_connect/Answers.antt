@@ -5,11 +5,11 @@ use Rattle.tn_network.specs.Asked.{Reaches}
 use Rattle.tn_session.specs.Facts.{Window}
 use Rattle.tn_program.proofs.program.run_connect.Goals as goal
 
-pub returns-in_default : goal.returns-in_default
-returns-in_default g c = (c.args.asked, refl, c.in_default.ensures, refl)
+pub returns-in_default-clause-comes : goal.returns-in_default-clause-comes
+returns-in_default-clause-comes g c = (c.args.asked, refl, c.in_default.ensures, refl)
 
-pub returns : goal.returns
-returns g c = (
+pub returns-clause-comes : goal.returns-clause-comes
+returns-clause-comes g c = (
   c.args.asked,
   refl,
   record {

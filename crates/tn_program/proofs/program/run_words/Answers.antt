@@ -1,6 +1,8 @@
-use Rattle.std.proofs.Common.{map, string_bytes, sym, ◌∙◌}
+use Rattle.std.proofs.Common.{◌≡◌, List, ℕ, map, string_bytes, subst, sym, ◌∙◌}
 use Rattle.tn_network.specs.Asked.{asking}
-use Rattle.tn_program.proofs.Coming.{if_ok, does}
+use Rattle.tn_program.proofs.Coming.{if_ok, does, refused}
+use Rattle.tn_program.specs.Told.{TellsAll, UnlessConnected}
+use Rattle.tn_streams.specs.Known.{known_writing}
 use Rattle.tn_program.proofs.program.run_words.Goals as goal
 
 pub returns-clause-done : goal.returns-clause-done
@@ -11,4 +13,14 @@ returns-clause-done g c zero =
 
 pub returns-clause-ended : goal.returns-clause-ended
 returns-clause-ended g c =
-    if_ok c.args.words _ _ (λ words comes. (c.outcome_of_words-outcome.result, comes, c.status.ensures)) c.outcome_of_words-outcome.ensures.comes
+    let run = c.outcome_of_words-outcome in
+    let causes = run.new.causes.items in
+    let uncaused = subst (λ (l : List ℕ). UnlessConnected run.result (causes ≡ l)) c.new-causes.ensures.items run.ensures.uncaused in
+    let told = subst (λ (l : List ℕ). TellsAll run.result l (known_writing g.E.Drain.contents g.E.Drain.told run.new.errors c.tell.new.errors)) c.deref.ensures.value c.tell.ensures in
+    if_ok c.args.words _ _ (λ words comes. (run.result, comes, (run.new.errors, causes, run.ensures.quiet, uncaused, told), c.status.ensures)) run.ensures.comes
+
+pub returns-clause-refused : goal.returns-clause-refused
+returns-clause-refused g c =
+    let network = asking (g.H.Network.listens c.args.rt) (g.H.Network.shares c.args.rt) (g.H.Network.accepts c.args.rt) (g.H.Network.finds c.args.rt) (g.H.Network.dials c.args.rt) in
+    let run = c.outcome_of_words-outcome in
+    if_ok c.args.words _ _ (λ words. refused network (map string_bytes words.items) c.args.seat.origin (g.R.Read.remaining c.args.seat.reader) (g.W.Write.contents c.args.writer.now) (g.W.Write.contents run.new.writer) run.result c.status.result c.status.ensures) run.ensures.comes

@@ -1,5 +1,4 @@
 use Rattle.std.proofs.Common.{◌∙◌}
-use Rattle.std.proofs.lemmas.Result.{err_from_is_err_and}
 use Rattle.tn_program.proofs.Asked.{answers, joins, unless}
 use Rattle.tn_program.proofs.serving.serve_asked.Goals as goal
 

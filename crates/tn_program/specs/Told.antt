@@ -1,0 +1,128 @@
+-- What is told on standard error of what came of the words.
+use Rattle.std.specs.Prelude.{◌≡◌, ◌≢◌, ◌⊎◌, ⊤, ℕ, decimal, Bool, Option, Some, None, List, [], ◌∷◌, ◌++◌, Result, Ok, Err, codes, string_bytes}
+use Rattle.tn_cli.specs.declared.fault.CliFault.{CliFault}
+use Rattle.tn_cli.specs.declared.fault.CliFault.TheVariants as run
+use Rattle.tn_connect.specs.declared.fault.ConnectFault.{ConnectFault}
+use Rattle.tn_connect.specs.declared.fault.ConnectFault.TheVariants as connect
+use Rattle.tn_loopback.specs.declared.fault.ServeFault.{ServeFault}
+use Rattle.tn_loopback.specs.declared.fault.ServeFault.TheVariants as serve
+use Rattle.tn_program.specs.Statuses.{status_of}
+use Rattle.tn_program.specs.declared.outcome.Outcome.{Outcome}
+use Rattle.tn_program.specs.declared.outcome.Outcome.TheVariants as outcome
+use Rattle.tn_session.specs.Turns.{Tells, Writes}
+use Rattle.tn_streams.specs.Known.{KnownWriting, known_writing}
+use Rattle.tn_streams.specs.Telling.{Calls}
+
+abbrev pub word_of_run : CliFault → List ℕ
+word_of_run run.Read = codes "read"
+word_of_run run.TooLong = codes "input too long"
+word_of_run (run.Script line) = codes "line " ++ decimal line ++ codes ": bad command"
+word_of_run (run.World line) = codes "line " ++ decimal line ++ codes ": refused"
+word_of_run run.Write = codes "write"
+word_of_run run.Memory = codes "memory"
+
+abbrev pub word_of_serving : ServeFault → List ℕ
+word_of_serving serve.Network = codes "network"
+word_of_serving serve.Limit = codes "bad limit"
+word_of_serving serve.Memory = codes "memory"
+
+abbrev pub word_of_connecting : ConnectFault → List ℕ
+word_of_connecting connect.Network = codes "network"
+word_of_connecting connect.Session = codes "session"
+word_of_connecting connect.Memory = codes "memory"
+
+abbrev pub line : List ℕ → List ℕ
+line word = codes "tn: " ++ word ++ (10 ∷ [])
+
+-- the line for a fault of a run, and nothing where there was none
+abbrev pub text_of_run : Result ⊤ CliFault → List ℕ
+text_of_run (Ok done) = []
+text_of_run (Err fault) = line (word_of_run fault)
+
+abbrev pub text_of_serving : {A : Type 0} → Result A ServeFault → List ℕ
+text_of_serving (Ok done) = []
+text_of_serving (Err fault) = line (word_of_serving fault)
+
+abbrev pub text_of_connecting : {A : Type 0} → Result A ConnectFault → List ℕ
+text_of_connecting (Ok done) = []
+text_of_connecting (Err fault) = line (word_of_connecting fault)
+
+-- what is wrong with words that could not be read
+abbrev pub unread : List ℕ
+unread = codes "error: a word of the command line is not text\n\nFor more information, try '--help'.\n"
+
+-- One line for a fault, and behind it what is wrong with words.
+abbrev pub text_of : Outcome → List ℕ
+text_of (outcome.Local ended) = text_of_run ended
+text_of (outcome.Replay ended) = text_of_run ended
+text_of (outcome.Decode ended) = text_of_run ended
+text_of (outcome.World ended) = text_of_run ended
+text_of (outcome.Served ended) = text_of_serving ended
+text_of (outcome.Connected ended) = text_of_connecting ended
+text_of outcome.Untraced = line (codes "write")
+text_of (outcome.Help ended) = text_of_run ended
+text_of (outcome.Version ended) = text_of_run ended
+text_of (outcome.Usage (Some detail)) = line (codes "usage") ++ string_bytes detail
+text_of (outcome.Usage None) = line (codes "usage") ++ unread
+text_of outcome.Memory = line (codes "memory")
+
+-- That text was told, and then the causes, or, out of memory for both, that; as far as the writer took it.
+pub record TellsSome (came : Outcome) (causes : List ℕ) (writer : KnownWriting) : Type 0 where
+  pub said : List ℕ
+  pub is : (said ≡ text_of came ++ causes) ⊎ (said ≡ line (codes "memory"))
+  pub whole : Bool
+  pub wrote : Writes whole writer.before.bytes writer.after.bytes said
+  pub tells : Tells whole writer.before.calls writer.after.calls
+
+-- where all went well and there is no cause to tell, nothing was told
+abbrev pub TellsAll : Outcome → List ℕ → KnownWriting → Type 0
+TellsAll came causes writer =
+    ((status_of came ≡ 0) × (causes ≡ []) × (writer.after ≡ writer.before))
+    ⊎ (((status_of came ≢ 0) ⊎ (causes ≢ [])) × TellsSome came causes writer)
+
+-- a server tells of its sessions meanwhile
+abbrev pub UnlessServed : Outcome → Type 0 → Type 0
+UnlessServed (outcome.Served ended) same = Unit {0}
+UnlessServed (outcome.Local ended) same = same
+UnlessServed (outcome.Replay ended) same = same
+UnlessServed (outcome.Decode ended) same = same
+UnlessServed (outcome.World ended) same = same
+UnlessServed (outcome.Connected ended) same = same
+UnlessServed outcome.Untraced same = same
+UnlessServed (outcome.Help ended) same = same
+UnlessServed (outcome.Version ended) same = same
+UnlessServed (outcome.Usage detail) same = same
+UnlessServed outcome.Memory same = same
+
+-- a connection notes causes
+abbrev pub UnlessConnected : Outcome → Type 0 → Type 0
+UnlessConnected (outcome.Connected ended) same = Unit {0}
+UnlessConnected outcome.Untraced same = Unit {0}
+UnlessConnected (outcome.Served ended) same = same
+UnlessConnected (outcome.Local ended) same = same
+UnlessConnected (outcome.Replay ended) same = same
+UnlessConnected (outcome.Decode ended) same = same
+UnlessConnected (outcome.World ended) same = same
+UnlessConnected (outcome.Help ended) same = same
+UnlessConnected (outcome.Version ended) same = same
+UnlessConnected (outcome.Usage detail) same = same
+UnlessConnected outcome.Memory same = same
+
+abbrev pub IsConnecting : Outcome → Type 0
+IsConnecting (outcome.Connected ended) = Unit {0}
+IsConnecting outcome.Untraced = Unit {0}
+IsConnecting (outcome.Served ended) = ⊥
+IsConnecting (outcome.Local ended) = ⊥
+IsConnecting (outcome.Replay ended) = ⊥
+IsConnecting (outcome.Decode ended) = ⊥
+IsConnecting (outcome.World ended) = ⊥
+IsConnecting (outcome.Help ended) = ⊥
+IsConnecting (outcome.Version ended) = ⊥
+IsConnecting (outcome.Usage detail) = ⊥
+IsConnecting outcome.Memory = ⊥
+
+-- A writer that was told all of it, from the first state to the last; only a server told of its sessions before.
+abbrev pub IsTold : {E : Type 0} → (E → Option (List ℕ)) → (E → Option Calls) → E → E → Outcome → Type 0
+IsTold {E} contents told old new came =
+    (between : E) × (causes : List ℕ) × UnlessServed came (between ≡ old) × UnlessConnected came (causes ≡ [])
+    × TellsAll came causes (known_writing contents told between new)
