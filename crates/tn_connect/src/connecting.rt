@@ -11,11 +11,13 @@ use crate::connected::Connected;
 use crate::fault::ConnectFault;
 use crate::reaching::reach;
 use crate::settings::{Connecting, Notes, Origin};
+use crate::waiting::{Brought, Patient};
 use std::alloc::Global;
 use std::fs::File;
 use std::io::{Read, Write};
 use std::net::{Net, TcpListener, TcpStream};
 use std::sync::Arc;
+use std::sync::atomic::AtomicBool;
 use std::{io, thread};
 use tn_session::{ClientPorts, Ended, Report, SessionFault, Unwatched, client_session};
 use tn_sockets::{
@@ -24,12 +26,16 @@ use tn_sockets::{
 };
 use tn_streams::Source;
 
+/// The line that says that a connection stands: ACK and a line feed.
+const STANDS: &[u8] = b"\x06\n";
+
 // A connection's two directions, of which the second is sent by a thread of its own.
 #[derive(Drop)]
 struct Wires<H> {
-    incoming: Incoming<H, TcpStream>,
+    incoming: Incoming<H, Brought<TcpStream>>,
     outgoing: Outgoing<H>,
     sending: Sending<H, Connection<TcpStream>>,
+    is_over: Arc<AtomicBool, Global>,
 }
 
 // A session that is over, how its sending ended, how many bytes were not sent, and the queue of what it wrote.
@@ -59,11 +65,17 @@ fn wire<H: Host>(
     let (outgoing, sending, throttle) = queue_for(rt, alloc, writer, sent, trace.try_clone()?)?;
     let is_watched = origin == Origin::Terminal;
     let read = Arc::try_clone(link)?;
-    let incoming = Incoming::new(alloc, reader, read, trace.try_clone()?, is_watched);
+    let is_over = Arc::new(alloc, AtomicBool::new(false))?;
+    let brought = Brought {
+        reader,
+        is_over: Arc::try_clone(&is_over)?,
+    };
+    let incoming = Incoming::new(alloc, brought, read, trace.try_clone()?, is_watched);
     let wires = Wires {
         incoming,
         outgoing,
         sending,
+        is_over,
     };
     Ok((wires, throttle))
 }
@@ -72,7 +84,7 @@ fn wire<H: Host>(
 fn talk<H: Host, K: Source + Drop + Send + 'static, S: Write>(
     rt: H,
     alloc: Global,
-    incoming: Incoming<H, TcpStream>,
+    incoming: Incoming<H, Brought<TcpStream>>,
     outgoing: &mut Outgoing<H>,
     keys: K,
     screen: &mut S,
@@ -97,9 +109,10 @@ fn talk<H: Host, K: Source + Drop + Send + 'static, S: Write>(
 fn talk_from<H: Host, K: Read + Drop + Send + 'static, S: Write>(
     rt: H,
     alloc: Global,
-    incoming: Incoming<H, TcpStream>,
+    incoming: Incoming<H, Brought<TcpStream>>,
     outgoing: &mut Outgoing<H>,
     typing: Typing<H, K>,
+    is_over: Arc<AtomicBool, Global>,
     screen: &mut S,
     connecting: Connecting,
 ) -> Result<(Report, ClientPorts), SessionFault>
@@ -115,7 +128,12 @@ fn talk_from<H: Host, K: Read + Drop + Send + 'static, S: Write>(
             talk(rt, alloc, incoming, outgoing, keys, screen, connecting)
         },
         Origin::Input => {
-            let keys = Console::new(rt, typing, None);
+            let keys = Patient {
+                rt,
+                keys: Console::new(rt, typing, None),
+                seconds: connecting.wait,
+                is_over,
+            };
             talk(rt, alloc, incoming, outgoing, keys, screen, connecting)
         },
         Origin::Terminal => {
@@ -145,6 +163,7 @@ fn talk_and_send<H: Host, K: Read + Drop + Send + 'static, S: Write>(
         incoming,
         mut outgoing,
         sending,
+        is_over,
     } = wires;
     let send = move || -> io::Result<Sent> {
         let mut sending = sending;
@@ -159,6 +178,7 @@ fn talk_and_send<H: Host, K: Read + Drop + Send + 'static, S: Write>(
         incoming,
         &mut outgoing,
         typing,
+        is_over,
         screen,
         connecting,
     );
@@ -182,6 +202,7 @@ pub fn connect<
     H: Host + Net<Listener = TcpListener, Stream = TcpStream>,
     K: Read + Drop + Send + 'static,
     S: Write,
+    E: Write,
 >(
     rt: H,
     alloc: Global,
@@ -189,7 +210,7 @@ pub fn connect<
     connecting: Connecting,
     keys: K,
     screen: &mut S,
-    notes: Notes<'_>,
+    notes: Notes<'_, E>,
 ) -> Result<Connected, ConnectFault>
     ensures ran { IfOk result (RunsClient (window_of connecting) (foreseen connecting.origin (K.remaining keys))
         (S.contents screen.old) (S.contents screen.new)) }
@@ -200,10 +221,17 @@ pub fn connect<
     let Notes {
         trace,
         sizes,
+        stands,
+        mut news,
         causes,
         link,
     } = notes;
-    let stream = reach(&rt, host, connecting.port, causes)?;
+    if trace.is_some() {
+        news.trace();
+    }
+    let stream = reach(&rt, host, connecting.port, &mut news, causes)?;
+    news.connect(host, connecting.escape);
+    tell_standing(stands);
     let trace = Trace::new(rt, alloc, trace)?;
     let (wires, throttle) = wire(rt, alloc, stream, &link, &trace, connecting.origin)?;
     let typing = Typing {
@@ -221,7 +249,18 @@ pub fn connect<
     if !trace.end() {
         let _ = writeln!(causes, "tn: the trace is not whole");
     }
-    result_of(talked, link.is_left())
+    let is_left = link.is_left();
+    // A screen that takes no more has ended the connection, and sending fails then.
+    let ended = result_of(talked, is_left || link.is_dark());
+    news.close(host, is_left, ended.is_ok());
+    ended
+}
+
+// Whoever waits for the connection hears that it stands.
+fn tell_standing(stands: Option<File>) {
+    if let Some(mut stands) = stands {
+        let _ = stands.write_all(STANDS);
+    }
 }
 
 // Notes why a session ended in a fault, if it did, and what was not sent.

@@ -59,6 +59,7 @@ ran a origin bytes old new (outcome.Connected (Ok r)) (connecting, e, ends) zero
     subst (λ a. RunsAsked a origin bytes old new) (sym e) (r, ends.ran, ends.whole)
 ran a origin bytes old new (outcome.Connected (Err f)) h zero = absurd (unconnected f zero)
 ran a origin bytes old new outcome.Untraced h zero = absurd (omega (arith, zero))
+ran a origin bytes old new outcome.NoPlain h zero = absurd (omega (arith, zero))
 ran a origin bytes old new (outcome.Help ended) h zero = absurd h
 ran a origin bytes old new (outcome.Version ended) h zero = absurd h
 ran a origin bytes old new (outcome.Usage detail) h zero = absurd h
@@ -82,6 +83,7 @@ helped words origin bytes old new (outcome.World ended) h zero = absurd h
 helped words origin bytes old new (outcome.Served ended) h zero = absurd h
 helped words origin bytes old new (outcome.Connected ended) h zero = absurd h
 helped words origin bytes old new outcome.Untraced h zero = absurd h
+helped words origin bytes old new outcome.NoPlain h zero = absurd h
 
 pub does : (words : List (List ℕ)) (origin : Origin) (bytes : Option (List ℕ)) (old new : Option (List ℕ)) (came : Outcome)
     → status_of came ≡ 0 → ComesOf words origin bytes old new came → DoesAsAsked words origin bytes old new

@@ -64,6 +64,8 @@ ComesOfRun a origin bytes old new (outcome.Connected ended) =
     × EndsConnecting connecting ended (foreseen origin bytes) old new
 ComesOfRun a origin bytes old new outcome.Untraced =
     (connecting : Connecting) × (a ≡ asked.Connect connecting) × (connecting.trace ≢ None) × (new ≡ old)
+ComesOfRun a origin bytes old new outcome.NoPlain =
+    (connecting : Connecting) × (a ≡ asked.Connect connecting) × (connecting.plain ≢ None) × (new ≡ old)
 ComesOfRun a origin bytes old new (outcome.Help ended) = ⊥
 ComesOfRun a origin bytes old new (outcome.Version ended) = ⊥
 ComesOfRun a origin bytes old new (outcome.Usage detail) = ⊥
@@ -84,6 +86,7 @@ ComesOfNoRun words old new (outcome.World ended) = ⊥
 ComesOfNoRun words old new (outcome.Served ended) = ⊥
 ComesOfNoRun words old new (outcome.Connected ended) = ⊥
 ComesOfNoRun words old new outcome.Untraced = ⊥
+ComesOfNoRun words old new outcome.NoPlain = ⊥
 
 -- this came of the words: the run that they ask for, or none
 abbrev pub ComesOf : List (List ℕ) → Origin → Option (List ℕ) → Option (List ℕ) → Option (List ℕ) → Outcome → Type 0

@@ -37,6 +37,7 @@ status_of (outcome.World ended) = status_after ended
 status_of (outcome.Served ended) = status_after_serving ended
 status_of (outcome.Connected ended) = status_after_connecting ended
 status_of outcome.Untraced = 1
+status_of outcome.NoPlain = 2
 status_of (outcome.Help ended) = status_after ended
 status_of (outcome.Version ended) = status_after ended
 status_of (outcome.Usage detail) = 2

@@ -28,6 +28,8 @@ pub enum Outcome {
     Connected(Result<Connected, ConnectFault>),
     /// They ask for a connection with a trace, whose file could not be made; none was made.
     Untraced,
+    /// They ask for a connection without Telnet, of which there is none yet.
+    NoPlain,
     /// They ask for help; it was written, or that failed.
     Help(Result<(), CliFault>),
     /// They ask for the version; it was written, or that failed.
@@ -51,6 +53,7 @@ impl Outcome {
             Outcome::Served(ended) => after_serving(ended),
             Outcome::Connected(ended) => after_connecting(ended),
             Outcome::Untraced => CliFault::Write.status(),
+            Outcome::NoPlain => USAGE,
             Outcome::Help(ended) => after_run(ended),
             Outcome::Version(ended) => after_run(ended),
             Outcome::Usage(_) => USAGE,
@@ -69,6 +72,7 @@ impl Outcome {
             Outcome::Served(Err(fault)) => tell(errors, fault),
             Outcome::Connected(Err(fault)) => tell(errors, fault),
             Outcome::Untraced => tell(errors, &CliFault::Write),
+            Outcome::NoPlain => tell(errors, &"--plain is not there yet"),
             Outcome::Help(Err(fault)) => tell(errors, fault),
             Outcome::Version(Err(fault)) => tell(errors, fault),
             Outcome::Usage(Some(detail)) => tell_usage(errors, detail.as_str()),

@@ -10,14 +10,18 @@ use crate::seat::Seat;
 use crate::serving::serve_asked;
 use crate::settings::connecting_of;
 use std::alloc::{AllocError, Global};
-use std::fs::{File, Files};
+use std::fs::{File, Files, OpenOptions};
 use std::io;
 use std::io::{ErrorKind, Read, Write};
 use std::net::{Net, TcpListener, TcpStream};
+use std::os::unix::fs::OpenOptionsExt;
 use tn_cli::{CliFault, run_decode, run_local, run_replay, run_world};
-use tn_connect::{Host, Notes, connect};
+use tn_connect::{Host, News, Notes, Origin, connect};
 use tn_gateway::Dial;
 use tn_words::{Asked, Connecting, VERSION_LINE, WordsFault, read_words};
+
+/// Who reads and writes a trace: its owner alone, since what is typed stands there.
+const TRACE_MODE: u32 = 0o600;
 
 /// Runs what the words of the command line ask for, where they could be read. The program's name is the
 /// first of them. Returns the status to end with: 0 where that was done, and else the status of its fault
@@ -194,7 +198,7 @@ fn run_asked<
         Asked::Decode => Outcome::Decode(run_decode(alloc, &mut seat, writer)),
         Asked::World => Outcome::World(run_world(alloc, &mut seat, writer)),
         Asked::Serve(asked) => Outcome::Served(serve_asked(rt, alloc, &asked, errors)),
-        Asked::Connect(asked) => run_connect(rt, alloc, asked, seat, writer, causes),
+        Asked::Connect(asked) => run_connect(rt, alloc, asked, seat, writer, errors, causes),
     }
 }
 
@@ -202,17 +206,22 @@ fn run_connect<
     H: Host + Files<File = File> + Net<Listener = TcpListener, Stream = TcpStream>,
     R: Read + Drop + Send + 'static,
     W: Write,
+    E: Write,
 >(
     rt: H,
     alloc: Global,
     asked: Connecting,
     seat: Seat<R>,
     writer: &mut W,
+    errors: &mut E,
     causes: &mut Vec<u8>,
 ) -> Outcome
     ensures { ComesOfRun (Asked.Connect asked) seat.origin (R.remaining seat.reader)
         (W.contents writer.old) (W.contents writer.new) result }
 {
+    if asked.plain.is_some() {
+        return Outcome::NoPlain;
+    }
     let Ok(trace) = open_trace(&rt, &asked, causes) else {
         return Outcome::Untraced;
     };
@@ -220,11 +229,18 @@ fn run_connect<
         origin,
         reader,
         sizes,
+        stands,
         link,
     } = seat;
+    let news = News {
+        writer: errors,
+        is_told: origin == Origin::Terminal && !asked.quiet,
+    };
     let notes = Notes {
         trace,
         sizes,
+        stands,
+        news,
         causes,
         link,
     };
@@ -244,11 +260,21 @@ fn open_trace<H: Files<File = File>>(
     let Some(path) = &asked.trace else {
         return Ok(None);
     };
-    match File::create(rt, path.as_str()) {
+    match create_private(rt, path.as_str()) {
         Ok(file) => Ok(Some(file)),
         Err(error) => {
             let _ = writeln!(causes, "tn: {}: {}", path, error);
             Err(error)
         },
     }
+}
+
+// An empty file that is its owner's alone, unless it was there before.
+fn create_private<H: Files<File = File>>(rt: &H, path: &str) -> io::Result<File> {
+    let mut options = OpenOptions::new();
+    options.mode(TRACE_MODE);
+    options.write(true);
+    options.create(true);
+    options.truncate(true);
+    options.open(rt, path)
 }

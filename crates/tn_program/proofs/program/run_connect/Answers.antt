@@ -1,8 +1,16 @@
-use Rattle.std.proofs.Common.{IfOk, refl, subst}
+use Rattle.std.proofs.Common.{◌≡◌, ◌∙◌, IfOk, ap, false, is_some, refl, subst, sym, true}
 use Rattle.tn_connect.specs.Clients.{RunsClient, foreseen, window_of}
 use Rattle.tn_connect.specs.declared.settings.Origin.{Origin}
 use Rattle.tn_session.specs.Facts.{Window}
 use Rattle.tn_program.proofs.program.run_connect.Goals as goal
+
+pub returns-then-is_some : goal.returns-then-is_some
+returns-then-is_some g c = (
+  c.args.asked,
+  refl,
+  λ none. let bad : true ≡ false = sym c.if-is_some.true ∙ (c.is_some.ensures ∙ ap is_some none) in absurd (cc),
+  refl,
+)
 
 pub returns-in_default : goal.returns-in_default
 returns-in_default g c = (c.args.asked, refl, c.in_default.ensures, refl)
