@@ -12,10 +12,10 @@ _tn() {
     case $before in
         --trace) mapfile -t COMPREPLY < <(compgen -f -- "$word"); return ;;
         --host|--to) mapfile -t COMPREPLY < <(compgen -A hostname -- "$word"); return ;;
-        --port|--limit|--count|--ticks|--line|--idle|--width|--height|--escape) return ;;
+        -p|--port|--limit|--count|--ticks|--line|--idle|--width|--height|--escape|-q) return ;;
     esac
     if ((COMP_CWORD == 1)); then
-        words='local replay decode world serve connect -h --help -V --version'
+        words='local replay decode world serve connect help -h --help -V --version'
     else
         case ${COMP_WORDS[1]} in
             local)
@@ -27,10 +27,12 @@ _tn() {
             world)
                 words='-h --help' ;;
             serve)
-                words='--host --port --limit --count --ticks --line --idle --local --verbose --to --crlf -h --help' ;;
+                words='--host -p --port --limit --count --ticks --line --idle --local --verbose --to --crlf -h --help' ;;
             connect)
                 if [[ $word != -* ]]; then mapfile -t COMPREPLY < <(compgen -A hostname -- "$word"); return; fi
-                words='--port --width --height --line --escape --trace -h --help' ;;
+                words='-p --port --width --height --line --escape --trace -q --quiet -h --help' ;;
+            help)
+                words='local replay decode world serve connect help' ;;
             *) return ;;
         esac
     fi

@@ -13,6 +13,7 @@
 //! encrypts nothing, and reads no urgent data.
 #![tactic(auto)]
 
+use crate::outlet::Outlet;
 use std::alloc::{AllocError, Global};
 use std::env::{Env, FillError};
 use std::fs::{File, Files};
@@ -21,13 +22,19 @@ use std::sync::Arc;
 use std::{env, io, str};
 use tn_program::{Link, Origin, Screen, Seat, run_words};
 
-/// The environment variable by which the launcher says that standard input is a terminal in raw mode.
+mod outlet;
+
+/// The environment variable by which the launcher says that standard input is a terminal, raw once the
+/// connection stands.
 const TERMINAL: &str = "TN_TERMINAL";
 
 /// The environment variable by which the launcher names the pipe that tells the sizes of the window.
 const SIZES: &str = "TN_SIZES";
 
-/// How many bytes the path of that pipe has at most.
+/// The environment variable by which the launcher names the pipe in which it hears that a connection stands.
+const STANDS: &str = "TN_STANDS";
+
+/// How many bytes the path of such a pipe has at most.
 const MAX_PATH: usize = 4_096;
 
 /// The status when out of memory before anything is run.
@@ -49,11 +56,30 @@ fn sizes_of<R: Env + Files<File = File>>(rt: &R) -> Option<File> {
     File::open(rt, path).ok()
 }
 
+// The pipe that is told once a connection stands, if there is one.
+fn stands_of<R: Env + Files<File = File>>(rt: &R) -> Option<File> {
+    let mut path = [0; MAX_PATH];
+    let count = rt.var(STANDS, &mut path).ok()?;
+    let path = str::from_utf8(&path[..count]).ok()?;
+    File::create(rt, path).ok()
+}
+
 // A connection that is to be, for the keys and for the screen.
 fn links(alloc: Global) -> Result<(Arc<Link, Global>, Arc<Link, Global>), AllocError> {
     let link = Arc::new(alloc, Link::new())?;
     let linked = Arc::try_clone(&link)?;
     Ok((link, linked))
+}
+
+// Whether the words are those of `connect`.
+fn is_session(words: &io::Result<Vec<String>>) -> bool {
+    match words {
+        Ok(words) => match words.get(1) {
+            Some(word) => word.as_str() == "connect",
+            None => false,
+        },
+        Err(_) => false,
+    }
 }
 
 fn main(rt: HostRuntime) -> ExitCode {
@@ -70,11 +96,15 @@ fn main(rt: HostRuntime) -> ExitCode {
         origin: origin_of(&rt),
         reader: rt.stdin(),
         sizes: sizes_of(&rt),
+        stands: stands_of(&rt),
         link,
     };
-    let mut screen = Screen {
-        writer: rt.stdout(),
-        link: linked,
+    let mut screen = Outlet {
+        screen: Screen {
+            writer: rt.stdout(),
+            link: linked,
+        },
+        is_session: is_session(&words),
     };
     let status = run_words(rt, alloc, words, seat, &mut screen, &mut rt.stderr());
     ExitCode::from(status)

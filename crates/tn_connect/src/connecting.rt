@@ -19,6 +19,7 @@ use crate::connected::Connected;
 use crate::fault::ConnectFault;
 use crate::sending::{Delivered, Sender};
 use crate::settings::{Connecting, Notes, Origin};
+use crate::waiting::{Brought, Patient};
 use std::alloc::Global;
 use std::fs::File;
 use std::io;
@@ -26,6 +27,7 @@ use std::io::{Read, Write};
 use std::marker::Brand;
 use std::net::TcpStream;
 use std::sync::Arc;
+use std::sync::atomic::AtomicBool;
 use tn_network::{Network, reach};
 use tn_session::{ClientPorts, Ended, Report, SessionFault, Unwatched, client_session};
 use tn_sockets::{
@@ -33,6 +35,9 @@ use tn_sockets::{
     Sizes, Trace, Typing, WriteLog, new_queue,
 };
 use tn_streams::Source;
+
+/// The line that says that a connection stands: ACK and a line feed.
+const STANDS: &[u8] = b"\x06\n";
 
 // A connection that stands, and what it shares with the rest of the client.
 #[derive(Drop)]
@@ -46,9 +51,10 @@ struct Opened<H> {
 // A connection's two directions, of which the second is sent by a thread of its own.
 #[derive(Drop)]
 struct Wires<H, Q: Queue> {
-    incoming: Incoming<H, TcpStream>,
+    incoming: Incoming<H, Brought<TcpStream>>,
     outgoing: Outgoing<H, Q>,
     sender: Sender<H, Q>,
+    is_over: Arc<AtomicBool, Global>,
 }
 
 // A session that is over, how its sending ended, how many bytes were not sent, the queue of what it wrote, and
@@ -84,13 +90,19 @@ fn wire<H: Host, Q: Queue>(
     link.attach(&rt, reader.try_clone()?);
     let sent = Arc::try_clone(&link)?;
     let is_watched = origin == Origin::Terminal;
-    let incoming = Incoming::new(alloc, reader, link, trace.try_clone()?, is_watched);
+    let is_over = Arc::new(alloc, AtomicBool::new(false))?;
+    let brought = Brought {
+        reader,
+        is_over: Arc::try_clone(&is_over)?,
+    };
+    let incoming = Incoming::new(alloc, brought, link, trace.try_clone()?, is_watched);
     let (outgoing, sending) = queue.sides(rt, alloc, Logged::new(writer), sent, trace)?;
     let sender = Sender { sending };
     Ok(Wires {
         incoming,
         outgoing,
         sender,
+        is_over,
     })
 }
 
@@ -98,7 +110,7 @@ fn wire<H: Host, Q: Queue>(
 fn talk<H: Host, K: Source + Drop + Send + 'static, S: Write, Q: Queue>(
     rt: H,
     alloc: Global,
-    incoming: Incoming<H, TcpStream>,
+    incoming: Incoming<H, Brought<TcpStream>>,
     outgoing: &mut Outgoing<H, Q>,
     keys: K,
     screen: &mut S,
@@ -123,9 +135,10 @@ fn talk<H: Host, K: Source + Drop + Send + 'static, S: Write, Q: Queue>(
 fn talk_from<H: Host, K: Read + Drop + Send + 'static, S: Write, Q: Queue>(
     rt: H,
     alloc: Global,
-    incoming: Incoming<H, TcpStream>,
+    incoming: Incoming<H, Brought<TcpStream>>,
     outgoing: &mut Outgoing<H, Q>,
     typing: Typing<H, K>,
+    is_over: Arc<AtomicBool, Global>,
     screen: &mut S,
     connecting: Connecting,
 ) -> Result<(Report, ClientPorts), SessionFault>
@@ -141,7 +154,12 @@ fn talk_from<H: Host, K: Read + Drop + Send + 'static, S: Write, Q: Queue>(
             talk(rt, alloc, incoming, outgoing, keys, screen, connecting)
         },
         Origin::Input => {
-            let keys = Console::new(rt, typing, None);
+            let keys = Patient {
+                rt,
+                keys: Console::new(rt, typing, None),
+                seconds: connecting.wait,
+                is_over,
+            };
             talk(rt, alloc, incoming, outgoing, keys, screen, connecting)
         },
         Origin::Terminal => {
@@ -179,6 +197,7 @@ fn talk_and_send<
         incoming,
         mut outgoing,
         sender,
+        is_over,
     } = wire::<H, Q>(rt, alloc, opened, connecting.origin)?;
     let Some(sending) = sender.start(rt) else {
         return Err(ConnectFault::Memory);
@@ -189,6 +208,7 @@ fn talk_and_send<
         incoming,
         &mut outgoing,
         typing,
+        is_over,
         screen,
         connecting,
     );
@@ -209,14 +229,14 @@ fn talk_and_send<
 /// keys and this screen, until the server has closed or the user leaves. What a session that ends without a
 /// fault returns tells contracts all that was read from the connection, all that the session wrote, and what the
 /// connection took of it. Of a fault the causes are noted.
-pub fn connect<H: Host + Network, K: Read + Drop + Send + 'static, S: Write>(
+pub fn connect<H: Host + Network, K: Read + Drop + Send + 'static, S: Write, E: Write>(
     rt: H,
     alloc: Global,
     host: &str,
     connecting: Connecting,
     keys: K,
     screen: &mut S,
-    notes: Notes<'_>,
+    notes: Notes<'_, E>,
 ) -> Result<Connected, ConnectFault>
     ensures ran { IfOk result (RunsClient (window_of connecting) (foreseen connecting.origin (K.remaining keys))
         (S.contents screen.old) (S.contents screen.new)) }
@@ -229,13 +249,20 @@ pub fn connect<H: Host + Network, K: Read + Drop + Send + 'static, S: Write>(
     let Notes {
         trace,
         sizes,
+        stands,
+        mut news,
         causes,
         link,
     } = notes;
-    let stream = reach(&rt, host, connecting.port, causes)?;
+    if trace.is_some() {
+        news.trace();
+    }
+    let stream = reach(&rt, host, connecting.port, &mut news, causes)?;
     let notes = Notes {
         trace,
         sizes,
+        stands,
+        news,
         causes,
         link,
     };
@@ -243,7 +270,7 @@ pub fn connect<H: Host + Network, K: Read + Drop + Send + 'static, S: Write>(
 }
 
 // The same, over a connection to this host.
-fn connect_over<H: Host, K: Read + Drop + Send + 'static, S: Write>(
+fn connect_over<H: Host, K: Read + Drop + Send + 'static, S: Write, E: Write>(
     rt: H,
     alloc: Global,
     host: &str,
@@ -251,7 +278,7 @@ fn connect_over<H: Host, K: Read + Drop + Send + 'static, S: Write>(
     connecting: Connecting,
     keys: K,
     screen: &mut S,
-    notes: Notes<'_>,
+    notes: Notes<'_, E>,
 ) -> Result<Connected, ConnectFault>
     ensures ran { IfOk result (RunsClient (window_of connecting) (foreseen connecting.origin (K.remaining keys))
         (S.contents screen.old) (S.contents screen.new)) }
@@ -263,9 +290,13 @@ fn connect_over<H: Host, K: Read + Drop + Send + 'static, S: Write>(
     let Notes {
         trace,
         sizes,
+        stands,
+        mut news,
         causes,
         link,
     } = notes;
+    news.connect(host, connecting.escape);
+    tell_standing(stands);
     let trace = Trace::new(rt, alloc, trace)?;
     let (queue, throttle) = new_queue(rt, alloc)?;
     let typing = Typing {
@@ -289,7 +320,18 @@ fn connect_over<H: Host, K: Read + Drop + Send + 'static, S: Write>(
     if !trace.end() {
         let _ = writeln!(causes, "tn: the trace is not whole");
     }
-    result_of(talked, link.is_left())
+    let is_left = link.is_left();
+    // A screen that takes no more has ended the connection, and sending fails then.
+    let ended = result_of(talked, is_left || link.is_dark());
+    news.close(host, is_left, ended.is_ok());
+    ended
+}
+
+// Whoever waits for the connection hears that it stands.
+fn tell_standing(stands: Option<File>) {
+    if let Some(mut stands) = stands {
+        let _ = stands.write_all(STANDS);
+    }
 }
 
 // Notes why a session ended in a fault, if it did, and what was not sent.

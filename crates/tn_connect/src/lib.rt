@@ -11,11 +11,14 @@
 pub use connected::Connected;
 pub use connecting::connect;
 pub use fault::ConnectFault;
+pub use news::News;
 pub use settings::{Connecting, Notes, Origin};
 pub use tn_sockets::{Host, Link, Screen};
 
 mod connected;
 mod connecting;
 mod fault;
+mod news;
 mod sending;
 mod settings;
+mod waiting;

@@ -1,5 +1,6 @@
 //! How to connect.
 
+use crate::news::News;
 use std::alloc::Global;
 use std::fs::File;
 use std::sync::Arc;
@@ -32,16 +33,21 @@ pub struct Connecting {
     pub origin: Origin,
     /// The escape character of a terminal, if it has one.
     pub escape: Option<u8>,
+    /// How many seconds after the end of standard input the server is told that no more comes.
+    pub wait: u32,
 }
 
 /// What a client's session has beside its keys and its screen.
 #[derive(Drop)]
-pub struct Notes<'a> {
+pub struct Notes<'a, W> {
     /// Gets a line for each item that comes and goes.
     pub trace: Option<File>,
     /// Tells each new size of the window, where standard input is waited for: width and height, five
     /// characters each, a space between them and a line feed behind them.
     pub sizes: Option<File>,
+    /// Gets a line once the connection stands, and is let go then.
+    pub stands: Option<File>,
+    pub news: News<'a, W>,
     /// Gets the causes of a fault, a line each.
     pub causes: &'a mut Vec<u8>,
     /// The connection, as the screen has it.

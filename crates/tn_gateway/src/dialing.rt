@@ -17,7 +17,7 @@ use std::io::{ErrorKind, Read, Write};
 use std::net::{Shutdown, TcpStream};
 use std::sync::Wait;
 use std::time::Duration;
-use tn_network::{Network, reach};
+use tn_network::{Network, Unheard, reach};
 use tn_session::{Finish, Maker};
 use tn_sockets::{Closing, Hook};
 
@@ -79,7 +79,7 @@ impl<H: Copy + Network + Wait> Joiner<H> {
             (H.dials self.now.rt)) (option_map (λ halves. halves.1) result) }
     {
         let mut causes = Vec::new(alloc);
-        match reach(&self.rt, self.host.as_str(), self.port, &mut causes) {
+        match reach(&self.rt, self.host.as_str(), self.port, &mut Unheard, &mut causes) {
             Ok(stream) => halves(stream).ok(),
             Err(_) => None,
         }

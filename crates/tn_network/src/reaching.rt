@@ -5,14 +5,28 @@ ghost use Rattle.tn_network.specs.Asked.{Reaches};
 use crate::asking::Network;
 use std::io;
 use std::io::{ErrorKind, Write};
-use std::net::TcpStream;
+use std::net::{SocketAddr, TcpStream};
+
+/// Who hears of each address before a connection to it is asked for.
+pub trait Trying {
+    fn try_address(&mut self, address: &SocketAddr);
+}
+
+/// Nobody hears of it.
+#[derive(Drop)]
+pub struct Unheard;
+
+impl Trying for Unheard {
+    fn try_address(&mut self, _address: &SocketAddr) {}
+}
 
 /// Connects to a host, an address or a name: of its addresses, to the first that takes a connection. Where
 /// none does, `causes` gets a line for each.
-pub fn reach<N: Network>(
+pub fn reach<N: Network, T: Trying>(
     net: &N,
     host: &str,
     port: u16,
+    trying: &mut T,
     causes: &mut Vec<u8>,
 ) -> io::Result<TcpStream>
     ensures { Reaches (N.finds net.now host.now port) (N.dials net.now) result }
@@ -26,6 +40,7 @@ pub fn reach<N: Network>(
     };
     let mut last = io::Error::from(ErrorKind::NotFound);
     for address in addresses {
+        trying.try_address(&address);
         match net.dial(address) {
             Ok(stream) => {
                 causes.clear();

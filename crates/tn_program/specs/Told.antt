@@ -80,19 +80,19 @@ TellsAll came causes writer =
     ((status_of came ≡ 0) × (causes ≡ []) × (writer.after ≡ writer.before))
     ⊎ (((status_of came ≢ 0) ⊎ (causes ≢ [])) × TellsSome came causes writer)
 
--- a server tells of its sessions meanwhile
-abbrev pub UnlessServed : Outcome → Type 0 → Type 0
-UnlessServed (outcome.Served ended) same = Unit {0}
-UnlessServed (outcome.Local ended) same = same
-UnlessServed (outcome.Replay ended) same = same
-UnlessServed (outcome.Decode ended) same = same
-UnlessServed (outcome.World ended) same = same
-UnlessServed (outcome.Connected ended) same = same
-UnlessServed outcome.Untraced same = same
-UnlessServed (outcome.Help ended) same = same
-UnlessServed (outcome.Version ended) same = same
-UnlessServed (outcome.Usage detail) same = same
-UnlessServed outcome.Memory same = same
+-- a server tells of its sessions meanwhile, and a client of its connection
+abbrev pub UnlessTelling : Outcome → Type 0 → Type 0
+UnlessTelling (outcome.Served ended) same = Unit {0}
+UnlessTelling (outcome.Local ended) same = same
+UnlessTelling (outcome.Replay ended) same = same
+UnlessTelling (outcome.Decode ended) same = same
+UnlessTelling (outcome.World ended) same = same
+UnlessTelling (outcome.Connected ended) same = Unit {0}
+UnlessTelling outcome.Untraced same = same
+UnlessTelling (outcome.Help ended) same = same
+UnlessTelling (outcome.Version ended) same = same
+UnlessTelling (outcome.Usage detail) same = same
+UnlessTelling outcome.Memory same = same
 
 -- a connection notes causes
 abbrev pub UnlessConnected : Outcome → Type 0 → Type 0
@@ -121,8 +121,8 @@ IsConnecting (outcome.Version ended) = ⊥
 IsConnecting (outcome.Usage detail) = ⊥
 IsConnecting outcome.Memory = ⊥
 
--- A writer that was told all of it, from the first state to the last; only a server told of its sessions before.
+-- A writer that was told all of it, from the first state to the last; only a server and a client told something before.
 abbrev pub IsTold : {E : Type 0} → (E → Option (List ℕ)) → (E → Option Calls) → E → E → Outcome → Type 0
 IsTold {E} contents told old new came =
-    (between : E) × (causes : List ℕ) × UnlessServed came (between ≡ old) × UnlessConnected came (causes ≡ [])
+    (between : E) × (causes : List ℕ) × UnlessTelling came (between ≡ old) × UnlessConnected came (causes ≡ [])
     × TellsAll came causes (known_writing contents told between new)

@@ -5,7 +5,7 @@ ghost use Rattle.std.specs.IoError.{error_kind};
 ghost use Rattle.tn_network.specs.Asked.{asking};
 ghost use Rattle.tn_program.specs.Outcomes.{ComesOf, ComesOfRun, EndsVersion, EndsWith, AskForNothing};
 ghost use Rattle.tn_program.specs.Runs.{DoesAsAsked};
-ghost use Rattle.tn_program.specs.Told.{IsConnecting, IsTold, UnlessConnected, UnlessServed};
+ghost use Rattle.tn_program.specs.Told.{IsConnecting, IsTold, UnlessConnected, UnlessTelling};
 
 use crate::lines::Lines;
 use crate::outcome::Outcome;
@@ -13,14 +13,18 @@ use crate::seat::Seat;
 use crate::serving::serve_asked;
 use crate::settings::connecting_of;
 use std::alloc::{AllocError, Global};
-use std::fs::{File, Files};
+use std::fs::{File, Files, OpenOptions};
 use std::io;
 use std::io::{ErrorKind, Read, Write};
+use std::os::unix::fs::OpenOptionsExt;
 use tn_cli::{CliFault, run_decode, run_local, run_replay, run_world};
-use tn_connect::{Host, Notes, connect};
+use tn_connect::{Host, News, Notes, Origin, connect};
 use tn_network::Network;
 use tn_streams::Drain;
 use tn_words::{Asked, Connecting, VERSION_LINE, WordsFault, read_words};
+
+/// Who reads and writes a trace: its owner alone, since what is typed stands there.
+const TRACE_MODE: u32 = 0o600;
 
 /// Runs what the words of the command line ask for, where they could be read. The program's name is the
 /// first of them. Returns the status to end with: 0 where that was done, and else the status of its fault
@@ -87,7 +91,7 @@ pub fn outcome_of_words<
         (asking (H.listens rt) (H.shares rt) (H.accepts rt) (H.finds rt) (H.dials rt))
         (map string_bytes words.items) seat.origin (R.remaining seat.reader)
         (W.contents writer.old) (W.contents writer.new) result) }
-    ensures quiet { UnlessServed result (errors.new ≡ errors.old) }
+    ensures quiet { UnlessTelling result (errors.new ≡ errors.old) }
     ensures uncaused { UnlessConnected result (causes.new.items ≡ causes.old.items) }
 {
     match words {
@@ -125,7 +129,7 @@ fn run_strings<
     ensures comes { ComesOf (asking (H.listens rt) (H.shares rt) (H.accepts rt) (H.finds rt) (H.dials rt))
         (map string_bytes words.now) seat.origin (R.remaining seat.reader)
         (W.contents writer.old) (W.contents writer.new) result }
-    ensures quiet { UnlessServed result (errors.new ≡ errors.old) }
+    ensures quiet { UnlessTelling result (errors.new ≡ errors.old) }
     ensures uncaused { UnlessConnected result (causes.new.items ≡ causes.old.items) }
 {
     match texts_of(alloc, words) {
@@ -161,7 +165,7 @@ fn run_texts<
     ensures comes { ComesOf (asking (H.listens rt) (H.shares rt) (H.accepts rt) (H.finds rt) (H.dials rt))
         (map (λ word. word.now) words.now) seat.origin (R.remaining seat.reader)
         (W.contents writer.old) (W.contents writer.new) result }
-    ensures quiet { UnlessServed result (errors.new ≡ errors.old) }
+    ensures quiet { UnlessTelling result (errors.new ≡ errors.old) }
     ensures uncaused { UnlessConnected result (causes.new.items ≡ causes.old.items) }
 {
     match read_words(alloc, words) {
@@ -202,7 +206,7 @@ fn run_asked<
     ensures comes { ComesOfRun (asking (H.listens rt) (H.shares rt) (H.accepts rt) (H.finds rt) (H.dials rt))
         asked seat.origin (R.remaining seat.reader)
         (W.contents writer.old) (W.contents writer.new) result }
-    ensures quiet { UnlessServed result (errors.new ≡ errors.old) }
+    ensures quiet { UnlessTelling result (errors.new ≡ errors.old) }
     ensures uncaused { UnlessConnected result (causes.new.items ≡ causes.old.items) }
 {
     match asked {
@@ -211,22 +215,29 @@ fn run_asked<
         Asked::Decode => Outcome::Decode(run_decode(alloc, &mut seat, writer)),
         Asked::World => Outcome::World(run_world(alloc, &mut seat, writer)),
         Asked::Serve(asked) => Outcome::Served(serve_asked(rt, alloc, &asked, &mut Lines(errors))),
-        Asked::Connect(asked) => run_connect(rt, alloc, asked, seat, writer, causes),
+        Asked::Connect(asked) => run_connect(rt, alloc, asked, seat, writer, errors, causes),
     }
 }
 
-fn run_connect<H: Network + Host + Files<File = File>, R: Read + Drop + Send + 'static, W: Write>(
+fn run_connect<
+    H: Network + Host + Files<File = File>,
+    R: Read + Drop + Send + 'static,
+    W: Write,
+    E: Drain,
+>(
     rt: H,
     alloc: Global,
     asked: Connecting,
     seat: Seat<R>,
     writer: &mut W,
+    errors: &mut E,
     causes: &mut Vec<u8>,
 ) -> Outcome
     ensures comes { ComesOfRun (asking (H.listens rt) (H.shares rt) (H.accepts rt) (H.finds rt) (H.dials rt))
         (Asked.Connect asked) seat.origin (R.remaining seat.reader)
         (W.contents writer.old) (W.contents writer.new) result }
     ensures connects { IsConnecting result }
+    ensures quiet { UnlessTelling result (errors.new ≡ errors.old) }
 {
     let Ok(trace) = open_trace(&rt, &asked, causes) else {
         return Outcome::Untraced;
@@ -235,11 +246,19 @@ fn run_connect<H: Network + Host + Files<File = File>, R: Read + Drop + Send + '
         origin,
         reader,
         sizes,
+        stands,
         link,
     } = seat;
+    let mut lines = Lines(errors);
+    let news = News {
+        writer: &mut lines,
+        is_told: origin == Origin::Terminal && !asked.quiet,
+    };
     let notes = Notes {
         trace,
         sizes,
+        stands,
+        news,
         causes,
         link,
     };
@@ -259,11 +278,21 @@ fn open_trace<H: Files<File = File>>(
     let Some(path) = &asked.trace else {
         return Ok(None);
     };
-    match File::create(rt, path.as_str()) {
+    match create_private(rt, path.as_str()) {
         Ok(file) => Ok(Some(file)),
         Err(error) => {
             let _ = writeln!(causes, "tn: {}: {}", path, error);
             Err(error)
         },
     }
+}
+
+// An empty file that is its owner's alone, unless it was there before.
+fn create_private<H: Files<File = File>>(rt: &H, path: &str) -> io::Result<File> {
+    let mut options = OpenOptions::new();
+    options.mode(TRACE_MODE);
+    options.write(true);
+    options.create(true);
+    options.truncate(true);
+    options.open(rt, path)
 }

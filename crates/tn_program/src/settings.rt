@@ -87,6 +87,7 @@ pub(crate) fn connecting_of(asked: &tn_words::Connecting, origin: Origin) -> Con
     ensures origin { result.origin ≡ origin }
     ensures escape { result.escape ≡ escape_as asked.now.escape }
     ensures port { result.port ≡ asked.now.port }
+    ensures wait { result.wait ≡ asked.now.wait }
 {
     Connecting {
         port: asked.port,
@@ -95,6 +96,7 @@ pub(crate) fn connecting_of(asked: &tn_words::Connecting, origin: Origin) -> Con
         line_limit: asked.line_limit,
         origin,
         escape: escape_of(asked.escape),
+        wait: asked.wait,
     }
 }
 

@@ -88,7 +88,7 @@ fn words_ask_for_all_of_a_server(rt: HostRuntime) -> Result<(), Fail> {
     });
     let line =
         "tn serve --limit=64 --count 1000000 --ticks=1000 --host ::1 --line 4095 --idle 86400 \
-                --local --verbose --port=2323 --to ::1:7 --crlf";
+                --local --verbose --port=2323 --to [::1]:7 --crlf";
     asks(&rt, rt.alloc(), line, Some(asked));
     Ok(())
 }
@@ -103,6 +103,9 @@ fn connecting(alloc: Global) -> Result<Connecting, AllocError> {
         line_limit: Limit::standard(),
         escape: Escape::Key(29),
         trace: None,
+        wait: 0,
+        quiet: false,
+        plain: None,
     })
 }
 
@@ -120,7 +123,9 @@ fn words_ask_for_a_connection(rt: HostRuntime) -> Result<(), Fail> {
     wide.width = Some(65_535);
     wide.height = Some(0);
     wide.escape = Escape::Key(1);
-    let line = "tn connect --port 7 --width 65535 --height 0 --escape ^a";
+    wide.wait = 86_400;
+    wide.quiet = true;
+    let line = "tn connect -p7 --width 65535 --height 0 --escape ^a -q 86400 --quiet";
     asks(&rt, alloc, line, Some(Asked::Connect(wide)));
     Ok(())
 }
@@ -146,6 +151,20 @@ fn words_ask_for_a_host(rt: HostRuntime) -> Result<(), Fail> {
     Ok(())
 }
 
+#[test]
+fn words_ask_for_a_port_in_four_places(rt: HostRuntime) -> Result<(), Fail> {
+    let alloc = rt.alloc();
+    for line in &[
+        "tn connect 127.0.0.1 7",
+        "tn connect 127.0.0.1:7",
+        "tn connect [127.0.0.1]:7",
+        "tn connect [127.0.0.1] -p 7",
+    ] {
+        asks(&rt, alloc, line, Some(Asked::Connect(connecting(alloc)?)));
+    }
+    Ok(())
+}
+
 /// Lines that ask for no run.
 const REFUSED: &[&str] = &[
     "tn",
@@ -167,6 +186,8 @@ const REFUSED: &[&str] = &[
     "tn serve --port 7 --to h:0",
     "tn serve --port 7 --to h:65536",
     "tn serve --port 7 --to h:7x",
+    "tn serve --port 7 --to [::1:7",
+    "tn serve --port 7 --to []:7",
     "tn serve --port 7 --line 254",
     "tn serve --port 7 --line 4096",
     "tn serve --port 7 --ticks -1",
@@ -175,6 +196,18 @@ const REFUSED: &[&str] = &[
     "tn connect --port 7 --width 65536",
     "tn connect h --port 0",
     "tn connect h x",
+    "tn connect h 0",
+    "tn connect h: 7",
+    "tn connect h:7 7",
+    "tn connect h:7 --port 7",
+    "tn connect h 7 -p 7",
+    "tn connect h:65536",
+    "tn connect [::1",
+    "tn connect [::1]7",
+    "tn connect h 7 8",
+    "tn connect h -q 86401",
+    "tn connect h --lf",
+    "tn connect h --plain --lf --cr",
     "tn connect h --escape ^`",
     "tn connect h --escape ^@",
     "tn connect h --escape ^",
@@ -207,6 +240,9 @@ const TOLD: &[(&str, &str)] = &[
     ("tn local x", "unexpected argument 'x' found"),
     ("tn connect --port x", "invalid value 'x' for '--port <P>'"),
     ("tn connect", "HOST, or --port <P>"),
+    ("tn connect h:7 7", "more than one port is given"),
+    ("tn connect h:x", "invalid value 'h:x' for '[HOST]'"),
+    ("tn connect h --cr", "need '--plain'"),
     (
         "tn connect h --escape ^1",
         "invalid value '^1' for '--escape <C>'",

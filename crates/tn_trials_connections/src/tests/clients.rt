@@ -7,7 +7,7 @@ use std::sync::Arc;
 use std::test::Fail;
 use std::thread;
 use std::thread::JoinHandle;
-use tn_connect::{ConnectFault, Connecting, Host, Link, Notes, Origin, Screen, connect};
+use tn_connect::{ConnectFault, Connecting, Host, Link, News, Notes, Origin, Screen, connect};
 use tn_discipline::Limit;
 
 /// A screen that takes nothing.
@@ -40,16 +40,22 @@ where
         line_limit: Limit::standard(),
         origin: Origin::Reader,
         escape: None,
+        wait: 0,
     };
     let link = Arc::new(alloc, Link::new())?;
     let mut screen = Screen {
         writer: Dead,
         link: Arc::try_clone(&link)?,
     };
-    let mut causes = Vec::new(alloc);
+    let (mut causes, mut told) = (Vec::new(alloc), Vec::new(alloc));
     let notes = Notes {
         trace: None,
         sizes: None,
+        stands: None,
+        news: News {
+            writer: &mut told,
+            is_told: false,
+        },
         causes: &mut causes,
         link,
     };

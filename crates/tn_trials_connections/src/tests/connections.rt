@@ -11,7 +11,7 @@ use std::test::Fail;
 use std::thread::JoinHandle;
 use std::{io, thread};
 use tn_answerer::Answerers;
-use tn_connect::{ConnectFault, Connecting, Link, Notes, Origin, connect};
+use tn_connect::{ConnectFault, Connecting, Link, News, Notes, Origin, connect};
 use tn_discipline::Limit;
 use tn_loopback::{Host, Serving, SessionOptions, serve_connection, serve_on};
 use tn_program::Answering;
@@ -82,6 +82,7 @@ fn connecting(port: u16) -> Connecting {
         line_limit: Limit::standard(),
         origin: Origin::Reader,
         escape: None,
+        wait: 0,
     }
 }
 
@@ -97,10 +98,15 @@ where
     H: Host + Net<Listener = TcpListener, Stream = TcpStream>,
     K: Read + Drop + Send + 'static,
 {
-    let mut causes = Vec::new(alloc);
+    let (mut causes, mut told) = (Vec::new(alloc), Vec::new(alloc));
     let notes = Notes {
         trace: None,
         sizes: None,
+        stands: None,
+        news: News {
+            writer: &mut told,
+            is_told: false,
+        },
         causes: &mut causes,
         link: Arc::new(alloc, Link::new())?,
     };

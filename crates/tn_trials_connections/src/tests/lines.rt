@@ -11,7 +11,7 @@ use std::thread::Threads;
 use std::time::{Clock, Duration};
 use std::{mem, thread};
 use tn_cli::run_local;
-use tn_connect::{Connecting, Host, Link, Notes, Origin, connect};
+use tn_connect::{Connecting, Host, Link, News, Notes, Origin, connect};
 use tn_discipline::{Entry, Limit, Settings, Sig, Text};
 use tn_jobs::{After, Job, Reaction};
 use tn_plain::chance::Dice;
@@ -232,11 +232,17 @@ where
         line_limit: Limit::standard(),
         origin: Origin::Reader,
         escape: None,
+        wait: 0,
     };
-    let (mut screen, mut causes) = (Vec::new(alloc), Vec::new(alloc));
+    let (mut screen, mut causes, mut told) = (Vec::new(alloc), Vec::new(alloc), Vec::new(alloc));
     let notes = Notes {
         trace: None,
         sizes: None,
+        stands: None,
+        news: News {
+            writer: &mut told,
+            is_told: false,
+        },
         causes: &mut causes,
         link: Arc::new(alloc, Link::new())?,
     };

@@ -71,6 +71,7 @@ fn faults_are_told(rt: HostRuntime) {
             origin: Origin::Reader,
             reader: Cursor::new(*b"a\n"),
             sizes: None,
+            stands: None,
             link,
         };
         let ended = run_words(rt, alloc, Ok(words), seat, &mut writer, &mut errors);
@@ -101,6 +102,7 @@ fn the_line_of_a_fault_is_told(rt: HostRuntime) {
             origin: Origin::Reader,
             reader: *script,
             sizes: None,
+            stands: None,
             link,
         };
         let ended = run_words(rt, alloc, Ok(words), seat, &mut output, &mut errors);

@@ -1,6 +1,6 @@
 use Rattle.std.proofs.Common.{Ok, Contains, refl, [], ◌∷◌, ◌++◌, subst}
 use Rattle.std.specs.Net.ToAddrs.{HostAddrs, host_addrs}
-use Rattle.tn_network.proofs.Trying.{taken, tried_one}
+use Rattle.tn_network.proofs.Tried.{taken, tried_one}
 use Rattle.tn_network.proofs.reaching.reach.Goals as goal
 
 pub loop-address-init : goal.loop-address-init
