@@ -72,6 +72,12 @@ lacks_by fault.Memory told p = tt
 lacks_by (fault.Help text) told p = told
 lacks_by fault.Version told p = told
 
+pub lacks_more : {P Q : Type 0} (f : WordsFault) → (P → Q) → Lacks P f → Lacks Q f
+lacks_more (fault.Usage detail) more lacks = more lacks
+lacks_more fault.Memory more lacks = tt
+lacks_more (fault.Help text) more lacks = lacks
+lacks_more fault.Version more lacks = lacks
+
 pub refuses_lacking : (words : List Text) (m : ArgMatches) (f : WordsFault) → HasMatchesOf tn words m
     → Lacks (AsksNothing (subcommand_rows_of m)) f → Refuses words f
 refuses_lacking words m (fault.Usage detail) h lacks = inr (parse_asks_nothing words m h lacks)
@@ -148,6 +154,10 @@ none_is_not_taken = refl
 pub asks_for_help : AsksForHelp (codes "tn" ∷ codes "--help" ∷ [])
 unfolding clap_on_literals
 asks_for_help = inl refl
+
+pub asks_for_help_word : AsksForHelp (codes "tn" ∷ codes "help" ∷ [])
+unfolding clap_on_literals
+asks_for_help_word = inl refl
 
 pub asks_for_its_help : AsksForHelp (codes "tn" ∷ codes "local" ∷ codes "-h" ∷ [])
 unfolding clap_on_literals

@@ -1,21 +1,22 @@
 -- What `clap` gives of an option that has a text.
-use Rattle.std.proofs.Common.{◌≡◌, ◌∙◌, ℕ, true, false, List, Option, Some, None, is_some, option_map, codes, sym, ap, subst, refl, inl, inr}
-use Rattle.std.specs.Prelude.{string_bytes, unwrap_or}
+use Rattle.std.proofs.Common.{◌≡◌, ◌∙◌, ℕ, true, false, List, Option, Some, None, MatchOption, IfSome, is_some, option_map, codes, sym, ap, ap₂, subst, refl, slice_get}
+use Rattle.std.specs.Prelude.{string_bytes, unwrap_or, option_and_then, find}
 use Rattle.std.specs.Borrow.{Bor}
-use Rattle.clap.specs.Words.{Row, Text, first_of, first_value, rows_of}
+use Rattle.std.specs.Option.{option_map_or}
+use Rattle.std.specs.Str.{bytes_eq}
+use Rattle.std.specs.Str.Parse.{digits_value, without_leading_plus}
+use Rattle.clap.specs.Walk.{row_text}
+use Rattle.clap.specs.Words.{Row, Text, first_of, first_value, read_as, rows_of}
 use Rattle.clap.specs.declared.parser.matches.Found.{Found}
 use Rattle.clap.proofs.WalkLemmas.{first_value-rows}
-use Rattle.tn_words.specs.Addresses.{WritesAddress}
-use Rattle.tn_words.specs.Words.{AsksPort, MayHaveAddress, MissesNumber, is_given, names_only_host}
+use Rattle.tn_words.proofs.Addresses.{one_place}
+use Rattle.tn_words.specs.Addresses.{WritesAddress, WritesPlace}
+use Rattle.tn_words.specs.Words.{AsksPlace, AsksPort, HasNumber, HasPlace, MayHaveAddress, MayHaveNumber, is_flagged, is_given, one_port}
 use Rattle.tn_words.specs.declared.settings.Address.{Address}
 
 is_some-map : {A B : Type 0} (f : A → B) (o : Option A) → is_some o ≡ is_some (option_map f o)
 is_some-map f None = refl
 is_some-map f (Some x) = refl
-
-pub unwrap_or-map : {A B : Type 0} (f : A → B) (o : Option A) (d : A) → f (unwrap_or o d) ≡ unwrap_or (option_map f o) (f d)
-unwrap_or-map f None d = refl
-unwrap_or-map f (Some x) d = refl
 
 module _ (f : Found) (name : Text) (r : Option (Bor Text)) (reads : option_map (λ s. s.now) r ≡ first_value f name) where
   pub given : option_map (λ s. s.now) r ≡ first_of name (rows_of f)
@@ -30,10 +31,81 @@ module _ (f : Found) (name : Text) (r : Option (Bor Text)) (reads : option_map (
   pub is_given_so : is_some r ≡ is_given name (rows_of f)
   is_given_so = is_some-map (λ s. s.now) r ∙ ap is_some given
 
--- a port that is not said is asked for only where a host is
-pub asks_no_port : (rows : List Row) (port : ℕ) → MissesNumber rows (codes "port") 1 65535 → names_only_host rows ≡ false → AsksPort rows port → ⊥
-asks_no_port rows port misses not_only (inl h) = misses port h
-asks_no_port rows port misses not_only (inr h) = let bad : true ≡ false = sym h.0 ∙ not_only in absurd (cc)
+-- an option that has a text is given
+given_row : (o : Option Row) (text : Text) → option_and_then row_text o ≡ Some text → is_some (option_and_then (λ r. slice_get r.values 0) o) ≡ true
+given_row None text is = let bad : false ≡ true = ap is_some is in absurd (cc)
+given_row (Some r) text is = is_some-map (read_as r.reading) (slice_get r.values 0) ∙ ap is_some is
+
+number_is_given : (rows : List Row) (name : Text) (least most n : ℕ) → HasNumber rows name least most n → is_given name rows ≡ true
+number_is_given rows name least most n h = given_row (find (λ r. bytes_eq r.id name) rows) h.text h.has
+
+-- no option has two numbers
+pub same_number : (rows : List Row) (name : Text) (least most n m : ℕ) → HasNumber rows name least most n → HasNumber rows name least most m → n ≡ m
+same_number rows name least most n m a b =
+    let same : a.text ≡ b.text = ap (λ o. unwrap_or o a.text) (sym a.has ∙ b.has) in
+    sym a.writes.value ∙ (ap (λ t. digits_value 10 (without_leading_plus t)) same ∙ b.writes.value)
+
+pub same_maybe : (rows : List Row) (name : Text) (least most : ℕ) (a b : Option ℕ) → MayHaveNumber rows name least most a → MayHaveNumber rows name least most b → a ≡ b
+same_maybe rows name least most None None a b = refl
+same_maybe rows name least most None (Some m) a b =
+    let bad : false ≡ true = sym a ∙ number_is_given rows name least most m b in absurd (cc)
+same_maybe rows name least most (Some n) None a b =
+    let bad : false ≡ true = sym b ∙ number_is_given rows name least most n a in absurd (cc)
+same_maybe rows name least most (Some n) (Some m) a b = ap Some (same_number rows name least most n m a b)
+
+-- the ports that are given give the one that is asked for
+pub the_port : (rows : List Row) (within option place : Option ℕ) (port : ℕ) → MayHaveNumber rows (codes "port") 1 65535 option → MayHaveNumber rows (codes "at") 1 65535 place
+    → AsksPort rows within port → one_port option place within (is_given (codes "host") rows) ≡ Some port
+the_port rows within option place port by_option by_place asks =
+    ap₂ (λ o p. one_port o p within (is_given (codes "host") rows))
+    (same_maybe rows (codes "port") 1 65535 option asks.option by_option asks.by_option)
+    (same_maybe rows (codes "at") 1 65535 place asks.place by_place asks.by_place) ∙ asks.one
+
+-- HOST writes one host, and one port or none
+same_places : (o : Option Text) (h g : Text) (v w : Option ℕ) → MatchOption o ((h ≡ codes "127.0.0.1") × (v ≡ None)) (λ text. WritesPlace text h v)
+    → MatchOption o ((g ≡ codes "127.0.0.1") × (w ≡ None)) (λ text. WritesPlace text g w) → (h ≡ g) × (v ≡ w)
+same_places None h g v w one two = (one.0 ∙ sym two.0, one.1 ∙ sym two.1)
+same_places (Some text) h g v w one two = one_place text h g v w one two
+
+pub same_place : (rows : List Row) (h g : Text) (v w : Option ℕ) → HasPlace rows h v → HasPlace rows g w → (h ≡ g) × (v ≡ w)
+same_place rows h g v w one two = same_places (first_of (codes "host") rows) h g v w one two
+
+-- what a text of HOST writes
+pub place_given : (rows : List Row) (text : Text) (r : Option (Bor Text × Option ℕ)) → first_of (codes "host") rows ≡ Some text
+    → IfSome r (λ p. WritesPlace text p.0.now p.1) → IfSome r (λ p. HasPlace rows p.0.now p.1)
+place_given rows text None is writes = tt
+place_given rows text (Some p) is writes =
+    subst (λ o. MatchOption o ((p.0.now ≡ codes "127.0.0.1") × (p.1 ≡ None)) (λ t. WritesPlace t p.0.now p.1)) (sym is) writes
+
+pub place_none : (rows : List Row) (text h : Text) (v : Option ℕ) → first_of (codes "host") rows ≡ Some text → HasPlace rows h v → WritesPlace text h v
+place_none rows text h v is has = subst (λ o. MatchOption o ((h ≡ codes "127.0.0.1") × (v ≡ None)) (λ t. WritesPlace t h v)) is has
+
+here : (o : Option Text) (h : Text) (v : Option ℕ) → o ≡ None → h ≡ codes "127.0.0.1" → v ≡ None → MatchOption o ((h ≡ codes "127.0.0.1") × (v ≡ None)) (λ text. WritesPlace text h v)
+here None h v is is_here is_none = (is_here, is_none)
+here (Some text) h v is is_here is_none = let bad : true ≡ false = ap is_some is in absurd (cc)
+
+pub here_given : (rows : List Row) → first_of (codes "host") rows ≡ None → HasPlace rows (codes "127.0.0.1") None
+here_given rows is = here (first_of (codes "host") rows) (codes "127.0.0.1") None is refl refl
+
+-- no other place is asked for
+pub place_is : (rows : List Row) (h g : Text) (p q : ℕ) → AsksPlace rows h p → AsksPlace rows g q → (h ≡ g) × (p ≡ q)
+place_is rows h g p q one two =
+    let same = same_place rows h g one.within two.within one.named two.named in
+    let at_one = the_port rows one.within one.ports.option one.ports.place p one.ports.by_option one.ports.by_place one.ports in
+    let at_two = the_port rows two.within one.ports.option one.ports.place q one.ports.by_option one.ports.by_place two.ports in
+    (same.0, ap (λ o. unwrap_or o p) (sym at_one ∙ (ap (λ v. one_port one.ports.option one.ports.place v (is_given (codes "host") rows)) same.1 ∙ at_two)))
+
+-- a place that HOST does not write is not asked for, nor is a port where the words give none or two
+pub no_place : (rows : List Row) → ((h : Text) (v : Option ℕ) → HasPlace rows h v → ⊥) → (h : Text) (p : ℕ) → AsksPlace rows h p → ⊥
+no_place rows none h p asks = none h asks.within asks.named
+
+pub no_port_at : (rows : List Row) (host : Text) (within : Option ℕ) → HasPlace rows host within → ((p : ℕ) → AsksPort rows within p → ⊥) → (h : Text) (p : ℕ) → AsksPlace rows h p → ⊥
+no_port_at rows host within has none h p asks =
+    none p (subst (λ v. AsksPort rows v p) (same_place rows h host asks.within within asks.named has).1 asks.ports)
+
+-- what a flag's text says
+pub flagged : (rows : List Row) (name : Text) (o : Option Text) → first_of name rows ≡ o → option_map_or (λ text. bytes_eq text (codes "true")) o false ≡ is_flagged name rows
+flagged rows name o is = sym (ap (λ o. option_map_or (λ text. bytes_eq text (codes "true")) o false) is)
 
 -- an option without a text has not this one
 pub has_none : {A : Type 0} (o : Option A) (x : A) → o ≡ None → o ≡ Some x → ⊥

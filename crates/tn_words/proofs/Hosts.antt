@@ -1,16 +1,18 @@
 -- What words of `connect` that are written out ask for.
 use Rattle.std.proofs.Common.{◌≡◌, inl, inr, ℕ, true, false, Option, Some, None, is_some, List, [], ◌∷◌, codes, slice_index, string_bytes, option_map, refl, sym, ap, ◌∙◌, subst, arith}
 use Rattle.std.specs.Prelude.{unwrap_or}
-use Rattle.std.specs.Str.Parse.{digits_value, without_leading_plus}
 use Rattle.clap.specs.Words.{Row, Text, subcommand_of, takes, one_of, first_of}
 use Rattle.clap.proofs.OnLiterals.{clap_on_literals}
+use Rattle.tn_words.proofs.Addresses.{brackets_write, host_writes, port_writes, seven, six_writes, two_write}
 use Rattle.tn_words.proofs.Asking.{connects_not}
+use Rattle.tn_words.proofs.Given.{no_port_at, place_is, same_maybe, same_number, the_port}
 use Rattle.tn_words.specs.Commands.{tn}
 use Rattle.tn_words.specs.Escapes.{IsControlOf, WritesEscape}
-use Rattle.tn_words.specs.Words.{AskFor, AskForHost, AsksConnect, AsksIn, AsksNothing, AsksPort, HasEscape, HasNumber, MayHaveNumber, host_of, names_only_host}
+use Rattle.tn_words.specs.Words.{AskFor, AskForHost, AsksConnect, AsksIn, AsksNothing, AsksPlace, HasEscape, HasNumber, HasPlace, MayHaveNumber, is_given, line_end_in, one_port}
 use Rattle.tn_words.specs.declared.settings.Connecting.{Connecting}
 use Rattle.tn_words.specs.declared.settings.Escape.{Escape}
 use Rattle.tn_words.specs.declared.settings.Escape.TheVariants as escape
+use Rattle.tn_words.specs.declared.settings.LineEnd.{LineEnd}
 use Rattle.tn_words.specs.declared.words.Asked.TheVariants.{Connect}
 
 -- what was found for the options of a subcommand
@@ -26,38 +28,25 @@ asks_connect None asked asks = absurd asks
 asks_connect (Some p) asked asks = asks.1
 
 -- an option without a text has no number
-none_has : (rows : List Row) (name : Text) (least most n : ℕ) → one_of name rows ≡ None → HasNumber rows name least most n → ⊥
-none_has rows name least most n none h = let bad : true ≡ false = ap is_some (sym h.has ∙ none) in absurd (cc)
+not_given : (rows : List Row) (name : Text) (least most : ℕ) (size : Option ℕ) → is_given name rows ≡ false → MayHaveNumber rows name least most size → size ≡ None
+not_given rows name least most size none has = same_maybe rows name least most size None has none
 
-not_given : (rows : List Row) (name : Text) (least most : ℕ) (size : Option ℕ) → one_of name rows ≡ None → MayHaveNumber rows name least most size → size ≡ None
-not_given rows name least most None none has = refl
-not_given rows name least most (Some n) none has = absurd (none_has rows name least most n none has)
-
--- the port of a host alone, of a number, and of neither
-
-telnet : (rows : List Row) (port : ℕ) → one_of (codes "port") rows ≡ None → AsksPort rows port → port ≡ 23
-telnet rows port none (inl h) = absurd (none_has rows (codes "port") 1 65535 port none h)
-telnet rows port none (inr h) = h.1
-
-numbered : (rows : List Row) (text : Text) (port n : ℕ) → one_of (codes "port") rows ≡ Some text → names_only_host rows ≡ false → digits_value 10 (without_leading_plus text) ≡ n → AsksPort rows port → port ≡ n
-numbered rows text port n has not_only value (inl h) =
-    let same : h.text ≡ text = ap (λ o. unwrap_or o text) (sym h.has ∙ has) in
-    sym h.writes.value ∙ (ap (λ t. digits_value 10 (without_leading_plus t)) same ∙ value)
-numbered rows text port n has not_only value (inr h) = let bad : true ≡ false = sym h.0 ∙ not_only in absurd (cc)
-
-neither : (rows : List Row) (port : ℕ) → one_of (codes "port") rows ≡ None → names_only_host rows ≡ false → AsksPort rows port → ⊥
-neither rows port none not_only (inl h) = none_has rows (codes "port") 1 65535 port none h
-neither rows port none not_only (inr h) = let bad : true ≡ false = sym h.0 ∙ not_only in absurd (cc)
-
-at_telnet : (words : List Text) (host : Text) → host_of (rows_for words) ≡ host → one_of (codes "port") (rows_for words) ≡ None → AskForHost words host 23
-at_telnet words host is none asked asks =
+-- the place that words ask for is the one that they write
+asks_place : (words : List Text) (host : Text) (n : ℕ) → AsksPlace (rows_for words) host n → AskForHost words host n
+asks_place words host n place asked asks =
     let a = asks_connect (subcommand_of tn words) asked asks.1 in
-    (a.host ∙ is, telnet (rows_for words) asked.port none a.port)
+    place_is (rows_for words) (string_bytes asked.host) host asked.port n a.place place
 
-at_port : (words : List Text) (host text : Text) (n : ℕ) → host_of (rows_for words) ≡ host → one_of (codes "port") (rows_for words) ≡ Some text → names_only_host (rows_for words) ≡ false → digits_value 10 (without_leading_plus text) ≡ n → AskForHost words host n
-at_port words host text n is has not_only value asked asks =
-    let a = asks_connect (subcommand_of tn words) asked asks.1 in
-    (a.host ∙ is, numbered (rows_for words) text asked.port n has not_only value a.port)
+abbrev seven_at : (rows : List Row) (name : Text) → one_of name rows ≡ Some (codes "7") → HasNumber rows name 1 65535 7
+seven_at rows name has = record { text = codes "7"; has = has; writes = seven; at_least = omega arith; at_most = omega arith }
+
+-- ports of which no one is asked for
+no_one : (rows : List Row) (host : Text) (within option place : Option ℕ) → HasPlace rows host within → MayHaveNumber rows (codes "port") 1 65535 option
+    → MayHaveNumber rows (codes "at") 1 65535 place → one_port option place within (is_given (codes "host") rows) ≡ None → (connecting : Connecting) → AsksConnect rows connecting → ⊥
+no_one rows host within option place has by_option by_place none connecting asks =
+    no_port_at rows host within has (λ port at.
+    let bad : false ≡ true = ap is_some (sym none ∙ the_port rows within option place port by_option by_place at) in absurd (cc))
+    (string_bytes connecting.host) connecting.port asks.place
 
 -- no text writes two keys
 
@@ -108,17 +97,36 @@ abbrev host_words : List Text
 host_words = codes "tn" ∷ codes "connect" ∷ codes "::1" ∷ []
 
 abbrev port_words : List Text
-port_words = codes "tn" ∷ codes "connect" ∷ codes "--port" ∷ codes "7" ∷ []
+port_words = codes "tn" ∷ codes "connect" ∷ codes "-p" ∷ codes "7" ∷ []
 
 abbrev both_words : List Text
 both_words = codes "tn" ∷ codes "connect" ∷ codes "h" ∷ codes "--port=7" ∷ []
 
+abbrev behind_words : List Text
+behind_words = codes "tn" ∷ codes "connect" ∷ codes "[::1]" ∷ codes "7" ∷ []
+
+abbrev within_words : List Text
+within_words = codes "tn" ∷ codes "connect" ∷ codes "[::1]:7" ∷ []
+
 abbrev no_words : List Text
 no_words = codes "tn" ∷ codes "connect" ∷ []
 
+abbrev two_words : List Text
+two_words = codes "tn" ∷ codes "connect" ∷ codes "h:7" ∷ codes "7" ∷ []
+
+abbrev wait_words : List Text
+wait_words = codes "tn" ∷ codes "connect" ∷ codes "h" ∷ codes "-q" ∷ codes "2" ∷ []
+
+abbrev lf_words : List Text
+lf_words = codes "tn" ∷ codes "connect" ∷ codes "h" ∷ codes "--lf" ∷ []
+
 pub host_asks : AskForHost host_words (codes "::1") 23
 unfolding clap_on_literals
-host_asks = at_telnet host_words (codes "::1") refl refl
+host_asks = asks_place host_words (codes "::1") 23 (record {
+  within = None;
+  named = six_writes;
+  ports = record { option = None; place = None; by_option = refl; by_place = refl; one = refl };
+})
 
 pub host_is_taken : takes tn host_words ≡ true
 unfolding clap_on_literals
@@ -126,7 +134,11 @@ host_is_taken = refl
 
 pub port_asks : AskForHost port_words (codes "127.0.0.1") 7
 unfolding clap_on_literals
-port_asks = at_port port_words (codes "127.0.0.1") (codes "7") 7 refl refl refl refl
+port_asks = asks_place port_words (codes "127.0.0.1") 7 (record {
+  within = None;
+  named = (refl, refl);
+  ports = record { option = Some 7; place = None; by_option = seven_at (rows_for port_words) (codes "port") refl; by_place = refl; one = refl };
+})
 
 pub port_is_taken : takes tn port_words ≡ true
 unfolding clap_on_literals
@@ -134,18 +146,70 @@ port_is_taken = refl
 
 pub both_ask : AskForHost both_words (codes "h") 7
 unfolding clap_on_literals
-both_ask = at_port both_words (codes "h") (codes "7") 7 refl refl refl refl
+both_ask = asks_place both_words (codes "h") 7 (record {
+  within = None;
+  named = host_writes;
+  ports = record { option = Some 7; place = None; by_option = seven_at (rows_for both_words) (codes "port") refl; by_place = refl; one = refl };
+})
+
+pub behind_asks : AskForHost behind_words (codes "::1") 7
+unfolding clap_on_literals
+behind_asks = asks_place behind_words (codes "::1") 7 (record {
+  within = None;
+  named = brackets_write;
+  ports = record { option = None; place = Some 7; by_option = refl; by_place = seven_at (rows_for behind_words) (codes "at") refl; one = refl };
+})
+
+pub behind_is_taken : takes tn behind_words ≡ true
+unfolding clap_on_literals
+behind_is_taken = refl
+
+pub within_asks : AskForHost within_words (codes "::1") 7
+unfolding clap_on_literals
+within_asks = asks_place within_words (codes "::1") 7 (record {
+  within = Some 7;
+  named = port_writes;
+  ports = record { option = None; place = None; by_option = refl; by_place = refl; one = refl };
+})
 
 pub neither_asks : AsksNothing (subcommand_of tn no_words)
 unfolding clap_on_literals
-neither_asks = connects_not (subcommand_of tn no_words) (codes "connect") (rows_for no_words) refl refl refl (λ asked asks. neither (rows_for no_words) asked.port refl refl asks.port)
+neither_asks = connects_not (subcommand_of tn no_words) (codes "connect") (rows_for no_words) refl refl refl
+    (no_one (rows_for no_words) (codes "127.0.0.1") None None None (refl, refl) refl refl refl)
 
-pub plain_asks : (asked : Connecting) → AskFor host_words (Connect asked) → (asked.width ≡ None) × (asked.height ≡ None) × (asked.escape ≡ escape.Key 29) × (asked.trace ≡ None)
+pub two_ask : AsksNothing (subcommand_of tn two_words)
 unfolding clap_on_literals
-plain_asks asked asks =
-    let a = asks_connect (subcommand_of tn host_words) asked asks.1 in (
+two_ask = connects_not (subcommand_of tn two_words) (codes "connect") (rows_for two_words) refl refl refl
+    (no_one (rows_for two_words) (codes "h") (Some 7) None (Some 7) two_write refl (seven_at (rows_for two_words) (codes "at") refl) refl)
+
+some_line_end : (o : Option (Option LineEnd)) (asked : Option LineEnd) → o ≡ Some asked → unwrap_or o None ≡ asked
+some_line_end o asked is = ap (λ p. unwrap_or p None) is
+
+pub none_asks : (asked : Connecting) → AskFor host_words (Connect asked) → (asked.width ≡ None) × (asked.height ≡ None) × (asked.escape ≡ escape.Key 29)
+    × (asked.trace ≡ None) × (asked.wait ≡ 0) × (asked.quiet ≡ false) × (asked.plain ≡ None)
+unfolding clap_on_literals
+none_asks asked asks =
+    let a = asks_connect (subcommand_of tn host_words) asked asks.1 in
+    let zero_is : HasNumber (rows_for host_words) (codes "wait") 0 86400 0 =
+    record { text = codes "0"; has = refl; writes = record { numeral = (omega arith, (omega arith, tt)); value = refl }; at_least = omega arith; at_most = omega arith } in (
       not_given (rows_for host_words) (codes "width") 0 65535 asked.width refl a.width,
       not_given (rows_for host_words) (codes "height") 0 65535 asked.height refl a.height,
       standard (rows_for host_words) asked.escape refl a.escape,
       no_value string_bytes asked.trace a.trace,
+      same_number (rows_for host_words) (codes "wait") 0 86400 asked.wait 0 a.wait zero_is,
+      a.quiet.not_given refl,
+      sym (some_line_end (line_end_in (rows_for host_words)) asked.plain a.plain),
     )
+
+pub wait_asks : (asked : Connecting) → AskFor wait_words (Connect asked) → asked.wait ≡ 2
+unfolding clap_on_literals
+wait_asks asked asks =
+    let a = asks_connect (subcommand_of tn wait_words) asked asks.1 in
+    let two_is : HasNumber (rows_for wait_words) (codes "wait") 0 86400 2 =
+    record { text = codes "2"; has = refl; writes = record { numeral = (omega arith, (omega arith, tt)); value = refl }; at_least = omega arith; at_most = omega arith } in
+    same_number (rows_for wait_words) (codes "wait") 0 86400 asked.wait 2 a.wait two_is
+
+pub lf_asks : AsksNothing (subcommand_of tn lf_words)
+unfolding clap_on_literals
+lf_asks = connects_not (subcommand_of tn lf_words) (codes "connect") (rows_for lf_words) refl refl refl
+    (λ connecting asks. let bad : false ≡ true = ap is_some asks.plain in absurd (cc))

@@ -4,13 +4,12 @@ use Rattle.clap.specs.Words.{App, Shape, Rule, Text, new_app, new_rule, with_sub
 use Rattle.clap.specs.declared.builder.action.ArgAction.TheVariants.{SetTrue}
 use Rattle.clap.specs.declared.builder.value_parser.ValueParser.TheVariants as parser
 
--- the command alone: it wants a subcommand, has a version, and has no subcommand `help`
+-- the command alone: it wants a subcommand, and has a version
 abbrev pub alone : App
 alone = record {
   top = record (new_app (codes "tn")).top {
     has_version = true;
     subcommand_required = true;
-    disable_help_subcommand = true;
   };
   subs = [];
 }
@@ -23,13 +22,14 @@ plain name = (new_app name).top
 abbrev pub with_rules : Text → List Rule → Shape
 with_rules name rules = record (plain name) { rules = rules }
 
--- an option that takes a whole number, of these bounds
+-- an argument without a name before it, which takes a whole number, of these bounds
+abbrev pub number_rule : Text → ℕ → ℕ → Rule
+number_rule name least most =
+    record (new_rule name) { parser = Some (parser.Signed (pos least) (pos most)); value_names = 1 }
+
+-- an option that does
 abbrev pub whole_rule : Text → ℕ → ℕ → Rule
-whole_rule name least most = record (new_rule name) {
-  long = Some name;
-  parser = Some (parser.Signed (pos least) (pos most));
-  value_names = 1;
-}
+whole_rule name least most = record (number_rule name least most) { long = Some name }
 
 -- the option with what stands for it where it is not given
 abbrev pub with_default : Rule → Text → Rule
@@ -43,8 +43,20 @@ required rule = record rule { required = true }
 abbrev pub flag_rule : Text → Rule
 flag_rule name = record (new_rule name) { long = Some name; action = Some SetTrue }
 
+-- the option with a letter of its own
+abbrev pub with_letter : Rule → ℕ → Rule
+with_letter rule letter = record rule { short = Some letter }
+
+-- the port, by `--port` or by `-p`, 112
+abbrev pub maybe_port_rule : Rule
+maybe_port_rule = with_letter (whole_rule (codes "port") 1 65535) 112
+
 abbrev pub port_rule : Rule
-port_rule = required (whole_rule (codes "port") 1 65535)
+port_rule = required maybe_port_rule
+
+-- how many seconds, by `-q`, 113
+abbrev pub wait_rule : Rule
+wait_rule = with_default (with_letter (number_rule (codes "wait") 0 86400) 113) (codes "0")
 
 -- an option that takes a text
 abbrev pub text_rule : Text → Rule
@@ -83,12 +95,18 @@ serve = with_rules (codes "serve") (
 abbrev pub connect : Shape
 connect = with_rules (codes "connect") (
     place_rule (codes "host")
-    ∷ whole_rule (codes "port") 1 65535
+    ∷ number_rule (codes "at") 1 65535
+    ∷ maybe_port_rule
     ∷ whole_rule (codes "width") 0 65535
     ∷ whole_rule (codes "height") 0 65535
     ∷ line_rule
     ∷ escape_rule
     ∷ text_rule (codes "trace")
+    ∷ wait_rule
+    ∷ flag_rule (codes "quiet")
+    ∷ flag_rule (codes "plain")
+    ∷ flag_rule (codes "lf")
+    ∷ flag_rule (codes "cr")
     ∷ []
     )
 

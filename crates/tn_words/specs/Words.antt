@@ -1,9 +1,11 @@
 -- What words ask for, of the command line that `tn` takes.
-use Rattle.std.specs.Prelude.{◌≡◌, ◌≢◌, ◌⊎◌, ◌≤◌, ⊤, ℕ, Bool, true, false, not, ◌&&◌, Option, Some, None, is_some, option_map, unwrap_or, List, [], codes, string_bytes}
+use Rattle.std.specs.Prelude.{◌≡◌, ◌≢◌, ◌⊎◌, ◌≤◌, ⊤, ℕ, Bool, true, false, Option, Some, None, MatchOption, is_some, option_map, List, [], codes, string_bytes}
+use Rattle.std.specs.Option.{option_map_or}
+use Rattle.std.specs.Str.{bytes_eq}
 use Rattle.clap.specs.Words.{Row, Text, subcommand_of, takes, fault_of, first_of, one_of, IsAmong}
 use Rattle.clap.specs.declared.error.kind.ErrorKind.{ErrorKind}
 use Rattle.clap.specs.declared.error.kind.ErrorKind.TheVariants as kind
-use Rattle.tn_words.specs.Addresses.{WritesAddress}
+use Rattle.tn_words.specs.Addresses.{WritesAddress, WritesPlace}
 use Rattle.tn_words.specs.Commands.{tn}
 use Rattle.tn_words.specs.Escapes.{WritesEscape}
 use Rattle.tn_words.specs.Numbers.{Writes}
@@ -12,6 +14,8 @@ use Rattle.tn_words.specs.declared.words.Asked.TheVariants.{Local, Replay, Decod
 use Rattle.tn_words.specs.declared.settings.Address.{Address}
 use Rattle.tn_words.specs.declared.settings.Connecting.{Connecting}
 use Rattle.tn_words.specs.declared.settings.Escape.{Escape}
+use Rattle.tn_words.specs.declared.settings.LineEnd.{LineEnd}
+use Rattle.tn_words.specs.declared.settings.LineEnd.TheVariants.{CrLf, Lf, Cr}
 use Rattle.tn_words.specs.declared.settings.Serving.{Serving}
 use Rattle.tn_words.specs.declared.words.WordsFault.{WordsFault}
 use Rattle.tn_words.specs.declared.words.WordsFault.TheVariants as fault
@@ -71,18 +75,48 @@ pub record AsksServe (rows : List Row) (asked : Serving) : Type 0 where
   pub to : MayHaveAddress rows asked.to
   pub crlf : HasFlag rows (codes "crlf") asked.crlf
 
--- the host that is named, or this machine
-abbrev pub host_of : List Row → Text
-host_of rows = unwrap_or (first_of (codes "host") rows) (codes "127.0.0.1")
+-- HOST writes this host, and this port where it writes one; where it is not given, the host is this machine
+abbrev pub HasPlace : List Row → Text → Option ℕ → Type 0
+HasPlace rows host within = MatchOption (first_of (codes "host") rows)
+    ((host ≡ codes "127.0.0.1") × (within ≡ None)) (λ text. WritesPlace text host within)
 
--- a host is named, and no port
-abbrev pub names_only_host : List Row → Bool
-names_only_host rows = is_given (codes "host") rows && not (is_given (codes "port") rows)
+-- the one port of those that `--port`, PORT and HOST give; where none does, Telnet's, if a host is named
+abbrev pub one_port : Option ℕ → Option ℕ → Option ℕ → Bool → Option ℕ
+one_port (Some port) None None named = Some port
+one_port None (Some port) None named = Some port
+one_port None None (Some port) named = Some port
+one_port None None None true = Some 23
+one_port option place within named = None
 
--- the port that is given, or Telnet's where only a host is named
-abbrev pub AsksPort : List Row → ℕ → Type 0
-AsksPort rows port =
-    HasNumber rows (codes "port") 1 65535 port ⊎ (names_only_host rows ≡ true) × (port ≡ 23)
+-- The words give this one port, where HOST gives the one within it.
+pub record AsksPort (rows : List Row) (within : Option ℕ) (port : ℕ) : Type 0 where
+  pub option : Option ℕ
+  pub place : Option ℕ
+  pub by_option : MayHaveNumber rows (codes "port") 1 65535 option
+  pub by_place : MayHaveNumber rows (codes "at") 1 65535 place
+  pub one : one_port option place within (is_given (codes "host") rows) ≡ Some port
+
+-- The words ask for a connection to this host and this port.
+pub record AsksPlace (rows : List Row) (host : Text) (port : ℕ) : Type 0 where
+  pub within : Option ℕ
+  pub named : HasPlace rows host within
+  pub ports : AsksPort rows within port
+
+-- the option of this name, which takes no value, was given
+abbrev pub is_flagged : Text → List Row → Bool
+is_flagged name rows = option_map_or (λ text. bytes_eq text (codes "true")) (first_of name rows) false
+
+-- the line end that `--plain`, `--lf` and `--cr` choose, or none of it; no other choice of them is accepted
+abbrev pub chosen_line_end : Bool → Bool → Bool → Option (Option LineEnd)
+chosen_line_end false false false = Some None
+chosen_line_end true false false = Some (Some CrLf)
+chosen_line_end true true false = Some (Some Lf)
+chosen_line_end true false true = Some (Some Cr)
+chosen_line_end plain lf cr = None
+
+abbrev pub line_end_in : List Row → Option (Option LineEnd)
+line_end_in rows = chosen_line_end (is_flagged (codes "plain") rows) (is_flagged (codes "lf") rows)
+    (is_flagged (codes "cr") rows)
 
 -- The text of the option `--escape` writes this key.
 pub record HasEscape (rows : List Row) (escape : Escape) : Type 0 where
@@ -91,13 +125,15 @@ pub record HasEscape (rows : List Row) (escape : Escape) : Type 0 where
   pub writes : WritesEscape text escape
 
 pub record AsksConnect (rows : List Row) (asked : Connecting) : Type 0 where
-  pub host : string_bytes asked.host ≡ host_of rows
-  pub port : AsksPort rows asked.port
+  pub place : AsksPlace rows (string_bytes asked.host) asked.port
   pub width : MayHaveNumber rows (codes "width") 0 65535 asked.width
   pub height : MayHaveNumber rows (codes "height") 0 65535 asked.height
   pub line : HasNumber rows (codes "line") 255 4095 asked.line_limit
   pub escape : HasEscape rows asked.escape
   pub trace : option_map string_bytes asked.trace ≡ first_of (codes "trace") rows
+  pub wait : HasNumber rows (codes "wait") 0 86400 asked.wait
+  pub quiet : HasFlag rows (codes "quiet") asked.quiet
+  pub plain : line_end_in rows ≡ Some asked.plain
 
 -- what a subcommand asks for, by its name and its options
 abbrev pub Asks : Text × List Row → Asked → Type 0

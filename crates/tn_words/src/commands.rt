@@ -2,7 +2,8 @@
 
 ghost use Rattle.std.specs.Prelude.{◌≡◌, false, IfOk, codes, pos};
 ghost use Rattle.tn_words.specs.Commands.{tn, alone, offline, plain, serve, connect, whole_rule, with_default, flag_rule};
-ghost use Rattle.tn_words.specs.Commands.{escape_rule, host_rule, line_rule, place_rule, port_rule, text_rule};
+ghost use Rattle.tn_words.specs.Commands.{escape_rule, host_rule, line_rule, maybe_port_rule, number_rule, place_rule};
+ghost use Rattle.tn_words.specs.Commands.{port_rule, text_rule, wait_rule};
 ghost use Rattle.clap.specs.Words.{app_of, new_app, rule_of, shape_of, with_rule};
 ghost use Rattle.clap.specs.declared.builder.command.Command.TheViews.{out-Command};
 ghost use Rattle.clap.specs.declared.builder.value_parser.ValueParser.TheVariants as parser;
@@ -80,6 +81,20 @@ pub(crate) const HEIGHT: Whole = Whole {
     most: 65_535,
 };
 
+/// The port that stands behind the host.
+pub(crate) const AT: Whole = Whole {
+    name: "at",
+    least: 1,
+    most: 65_535,
+};
+
+/// At most a day.
+pub(crate) const WAIT: Whole = Whole {
+    name: "wait",
+    least: 0,
+    most: 86_400,
+};
+
 pub(crate) const HOST: &str = "host";
 
 pub(crate) const ESCAPE: &str = "escape";
@@ -89,6 +104,14 @@ pub(crate) const TRACE: &str = "trace";
 pub(crate) const LOCALLY: &str = "local";
 
 pub(crate) const VERBOSE: &str = "verbose";
+
+pub(crate) const QUIET: &str = "quiet";
+
+pub(crate) const PLAIN: &str = "plain";
+
+pub(crate) const LF: &str = "lf";
+
+pub(crate) const CR: &str = "cr";
 
 pub(crate) const TO: &str = "to";
 
@@ -130,7 +153,6 @@ fn bare_command<'a>(alloc: Global) -> Command<'a>
         .about("Telnet with LINEMODE: a line means the same wherever it was edited")
         .after_help("Example:\n  printf 'ab\\177c\\r' | tn local")
         .subcommand_required(true)
-        .disable_help_subcommand(true)
 }
 
 fn local_command<'a>(alloc: Global) -> Command<'a>
@@ -314,12 +336,37 @@ fn with_connect_options<'a>(alloc: Global, command: Command<'a>) -> Result<Comma
     ensures shape { IfOk result (λ command. shape_of command ≡ connect) }
     ensures local { IfOk result (λ command. (out-Command command).has_globals ≡ false) }
 {
+    let command = with_places(alloc, command)?;
+    let command = with_window_options(alloc, command)?;
+    let command = with_terminal_options(alloc, command)?;
+    let command = with_plain_options(alloc, command)?;
+    Ok(command)
+}
+
+// Where to connect to.
+fn with_places<'a>(alloc: Global, command: Command<'a>) -> Result<Command<'a>, AllocError>
+    requires { (out-Command command).has_globals ≡ false }
+    ensures app { IfOk result (λ new. app_of new ≡ with_rule (with_rule (with_rule
+        (app_of command.entry) (place_rule (codes "host"))) (number_rule (codes "at") 1 65535)) maybe_port_rule) }
+    ensures local { IfOk result (λ new. (out-Command new).has_globals ≡ false) }
+{
     let command = command
         .arg(host_place(alloc))?
+        .arg(port_place(alloc))?
         .arg(port_option(
             alloc,
-            "The port to connect to, which is 23 where a HOST is given and no port",
-        ))?
+            "The port, in place of the one behind HOST or within it",
+        ))?;
+    Ok(command)
+}
+
+fn with_window_options<'a>(alloc: Global, command: Command<'a>) -> Result<Command<'a>, AllocError>
+    requires { (out-Command command).has_globals ≡ false }
+    ensures app { IfOk result (λ new. app_of new ≡ with_rule (with_rule (with_rule (app_of command.entry)
+        (whole_rule (codes "width") 0 65535)) (whole_rule (codes "height") 0 65535)) line_rule) }
+    ensures local { IfOk result (λ new. (out-Command new).has_globals ≡ false) }
+{
+    let command = command
         .arg(size_option(
             alloc,
             WIDTH,
@@ -330,14 +377,47 @@ fn with_connect_options<'a>(alloc: Global, command: Command<'a>) -> Result<Comma
             HEIGHT,
             "The height of the window, in lines; 0 tells none; default: the terminal's, or 24",
         ))?
-        .arg(line_option(alloc))?
+        .arg(line_option(alloc))?;
+    Ok(command)
+}
+
+fn with_terminal_options<'a>(alloc: Global, command: Command<'a>) -> Result<Command<'a>, AllocError>
+    requires { (out-Command command).has_globals ≡ false }
+    ensures app { IfOk result (λ new. app_of new ≡ with_rule (with_rule (with_rule (with_rule
+        (app_of command.entry) escape_rule) (text_rule (codes "trace"))) wait_rule) (flag_rule (codes "quiet"))) }
+    ensures local { IfOk result (λ new. (out-Command new).has_globals ≡ false) }
+{
+    let command = command
         .arg(escape_option(alloc))?
         .arg(text_option(
             alloc,
             TRACE,
             "FILE",
             "Writes to this file what goes over the connection",
+        ))?
+        .arg(wait_option(alloc))?
+        .arg(flag_option(
+            alloc,
+            QUIET,
+            "Tells nothing of the connection at a terminal, but what fails",
         ))?;
+    Ok(command)
+}
+
+fn with_plain_options<'a>(alloc: Global, command: Command<'a>) -> Result<Command<'a>, AllocError>
+    requires { (out-Command command).has_globals ≡ false }
+    ensures app { IfOk result (λ new. app_of new ≡ with_rule (with_rule (with_rule (app_of command.entry)
+        (flag_rule (codes "plain"))) (flag_rule (codes "lf"))) (flag_rule (codes "cr"))) }
+    ensures local { IfOk result (λ new. (out-Command new).has_globals ≡ false) }
+{
+    let command = command
+        .arg(hidden_option(
+            alloc,
+            PLAIN,
+            "Edits lines here, and sends each with CR LF, without Telnet",
+        ))?
+        .arg(hidden_option(alloc, LF, "With --plain: ends each line with LF"))?
+        .arg(hidden_option(alloc, CR, "With --plain: ends each line with CR"))?;
     Ok(command)
 }
 
@@ -358,15 +438,22 @@ fn described<'a>(
         .after_help(after)
 }
 
-// An option that takes a whole number.
+// An argument that takes a whole number.
+fn number_place<'a>(alloc: Global, whole: Whole) -> Arg<'a>
+    ensures rule { rule_of result ≡ number_rule whole.name.now whole.least whole.most }
+    ensures local { result.global ≡ false }
+{
+    Arg::new(alloc, whole.name)
+        .value_name("N")
+        .value_parser(reader(whole))
+}
+
+// An option that does.
 fn number_option<'a>(alloc: Global, whole: Whole) -> Arg<'a>
     ensures rule { rule_of result ≡ whole_rule whole.name.now whole.least whole.most }
     ensures local { result.global ≡ false }
 {
-    Arg::new(alloc, whole.name)
-        .long(whole.name)
-        .value_name("N")
-        .value_parser(reader(whole))
+    number_place(alloc, whole).long(whole.name)
 }
 
 // The parser for the number of such an option.
@@ -394,10 +481,25 @@ fn whole_option<'a>(
 
 // An option for a port that need not be given.
 fn port_option<'a>(alloc: Global, help: &'static str) -> Arg<'a>
-    ensures rule { rule_of result ≡ whole_rule (codes "port") 1 65535 }
+    ensures rule { rule_of result ≡ maybe_port_rule }
     ensures local { result.global ≡ false }
 {
-    number_option(alloc, PORT).value_name("P").help(help)
+    number_option(alloc, PORT)
+        .short('p')
+        .value_name("P")
+        .help(help)
+}
+
+// How long to wait at the end of the keys.
+fn wait_option<'a>(alloc: Global) -> Arg<'a>
+    ensures rule { rule_of result ≡ wait_rule }
+    ensures local { result.global ≡ false }
+{
+    number_place(alloc, WAIT)
+        .short('q')
+        .value_name("SECONDS")
+        .default_value("0")
+        .help("At the end of its input, waits so long before the server is told that no more comes")
 }
 
 fn required_port<'a>(alloc: Global, help: &'static str) -> Arg<'a>
@@ -451,7 +553,18 @@ fn host_place<'a>(alloc: Global) -> Arg<'a>
     ensures local { result.global ≡ false }
 {
     Arg::new(alloc, HOST).value_name("HOST").help(
-        "The host to connect to, a name or an address; without it this machine",
+        "The host to connect to, a name or an address, or HOST:PORT or [ADDRESS]:PORT; without it this \
+         machine",
+    )
+}
+
+// The port behind that host.
+fn port_place<'a>(alloc: Global) -> Arg<'a>
+    ensures rule { rule_of result ≡ number_rule (codes "at") 1 65535 }
+    ensures local { result.global ≡ false }
+{
+    number_place(alloc, AT).value_name("PORT").help(
+        "The port to connect to, which is 23 where a HOST is given and no port",
     )
 }
 
@@ -490,4 +603,12 @@ fn flag_option<'a>(alloc: Global, name: &'static str, help: &'static str) -> Arg
         .long(name)
         .action(ArgAction::SetTrue)
         .help(help)
+}
+
+// The same, which the help does not name.
+fn hidden_option<'a>(alloc: Global, name: &'static str, help: &'static str) -> Arg<'a>
+    ensures rule { rule_of result ≡ flag_rule name.now }
+    ensures local { result.global ≡ false }
+{
+    flag_option(alloc, name, help).hide(true)
 }

@@ -1,7 +1,8 @@
 //! How to serve and how to connect.
 
-ghost use Rattle.std.specs.Prelude.{◌≡◌, ℕ, List, Ok, None, IfOk, IfSome, string_bytes};
-ghost use Rattle.tn_words.specs.Addresses.{WritesAddress};
+ghost use Rattle.std.specs.Prelude.{◌≡◌, ℕ, Bool, List, Option, Ok, None, IfOk, IfSome, string_bytes};
+ghost use Rattle.tn_words.specs.Addresses.{WritesAddress, WritesHost, WritesName, WritesPlace};
+ghost use Rattle.tn_words.specs.Addresses.{has_colon, has_one_colon, has_port};
 ghost use Rattle.tn_words.specs.Escapes.{IsControlOf, WritesEscape};
 
 use std::alloc::{AllocError, Global};
@@ -22,7 +23,7 @@ pub struct Address {
 }
 
 impl Address {
-    // The address that a text writes: what stands before its last colon is the host.
+    // The address that a text writes: what stands before its last colon writes the host.
     pub(crate) fn from_text(alloc: Global, text: &str) -> Result<Option<Address>, AllocError>
         ensures some { IfOk result (λ read. IfSome read (λ address.
             WritesAddress text.now (string_bytes address.host) address.port)) }
@@ -43,10 +44,8 @@ fn host_and_port(text: &str) -> Option<(&str, u16)>
     ensures some { IfSome result (λ read. WritesAddress text.now read.0.now read.1) }
     ensures none { result ≡ None → (host : List ℕ) (port : ℕ) → ¬ WritesAddress text.now host port }
 {
-    let (host, number) = text.rsplit_once(':')?;
-    if host.is_empty() {
-        return None;
-    }
+    let (front, number) = text.rsplit_once(':')?;
+    let host = host_alone(front)?;
     let Ok(port) = number.parse::<u16>() else {
         return None;
     };
@@ -54,6 +53,64 @@ fn host_and_port(text: &str) -> Option<(&str, u16)>
         return None;
     }
     Some((host, port))
+}
+
+// The host that a text writes, bare or between brackets.
+fn host_alone(text: &str) -> Option<&str>
+    ensures some { IfSome result (λ host. WritesHost text.now host.now) }
+    ensures none { result ≡ None → (host : List ℕ) → ¬ WritesHost text.now host }
+{
+    let host = unbracketed(text)?;
+    if host.is_empty() {
+        return None;
+    }
+    Some(host)
+}
+
+fn unbracketed(text: &str) -> Option<&str>
+    ensures some { IfSome result (λ name. WritesName text.now name.now) }
+    ensures none { result ≡ None → (name : List ℕ) → ¬ WritesName text.now name }
+{
+    match text.strip_prefix('[') {
+        Some(rest) => rest.strip_suffix(']'),
+        None => Some(text),
+    }
+}
+
+// The host and, where it writes one, the port that a text writes.
+pub(crate) fn place_in(text: &str) -> Option<(&str, Option<u16>)>
+    ensures some { IfSome result (λ read. WritesPlace text.now read.0.now read.1) }
+    ensures none { result ≡ None → (host : List ℕ) (port : Option ℕ) → ¬ WritesPlace text.now host port }
+{
+    if has_port(text) {
+        let (host, port) = host_and_port(text)?;
+        return Some((host, Some(port)));
+    }
+    let host = host_alone(text)?;
+    Some((host, None))
+}
+
+fn has_port(text: &str) -> bool
+    ensures { result ≡ has_port text.now }
+{
+    let begins = text.starts_with("[");
+    let ends = text.ends_with("]");
+    has_one_colon(text) || (begins && !ends)
+}
+
+fn has_one_colon(text: &str) -> bool
+    ensures { result ≡ has_one_colon text.now }
+{
+    match text.split_once(':') {
+        Some((_, rest)) => !has_colon(rest),
+        None => false,
+    }
+}
+
+fn has_colon(text: &str) -> bool
+    ensures { result ≡ has_colon text.now }
+{
+    text.as_bytes().contains(&b':')
 }
 
 /// How to serve.
@@ -119,6 +176,15 @@ fn control_of(letter: u8) -> Option<u8>
     }
 }
 
+/// What ends a line that is sent without Telnet.
+#[derive(Clone, Copy, Debug, PartialEq, Eq)]
+pub enum LineEnd {
+    /// A carriage return and a line feed.
+    CrLf,
+    Lf,
+    Cr,
+}
+
 /// How to connect.
 #[derive(Debug, Drop, PartialEq, Eq)]
 pub struct Connecting {
@@ -136,4 +202,10 @@ pub struct Connecting {
     pub escape: Escape,
     /// The file that gets a trace of the connection.
     pub trace: Option<String>,
+    /// How many seconds after the end of its input the server is told that no more comes, from 0 to 86,400.
+    pub wait: u32,
+    /// Whether a terminal is told nothing of the connection.
+    pub quiet: bool,
+    /// What ends each line, where the connection is without Telnet.
+    pub plain: Option<LineEnd>,
 }

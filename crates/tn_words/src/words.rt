@@ -1,16 +1,18 @@
 //! The words of the command line.
 
-ghost use Rattle.std.specs.Prelude.{◌≡◌, ◌≤◌, ℕ, ⊤, None, Option, IfOk, IfErr, IfSome, codes, map, option_map, string_bytes};
+ghost use Rattle.std.specs.Prelude.{◌≡◌, ◌≤◌, ℕ, List, ⊤, None, Option, IfOk, IfErr, IfSome, codes, map, option_map, string_bytes};
 ghost use Rattle.clap.specs.Words.{kind_of, rows_of, first_of, found_of, subcommand_rows_of};
-ghost use Rattle.tn_words.specs.Words.{AskFor, AsksIn, AsksNothing, AsksServe, AsksConnect, AsksPort, HasEscape, HasNumber};
-ghost use Rattle.tn_words.specs.Words.{HasText, Lacks, MayHaveAddress, MayHaveNumber, MissesNumber, Refuses, TellsKind};
-ghost use Rattle.tn_words.specs.Words.{detail_of, host_of, is_given, names_only_host};
+ghost use Rattle.tn_words.specs.Words.{AskFor, AsksIn, AsksNothing, AsksServe, AsksConnect, AsksPlace, AsksPort, HasEscape};
+ghost use Rattle.tn_words.specs.Words.{HasNumber, HasPlace, HasText, Lacks, MayHaveAddress, MayHaveNumber, MissesNumber};
+ghost use Rattle.tn_words.specs.Words.{Refuses, TellsKind, chosen_line_end, detail_of, is_flagged, is_given, line_end_in};
+ghost use Rattle.tn_words.specs.Words.{one_port};
 
 use crate::commands::{
-    CONNECT, COUNT, CRLF, DECODE, ESCAPE, HEIGHT, HOST, IDLE, LIMIT, LINE, LOCAL, LOCALLY, PORT,
-    REPLAY, SERVE, TICKS, TO, TRACE, VERBOSE, VERSION_LINE, WIDTH, WORLD, Whole, tn_command,
+    AT, CONNECT, COUNT, CR, CRLF, DECODE, ESCAPE, HEIGHT, HOST, IDLE, LF, LIMIT, LINE, LOCAL,
+    LOCALLY, PLAIN, PORT, QUIET, REPLAY, SERVE, TICKS, TO, TRACE, VERBOSE, VERSION_LINE, WAIT,
+    WIDTH, WORLD, Whole, tn_command,
 };
-use crate::settings::{Address, Connecting, Escape, Serving};
+use crate::settings::{Address, Connecting, Escape, LineEnd, Serving, place_in};
 use clap::error::ErrorKind;
 use clap::{ArgMatches, Error};
 use std::alloc::{AllocError, Global};
@@ -76,8 +78,18 @@ impl From<AllocError> for WordsFault {
 #[derive(Clone, Copy, Debug, ErrorText)]
 enum Lack<'a> {
     #[error("error: the following required arguments were not provided:\n  HOST, or --port <P>\n\n\
-         Usage: tn connect [OPTIONS] [HOST]\n\nFor more information, try '--help'.\n")]
+         Usage: tn connect [OPTIONS] [HOST] [PORT]\n\nFor more information, try '--help'.\n")]
     Port,
+    #[error("error: more than one port is given\n\n\
+         Usage: tn connect [OPTIONS] [HOST] [PORT]\n\nFor more information, try '--help'.\n")]
+    OnePort,
+    /// The text writes no host, with a port or without.
+    #[error("error: invalid value '{0}' for '[HOST]': it is no host, nor one with a port of 1 to 65535 \
+         behind a colon\n\nFor more information, try '--help'.\n")]
+    Host(&'a str),
+    #[error("error: '--lf' and '--cr' exclude each other, and need '--plain'\n\n\
+         For more information, try '--help'.\n")]
+    LineEnd,
     /// The text writes no key.
     #[error("error: invalid value '{0}' for '--escape <C>': it is neither `none` nor a caret and one of \
          A to Z, [, \\, ], ^ and _\n\nFor more information, try '--help'.\n")]
@@ -184,77 +196,163 @@ fn connecting(alloc: Global, words: &ArgMatches<'_>) -> Result<Connecting, Words
     ensures lacks { IfErr result
         (Lacks ((asked : Connecting) → ¬ AsksConnect (rows_of (found_of words.now)) asked)) }
 {
-    let Some(port) = port_of(words) else {
-        return Err(lacking(alloc, &Lack::Port));
+    let place = place_of(alloc, words)?;
+    let escape = escape_of(alloc, words)?;
+    let Some(plain) = line_end_in(words) else {
+        return Err(lacking(alloc, &Lack::LineEnd));
     };
-    let Some(text) = words.get_str(ESCAPE) else {
-        return Err(lacking(alloc, &Lack::Value));
-    };
-    let Some(escape) = Escape::from_text(text) else {
-        return Err(lacking(alloc, &Lack::Escape(text)));
-    };
-    let host = host_of(alloc, words)?;
     let trace = trace_of(alloc, words)?;
-    match connecting_to(host, port, escape, trace, words) {
+    match connecting_to(place, escape, plain, trace, words) {
         Some(connecting) => Ok(connecting),
         None => Err(lacking(alloc, &Lack::Value)),
     }
 }
 
 fn connecting_to(
-    host: String,
-    port: u16,
+    place: Address,
     escape: Escape,
+    plain: Option<LineEnd>,
     trace: Option<String>,
     words: &ArgMatches<'_>,
 ) -> Option<Connecting>
-    requires host { string_bytes host ≡ host_of (rows_of (found_of words.now)) }
-    requires port { AsksPort (rows_of (found_of words.now)) port }
+    requires place { AsksPlace (rows_of (found_of words.now)) (string_bytes place.host) place.port }
     requires escape { HasEscape (rows_of (found_of words.now)) escape }
+    requires plain { line_end_in (rows_of (found_of words.now)) ≡ Some plain }
     requires trace { option_map string_bytes trace ≡ first_of (codes "trace") (rows_of (found_of words.now)) }
     ensures asked { IfSome result (AsksConnect (rows_of (found_of words.now))) }
     ensures none { result ≡ None →
         (asked : Connecting) → ¬ AsksConnect (rows_of (found_of words.now)) asked }
 {
     Some(Connecting {
-        host,
-        port,
+        host: place.host,
+        port: place.port,
         width: size(words, WIDTH)?,
         height: size(words, HEIGHT)?,
         line_limit: Limit::new(number(words, LINE)? as u16)?,
         escape,
         trace,
+        wait: number(words, WAIT)?,
+        quiet: words.get_flag(QUIET),
+        plain,
     })
 }
 
-// The port that is given, or Telnet's where only a host is named.
-fn port_of(words: &ArgMatches<'_>) -> Option<u16>
-    ensures some { IfSome result (AsksPort (rows_of (found_of words.now))) }
-    ensures none { result ≡ None → (port : ℕ) → ¬ AsksPort (rows_of (found_of words.now)) port }
+// The host and the port that the words ask for.
+fn place_of(alloc: Global, words: &ArgMatches<'_>) -> Result<Address, WordsFault>
+    ensures asked { IfOk result (λ place.
+        AsksPlace (rows_of (found_of words.now)) (string_bytes place.host) place.port) }
+    ensures lacks { IfErr result (Lacks
+        ((host : List ℕ) (port : ℕ) → ¬ AsksPlace (rows_of (found_of words.now)) host port)) }
 {
-    if names_only_host(words) {
-        return Some(TELNET_PORT);
-    }
-    Some(number(words, PORT)? as u16)
+    let Some((host, within)) = named_place(words) else {
+        let text = words.get_str(HOST).unwrap_or(THIS_MACHINE);
+        return Err(lacking(alloc, &Lack::Host(text)));
+    };
+    let Some(port) = port_of(words, within) else {
+        return Err(lacking(alloc, &port_lack(words)));
+    };
+    let host = String::from_str(alloc, host)?;
+    Ok(Address { host, port })
 }
 
-fn names_only_host(words: &ArgMatches<'_>) -> bool
-    ensures { result ≡ names_only_host (rows_of (found_of words.now)) }
+// The host that is named and the port within it, or this machine.
+fn named_place<'a>(words: &ArgMatches<'a>) -> Option<(&'a str, Option<u16>)>
+    ensures some { IfSome result (λ place. HasPlace (rows_of (found_of words.now)) place.0.now place.1) }
+    ensures none { result ≡ None → (host : List ℕ) (within : Option ℕ) →
+        ¬ HasPlace (rows_of (found_of words.now)) host within }
 {
-    is_given(words, HOST) && !is_given(words, PORT.name)
+    match words.get_str(HOST) {
+        Some(text) => place_in(text),
+        None => Some((THIS_MACHINE, None)),
+    }
+}
+
+fn port_of(words: &ArgMatches<'_>, within: Option<u16>) -> Option<u16>
+    ensures some { IfSome result (AsksPort (rows_of (found_of words.now)) within) }
+    ensures none { result ≡ None → (port : ℕ) → ¬ AsksPort (rows_of (found_of words.now)) within port }
+{
+    let option = size(words, PORT)?;
+    let place = size(words, AT)?;
+    one_port(option, place, within, is_given(words, HOST))
+}
+
+// The port that is given, or Telnet's where none is and a host is named; `None` where more are given.
+fn one_port(
+    option: Option<u16>,
+    place: Option<u16>,
+    within: Option<u16>,
+    named: bool,
+) -> Option<u16>
+    ensures { result ≡ one_port option place within named }
+{
+    match (option, place, within) {
+        (Some(port), None, None) => Some(port),
+        (None, Some(port), None) => Some(port),
+        (None, None, Some(port)) => Some(port),
+        (None, None, None) if named => Some(TELNET_PORT),
+        _ => None,
+    }
+}
+
+// Why the words give no port.
+fn port_lack<'a>(words: &ArgMatches<'_>) -> Lack<'a> {
+    if is_given(words, HOST) || is_given(words, PORT.name) {
+        Lack::OnePort
+    } else {
+        Lack::Port
+    }
+}
+
+fn escape_of(alloc: Global, words: &ArgMatches<'_>) -> Result<Escape, WordsFault>
+    ensures asked { IfOk result (HasEscape (rows_of (found_of words.now))) }
+    ensures lacks { IfErr result
+        (Lacks ((escape : Escape) → ¬ HasEscape (rows_of (found_of words.now)) escape)) }
+{
+    let Some(text) = words.get_str(ESCAPE) else {
+        return Err(lacking(alloc, &Lack::Value));
+    };
+    match Escape::from_text(text) {
+        Some(escape) => Ok(escape),
+        None => Err(lacking(alloc, &Lack::Escape(text))),
+    }
+}
+
+// What ends a line that is sent without Telnet, where that is asked for; `None` where the flags make no sense.
+fn line_end_in(words: &ArgMatches<'_>) -> Option<Option<LineEnd>>
+    ensures { result ≡ line_end_in (rows_of (found_of words.now)) }
+{
+    chosen_line_end(
+        is_flagged(words, PLAIN),
+        is_flagged(words, LF),
+        is_flagged(words, CR),
+    )
+}
+
+fn chosen_line_end(plain: bool, lf: bool, cr: bool) -> Option<Option<LineEnd>>
+    ensures { result ≡ chosen_line_end plain lf cr }
+{
+    match (plain, lf, cr) {
+        (false, false, false) => Some(None),
+        (true, false, false) => Some(Some(LineEnd::CrLf)),
+        (true, true, false) => Some(Some(LineEnd::Lf)),
+        (true, false, true) => Some(Some(LineEnd::Cr)),
+        _ => None,
+    }
+}
+
+fn is_flagged(words: &ArgMatches<'_>, name: &str) -> bool
+    ensures { result ≡ is_flagged name.now (rows_of (found_of words.now)) }
+{
+    match words.get_str(name) {
+        Some(text) => text == "true",
+        None => false,
+    }
 }
 
 fn is_given(words: &ArgMatches<'_>, name: &str) -> bool
     ensures { result ≡ is_given name.now (rows_of (found_of words.now)) }
 {
     words.get_str(name).is_some()
-}
-
-// The host that is named, or this machine.
-fn host_of(alloc: Global, words: &ArgMatches<'_>) -> Result<String, AllocError>
-    ensures { IfOk result (λ host. string_bytes host ≡ host_of (rows_of (found_of words.now))) }
-{
-    String::from_str(alloc, words.get_str(HOST).unwrap_or(THIS_MACHINE))
 }
 
 fn trace_of(alloc: Global, words: &ArgMatches<'_>) -> Result<Option<String>, AllocError>

@@ -1,26 +1,15 @@
-use Rattle.std.proofs.Common.{ap}
-use Rattle.clap.specs.Words.{App}
-use Rattle.tn_words.proofs.Commanding.{with_one_more, still_local}
+use Rattle.std.proofs.Common.{ap, ◌∙◌, codes}
+use Rattle.clap.specs.Words.{App, with_rule}
+use Rattle.tn_words.specs.Commands.{escape_rule, flag_rule, line_rule, maybe_port_rule, number_rule, place_rule, text_rule, wait_rule, whole_rule}
 use Rattle.tn_words.proofs.commands.with_connect_options.Goals as goal
 
 pub returns-clause-shape : goal.returns-clause-shape
 returns-clause-shape c =
-    let a1 = with_one_more c.args.command c.in_ok-arg.field-0 c.host_place.result _ _ c.in_ok-arg.ensures c.host_place.ensures.local c.host_place.ensures.rule c.requires.app in
-    let a2 = with_one_more c.in_ok-arg.field-0 c.in_ok-arg-2.field-0 c.port_option.result _ _ c.in_ok-arg-2.ensures c.port_option.ensures.local c.port_option.ensures.rule a1 in
-    let a3 = with_one_more c.in_ok-arg-2.field-0 c.in_ok-arg-3.field-0 c.size_option.result _ _ c.in_ok-arg-3.ensures c.size_option.ensures.local c.size_option.ensures.rule a2 in
-    let a4 = with_one_more c.in_ok-arg-3.field-0 c.in_ok-arg-4.field-0 c.size_option-2.result _ _ c.in_ok-arg-4.ensures c.size_option-2.ensures.local c.size_option-2.ensures.rule a3 in
-    let a5 = with_one_more c.in_ok-arg-4.field-0 c.in_ok-arg-5.field-0 c.line_option.result _ _ c.in_ok-arg-5.ensures c.line_option.ensures.local c.line_option.ensures.rule a4 in
-    let a6 = with_one_more c.in_ok-arg-5.field-0 c.in_ok-arg-6.field-0 c.escape_option.result _ _ c.in_ok-arg-6.ensures c.escape_option.ensures.local c.escape_option.ensures.rule a5 in
-    let a7 = with_one_more c.in_ok-arg-6.field-0 c.in_ok-command.command c.text_option.result _ _ c.in_ok-command.ensures c.text_option.ensures.local c.text_option.ensures.rule a6 in
-    ap (λ (a : App). a.top) a7
-
-pub returns-clause-local : goal.returns-clause-local
-returns-clause-local c =
-    let a1 = still_local c.args.command c.in_ok-arg.field-0 c.host_place.result c.in_ok-arg.ensures c.host_place.ensures.local c.requires.local in
-    let a2 = still_local c.in_ok-arg.field-0 c.in_ok-arg-2.field-0 c.port_option.result c.in_ok-arg-2.ensures c.port_option.ensures.local a1 in
-    let a3 = still_local c.in_ok-arg-2.field-0 c.in_ok-arg-3.field-0 c.size_option.result c.in_ok-arg-3.ensures c.size_option.ensures.local a2 in
-    let a4 = still_local c.in_ok-arg-3.field-0 c.in_ok-arg-4.field-0 c.size_option-2.result c.in_ok-arg-4.ensures c.size_option-2.ensures.local a3 in
-    let a5 = still_local c.in_ok-arg-4.field-0 c.in_ok-arg-5.field-0 c.line_option.result c.in_ok-arg-5.ensures c.line_option.ensures.local a4 in
-    let a6 = still_local c.in_ok-arg-5.field-0 c.in_ok-arg-6.field-0 c.escape_option.result c.in_ok-arg-6.ensures c.escape_option.ensures.local a5 in
-    let a7 = still_local c.in_ok-arg-6.field-0 c.in_ok-command.command c.text_option.result c.in_ok-command.ensures c.text_option.ensures.local a6 in
-    a7
+    let places = ap (λ (a : App). with_rule (with_rule (with_rule a (place_rule (codes "host"))) (number_rule (codes "at") 1 65535)) maybe_port_rule) c.requires.app in
+    let window = ap (λ (a : App). with_rule (with_rule (with_rule a (whole_rule (codes "width") 0 65535)) (whole_rule (codes "height") 0 65535)) line_rule)
+    (c.in_ok-command.ensures.app ∙ places) in
+    let terminal = ap (λ (a : App). with_rule (with_rule (with_rule (with_rule a escape_rule) (text_rule (codes "trace"))) wait_rule) (flag_rule (codes "quiet")))
+    (c.in_ok-command-2.ensures.app ∙ window) in
+    let plain = ap (λ (a : App). with_rule (with_rule (with_rule a (flag_rule (codes "plain"))) (flag_rule (codes "lf"))) (flag_rule (codes "cr")))
+    (c.in_ok-command-3.ensures.app ∙ terminal) in
+    ap (λ (a : App). a.top) (c.in_ok-command-4.ensures.app ∙ plain)

@@ -1,4 +1,4 @@
-use Rattle.tn_words.proofs.Hosts.{host_asks, host_is_taken, port_asks, port_is_taken, both_ask, neither_asks, plain_asks}
+use Rattle.tn_words.proofs.Hosts.{host_asks, host_is_taken, port_asks, port_is_taken, both_ask, behind_asks, behind_is_taken, within_asks, neither_asks, two_ask}
 use Rattle.tn_words.proofs.laws.hosts_and_ports.Goals as goal
 
 pub returns : goal.returns
@@ -8,6 +8,9 @@ returns c = record {
   port = port_asks;
   port_taken = port_is_taken;
   both = both_ask;
+  behind = behind_asks;
+  behind_taken = behind_is_taken;
+  within = within_asks;
   neither = neither_asks;
-  plain = plain_asks;
+  two = two_ask;
 }
