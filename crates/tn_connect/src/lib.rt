@@ -11,11 +11,16 @@
 pub use connected::Connected;
 pub use connecting::connect;
 pub use fault::ConnectFault;
-pub use settings::{Connecting, Notes, Origin};
+pub use settings::{Connecting, Notes, Origin, Plain};
+pub use talks::{TalkReport, connect_plain};
+pub use tn_lines::LineEnd;
+pub use tn_lines_client::Over;
 pub use tn_sockets::{Host, Link, Screen};
 
 mod connected;
 mod connecting;
 mod fault;
+mod polls;
 mod reaching;
 mod settings;
+mod talks;

@@ -4,6 +4,7 @@ use std::alloc::Global;
 use std::fs::File;
 use std::sync::Arc;
 use tn_discipline::Limit;
+use tn_lines::LineEnd;
 use tn_sockets::Link;
 
 /// Where the keys of a client come from.
@@ -32,6 +33,18 @@ pub struct Connecting {
     pub origin: Origin,
     /// The escape character of a terminal, if it has one.
     pub escape: Option<u8>,
+}
+
+/// How to talk to a service that takes lines and negotiates nothing.
+#[derive(Clone, Copy, Debug, PartialEq, Eq)]
+pub struct Plain {
+    /// The port, of 1 to 65,535.
+    pub port: u16,
+    /// How many bytes a line that is typed at a terminal has at most.
+    pub line_limit: Limit,
+    pub line_end: LineEnd,
+    /// Where the lines come from: they are edited where it is a terminal.
+    pub origin: Origin,
 }
 
 /// What a client's session has beside its keys and its screen.

@@ -3,7 +3,7 @@ use Rattle.std.proofs.Common.{◌≡◌, ◌≤◌, ℕ, Bool, List, [], ◌∷�
 use Rattle.std.specs.Io.KnownBytes.{Appends, Consumes, Keeps}
 use Rattle.tn_lines.specs.Edges.{HasShown, at_screen}
 use Rattle.tn_lines.specs.Kinds.{Kind, typed, read, LeadsTo, said_by, shown_by}
-use Rattle.tn_lines_client.specs.Talking.{Streams, streams, Piece, echo, came, all_shown, echoed, came_in, Talked, Leads, GoesOn, TypesKeys, ShowsBytes, Begins}
+use Rattle.tn_lines_client.specs.Talking.{Streams, streams, Piece, echo, came, all_shown, echoed, came_in, Leads, GoesOn, TypesKeys, ShowsBytes, Begins}
 use Rattle.tn_lines_client.specs.declared.talk.Talk.{Talk}
 use Rattle.tn_lines_client.proofs.Writing.{appends_more, appends_kept, appends_none, consumes_more, consumes_kept, consumes_none}
 

@@ -1,4 +1,3 @@
-use Rattle.tn_lines_client.specs.Talking.{Talked}
 use Rattle.tn_lines_client.proofs.Going.{begun}
 use Rattle.tn_lines_client.proofs.talk.Talk.run.Goals as goal
 

@@ -1,5 +1,4 @@
-use Rattle.std.proofs.Common.{refl, ℕ, List, take}
-use Rattle.std.specs.Io.KnownBytes.{Appends}
+use Rattle.std.proofs.Common.{refl}
 use Rattle.tn_lines_client.proofs.Going.{kept_more, told_more}
 use Rattle.tn_lines_client.proofs.Writing.{keeps_same, appends_zero}
 use Rattle.tn_lines_client.proofs.talk.Talk.tell.Goals as goal
