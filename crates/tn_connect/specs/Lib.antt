@@ -1,3 +1,4 @@
 pub mod Clients
 pub mod Faults
 pub mod Sent
+pub mod Talks

@@ -17,6 +17,7 @@ ghost use Rattle.tn_streams.specs.Known.{known_reader};
 
 use crate::connected::Connected;
 use crate::fault::ConnectFault;
+use crate::news::tell_standing;
 use crate::sending::{Delivered, Sender};
 use crate::settings::{Connecting, Notes, Origin};
 use crate::waiting::{Brought, Patient};
@@ -35,9 +36,6 @@ use tn_sockets::{
     Sizes, Trace, Typing, WriteLog, new_queue,
 };
 use tn_streams::Source;
-
-/// The line that says that a connection stands: ACK and a line feed.
-const STANDS: &[u8] = b"\x06\n";
 
 // A connection that stands, and what it shares with the rest of the client.
 #[derive(Drop)]
@@ -325,13 +323,6 @@ fn connect_over<H: Host, K: Read + Drop + Send + 'static, S: Write, E: Write>(
     let ended = result_of(talked, is_left || link.is_dark());
     news.close(host, is_left, ended.is_ok());
     ended
-}
-
-// Whoever waits for the connection hears that it stands.
-fn tell_standing(stands: Option<File>) {
-    if let Some(mut stands) = stands {
-        let _ = stands.write_all(STANDS);
-    }
 }
 
 // Notes why a session ended in a fault, if it did, and what was not sent.

@@ -1,8 +1,12 @@
 //! What the user at a terminal is told of a connection.
 
+use std::fs::File;
 use std::io::Write;
 use std::net::SocketAddr;
 use tn_network::Trying;
+
+/// The line that says that a connection stands: ACK and a line feed.
+const STANDS: &[u8] = b"\x06\n";
 
 /// Tells of a connection, a line each, or tells nothing. A line that can't be written is dropped.
 #[derive(Drop)]
@@ -53,5 +57,12 @@ impl<'a, W: Write> Trying for News<'a, W> {
         if self.is_told {
             let _ = writeln!(self.writer, "Trying {}..", address);
         }
+    }
+}
+
+/// Whoever waits for the connection hears that it stands.
+pub(crate) fn tell_standing(stands: Option<File>) {
+    if let Some(mut stands) = stands {
+        let _ = stands.write_all(STANDS);
     }
 }

@@ -5,6 +5,7 @@ use std::alloc::Global;
 use std::fs::File;
 use std::sync::Arc;
 use tn_discipline::Limit;
+use tn_lines::LineEnd;
 use tn_sockets::Link;
 
 /// Where the keys of a client come from.
@@ -35,6 +36,18 @@ pub struct Connecting {
     pub escape: Option<u8>,
     /// How many seconds after the end of standard input the server is told that no more comes.
     pub wait: u32,
+}
+
+/// How to talk to a service that takes lines and negotiates nothing.
+#[derive(Clone, Copy, Debug, PartialEq, Eq)]
+pub struct Plain {
+    /// The port, of 1 to 65,535.
+    pub port: u16,
+    /// How many bytes a line that is typed at a terminal has at most.
+    pub line_limit: Limit,
+    pub line_end: LineEnd,
+    /// Where the lines come from: they are edited where it is a terminal.
+    pub origin: Origin,
 }
 
 /// What a client's session has beside its keys and its screen.

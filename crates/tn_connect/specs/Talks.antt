@@ -1,0 +1,40 @@
+-- Which talk a client has with a service that takes lines.
+use Rattle.std.specs.Prelude.{◌≡◌, ℕ, Bool, true, false, Option, Some, List, [], length}
+use Rattle.tn_connect.specs.declared.settings.Origin.{Origin}
+use Rattle.tn_connect.specs.declared.settings.Origin.TheVariants.{Reader, Input, Terminal}
+use Rattle.tn_connect.specs.declared.settings.Plain.{Plain}
+use Rattle.tn_connect.specs.declared.talks.TalkReport.{TalkReport}
+use Rattle.tn_discipline.specs.Characters.{standard_characters}
+use Rattle.tn_discipline.specs.Keys.{standard_flags}
+use Rattle.tn_discipline.specs.declared.termios.Settings.{Settings}
+use Rattle.tn_lines.specs.Kinds.{Kind, typed, read}
+use Rattle.tn_lines_client.specs.Talking.{Talked, streams}
+use Rattle.tn_sockets.specs.Logs.{logged}
+
+abbrev pub standard_settings : Settings
+standard_settings = record { flags = standard_flags; chars = standard_characters }
+
+abbrev pub kind_by : Origin → Plain → Kind
+kind_by Terminal plain = typed (record { settings = standard_settings; limit = plain.line_limit }) plain.line_end
+kind_by Reader plain = read plain.line_end
+kind_by Input plain = read plain.line_end
+
+-- lines are edited at a terminal, and those of any other input are read as they are
+abbrev pub kind_of : Plain → Kind
+kind_of plain = kind_by plain.origin plain
+
+abbrev pub is_terminal : Origin → Bool
+is_terminal Terminal = true
+is_terminal Reader = false
+is_terminal Input = false
+
+-- A talk was held with these keys and this screen, before and after it: all that was told stands in the log, and so many
+-- bytes more were to be told.
+pub record RunsTalk (plain : Plain) (bytes seen now : Option (List ℕ)) (report : TalkReport) : Type 0 where
+  pub unsent : List ℕ
+  pub keys_left : Option (List ℕ)
+  pub service : Option (List ℕ)
+  pub service_left : Option (List ℕ)
+  pub ran : Talked (kind_of plain) (is_terminal plain.origin) unsent (streams bytes service (Some []) seen)
+      (streams keys_left service_left (Some (logged report.told)) now)
+  pub count : report.unsent ≡ length unsent

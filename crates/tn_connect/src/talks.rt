@@ -1,0 +1,164 @@
+//! `tn connect --plain`: a talk with a service that takes lines and negotiates nothing.
+
+ghost use Rattle.std.specs.Prelude.{◌≡◌, [], IfOk};
+ghost use Rattle.tn_connect.specs.Clients.{ConnectsBy};
+ghost use Rattle.tn_connect.specs.Talks.{RunsTalk, is_terminal, kind_of};
+ghost use Rattle.tn_lines.specs.Kinds.{LeadsTo};
+ghost use Rattle.tn_network.specs.Asked.{Reaches};
+
+use crate::fault::ConnectFault;
+use crate::news::tell_standing;
+use crate::polls::Polling;
+use crate::settings::{Notes, Origin, Plain};
+use std::alloc::{AllocError, Global};
+use std::io::{Read, Write};
+use std::net::TcpStream;
+use std::os::fd::AsRawFd;
+use std::sync::Wait;
+use tn_discipline::Settings;
+use tn_lines::{AnyLines, FileLines, KeyLines};
+use tn_lines_client::{Await, Over, Talk, TalkFault};
+use tn_network::{Network, reach};
+use tn_sockets::{Connection, Host, Logged, WriteLog};
+use tn_streams::{Drain, Finish, Source};
+
+/// A talk that is over.
+#[derive(Drop)]
+pub struct TalkReport {
+    pub over: Over,
+    /// In it contracts see all that was told to the service.
+    pub told: WriteLog,
+    /// How many bytes more the service was to be told.
+    pub unsent: usize,
+    /// The first that the service said was a command of Telnet that negotiates an option.
+    pub negotiates: bool,
+}
+
+fn lines_of(alloc: Global, plain: Plain) -> Result<AnyLines, AllocError>
+    ensures { IfOk result (λ lines. LeadsTo (kind_of plain) [] lines) }
+{
+    let line_end = plain.line_end;
+    match plain.origin {
+        Origin::Terminal => {
+            let lines = KeyLines::new(alloc, Settings::standard(), plain.line_limit, line_end)?;
+            Ok(AnyLines::Typed(lines))
+        },
+        Origin::Reader | Origin::Input => Ok(AnyLines::Read(FileLines::new(line_end))),
+    }
+}
+
+/// Talks by these streams, until the service has closed, the connection is broken, or the user has left.
+fn talk<H: Wait, A: Await + Drop, K: Source + Drop, N: Source + Drop, W: Finish + Drop, S: Drain>(
+    rt: &H,
+    alloc: Global,
+    plain: Plain,
+    mut ready: A,
+    mut keys: K,
+    mut service: N,
+    writer: W,
+    screen: &mut S,
+) -> Result<TalkReport, TalkFault>
+    ensures { IfOk result (RunsTalk plain (K.remaining keys) (S.contents screen.old) (S.contents screen.new)) }
+{
+    let at_terminal = is_terminal(plain.origin);
+    let mut talk = Talk::new(alloc, lines_of(alloc, plain)?, at_terminal);
+    let mut writer = Logged::new(writer);
+    let over = talk.run(rt, &mut ready, &mut keys, &mut service, &mut writer, screen)?;
+    let (_, told) = writer.into_parts();
+    Ok(TalkReport {
+        over,
+        told,
+        unsent: talk.unsent(),
+        negotiates: talk.negotiates(),
+    })
+}
+
+fn is_terminal(origin: Origin) -> bool
+    ensures { result ≡ is_terminal origin }
+{
+    matches!(origin, Origin::Terminal)
+}
+
+/// Connects to a host, an address or a name, and talks to the service there by lines, with these keys and this
+/// screen, until the service has closed or the user has left. At a terminal lines are edited as at one of its own;
+/// those of any other input go as they are. Of a fault the causes are noted.
+pub fn connect_plain<H: Host + Network, K: Read + Drop, S: Write, E: Write>(
+    rt: H,
+    alloc: Global,
+    host: &str,
+    plain: Plain,
+    keys: K,
+    screen: &mut S,
+    notes: Notes<'_, E>,
+) -> Result<TalkReport, ConnectFault>
+    ensures talked { IfOk result (RunsTalk plain (K.remaining keys) (S.contents screen.old) (S.contents screen.new)) }
+    ensures reached { ConnectsBy (Reaches (H.finds rt host.now plain.port) (H.dials rt)) result }
+{
+    let Notes {
+        stands,
+        mut news,
+        causes,
+        link,
+        ..
+    } = notes;
+    let stream = reach(&rt, host, plain.port, &mut news, causes)?;
+    news.connect(host, None);
+    tell_standing(stands);
+    link.attach(&rt, stream.try_clone()?);
+    let ended = talk_over(rt, alloc, stream, plain, keys, screen, causes);
+    news.close(host, has_left(&ended), ended.is_ok());
+    ended
+}
+
+// The same, over a connection that stands.
+fn talk_over<H: Host, K: Read + Drop, S: Write>(
+    rt: H,
+    alloc: Global,
+    stream: TcpStream,
+    plain: Plain,
+    keys: K,
+    screen: &mut S,
+    causes: &mut Vec<u8>,
+) -> Result<TalkReport, ConnectFault>
+    ensures { IfOk result (RunsTalk plain (K.remaining keys) (S.contents screen.old) (S.contents screen.new)) }
+{
+    let (service, connection) = Connection::split(stream)?;
+    service.set_nonblocking(true)?;
+    let ready = Polling::new(rt, plain.origin, service.as_raw_fd());
+    match talk(&rt, alloc, plain, ready, keys, service, connection, screen) {
+        Ok(report) => if_whole(report, causes),
+        Err(fault) => Err(noted(fault, causes)),
+    }
+}
+
+fn has_left(ended: &Result<TalkReport, ConnectFault>) -> bool {
+    match ended {
+        Ok(report) => report.over == Over::Left,
+        Err(_) => false,
+    }
+}
+
+// A talk that is over, unless its connection broke. What the user is to know is noted.
+fn if_whole(report: TalkReport, causes: &mut Vec<u8>) -> Result<TalkReport, ConnectFault>
+    ensures { IfOk result (λ whole. whole ≡ report) }
+{
+    if report.unsent > 0 {
+        let _ = writeln!(causes, "tn: {} bytes typed were not sent", report.unsent);
+    }
+    if report.negotiates {
+        let _ = writeln!(causes, "tn: the other end speaks Telnet: leave out --plain");
+    }
+    if report.over == Over::Broken {
+        let _ = writeln!(causes, "tn: the connection broke");
+        return Err(ConnectFault::Session);
+    }
+    Ok(report)
+}
+
+fn noted(fault: TalkFault, causes: &mut Vec<u8>) -> ConnectFault {
+    let _ = writeln!(causes, "tn: {}", fault);
+    match fault {
+        TalkFault::Memory => ConnectFault::Memory,
+        TalkFault::Keys | TalkFault::Screen => ConnectFault::Session,
+    }
+}

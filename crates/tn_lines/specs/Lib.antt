@@ -1,0 +1,9 @@
+pub mod LineEnds
+pub mod Taken
+pub mod Said
+pub mod Shown
+pub mod Steps
+pub mod Leading
+pub mod Files
+pub mod Kinds
+pub mod Edges

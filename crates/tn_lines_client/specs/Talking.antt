@@ -1,0 +1,88 @@
+-- A talk with a service: what was read, what was told to it and what was shown, for every order in which keys and bytes
+-- come.
+use Rattle.std.specs.Prelude.{◌≡◌, ℕ, Bool, Option, List, [], ◌∷◌, ◌++◌}
+use Rattle.std.specs.Io.KnownBytes.{Consumes, Appends}
+use Rattle.tn_lines.specs.Edges.{HasShown, ShowsOn, at_screen}
+use Rattle.tn_lines.specs.Kinds.{Kind, LeadsTo, Takes, said_by, shown_by}
+use Rattle.tn_lines_client.specs.declared.talk.Talk.{Talk}
+
+-- what is known of the four streams: what the keys and the service still give, what was told to the service, and what is
+-- shown
+pub record Streams : Type 0 where
+  pub keys : Option (List ℕ)
+  pub service : Option (List ℕ)
+  pub told : Option (List ℕ)
+  pub screen : Option (List ℕ)
+
+abbrev pub streams : Option (List ℕ) → Option (List ℕ) → Option (List ℕ) → Option (List ℕ) → Streams
+streams keys service told screen = record { keys = keys; service = service; told = told; screen = screen }
+
+-- what is shown at once: the echo of keys, or what came
+pub data Piece : Type 0 where
+  echo : List ℕ → Piece
+  came : List ℕ → Piece
+
+abbrev pub all_shown : List Piece → List ℕ
+all_shown [] = []
+all_shown (echo bytes ∷ pieces) = bytes ++ all_shown pieces
+all_shown (came bytes ∷ pieces) = bytes ++ all_shown pieces
+
+abbrev pub echoed : List Piece → List ℕ
+echoed [] = []
+echoed (echo bytes ∷ pieces) = bytes ++ echoed pieces
+echoed (came bytes ∷ pieces) = echoed pieces
+
+abbrev pub came_in : List Piece → List ℕ
+came_in [] = []
+came_in (echo bytes ∷ pieces) = came_in pieces
+came_in (came bytes ∷ pieces) = bytes ++ came_in pieces
+
+-- These keys and these bytes were read. What the lines of the keys say was told, but for the bytes that wait; and what is
+-- shown is the echo of the keys and what came, each in its order, piece by piece.
+pub record Talked (kind : Kind) (at_terminal : Bool) (waiting : List ℕ) (first last : Streams) : Type 0 where
+  pub typed : List ℕ
+  pub heard : List ℕ
+  pub told : List ℕ
+  pub pieces : List Piece
+  pub keys : Consumes first.keys last.keys typed
+  pub service : Consumes first.service last.service heard
+  pub tells : Appends first.told last.told told
+  pub shows : Appends first.screen last.screen (all_shown pieces)
+  pub lines : told ++ waiting ≡ said_by kind typed
+  pub echoes : echoed pieces ≡ shown_by kind typed
+  pub comes : came_in pieces ≡ at_screen at_terminal heard
+
+-- the same, and the talk is where that leads
+pub record Leads (kind : Kind) (at_terminal : Bool) (first last : Streams) (talk : Talk) : Type 0 where
+  pub talked : Talked kind at_terminal talk.waiting first last
+  pub typed : LeadsTo kind talked.typed talk.lines
+  pub shown : HasShown talked.heard talk.edge
+  pub terminal : talk.edge.at_terminal ≡ at_terminal
+
+-- wherever the old talk had come to, the new one goes on from there
+abbrev pub GoesOn : Streams → Talk → Streams → Talk → Type 0
+GoesOn old talk new next =
+    (kind : Kind) (at_terminal : Bool) (first : Streams)
+    → Leads kind at_terminal first old talk → Leads kind at_terminal first new next
+
+-- these keys were taken while nothing waited: their echo is shown, and what they say waits
+pub record TypesKeys (piece : List ℕ) (seen : Option (List ℕ)) (old : Talk) (shown : Option (List ℕ)) (new : Talk)
+    : Type 0 where
+  pub echo_of : List ℕ
+  pub takes : Takes old.lines piece new.waiting echo_of new.lines
+  pub shows : Appends seen shown echo_of
+  pub edge : new.edge ≡ old.edge
+
+-- these bytes of the service are shown
+pub record ShowsBytes (piece : List ℕ) (seen : Option (List ℕ)) (old : Talk) (shown : Option (List ℕ)) (new : Talk)
+    : Type 0 where
+  pub bytes : List ℕ
+  pub takes : ShowsOn old.edge piece bytes new.edge
+  pub shows : Appends seen shown bytes
+  pub lines : new.lines ≡ old.lines
+  pub waiting : new.waiting ≡ old.waiting
+
+-- the talk has begun: nothing was read, told or shown
+abbrev pub Begins : Kind → Talk → Type 0
+Begins kind talk =
+    LeadsTo kind [] talk.lines × HasShown [] talk.edge × (talk.waiting ≡ [])

@@ -1,0 +1,297 @@
+//! A talk with a service.
+
+ghost use Rattle.std.specs.Prelude.{◌≡◌, ℕ, List, Option, [], OnOk, length};
+ghost use Rattle.tn_lines.specs.Kinds.{Kind, LeadsTo};
+ghost use Rattle.tn_lines_client.specs.Talking.{Begins, GoesOn, ShowsBytes, Talked, TypesKeys, streams};
+
+use crate::fault::TalkFault;
+use crate::ready::{Await, Ready, Wants};
+use crate::screen::show_whole;
+use crate::unsent::Waiting;
+use std::alloc::Global;
+use std::io;
+use std::io::ErrorKind;
+use std::sync::Wait;
+use tn_lines::{AnyLines, LeftEdge, Output};
+use tn_streams::{Drain, Finish, Source, is_interrupted};
+
+/// How many bytes one read asks for.
+const PIECE_BYTES: usize = 4_096;
+
+/// The first byte of a command of Telnet, and the least of the second of one that negotiates an option.
+const IAC: u8 = 255;
+
+const WILL: u8 = 251;
+
+/// How a talk ended.
+#[derive(Clone, Copy, Debug, PartialEq, Eq)]
+pub enum Over {
+    /// The service has closed.
+    Closed,
+    /// The connection is broken.
+    Broken,
+    /// The user left, by an interrupt or a quit where nothing was typed.
+    Left,
+}
+
+/// A talk with a service: lines go to it, and what it says is shown.
+#[derive(Drop)]
+pub struct Talk {
+    lines: AnyLines,
+    edge: LeftEdge,
+    output: Output,
+    shown: Vec<u8>,
+    waiting: Waiting,
+    keys_ended: bool,
+    finished: bool,
+    heard: bool,
+    negotiates: bool,
+}
+
+impl Talk {
+    /// Nothing was read yet. Where the screen is a terminal in raw mode, a line feed goes back to its left edge.
+    pub fn new(alloc: Global, lines: AnyLines, at_terminal: bool) -> Talk
+        ensures begins { (kind : Kind) → LeadsTo kind [] lines → Begins kind result }
+        ensures at_terminal { result.edge.at_terminal ≡ at_terminal }
+    {
+        Talk {
+            lines,
+            edge: LeftEdge::new(at_terminal),
+            output: Output::new(alloc),
+            shown: Vec::new(alloc),
+            waiting: Waiting::new(alloc),
+            keys_ended: false,
+            finished: false,
+            heard: false,
+            negotiates: false,
+        }
+    }
+
+    /// How many bytes wait to be told.
+    pub fn unsent(&self) -> usize
+        ensures { result ≡ length self.now.waiting }
+    {
+        self.waiting.as_slice().len()
+    }
+
+    /// Whether the first that the service said was a command of Telnet that negotiates an option.
+    pub fn negotiates(&self) -> bool {
+        self.negotiates
+    }
+
+    // Reads keys, shows their echo, and lets what they say wait. None are read while bytes wait.
+    fn take_keys<K: Source, S: Drain>(
+        &mut self,
+        keys: &mut K,
+        screen: &mut S,
+    ) -> Result<(), TalkFault>
+        ensures { OnOk result ((service told : Option (List ℕ)) →
+            GoesOn (streams (K.remaining keys.old) service told (S.contents screen.old)) self.old
+            (streams (K.remaining keys.new) service told (S.contents screen.new)) self.new) }
+    {
+        if self.unsent() > 0 {
+            return Ok(());
+        }
+        let mut piece = [0; PIECE_BYTES];
+        match keys.read_some(&mut piece) {
+            Ok(0) => {
+                self.keys_ended = true;
+                Ok(())
+            },
+            Ok(count) => self.type_keys(&piece[..count], screen),
+            Err(error) if is_interrupted(&error) => Ok(()),
+            Err(_) => Err(TalkFault::Keys),
+        }
+    }
+
+    // Takes these keys, shows their echo, and lets what they say wait.
+    fn type_keys<S: Drain>(&mut self, piece: &[u8], screen: &mut S) -> Result<(), TalkFault>
+        ensures { OnOk result (TypesKeys piece.now (S.contents screen.old) self.old
+            (S.contents screen.new) self.new) }
+    {
+        self.lines.take(piece, &mut self.output)?;
+        self.waiting.refill(&mut self.output.said);
+        if !show_whole(screen, &self.output.shown) {
+            return Err(TalkFault::Screen);
+        }
+        Ok(())
+    }
+
+    // Reads what the service says, and shows it. Returns how the talk ended, if it did.
+    fn take_bytes<N: Source, S: Drain>(
+        &mut self,
+        service: &mut N,
+        screen: &mut S,
+    ) -> Result<Option<Over>, TalkFault>
+        ensures { OnOk result ((keys told : Option (List ℕ)) →
+            GoesOn (streams keys (N.remaining service.old) told (S.contents screen.old)) self.old
+            (streams keys (N.remaining service.new) told (S.contents screen.new)) self.new) }
+    {
+        let mut piece = [0; PIECE_BYTES];
+        match service.read_some(&mut piece) {
+            Ok(0) => Ok(Some(Over::Closed)),
+            Ok(count) => {
+                self.show(&piece[..count], screen)?;
+                Ok(None)
+            },
+            Err(error) if is_for_later(&error) => Ok(None),
+            Err(_) => Ok(Some(Over::Broken)),
+        }
+    }
+
+    fn show<S: Drain>(&mut self, piece: &[u8], screen: &mut S) -> Result<(), TalkFault>
+        ensures { OnOk result (ShowsBytes piece.now (S.contents screen.old) self.old
+            (S.contents screen.new) self.new) }
+    {
+        self.listen(piece);
+        self.edge.take(piece, &mut self.shown)?;
+        if !show_whole(screen, &self.shown) {
+            return Err(TalkFault::Screen);
+        }
+        Ok(())
+    }
+
+    // Sees whether the first that comes is a command that negotiates an option.
+    fn listen(&mut self, piece: &[u8])
+        ensures lines { self.new.lines ≡ self.old.lines }
+        ensures edge { self.new.edge ≡ self.old.edge }
+        ensures waiting { self.new.waiting ≡ self.old.waiting }
+    {
+        if !self.heard {
+            self.heard = true;
+            self.negotiates = piece.len() > 1 && piece[0] == IAC && piece[1] >= WILL;
+        }
+    }
+
+    // Tells the service what waits, as far as it takes it at once. Returns whether the connection stands.
+    fn tell<W: Drain>(&mut self, writer: &mut W) -> bool
+        ensures { (keys service screen : Option (List ℕ)) →
+            GoesOn (streams keys service (W.contents writer.old) screen) self.old
+            (streams keys service (W.contents writer.new) screen) self.new }
+    {
+        if self.unsent() == 0 {
+            return true;
+        }
+        match writer.write_some(self.waiting.as_slice()) {
+            Ok(0) => false,
+            Ok(count) => {
+                self.waiting.take(count);
+                true
+            },
+            Err(error) => is_for_later(&error),
+        }
+    }
+
+    // Whether the service is to be told that no more comes.
+    fn is_to_finish(&self) -> bool {
+        if self.finished || self.unsent() > 0 {
+            return false;
+        }
+        self.keys_ended || self.lines.has_ended()
+    }
+
+    fn finish<W: Finish>(&mut self, writer: &mut W)
+        ensures { (keys service screen : Option (List ℕ)) →
+            GoesOn (streams keys service (W.contents writer.old) screen) self.old
+            (streams keys service (W.contents writer.new) screen) self.new }
+    {
+        if self.is_to_finish() {
+            writer.finish();
+            self.finished = true;
+        }
+    }
+
+    // Once the user has left, what waits is told as far as the service takes it at once.
+    fn leave<W: Drain>(&mut self, writer: &mut W) -> Option<Over>
+        ensures { (keys service screen : Option (List ℕ)) →
+            GoesOn (streams keys service (W.contents writer.old) screen) self.old
+            (streams keys service (W.contents writer.new) screen) self.new }
+    {
+        if !self.lines.has_left() {
+            return None;
+        }
+        let _stands = self.tell(writer);
+        Some(Over::Left)
+    }
+
+    fn wants(&self) -> Wants {
+        let room = self.unsent() > 0;
+        Wants {
+            keys: !room && !self.keys_ended,
+            room,
+        }
+    }
+
+    // Does what can be done next. Returns how the talk ended, if it did.
+    fn turn<K: Source, N: Source, W: Finish, S: Drain>(
+        &mut self,
+        next: Ready,
+        keys: &mut K,
+        service: &mut N,
+        writer: &mut W,
+        screen: &mut S,
+    ) -> Result<Option<Over>, TalkFault>
+        ensures { OnOk result (GoesOn
+            (streams (K.remaining keys.old) (N.remaining service.old) (W.contents writer.old)
+            (S.contents screen.old)) self.old
+            (streams (K.remaining keys.new) (N.remaining service.new) (W.contents writer.new)
+            (S.contents screen.new)) self.new) }
+    {
+        match next {
+            Ready::Keys => {
+                self.take_keys(keys, screen)?;
+                let over = self.leave(writer);
+                Ok(over)
+            },
+            Ready::Bytes => {
+                let over = self.take_bytes(service, screen)?;
+                Ok(over)
+            },
+            Ready::Room => {
+                let stands = self.tell(writer);
+                Ok(broken_unless(stands))
+            },
+        }
+    }
+
+    /// Talks until the service has closed, the connection is broken, or the user has left.
+    pub fn run<H: Wait, A: Await, K: Source, N: Source, W: Finish, S: Drain>(
+        &mut self,
+        rt: &H,
+        ready: &mut A,
+        keys: &mut K,
+        service: &mut N,
+        writer: &mut W,
+        screen: &mut S,
+    ) -> Result<Over, TalkFault>
+        ensures goes_on { OnOk result (GoesOn
+            (streams (K.remaining keys.old) (N.remaining service.old) (W.contents writer.old)
+            (S.contents screen.old)) self.old
+            (streams (K.remaining keys.new) (N.remaining service.new) (W.contents writer.new)
+            (S.contents screen.new)) self.new) }
+        ensures talked { (kind : Kind) → Begins kind self.old → OnOk result (Talked kind
+            self.old.edge.at_terminal self.new.waiting
+            (streams (K.remaining keys.old) (N.remaining service.old) (W.contents writer.old)
+            (S.contents screen.old))
+            (streams (K.remaining keys.new) (N.remaining service.new) (W.contents writer.new)
+            (S.contents screen.new))) }
+    {
+        for _ in rt.forever() {
+            self.finish(writer);
+            let next = ready.next(self.wants());
+            if let Some(over) = self.turn(next, keys, service, writer, screen)? {
+                return Ok(over);
+            }
+        }
+        unreachable!()
+    }
+}
+
+fn broken_unless(stands: bool) -> Option<Over> {
+    if stands { None } else { Some(Over::Broken) }
+}
+
+// The call is to be made again later.
+fn is_for_later(error: &io::Error) -> bool {
+    matches!(error.kind(), ErrorKind::Interrupted | ErrorKind::WouldBlock)
+}
