@@ -56,8 +56,11 @@ ran a origin bytes old new (outcome.Served (Ok served)) (serving, e, ends) zero 
     subst (λ a. RunsAsked a origin bytes old new) (sym e) (served, ends.all, ends.unwritten)
 ran a origin bytes old new (outcome.Served (Err f)) h zero = absurd (unserved f zero)
 ran a origin bytes old new (outcome.Connected (Ok r)) (connecting, e, ends) zero =
-    subst (λ a. RunsAsked a origin bytes old new) (sym e) (r, ends.ran, ends.whole)
+    subst (λ a. RunsAsked a origin bytes old new) (sym e) (inl (r, ends.telnet, ends.ran, ends.whole))
 ran a origin bytes old new (outcome.Connected (Err f)) h zero = absurd (unconnected f zero)
+ran a origin bytes old new (outcome.Talked (Ok r)) (connecting, e, ends) zero =
+    subst (λ a. RunsAsked a origin bytes old new) (sym e) (inr (ends.line_end, r, ends.plain, ends.ran))
+ran a origin bytes old new (outcome.Talked (Err f)) h zero = absurd (unconnected f zero)
 ran a origin bytes old new outcome.Untraced h zero = absurd (omega (arith, zero))
 ran a origin bytes old new (outcome.Help ended) h zero = absurd h
 ran a origin bytes old new (outcome.Version ended) h zero = absurd h
@@ -81,6 +84,7 @@ helped words origin bytes old new (outcome.Decode ended) h zero = absurd h
 helped words origin bytes old new (outcome.World ended) h zero = absurd h
 helped words origin bytes old new (outcome.Served ended) h zero = absurd h
 helped words origin bytes old new (outcome.Connected ended) h zero = absurd h
+helped words origin bytes old new (outcome.Talked ended) h zero = absurd h
 helped words origin bytes old new outcome.Untraced h zero = absurd h
 
 pub does : (words : List (List ℕ)) (origin : Origin) (bytes : Option (List ℕ)) (old new : Option (List ℕ)) (came : Outcome)

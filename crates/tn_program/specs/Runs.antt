@@ -1,16 +1,19 @@
 -- What a run of the program writes.
-use Rattle.std.specs.Prelude.{◌≡◌, ℕ, ◌⊎◌, Option, IfSome, List}
+use Rattle.std.specs.Prelude.{◌≡◌, ℕ, ◌⊎◌, Option, None, Some, IfSome, List}
 use Rattle.std.specs.Io.KnownBytes.{Appends}
 use Rattle.tn_cli.specs.Decode.{Decodes}
 use Rattle.tn_cli.specs.Playing.{PlaysScript}
 use Rattle.tn_cli.specs.Replay.{Replays}
 use Rattle.tn_cli.specs.Typing.{PrintsKeys}
 use Rattle.tn_connect.specs.Clients.{RunsClient, foreseen}
+use Rattle.tn_connect.specs.Talks.{RunsTalk}
+use Rattle.tn_connect.specs.declared.talks.TalkReport.{TalkReport}
 use Rattle.tn_connect.specs.declared.connected.Connected.{Connected}
 use Rattle.tn_loopback.specs.Ends.{ServesAll}
 use Rattle.tn_loopback.specs.declared.served.Served.{Served}
 use Rattle.tn_messages.specs.Ending.{EndsWhole}
-use Rattle.tn_program.specs.Settings.{window_as}
+use Rattle.tn_program.specs.Settings.{plain_as, window_as}
+use Rattle.tn_words.specs.declared.settings.LineEnd.{LineEnd}
 use Rattle.tn_connect.specs.declared.settings.Origin.{Origin}
 use Rattle.tn_words.specs.Words.{AskFor, AsksForHelp, AsksForVersion, version_line}
 use Rattle.tn_words.specs.declared.words.Asked.{Asked}
@@ -18,7 +21,7 @@ use Rattle.tn_words.specs.declared.words.Asked.TheVariants.{Local, Replay, Decod
 
 -- Where the reader tells its bytes and the writer what it holds, the run has appended what was asked for.
 -- Where it served, as many connections were accepted as were asked for, and nothing was written; where it
--- connected, a client's session ran with these keys and this screen, and ended in no fault.
+-- connected, a client's session ran with these keys and this screen, and ended in no fault, or a talk was held.
 abbrev pub RunsAsked : Asked → Origin → Option (List ℕ) → Option (List ℕ) → Option (List ℕ) → Type 0
 RunsAsked Local origin bytes old new = IfSome bytes (λ keys. PrintsKeys keys old new)
 RunsAsked Replay origin bytes old new = IfSome bytes (λ stream. Replays stream old new)
@@ -26,8 +29,10 @@ RunsAsked Decode origin bytes old new = IfSome bytes (λ stream. Decodes stream 
 RunsAsked World origin bytes old new = IfSome bytes (λ script. PlaysScript script old new)
 RunsAsked (Serve serving) origin bytes old new = (served : Served) × ServesAll serving.count served × (new ≡ old)
 RunsAsked (Connect connecting) origin bytes old new =
-    (connected : Connected)
-    × RunsClient (window_as connecting) (foreseen origin bytes) old new connected × EndsWhole connected.report.ended
+    ((connected : Connected) × (connecting.plain ≡ None)
+    × RunsClient (window_as connecting) (foreseen origin bytes) old new connected × EndsWhole connected.report.ended)
+    ⊎ ((line_end : LineEnd) × (report : TalkReport) × (connecting.plain ≡ Some line_end)
+    × RunsTalk (plain_as connecting line_end origin) bytes old new report)
 
 -- the run that the words ask for, or some text where they ask for help, or the version
 abbrev pub DoesAsAsked : List (List ℕ) → Origin → Option (List ℕ) → Option (List ℕ) → Option (List ℕ) → Type 0

@@ -1,6 +1,6 @@
 //! The program: words and streams in, a status out.
 
-ghost use Rattle.std.specs.Prelude.{◌≡◌, ◌≢◌, ◌⊎◌, None, IfErr, IfOk, IsOk, OnErr, map, string_bytes};
+ghost use Rattle.std.specs.Prelude.{◌≡◌, ◌≢◌, ◌⊎◌, None, Some, IfErr, IfOk, IsOk, OnErr, map, string_bytes};
 ghost use Rattle.std.specs.IoError.{error_kind};
 ghost use Rattle.tn_program.specs.Outcomes.{ComesOf, ComesOfRun, EndsVersion, EndsWith, AskForNothing};
 ghost use Rattle.tn_program.specs.Runs.{DoesAsAsked};
@@ -8,16 +8,16 @@ ghost use Rattle.tn_program.specs.Runs.{DoesAsAsked};
 use crate::outcome::Outcome;
 use crate::seat::Seat;
 use crate::serving::serve_asked;
-use crate::settings::connecting_of;
+use crate::settings::{connecting_of, plain_of};
 use std::alloc::{AllocError, Global};
 use std::fs::{File, Files};
 use std::io;
 use std::io::{ErrorKind, Read, Write};
 use std::net::{Net, TcpListener, TcpStream};
 use tn_cli::{CliFault, run_decode, run_local, run_replay, run_world};
-use tn_connect::{Host, Notes, connect};
+use tn_connect::{Host, Notes, connect, connect_plain};
 use tn_gateway::Dial;
-use tn_words::{Asked, Connecting, VERSION_LINE, WordsFault, read_words};
+use tn_words::{Asked, Connecting, LineEnd, VERSION_LINE, WordsFault, read_words};
 
 /// Runs what the words of the command line ask for, where they could be read. The program's name is the
 /// first of them. Returns the status to end with: 0 where that was done, and else the status of its fault
@@ -194,8 +194,64 @@ fn run_asked<
         Asked::Decode => Outcome::Decode(run_decode(alloc, &mut seat, writer)),
         Asked::World => Outcome::World(run_world(alloc, &mut seat, writer)),
         Asked::Serve(asked) => Outcome::Served(serve_asked(rt, alloc, &asked, errors)),
-        Asked::Connect(asked) => run_connect(rt, alloc, asked, seat, writer, causes),
+        Asked::Connect(asked) => run_connecting(rt, alloc, asked, seat, writer, causes),
     }
+}
+
+// A client's session, or a talk with a service that takes lines.
+fn run_connecting<
+    H: Host + Files<File = File> + Net<Listener = TcpListener, Stream = TcpStream>,
+    R: Read + Drop + Send + 'static,
+    W: Write,
+>(
+    rt: H,
+    alloc: Global,
+    asked: Connecting,
+    seat: Seat<R>,
+    writer: &mut W,
+    causes: &mut Vec<u8>,
+) -> Outcome
+    ensures { ComesOfRun (Asked.Connect asked) seat.origin (R.remaining seat.reader)
+        (W.contents writer.old) (W.contents writer.new) result }
+{
+    match asked.plain {
+        Some(line_end) => run_plain(rt, alloc, &asked, line_end, seat, writer, causes),
+        None => run_connect(rt, alloc, asked, seat, writer, causes),
+    }
+}
+
+fn run_plain<
+    H: Host + Net<Listener = TcpListener, Stream = TcpStream>,
+    R: Read + Drop + Send + 'static,
+    W: Write,
+>(
+    rt: H,
+    alloc: Global,
+    asked: &Connecting,
+    line_end: LineEnd,
+    seat: Seat<R>,
+    writer: &mut W,
+    causes: &mut Vec<u8>,
+) -> Outcome
+    requires { asked.now.plain ≡ Some line_end }
+    ensures { ComesOfRun (Asked.Connect asked.now) seat.origin (R.remaining seat.reader)
+        (W.contents writer.old) (W.contents writer.new) result }
+{
+    let Seat {
+        origin,
+        reader,
+        sizes,
+        link,
+    } = seat;
+    let notes = Notes {
+        trace: None,
+        sizes,
+        causes,
+        link,
+    };
+    let plain = plain_of(asked, line_end, origin);
+    let host = asked.host.as_str();
+    Outcome::Talked(connect_plain(rt, alloc, host, plain, reader, writer, notes))
 }
 
 fn run_connect<
@@ -210,6 +266,7 @@ fn run_connect<
     writer: &mut W,
     causes: &mut Vec<u8>,
 ) -> Outcome
+    requires { asked.plain ≡ None }
     ensures { ComesOfRun (Asked.Connect asked) seat.origin (R.remaining seat.reader)
         (W.contents writer.old) (W.contents writer.new) result }
 {

@@ -12,6 +12,7 @@ returns g c = (
   c.args.asked,
   refl,
   record {
+    telnet = c.requires;
     ran = subst (λ (w : Window). IfOk c.connect.result (λ r. RunsClient w (foreseen c.args.seat.origin (g.R.Read.remaining c.args.seat.reader)) (g.W.Write.contents c.args.writer.now) (g.W.Write.contents c.connect.new.screen) r)) c.connecting_of-connecting.ensures.window (subst (λ (o : Origin). IfOk c.connect.result (λ r. RunsClient (window_of c.connecting_of-connecting.result) (foreseen o (g.R.Read.remaining c.args.seat.reader)) (g.W.Write.contents c.args.writer.now) (g.W.Write.contents c.connect.new.screen) r)) c.connecting_of-connecting.ensures.origin c.connect.ensures.ran);
     whole = c.connect.ensures.whole;
     unwritten = c.connect.ensures.unshown;
