@@ -32,8 +32,8 @@ use std::sync::atomic::AtomicBool;
 use tn_network::{Network, reach};
 use tn_session::{ClientPorts, Ended, Report, SessionFault, Unwatched, client_session};
 use tn_sockets::{
-    Connection, Console, Host, Incoming, Keys, Link, Logged, NewQueue, Outgoing, PiecePass, Queue, Sent,
-    Sizes, Trace, Typing, WriteLog, new_queue,
+    Connection, Console, Host, Incoming, Keys, Link, Logged, NewQueue, Outgoing, PiecePass, Queue,
+    Sent, Sizes, Trace, Typing, WriteLog, new_queue,
 };
 use tn_streams::Source;
 
@@ -168,12 +168,7 @@ fn talk_from<H: Host, K: Read + Drop + Send + 'static, S: Write, Q: Queue>(
 }
 
 // Runs a session over a connection that stands, of which a thread of its own sends what the session writes.
-fn talk_and_send<
-    H: Host,
-    K: Read + Drop + Send + 'static,
-    S: Write,
-    Q: Queue + Send + 'static,
->(
+fn talk_and_send<H: Host, K: Read + Drop + Send + 'static, S: Write, Q: Queue + Send + 'static>(
     rt: H,
     alloc: Global,
     opened: Opened<H>,

@@ -6,11 +6,10 @@ ghost use Rattle.tn_connect.specs.Sent.{IsDelivered};
 ghost use Rattle.tn_queue.specs.Queue.{taker};
 ghost use Rattle.tn_sockets.specs.Logs.{logged};
 
-use std::io;
 use std::marker::PhantomData;
 use std::net::TcpStream;
-use std::thread;
 use std::thread::{Promise, PromisedHandle};
+use std::{io, thread};
 use tn_sockets::{Connection, Host, Logged, PiecePass, Queue, Sending, Sent, WriteLog};
 
 /// What sends over a connection, and has sent nothing yet.
@@ -46,9 +45,7 @@ impl<H: Host, Q: Queue + Send + 'static> Sender<H, Q> {
     pub(crate) fn start(self, rt: H) -> Option<PromisedHandle<Delivered, Delivers<Q>>> {
         let work = move || -> Delivered
             ensures { IsDelivered Q.table Q.key result }
-        {
-            self.run()
-        };
+        { self.run() };
         thread::spawn_with(&rt, Delivers { of: PhantomData }, work).ok()
     }
 

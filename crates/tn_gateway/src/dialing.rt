@@ -79,7 +79,13 @@ impl<H: Copy + Network + Wait> Joiner<H> {
             (H.dials self.now.rt)) (option_map (λ halves. halves.1) result) }
     {
         let mut causes = Vec::new(alloc);
-        match reach(&self.rt, self.host.as_str(), self.port, &mut Unheard, &mut causes) {
+        match reach(
+            &self.rt,
+            self.host.as_str(),
+            self.port,
+            &mut Unheard,
+            &mut causes,
+        ) {
             Ok(stream) => halves(stream).ok(),
             Err(_) => None,
         }

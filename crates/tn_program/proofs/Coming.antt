@@ -57,8 +57,11 @@ ran network a origin bytes old new (outcome.Served (Ok served)) (serving, e, end
     subst (λ a. RunsAsked network a origin bytes old new) (sym e) (served, ends.all, ends.listened, ends.unwritten)
 ran network a origin bytes old new (outcome.Served (Err f)) h zero = absurd (unserved f zero)
 ran network a origin bytes old new (outcome.Connected (Ok r)) (connecting, e, ends) zero =
-    subst (λ a. RunsAsked network a origin bytes old new) (sym e) (r, ends.ran, ends.whole, ends.reached)
+    subst (λ a. RunsAsked network a origin bytes old new) (sym e) (inl (r, ends.telnet, ends.ran, ends.whole, ends.reached))
 ran network a origin bytes old new (outcome.Connected (Err f)) h zero = absurd (unconnected f zero)
+ran network a origin bytes old new (outcome.Talked (Ok r)) (connecting, e, ends) zero =
+    subst (λ a. RunsAsked network a origin bytes old new) (sym e) (inr (ends.line_end, r, ends.plain, ends.ran, ends.reached))
+ran network a origin bytes old new (outcome.Talked (Err f)) h zero = absurd (unconnected f zero)
 ran network a origin bytes old new outcome.Untraced h zero = absurd (omega (arith, zero))
 ran network a origin bytes old new (outcome.Help ended) h zero = absurd h
 ran network a origin bytes old new (outcome.Version ended) h zero = absurd h
@@ -82,6 +85,7 @@ helped network words origin bytes old new (outcome.Decode ended) h zero = absurd
 helped network words origin bytes old new (outcome.World ended) h zero = absurd h
 helped network words origin bytes old new (outcome.Served ended) h zero = absurd h
 helped network words origin bytes old new (outcome.Connected ended) h zero = absurd h
+helped network words origin bytes old new (outcome.Talked ended) h zero = absurd h
 helped network words origin bytes old new outcome.Untraced h zero = absurd h
 
 pub does : (network : Asking) (words : List (List ℕ)) (origin : Origin) (bytes : Option (List ℕ)) (old new : Option (List ℕ)) (came : Outcome)
@@ -104,6 +108,7 @@ unrun words old new (outcome.Decode ended) nothing h = absurd h
 unrun words old new (outcome.World ended) nothing h = absurd h
 unrun words old new (outcome.Served ended) nothing h = absurd h
 unrun words old new (outcome.Connected ended) nothing h = absurd h
+unrun words old new (outcome.Talked ended) nothing h = absurd h
 unrun words old new outcome.Untraced nothing h = absurd h
 
 comes_of_nothing : (network : Asking) (words : List (List ℕ)) (origin : Origin) (bytes : Option (List ℕ)) (old new : Option (List ℕ)) (came : Outcome)

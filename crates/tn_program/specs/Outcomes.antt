@@ -5,6 +5,7 @@ use Rattle.tn_cli.specs.Ends.{EndsDecode, EndsLocal, EndsReplay, EndsWorld}
 use Rattle.tn_cli.specs.declared.fault.CliFault.{CliFault}
 use Rattle.tn_cli.specs.declared.fault.CliFault.TheVariants as fault
 use Rattle.tn_connect.specs.Clients.{ConnectsBy, RunsClient, foreseen}
+use Rattle.tn_connect.specs.Talks.{RunsTalk}
 use Rattle.tn_connect.specs.declared.connected.Connected.{Connected}
 use Rattle.tn_connect.specs.declared.fault.ConnectFault.{ConnectFault}
 use Rattle.tn_connect.specs.declared.fault.ConnectFault.TheVariants as connect
@@ -17,12 +18,14 @@ use Rattle.tn_network.specs.Asked.{Asking, Listens, Reaches}
 use Rattle.tn_program.specs.Statuses.{status_of}
 use Rattle.tn_program.specs.declared.outcome.Outcome.{Outcome}
 use Rattle.tn_program.specs.declared.outcome.Outcome.TheVariants as outcome
-use Rattle.tn_program.specs.Settings.{UnlessMemory, window_as}
+use Rattle.tn_program.specs.Settings.{UnlessMemory, plain_as, window_as}
 use Rattle.tn_roster.specs.Held.{IsLimit}
 use Rattle.tn_streams.specs.Known.{KnownReader}
 use Rattle.tn_connect.specs.declared.settings.Origin.{Origin}
 use Rattle.tn_words.specs.Words.{AskFor, AsksForHelp, AsksForVersion, Refuses, version_line}
+use Rattle.tn_connect.specs.declared.talks.TalkReport.{TalkReport}
 use Rattle.tn_words.specs.declared.settings.Connecting.{Connecting}
+use Rattle.tn_words.specs.declared.settings.LineEnd.{LineEnd}
 use Rattle.tn_words.specs.declared.settings.Serving.{Serving}
 use Rattle.tn_words.specs.declared.words.Asked.{Asked}
 use Rattle.tn_words.specs.declared.words.Asked.TheVariants as asked
@@ -40,10 +43,19 @@ pub record EndsServing (network : Asking) (serving : Serving) (ended : Result Se
 -- What came of connecting.
 pub record EndsConnecting (network : Asking) (connecting : Connecting) (ended : Result Connected ConnectFault) (input : KnownReader)
     (old new : Option (List ℕ)) : Type 0 where
+  pub telnet : connecting.plain ≡ None
   pub ran : IfOk ended (RunsClient (window_as connecting) input old new)
   pub whole : IfOk ended (λ r. EndsWhole r.report.ended)
   pub reached : ConnectsBy (Reaches (network.finds (string_bytes connecting.host) connecting.port) network.dials) ended
   pub unwritten : OnErr ended (ended ≢ Err connect.Session → new ≡ old)
+
+-- What came of a talk with a service that takes lines.
+pub record EndsTalking (network : Asking) (connecting : Connecting) (ended : Result TalkReport ConnectFault) (origin : Origin)
+    (bytes old new : Option (List ℕ)) : Type 0 where
+  pub line_end : LineEnd
+  pub plain : connecting.plain ≡ Some line_end
+  pub ran : IfOk ended (RunsTalk (plain_as connecting line_end origin) bytes old new)
+  pub reached : ConnectsBy (Reaches (network.finds (string_bytes connecting.host) connecting.port) network.dials) ended
 
 -- What came of writing the help.
 pub record EndsHelp (ended : Result ⊤ CliFault) (old new : Option (List ℕ)) : Type 0 where
@@ -66,6 +78,9 @@ ComesOfRun network a origin bytes old new (outcome.Served ended) =
 ComesOfRun network a origin bytes old new (outcome.Connected ended) =
     (connecting : Connecting) × (a ≡ asked.Connect connecting)
     × EndsConnecting network connecting ended (foreseen origin bytes) old new
+ComesOfRun network a origin bytes old new (outcome.Talked ended) =
+    (connecting : Connecting) × (a ≡ asked.Connect connecting)
+    × EndsTalking network connecting ended origin bytes old new
 ComesOfRun network a origin bytes old new outcome.Untraced =
     (connecting : Connecting) × (a ≡ asked.Connect connecting) × (connecting.trace ≢ None) × (new ≡ old)
 ComesOfRun network a origin bytes old new (outcome.Help ended) = ⊥
@@ -87,6 +102,7 @@ ComesOfNoRun words old new (outcome.Decode ended) = ⊥
 ComesOfNoRun words old new (outcome.World ended) = ⊥
 ComesOfNoRun words old new (outcome.Served ended) = ⊥
 ComesOfNoRun words old new (outcome.Connected ended) = ⊥
+ComesOfNoRun words old new (outcome.Talked ended) = ⊥
 ComesOfNoRun words old new outcome.Untraced = ⊥
 
 -- this came of the words: the run that they ask for, or none

@@ -1,11 +1,13 @@
 -- What a run of the program writes.
-use Rattle.std.specs.Prelude.{◌≡◌, ℕ, ◌⊎◌, Option, IfSome, List, Result, Ok, string_bytes}
+use Rattle.std.specs.Prelude.{◌≡◌, ℕ, ◌⊎◌, Option, None, Some, IfSome, List, Result, Ok, string_bytes}
 use Rattle.std.specs.Io.KnownBytes.{Appends}
 use Rattle.tn_cli.specs.Decode.{Decodes}
 use Rattle.tn_cli.specs.Playing.{PlaysScript}
 use Rattle.tn_cli.specs.Replay.{Replays}
 use Rattle.tn_cli.specs.Typing.{PrintsKeys}
 use Rattle.tn_connect.specs.Clients.{ConnectsBy, RunsClient, foreseen}
+use Rattle.tn_connect.specs.Talks.{RunsTalk}
+use Rattle.tn_connect.specs.declared.talks.TalkReport.{TalkReport}
 use Rattle.tn_connect.specs.declared.connected.Connected.{Connected}
 use Rattle.tn_connect.specs.declared.fault.ConnectFault.{ConnectFault}
 use Rattle.tn_loopback.specs.Ends.{ServesAll}
@@ -13,7 +15,8 @@ use Rattle.tn_loopback.specs.declared.fault.ServeFault.{ServeFault}
 use Rattle.tn_loopback.specs.declared.served.Served.{Served}
 use Rattle.tn_messages.specs.Ending.{EndsWhole}
 use Rattle.tn_network.specs.Asked.{Asking, Listens, Reaches}
-use Rattle.tn_program.specs.Settings.{window_as}
+use Rattle.tn_program.specs.Settings.{plain_as, window_as}
+use Rattle.tn_words.specs.declared.settings.LineEnd.{LineEnd}
 use Rattle.tn_connect.specs.declared.settings.Origin.{Origin}
 use Rattle.tn_words.specs.Words.{AskFor, AsksForHelp, AsksForVersion, version_line}
 use Rattle.tn_words.specs.declared.words.Asked.{Asked}
@@ -26,9 +29,12 @@ ok served = Ok served
 abbrev ran : Connected → Result Connected ConnectFault
 ran connected = Ok connected
 
+abbrev talked : TalkReport → Result TalkReport ConnectFault
+talked report = Ok report
+
 -- Where the reader tells its bytes and the writer what it holds, the run has appended what was asked for.
 -- Where it served, as many connections were accepted as were asked for, and nothing was written; where it
--- connected, a client's session ran with these keys and this screen, and ended in no fault.
+-- connected, a client's session ran with these keys and this screen, and ended in no fault, or a talk was held.
 abbrev pub RunsAsked : Asking → Asked → Origin → Option (List ℕ) → Option (List ℕ) → Option (List ℕ) → Type 0
 RunsAsked network Local origin bytes old new = IfSome bytes (λ keys. PrintsKeys keys old new)
 RunsAsked network Replay origin bytes old new = IfSome bytes (λ stream. Replays stream old new)
@@ -38,9 +44,12 @@ RunsAsked network (Serve serving) origin bytes old new = (served : Served) × Se
     × Listens (network.listens (string_bytes serving.host) serving.port) network.shares network.accepts
     (λ (served : Served). served.accepted) (ok served) × (new ≡ old)
 RunsAsked network (Connect connecting) origin bytes old new =
-    (connected : Connected)
+    ((connected : Connected) × (connecting.plain ≡ None)
     × RunsClient (window_as connecting) (foreseen origin bytes) old new connected × EndsWhole connected.report.ended
-    × ConnectsBy (Reaches (network.finds (string_bytes connecting.host) connecting.port) network.dials) (ran connected)
+    × ConnectsBy (Reaches (network.finds (string_bytes connecting.host) connecting.port) network.dials) (ran connected))
+    ⊎ ((line_end : LineEnd) × (report : TalkReport) × (connecting.plain ≡ Some line_end)
+    × RunsTalk (plain_as connecting line_end origin) bytes old new report
+    × ConnectsBy (Reaches (network.finds (string_bytes connecting.host) connecting.port) network.dials) (talked report))
 
 -- the run that the words ask for, or some text where they ask for help, or the version
 abbrev pub DoesAsAsked : Asking → List (List ℕ) → Origin → Option (List ℕ) → Option (List ℕ) → Option (List ℕ) → Type 0

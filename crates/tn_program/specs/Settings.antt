@@ -7,10 +7,16 @@ use Rattle.tn_gateway.specs.declared.line_ends.LineEnd.TheVariants.{CrLf, Lf}
 use Rattle.tn_loopback.specs.declared.fault.ServeFault.{ServeFault}
 use Rattle.tn_loopback.specs.declared.fault.ServeFault.TheVariants.{Network, Memory, Limit as BadLimit}
 use Rattle.tn_loopback.specs.declared.settings.SessionOptions.{SessionOptions}
+use Rattle.tn_connect.specs.declared.settings.Origin.{Origin}
+use Rattle.tn_connect.specs.declared.settings.Plain.{Plain}
+use Rattle.tn_lines.specs.declared.line_ends.LineEnd.{LineEnd as PlainEnd}
+use Rattle.tn_lines.specs.declared.line_ends.LineEnd.TheVariants as line_end
 use Rattle.tn_server.specs.declared.wishes.Editing.{Editing}
 use Rattle.tn_server.specs.declared.wishes.Editing.TheVariants.{Local, Remote}
 use Rattle.tn_session.specs.Facts.{Window}
 use Rattle.tn_words.specs.declared.settings.Connecting.{Connecting}
+use Rattle.tn_words.specs.declared.settings.LineEnd.{LineEnd as AskedEnd}
+use Rattle.tn_words.specs.declared.settings.LineEnd.TheVariants as asked_end
 use Rattle.tn_words.specs.declared.settings.Escape.{Escape}
 use Rattle.tn_words.specs.declared.settings.Escape.TheVariants as escape
 use Rattle.tn_words.specs.declared.settings.Serving.{Serving}
@@ -60,3 +66,13 @@ window_as asked =
 abbrev pub escape_as : Escape → Option ℕ
 escape_as (escape.Key key) = Some key
 escape_as escape.None = None
+
+abbrev pub end_as : AskedEnd → PlainEnd
+end_as asked_end.CrLf = line_end.CrLf
+end_as asked_end.Lf = line_end.Lf
+end_as asked_end.Cr = line_end.Cr
+
+-- a talk with a service that takes lines
+abbrev pub plain_as : Connecting → AskedEnd → Origin → Plain
+plain_as asked chosen origin =
+    record { port = asked.port; line_limit = asked.line_limit; line_end = end_as chosen; origin = origin }

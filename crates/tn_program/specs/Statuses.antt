@@ -3,6 +3,9 @@ use Rattle.std.specs.Prelude.{ℕ, Result, Ok, Err}
 use Rattle.tn_cli.specs.Faults.{status_after}
 use Rattle.tn_connect.specs.declared.fault.ConnectFault.{ConnectFault}
 use Rattle.tn_connect.specs.declared.fault.ConnectFault.TheVariants as connect
+use Rattle.tn_connect.specs.declared.talks.TalkReport.{TalkReport}
+use Rattle.tn_lines_client.specs.declared.talk.Over.{Over}
+use Rattle.tn_lines_client.specs.declared.talk.Over.TheVariants as over
 use Rattle.tn_loopback.specs.declared.fault.ServeFault.{ServeFault}
 use Rattle.tn_loopback.specs.declared.fault.ServeFault.TheVariants as serve
 use Rattle.tn_program.specs.declared.outcome.Outcome.{Outcome}
@@ -28,6 +31,17 @@ abbrev pub status_after_connecting : {A : Type 0} → Result A ConnectFault → 
 status_after_connecting (Ok done) = 0
 status_after_connecting (Err fault) = status_of_connecting fault
 
+-- a user who left by an interrupt has the status that a shell gives
+abbrev pub status_of_over : Over → ℕ
+status_of_over over.Closed = 0
+status_of_over over.Broken = 3
+status_of_over over.Left = 130
+
+-- the status after a talk with a service that takes lines
+abbrev pub status_after_talking : Result TalkReport ConnectFault → ℕ
+status_after_talking (Ok report) = status_of_over report.over
+status_after_talking (Err fault) = status_of_connecting fault
+
 -- 0 where what was asked for was done, and else the status of the fault that met it
 abbrev pub status_of : Outcome → ℕ
 status_of (outcome.Local ended) = status_after ended
@@ -36,6 +50,7 @@ status_of (outcome.Decode ended) = status_after ended
 status_of (outcome.World ended) = status_after ended
 status_of (outcome.Served ended) = status_after_serving ended
 status_of (outcome.Connected ended) = status_after_connecting ended
+status_of (outcome.Talked ended) = status_after_talking ended
 status_of outcome.Untraced = 1
 status_of (outcome.Help ended) = status_after ended
 status_of (outcome.Version ended) = status_after ended

@@ -59,6 +59,7 @@ text_of (outcome.Decode ended) = text_of_run ended
 text_of (outcome.World ended) = text_of_run ended
 text_of (outcome.Served ended) = text_of_serving ended
 text_of (outcome.Connected ended) = text_of_connecting ended
+text_of (outcome.Talked ended) = text_of_connecting ended
 text_of outcome.Untraced = line (codes "write")
 text_of (outcome.Help ended) = text_of_run ended
 text_of (outcome.Version ended) = text_of_run ended
@@ -88,6 +89,7 @@ UnlessTelling (outcome.Replay ended) same = same
 UnlessTelling (outcome.Decode ended) same = same
 UnlessTelling (outcome.World ended) same = same
 UnlessTelling (outcome.Connected ended) same = Unit {0}
+UnlessTelling (outcome.Talked ended) same = Unit {0}
 UnlessTelling outcome.Untraced same = same
 UnlessTelling (outcome.Help ended) same = same
 UnlessTelling (outcome.Version ended) same = same
@@ -97,6 +99,7 @@ UnlessTelling outcome.Memory same = same
 -- a connection notes causes
 abbrev pub UnlessConnected : Outcome → Type 0 → Type 0
 UnlessConnected (outcome.Connected ended) same = Unit {0}
+UnlessConnected (outcome.Talked ended) same = Unit {0}
 UnlessConnected outcome.Untraced same = Unit {0}
 UnlessConnected (outcome.Served ended) same = same
 UnlessConnected (outcome.Local ended) same = same
@@ -110,6 +113,7 @@ UnlessConnected outcome.Memory same = same
 
 abbrev pub IsConnecting : Outcome → Type 0
 IsConnecting (outcome.Connected ended) = Unit {0}
+IsConnecting (outcome.Talked ended) = Unit {0}
 IsConnecting outcome.Untraced = Unit {0}
 IsConnecting (outcome.Served ended) = ⊥
 IsConnecting (outcome.Local ended) = ⊥

@@ -2,19 +2,23 @@
 
 ghost use Rattle.std.specs.Prelude.{◌≡◌, ◌++◌, IfOk, codes, decimal};
 ghost use Rattle.tn_cli.specs.Faults.{status_after};
-ghost use Rattle.tn_program.specs.Statuses.{status_after_connecting, status_after_serving, status_of};
+ghost use Rattle.tn_program.specs.Statuses.{status_after_connecting, status_after_serving, status_after_talking};
+ghost use Rattle.tn_program.specs.Statuses.{status_of, status_of_connecting, status_of_over};
 ghost use Rattle.tn_program.specs.Told.{TellsAll, TellsSome, line, text_of, text_of_connecting, text_of_run, text_of_serving};
 ghost use Rattle.tn_streams.specs.Known.{known_writing};
 
 use std::alloc::{AllocError, Global};
 use tn_cli::CliFault;
-use tn_connect::{ConnectFault, Connected};
+use tn_connect::{ConnectFault, Connected, Over, TalkReport};
 use tn_gateway::write_whole;
 use tn_loopback::{ServeFault, Served};
 use tn_streams::Drain;
 
 /// The status of a process whose words were not accepted.
 const USAGE: u8 = 2;
+
+/// The status of a process whose user left a talk by an interrupt, as a shell gives it.
+const INTERRUPTED: u8 = 130;
 
 /// What comes of the words of a command line: what the run that they ask for returned, or why none was run.
 #[derive(Drop)]
@@ -25,6 +29,8 @@ pub enum Outcome {
     World(Result<(), CliFault>),
     Served(Result<Served, ServeFault>),
     Connected(Result<Connected, ConnectFault>),
+    /// A talk with a service that takes lines.
+    Talked(Result<TalkReport, ConnectFault>),
     /// They ask for a connection with a trace, whose file could not be made; none was made.
     Untraced,
     /// They ask for help; it was written, or that failed.
@@ -49,6 +55,7 @@ impl Outcome {
             Outcome::World(ended) => after_run(ended),
             Outcome::Served(ended) => after_serving(ended),
             Outcome::Connected(ended) => after_connecting(ended),
+            Outcome::Talked(ended) => after_talking(ended),
             Outcome::Untraced => CliFault::Write.status(),
             Outcome::Help(ended) => after_run(ended),
             Outcome::Version(ended) => after_run(ended),
@@ -101,6 +108,7 @@ impl Outcome {
             Outcome::World(ended) => text_of_run(alloc, ended),
             Outcome::Served(ended) => text_of_serving(alloc, ended),
             Outcome::Connected(ended) => text_of_connecting(alloc, ended),
+            Outcome::Talked(ended) => text_of_connecting(alloc, ended),
             Outcome::Untraced => line(alloc, b"write"),
             Outcome::Help(ended) => text_of_run(alloc, ended),
             Outcome::Version(ended) => text_of_run(alloc, ended),
@@ -138,8 +146,35 @@ fn after_connecting<T>(ended: &Result<T, ConnectFault>) -> u8
 {
     match ended {
         Ok(_) => 0,
-        Err(ConnectFault::Network | ConnectFault::Memory) => 1,
-        Err(ConnectFault::Session) => 3,
+        Err(fault) => after_fault(*fault),
+    }
+}
+
+fn after_talking(ended: &Result<TalkReport, ConnectFault>) -> u8
+    ensures { result ≡ status_after_talking ended.now }
+{
+    match ended {
+        Ok(report) => after_over(report.over),
+        Err(fault) => after_fault(*fault),
+    }
+}
+
+fn after_fault(fault: ConnectFault) -> u8
+    ensures { result ≡ status_of_connecting fault }
+{
+    match fault {
+        ConnectFault::Network | ConnectFault::Memory => 1,
+        ConnectFault::Session => 3,
+    }
+}
+
+fn after_over(over: Over) -> u8
+    ensures { result ≡ status_of_over over }
+{
+    match over {
+        Over::Closed => 0,
+        Over::Broken => 3,
+        Over::Left => INTERRUPTED,
     }
 }
 

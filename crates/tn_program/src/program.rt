@@ -1,6 +1,6 @@
 //! The program: words and streams in, a status out.
 
-ghost use Rattle.std.specs.Prelude.{◌≡◌, ◌≢◌, ◌⊎◌, None, IfErr, IfOk, IsOk, OnErr, map, string_bytes};
+ghost use Rattle.std.specs.Prelude.{◌≡◌, ◌≢◌, ◌⊎◌, None, Some, IfErr, IfOk, IsOk, OnErr, map, string_bytes};
 ghost use Rattle.std.specs.IoError.{error_kind};
 ghost use Rattle.tn_network.specs.Asked.{asking};
 ghost use Rattle.tn_program.specs.Outcomes.{ComesOf, ComesOfRun, EndsVersion, EndsWith, AskForNothing};
@@ -11,17 +11,17 @@ use crate::lines::Lines;
 use crate::outcome::Outcome;
 use crate::seat::Seat;
 use crate::serving::serve_asked;
-use crate::settings::connecting_of;
+use crate::settings::{connecting_of, plain_of};
 use std::alloc::{AllocError, Global};
 use std::fs::{File, Files, OpenOptions};
 use std::io;
 use std::io::{ErrorKind, Read, Write};
 use std::os::unix::fs::OpenOptionsExt;
 use tn_cli::{CliFault, run_decode, run_local, run_replay, run_world};
-use tn_connect::{Host, News, Notes, Origin, connect};
+use tn_connect::{Host, News, Notes, Origin, connect, connect_plain};
 use tn_network::Network;
 use tn_streams::Drain;
-use tn_words::{Asked, Connecting, VERSION_LINE, WordsFault, read_words};
+use tn_words::{Asked, Connecting, LineEnd, VERSION_LINE, WordsFault, read_words};
 
 /// Who reads and writes a trace: its owner alone, since what is typed stands there.
 const TRACE_MODE: u32 = 0o600;
@@ -215,8 +215,77 @@ fn run_asked<
         Asked::Decode => Outcome::Decode(run_decode(alloc, &mut seat, writer)),
         Asked::World => Outcome::World(run_world(alloc, &mut seat, writer)),
         Asked::Serve(asked) => Outcome::Served(serve_asked(rt, alloc, &asked, &mut Lines(errors))),
-        Asked::Connect(asked) => run_connect(rt, alloc, asked, seat, writer, errors, causes),
+        Asked::Connect(asked) => run_connecting(rt, alloc, asked, seat, writer, errors, causes),
     }
+}
+
+// A client's session, or a talk with a service that takes lines.
+fn run_connecting<
+    H: Network + Host + Files<File = File>,
+    R: Read + Drop + Send + 'static,
+    W: Write,
+    E: Drain,
+>(
+    rt: H,
+    alloc: Global,
+    asked: Connecting,
+    seat: Seat<R>,
+    writer: &mut W,
+    errors: &mut E,
+    causes: &mut Vec<u8>,
+) -> Outcome
+    ensures comes { ComesOfRun (asking (H.listens rt) (H.shares rt) (H.accepts rt) (H.finds rt) (H.dials rt))
+        (Asked.Connect asked) seat.origin (R.remaining seat.reader)
+        (W.contents writer.old) (W.contents writer.new) result }
+    ensures connects { IsConnecting result }
+    ensures quiet { UnlessTelling result (errors.new ≡ errors.old) }
+{
+    match asked.plain {
+        Some(line_end) => run_plain(rt, alloc, &asked, line_end, seat, writer, errors, causes),
+        None => run_connect(rt, alloc, asked, seat, writer, errors, causes),
+    }
+}
+
+fn run_plain<H: Network + Host, R: Read + Drop + Send + 'static, W: Write, E: Drain>(
+    rt: H,
+    alloc: Global,
+    asked: &Connecting,
+    line_end: LineEnd,
+    seat: Seat<R>,
+    writer: &mut W,
+    errors: &mut E,
+    causes: &mut Vec<u8>,
+) -> Outcome
+    requires { asked.now.plain ≡ Some line_end }
+    ensures comes { ComesOfRun (asking (H.listens rt) (H.shares rt) (H.accepts rt) (H.finds rt) (H.dials rt))
+        (Asked.Connect asked.now) seat.origin (R.remaining seat.reader)
+        (W.contents writer.old) (W.contents writer.new) result }
+    ensures connects { IsConnecting result }
+    ensures quiet { UnlessTelling result (errors.new ≡ errors.old) }
+{
+    let Seat {
+        origin,
+        reader,
+        sizes,
+        stands,
+        link,
+    } = seat;
+    let mut lines = Lines(errors);
+    let news = News {
+        writer: &mut lines,
+        is_told: origin == Origin::Terminal && !asked.quiet,
+    };
+    let notes = Notes {
+        trace: None,
+        sizes,
+        stands,
+        news,
+        causes,
+        link,
+    };
+    let plain = plain_of(asked, line_end, origin);
+    let host = asked.host.as_str();
+    Outcome::Talked(connect_plain(rt, alloc, host, plain, reader, writer, notes))
 }
 
 fn run_connect<
@@ -233,6 +302,7 @@ fn run_connect<
     errors: &mut E,
     causes: &mut Vec<u8>,
 ) -> Outcome
+    requires { asked.plain ≡ None }
     ensures comes { ComesOfRun (asking (H.listens rt) (H.shares rt) (H.accepts rt) (H.finds rt) (H.dials rt))
         (Asked.Connect asked) seat.origin (R.remaining seat.reader)
         (W.contents writer.old) (W.contents writer.new) result }

@@ -2,11 +2,11 @@
 
 ghost use Rattle.std.specs.Prelude.{◌≡◌};
 ghost use Rattle.tn_connect.specs.Clients.{window_of};
-ghost use Rattle.tn_program.specs.Settings.{escape_as, line_end_as, options_as, window_as};
+ghost use Rattle.tn_program.specs.Settings.{end_as, escape_as, line_end_as, options_as, plain_as, window_as};
 
 use std::alloc::{AllocError, Global};
 use tn_answerer::{Answerer, Answerers};
-use tn_connect::{Connecting, Origin};
+use tn_connect::{Connecting, Origin, Plain};
 use tn_gateway::LineEnd;
 use tn_loopback::{Call, Service, Serving, SessionOptions};
 use tn_server::Editing;
@@ -97,6 +97,33 @@ pub(crate) fn connecting_of(asked: &tn_words::Connecting, origin: Origin) -> Con
         origin,
         escape: escape_of(asked.escape),
         wait: asked.wait,
+    }
+}
+
+// How it was asked to talk to a service that takes lines.
+pub(crate) fn plain_of(
+    asked: &tn_words::Connecting,
+    line_end: tn_words::LineEnd,
+    origin: Origin,
+) -> Plain
+    ensures { result ≡ plain_as asked.now line_end origin }
+{
+    let port = asked.port;
+    Plain {
+        port,
+        line_limit: asked.line_limit,
+        line_end: end_of(line_end),
+        origin,
+    }
+}
+
+fn end_of(line_end: tn_words::LineEnd) -> tn_connect::LineEnd
+    ensures { result ≡ end_as line_end }
+{
+    match line_end {
+        tn_words::LineEnd::CrLf => tn_connect::LineEnd::CrLf,
+        tn_words::LineEnd::Lf => tn_connect::LineEnd::Lf,
+        tn_words::LineEnd::Cr => tn_connect::LineEnd::Cr,
     }
 }
 

@@ -1,9 +1,8 @@
 // The channel of entries, of which `None` is the end.
 
+use tn_discipline::Entry;
 pub use tn_queue::{Hand, InTurn};
 pub(crate) use tn_queue::{CutTaker, JoinHands, Puts, Takes};
-
-use tn_discipline::Entry;
 use tn_queue::{QueuePass, QueueReceiver, QueueSender};
 
 pub type EntryPass = QueuePass<Option<Entry>>;

@@ -11,6 +11,7 @@ mod beside_lines;
 mod beside_pairs;
 mod beside_payloads;
 mod beside_servers;
+mod beside_service_lines;
 mod beside_streams;
 mod characters;
 mod clients;

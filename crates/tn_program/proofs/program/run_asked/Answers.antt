@@ -1,4 +1,4 @@
 use Rattle.tn_program.proofs.program.run_asked.Goals as goal
 
 pub returns-in-Connect-clause-comes : goal.returns-in-Connect-clause-comes
-returns-in-Connect-clause-comes g c = rw c.in-Connect.is c.run_connect.ensures.comes
+returns-in-Connect-clause-comes g c = rw c.in-Connect.is c.run_connecting.ensures.comes
