@@ -411,13 +411,13 @@ fn with_plain_options<'a>(alloc: Global, command: Command<'a>) -> Result<Command
     ensures local { IfOk result (λ new. (out-Command new).has_globals ≡ false) }
 {
     let command = command
-        .arg(hidden_option(
+        .arg(flag_option(
             alloc,
             PLAIN,
             "Edits lines here, and sends each with CR LF, without Telnet",
         ))?
-        .arg(hidden_option(alloc, LF, "With --plain: ends each line with LF"))?
-        .arg(hidden_option(alloc, CR, "With --plain: ends each line with CR"))?;
+        .arg(flag_option(alloc, LF, "With --plain: ends each line with LF"))?
+        .arg(flag_option(alloc, CR, "With --plain: ends each line with CR"))?;
     Ok(command)
 }
 
@@ -603,12 +603,4 @@ fn flag_option<'a>(alloc: Global, name: &'static str, help: &'static str) -> Arg
         .long(name)
         .action(ArgAction::SetTrue)
         .help(help)
-}
-
-// The same, which the help does not name.
-fn hidden_option<'a>(alloc: Global, name: &'static str, help: &'static str) -> Arg<'a>
-    ensures rule { rule_of result ≡ flag_rule name.now }
-    ensures local { result.global ≡ false }
-{
-    flag_option(alloc, name, help).hide(true)
 }
