@@ -30,7 +30,7 @@ _tn() {
                 words='--host -p --port --limit --count --ticks --line --idle --local --verbose --to --crlf -h --help' ;;
             connect)
                 if [[ $word != -* ]]; then mapfile -t COMPREPLY < <(compgen -A hostname -- "$word"); return; fi
-                words='-p --port --width --height --line --escape --trace -q --quiet -h --help' ;;
+                words='-p --port --width --height --line --escape --trace -q --quiet --plain --lf --cr -h --help' ;;
             help)
                 words='local replay decode world serve connect help' ;;
             *) return ;;
