@@ -229,7 +229,7 @@ pub fn connect<H: Host + Network, K: Read + Drop + Send + 'static, S: Write, E: 
     connecting: Connecting,
     keys: K,
     screen: &mut S,
-    notes: Notes<'_, E>,
+    notes: Notes<'_, '_, E>,
 ) -> Result<Connected, ConnectFault>
     ensures ran { IfOk result (RunsClient (window_of connecting) (foreseen connecting.origin (K.remaining keys))
         (S.contents screen.old) (S.contents screen.new)) }
@@ -271,7 +271,7 @@ fn connect_over<H: Host, K: Read + Drop + Send + 'static, S: Write, E: Write>(
     connecting: Connecting,
     keys: K,
     screen: &mut S,
-    notes: Notes<'_, E>,
+    notes: Notes<'_, '_, E>,
 ) -> Result<Connected, ConnectFault>
     ensures ran { IfOk result (RunsClient (window_of connecting) (foreseen connecting.origin (K.remaining keys))
         (S.contents screen.old) (S.contents screen.new)) }

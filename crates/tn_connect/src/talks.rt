@@ -89,7 +89,7 @@ pub fn connect_plain<H: Host + Network, K: Read + Drop, S: Write, E: Write>(
     plain: Plain,
     keys: K,
     screen: &mut S,
-    notes: Notes<'_, E>,
+    notes: Notes<'_, '_, E>,
 ) -> Result<TalkReport, ConnectFault>
     ensures talked { IfOk result (RunsTalk plain (K.remaining keys) (S.contents screen.old) (S.contents screen.new)) }
     ensures reached { ConnectsBy (Reaches (H.finds rt host.now plain.port) (H.dials rt)) result }
