@@ -35,7 +35,7 @@ use tn_sockets::{
     Connection, Console, Host, Incoming, Keys, Link, Logged, NewQueue, Outgoing, PiecePass, Queue,
     Sent, Sizes, Trace, Typing, WriteLog, new_queue,
 };
-use tn_streams::Source;
+use tn_streams::{Drain, Source};
 
 // A connection that stands, and what it shares with the rest of the client.
 #[derive(Drop)]
@@ -222,14 +222,14 @@ fn talk_and_send<H: Host, K: Read + Drop + Send + 'static, S: Write, Q: Queue + 
 /// keys and this screen, until the server has closed or the user leaves. What a session that ends without a
 /// fault returns tells contracts all that was read from the connection, all that the session wrote, and what the
 /// connection took of it. Of a fault the causes are noted.
-pub fn connect<H: Host + Network, K: Read + Drop + Send + 'static, S: Write, E: Write>(
+pub fn connect<H: Host + Network, K: Read + Drop + Send + 'static, S: Write, E: Drain>(
     rt: H,
     alloc: Global,
     host: &str,
     connecting: Connecting,
     keys: K,
     screen: &mut S,
-    notes: Notes<'_, '_, E>,
+    notes: Notes<'_, E>,
 ) -> Result<Connected, ConnectFault>
     ensures ran { IfOk result (RunsClient (window_of connecting) (foreseen connecting.origin (K.remaining keys))
         (S.contents screen.old) (S.contents screen.new)) }
@@ -263,7 +263,7 @@ pub fn connect<H: Host + Network, K: Read + Drop + Send + 'static, S: Write, E: 
 }
 
 // The same, over a connection to this host.
-fn connect_over<H: Host, K: Read + Drop + Send + 'static, S: Write, E: Write>(
+fn connect_over<H: Host, K: Read + Drop + Send + 'static, S: Write, E: Drain>(
     rt: H,
     alloc: Global,
     host: &str,
@@ -271,7 +271,7 @@ fn connect_over<H: Host, K: Read + Drop + Send + 'static, S: Write, E: Write>(
     connecting: Connecting,
     keys: K,
     screen: &mut S,
-    notes: Notes<'_, '_, E>,
+    notes: Notes<'_, E>,
 ) -> Result<Connected, ConnectFault>
     ensures ran { IfOk result (RunsClient (window_of connecting) (foreseen connecting.origin (K.remaining keys))
         (S.contents screen.old) (S.contents screen.new)) }

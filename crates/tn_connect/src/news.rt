@@ -1,9 +1,11 @@
 //! What the user at a terminal is told of a connection.
 
+use std::alloc::Global;
 use std::fs::File;
 use std::io::Write;
 use std::net::SocketAddr;
 use tn_network::Trying;
+use tn_streams::{Drain, is_interrupted};
 
 /// The line that says that a connection stands: ACK and a line feed.
 const STANDS: &[u8] = b"\x06\n";
@@ -13,14 +15,18 @@ const STANDS: &[u8] = b"\x06\n";
 pub struct News<'a, W> {
     /// Gets the lines.
     pub writer: &'a mut W,
+    pub alloc: Global,
     /// Whether there are any.
     pub is_told: bool,
 }
 
-impl<'a, W: Write> News<'a, W> {
+impl<'a, W: Drain> News<'a, W> {
     pub(crate) fn trace(&mut self) {
         if self.is_told {
-            let _ = writeln!(self.writer, "The trace gets what is typed, passwords too.");
+            tell(
+                self.writer,
+                b"The trace gets what is typed, passwords too.\n",
+            );
         }
     }
 
@@ -28,15 +34,17 @@ impl<'a, W: Write> News<'a, W> {
         if !self.is_told {
             return;
         }
+        let mut line = Vec::new(self.alloc);
         let _ = match escape {
             Some(key) => writeln!(
-                self.writer,
+                line,
                 "Connected to {}. Escape character is '^{}'.",
                 host,
                 char::from(key ^ 64)
             ),
-            None => writeln!(self.writer, "Connected to {}.", host),
+            None => writeln!(line, "Connected to {}.", host),
         };
+        tell(self.writer, &line);
     }
 
     /// Nothing is told of a connection that failed: the causes of that are.
@@ -44,18 +52,39 @@ impl<'a, W: Write> News<'a, W> {
         if !self.is_told || !is_whole {
             return;
         }
+        let mut line = Vec::new(self.alloc);
         let _ = if is_left {
-            writeln!(self.writer, "Connection closed.")
+            writeln!(line, "Connection closed.")
         } else {
-            writeln!(self.writer, "Connection closed by {}.", host)
+            writeln!(line, "Connection closed by {}.", host)
         };
+        tell(self.writer, &line);
     }
 }
 
-impl<'a, W: Write> Trying for News<'a, W> {
+impl<'a, W: Drain> Trying for News<'a, W> {
     fn try_address(&mut self, address: &SocketAddr) {
-        if self.is_told {
-            let _ = writeln!(self.writer, "Trying {}..", address);
+        if !self.is_told {
+            return;
+        }
+        let mut line = Vec::new(self.alloc);
+        let _ = writeln!(line, "Trying {}..", address);
+        tell(self.writer, &line);
+    }
+}
+
+// Writes a line, or its first bytes where a write fails.
+fn tell<W: Drain>(writer: &mut W, line: &[u8]) {
+    let mut at = 0;
+    for _write in 0..u64::MAX {
+        if at >= line.len() {
+            return;
+        }
+        match writer.write_some(&line[at..]) {
+            Ok(0) => return,
+            Ok(count) => at += count,
+            Err(error) if is_interrupted(&error) => {},
+            Err(_) => return,
         }
     }
 }

@@ -52,7 +52,7 @@ pub struct Plain {
 
 /// What a client's session has beside its keys and its screen.
 #[derive(Drop)]
-pub struct Notes<'a, 'b, W> {
+pub struct Notes<'a, W> {
     /// Gets a line for each item that comes and goes.
     pub trace: Option<File>,
     /// Tells each new size of the window, where standard input is waited for: width and height, five
@@ -62,7 +62,7 @@ pub struct Notes<'a, 'b, W> {
     pub stands: Option<File>,
     pub news: News<'a, W>,
     /// Gets the causes of a fault, a line each.
-    pub causes: &'b mut Vec<u8>,
+    pub causes: &'a mut Vec<u8>,
     /// The connection, as the screen has it.
     pub link: Arc<Link, Global>,
 }

@@ -82,14 +82,14 @@ fn is_terminal(origin: Origin) -> bool
 /// Connects to a host, an address or a name, and talks to the service there by lines, with these keys and this
 /// screen, until the service has closed or the user has left. At a terminal lines are edited as at one of its own;
 /// those of any other input go as they are. Of a fault the causes are noted.
-pub fn connect_plain<H: Host + Network, K: Read + Drop, S: Write, E: Write>(
+pub fn connect_plain<H: Host + Network, K: Read + Drop, S: Write, E: Drain>(
     rt: H,
     alloc: Global,
     host: &str,
     plain: Plain,
     keys: K,
     screen: &mut S,
-    notes: Notes<'_, '_, E>,
+    notes: Notes<'_, E>,
 ) -> Result<TalkReport, ConnectFault>
     ensures talked { IfOk result (RunsTalk plain (K.remaining keys) (S.contents screen.old) (S.contents screen.new)) }
     ensures reached { ConnectsBy (Reaches (H.finds rt host.now plain.port) (H.dials rt)) result }

@@ -270,9 +270,9 @@ fn run_plain<H: Network + Host, R: Read + Drop + Send + 'static, W: Write, E: Dr
         stands,
         link,
     } = seat;
-    let mut lines = Lines(errors);
     let news = News {
-        writer: &mut lines,
+        writer: errors,
+        alloc,
         is_told: origin == Origin::Terminal && !asked.quiet,
     };
     let notes = Notes {
@@ -319,9 +319,9 @@ fn run_connect<
         stands,
         link,
     } = seat;
-    let mut lines = Lines(errors);
     let news = News {
-        writer: &mut lines,
+        writer: errors,
+        alloc,
         is_told: origin == Origin::Terminal && !asked.quiet,
     };
     let notes = Notes {

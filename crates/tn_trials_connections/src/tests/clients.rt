@@ -54,6 +54,7 @@ where
         stands: None,
         news: News {
             writer: &mut told,
+            alloc,
             is_told: false,
         },
         causes: &mut causes,

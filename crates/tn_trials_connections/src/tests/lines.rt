@@ -241,6 +241,7 @@ where
         stands: None,
         news: News {
             writer: &mut told,
+            alloc,
             is_told: false,
         },
         causes: &mut causes,

@@ -58,14 +58,19 @@ fn said(alloc: Global, keys: &[u8]) -> Vec<u8> {
     said
 }
 
+fn lines_of(alloc: Global) -> Option<KeyLines> {
+    KeyLines::new(
+        alloc,
+        Settings::standard(),
+        Limit::standard(),
+        LineEnd::CrLf,
+    )
+    .ok()
+}
+
 // The keys at once, and one by one.
 fn is_said(rt: &impl Abort, alloc: Global, keys: &[u8]) {
-    let settings = Settings::standard();
-    let limit = Limit::standard();
-    let Ok(mut whole) = KeyLines::new(alloc, settings, limit, LineEnd::CrLf) else {
-        return;
-    };
-    let Ok(mut lines) = KeyLines::new(alloc, settings, limit, LineEnd::CrLf) else {
+    let (Some(mut whole), Some(mut lines)) = (lines_of(alloc), lines_of(alloc)) else {
         return;
     };
     let (mut output, mut all) = (Output::new(alloc), Vec::new(alloc));
