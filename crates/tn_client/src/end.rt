@@ -105,7 +105,8 @@ impl ClientEnd {
         })
     }
 
-    /// Types a key. Its echo, where the server does not echo, is appended to `screen`.
+    /// Types a key. Its echo, where the server does not echo, is appended to `screen`. `Failed` after a refused
+    /// piece; `Memory` where what it says, shows or gives as a text finds none: it counts as not typed.
     pub fn key(
         &mut self,
         key: u8,
@@ -140,7 +141,8 @@ impl ClientEnd {
         }
     }
 
-    /// Takes bytes that came from the server, cut anywhere. After `Memory` the end has failed.
+    /// Takes bytes that came from the server, cut anywhere. After `Memory`, for what is said or shown, a list of
+    /// characters or a parameter, the end has failed.
     pub fn feed(
         &mut self,
         piece: &[u8],
@@ -243,7 +245,7 @@ impl ClientEnd {
     }
 
     /// Proposes a special character to the server, or none by `None`. Nothing changes here until the
-    /// server agrees.
+    /// server agrees. `NotOn` where LINEMODE is not on, `Char` as `Chars::set` refuses it; `Failed`, `Memory`.
     pub fn propose(
         &mut self,
         func: Func,

@@ -112,7 +112,9 @@ impl Pair {
     }
 
     /// The master types a key, which is shown where `echo` is true. An echo that doesn't fit whole
-    /// into the queue is dropped whole. After any fault the pair is closed.
+    /// into the queue is dropped whole. `TooFarAhead` where the key makes an entry and 1,024 wait, `Memory`
+    /// for the text that it gives: it has no effect then, and the pair is closed, which is `Closed` from then
+    /// on. All but typing goes on.
     pub fn raw_key(&mut self, key: u8, echo: bool) -> Result<(), PtyFault>
         // Whatever keys led to this half line, the entries gain what this key adds.
         ensures advances { let roles = roles_of self.old.settings (key ∷ []) in
@@ -158,7 +160,8 @@ impl Pair {
         self.take_each(keys, Input::Keys(echo))
     }
 
-    /// The master types a byte of a line that was edited before it came. Nothing is shown.
+    /// The master types a byte of a line that was edited before it came. Nothing is shown. It is refused as
+    /// `raw_key` is.
     pub fn edited_byte(&mut self, byte: u8) -> Result<(), PtyFault>
         ensures advances { let role = literal_role self.old.settings.chars byte in
             OnOk result (Advances self.old.line (role ∷ []) (gain_of self.old.line role) self.new.line) }
@@ -198,7 +201,7 @@ impl Pair {
     }
 
     /// The master gives a command. AYT is answered where the answer fits whole into the queue, and
-    /// nothing else is shown.
+    /// nothing else is shown. It is refused as `raw_key` is.
     pub fn command(&mut self, command: Command) -> Result<(), PtyFault>
         ensures advances { let role = command_role command in
             OnOk result

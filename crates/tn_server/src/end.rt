@@ -123,6 +123,8 @@ impl ServerEnd {
 
     /// Takes a piece of what comes from the client, cut anywhere, and appends the replies. After any
     /// refusal the end has failed, and `out` may hold replies to what came before the refusal.
+    /// `Pty(TooFarAhead)` where an item makes an entry and 1,024 wait; `Pty(Memory)` for the text of a line;
+    /// `Memory` for what is said, a list of characters or a parameter; `Failed` where it failed before.
     pub fn feed(&mut self, piece: &[u8], out: &mut Vec<u8>) -> Result<(), ServerFault>
         ensures ok { OnOk result (Feeds self.old piece.now out.old.items out.new.items self.new) }
         ensures accepted { OnOk result (call_fault self.old ≡ None) }
@@ -165,7 +167,8 @@ impl ServerEnd {
         self.pair.write(bytes)
     }
 
-    /// Takes the first entry that waits. Where none waits it may append GA (RFC 858).
+    /// Takes the first entry that waits. Where none waits it may append GA (RFC 858): `Memory` where that
+    /// does not fit.
     pub fn take(&mut self, out: &mut Vec<u8>) -> Result<Option<Entry>, ServerFault>
         ensures ok { OnOk result (Advances self.old took out.old.items out.new.items self.new) }
         ensures keeps { OnOk result (ReadsNothing self.old self.new) }
@@ -224,7 +227,7 @@ impl ServerEnd {
 
     /// Wishes for editing at one side, and appends what follows: a MODE where LINEMODE is on and the
     /// mask is not asked for already. Answers whether one was sent. The client acknowledges it before
-    /// it is in force.
+    /// it is in force. `Failed` after a refused piece, `Memory` where what is said does not fit.
     pub fn wish(&mut self, editing: Editing, out: &mut Vec<u8>) -> Result<bool, ServerFault>
         ensures ok { OnOk result (Advances self.old (wished editing) out.old.items out.new.items self.new) }
         ensures keeps { OnOk result (ReadsNothing self.old self.new) }
@@ -252,7 +255,7 @@ impl ServerEnd {
     }
 
     /// Changes a special character, or disables it, and tells the client by one triple where LINEMODE
-    /// is on and something changed (RFC 1184, section 2.4).
+    /// is on and something changed (RFC 1184, section 2.4). `Char` as `Chars::set` refuses it; else as `wish`.
     pub fn set_char(
         &mut self,
         func: Func,
@@ -287,7 +290,8 @@ impl ServerEnd {
         Ok(())
     }
 
-    /// Sets or clears the terminal's flag ECHO, and appends the word for the option ECHO, if one is due.
+    /// Sets or clears the terminal's flag ECHO, and appends the word for the option ECHO, if one is due. It is
+    /// refused as `wish` is.
     pub fn set_echo(&mut self, on: bool, out: &mut Vec<u8>) -> Result<(), ServerFault>
         ensures ok { OnOk result (Advances self.old (echo_set on) out.old.items out.new.items self.new) }
         ensures keeps { OnOk result (ReadsNothing self.old self.new) }
@@ -312,7 +316,7 @@ impl ServerEnd {
     }
 
     /// Asks the client to send what it holds at each character of this mask, or by `None` at none any more
-    /// (RFC 1184, section 2.3). Only a client with LINEMODE is asked.
+    /// (RFC 1184, section 2.3). `NotOn` where LINEMODE is not on; else it is refused as `wish` is.
     pub fn set_mask(&mut self, mask: Option<Mask>, out: &mut Vec<u8>) -> Result<(), ServerFault>
         ensures ok { OnOk result (Advances self.old (mask_set mask) out.old.items out.new.items self.new) }
         ensures keeps { OnOk result (ReadsNothing self.old self.new) }
