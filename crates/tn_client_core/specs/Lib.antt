@@ -4,4 +4,5 @@ pub mod Refusing
 pub mod Marks
 pub mod Reaching
 pub mod Bringing
+pub mod Terms
 pub mod Ending

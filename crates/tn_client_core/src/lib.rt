@@ -20,8 +20,10 @@
 pub use machine::Core;
 pub use messages::{Mark, Origin, Told};
 pub use progress::Progress;
+pub use terms::Terms;
 
 pub mod laws;
 mod machine;
 mod messages;
 mod progress;
+mod terms;

@@ -9,13 +9,17 @@ ghost use Rattle.tn_client_core.specs.Reaching.{LeadsTo, TypesAll, TypesPrefix, 
 ghost use Rattle.tn_client_core.specs.Refusing.{RefusesAtKey};
 ghost use Rattle.tn_client_core.specs.Run as run;
 ghost use Rattle.tn_client_core.specs.Run.{Run};
+ghost use Rattle.tn_client_core.specs.Terms.{terms_at};
 
 use crate::messages::{Mark, Origin, Told};
 use crate::progress::Progress;
+use crate::terms::Terms;
 use std::alloc::Global;
 use tn_client::{ClientEnd, ClientFault};
+use tn_codes::EDIT;
 use tn_discipline::Limit;
 use tn_messages::{Message, SessionFault};
+use tn_option::{ECHO, LINEMODE, QState, Side};
 use tn_streams::WindowSize;
 
 /// The core of a client session.
@@ -223,6 +227,18 @@ impl Core {
         ensures { result ≡ self.now.progress }
     {
         self.progress
+    }
+
+    /// Who edits and who echoes now, as the user is told; of a session that is over nothing is known.
+    pub fn terms(&self) -> Terms
+        ensures { (c : Run) → LeadsTo c self.now → self.now.progress.over ≡ false → result ≡ terms_at c.history }
+    {
+        Terms {
+            linemode: self.end.option(Side::Us, LINEMODE) == QState::Yes,
+            edits: self.end.mode() & EDIT != 0,
+            echoed: self.end.option(Side::Them, ECHO) == QState::Yes,
+            held: self.end.half().len(),
+        }
     }
 
     /// Handles one message: appends what is to be sent to the network to `out`, and what is to be shown to

@@ -18,6 +18,7 @@ ghost use Rattle.tn_streams.specs.Known.{known_reader};
 use crate::connected::Connected;
 use crate::fault::ConnectFault;
 use crate::news::tell_standing;
+use crate::publishing::Publisher;
 use crate::sending::{Delivered, Sender};
 use crate::settings::{Connecting, Notes, Origin};
 use crate::waiting::{Brought, Patient};
@@ -30,7 +31,7 @@ use std::net::TcpStream;
 use std::sync::Arc;
 use std::sync::atomic::AtomicBool;
 use tn_network::{Network, reach};
-use tn_session::{ClientPorts, Ended, Report, SessionFault, Unwatched, client_session};
+use tn_session::{ClientPorts, Ended, Report, SessionFault, client_session};
 use tn_sockets::{
     Connection, Console, Host, Incoming, Keys, Link, Logged, NewQueue, Outgoing, PiecePass, Queue,
     Sent, Sizes, Trace, Typing, WriteLog, new_queue,
@@ -71,7 +72,6 @@ fn wire<H: Host, Q: Queue>(
     rt: H,
     alloc: Global,
     opened: Opened<H>,
-    origin: Origin,
 ) -> Result<Wires<H, Q>, ConnectFault>
     requires new { IsNew opened.queue }
     requires named { IsNamed Q.table Q.key (sends_on opened.queue.to) }
@@ -87,13 +87,12 @@ fn wire<H: Host, Q: Queue>(
     let (reader, writer) = Connection::split(stream)?;
     link.attach(&rt, reader.try_clone()?);
     let sent = Arc::try_clone(&link)?;
-    let is_watched = origin == Origin::Terminal;
     let is_over = Arc::new(alloc, AtomicBool::new(false))?;
     let brought = Brought {
         reader,
         is_over: Arc::try_clone(&is_over)?,
     };
-    let incoming = Incoming::new(alloc, brought, link, trace.try_clone()?, is_watched);
+    let incoming = Incoming::new(brought, link, trace.try_clone()?);
     let (outgoing, sending) = queue.sides(rt, alloc, Logged::new(writer), sent, trace)?;
     let sender = Sender { sending };
     Ok(Wires {
@@ -119,7 +118,7 @@ fn talk<H: Host, K: Source + Drop + Send + 'static, S: Write, Q: Queue>(
         RunsWriting (window_of connecting) (known_reader K.remaining K.foretold K.sizes keys)
         (S.contents screen.old) (S.contents screen.new) (put_bytes (view outgoing.new.pass)) r.0 r.1) }
 {
-    let Ok(gate) = Arc::new(alloc, Unwatched) else {
+    let Ok(gate) = Publisher::new(alloc, incoming.link()) else {
         return Err(SessionFault::Memory);
     };
     let (width, height) = (connecting.width, connecting.height);
@@ -191,7 +190,7 @@ fn talk_and_send<H: Host, K: Read + Drop + Send + 'static, S: Write, Q: Queue + 
         mut outgoing,
         sender,
         is_over,
-    } = wire::<H, Q>(rt, alloc, opened, connecting.origin)?;
+    } = wire::<H, Q>(rt, alloc, opened)?;
     let Some(sending) = sender.start(rt) else {
         return Err(ConnectFault::Memory);
     };

@@ -23,6 +23,7 @@ mod connecting;
 mod fault;
 mod news;
 mod polls;
+mod publishing;
 mod sending;
 mod settings;
 mod talks;

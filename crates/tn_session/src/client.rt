@@ -18,10 +18,9 @@ use crate::net::ReaderPart;
 use crate::parties::{ClientPorts, Gate, Place, Report};
 use crate::session::MAILS;
 use crate::sharing::{Shared, share};
-use crate::threads::{ClientReturned, ClientStarted, start_reader};
+use crate::threads::{ClientReturned, ClientStarted, Watch, start_reader};
 use crossbeam_channel::bounded_with;
 use std::alloc::{AllocError, Global};
-use std::sync::atomic::AtomicBool;
 use std::sync::{Arc, Wait};
 use std::thread::Threads;
 use tn_client_core::{Core, Progress};
@@ -122,7 +121,7 @@ fn report(progress: Progress) -> Report
 
 // Runs this thread as the core's, beside those that were started. On each path out of it they have been
 // joined. It takes nine, since what is lent and what is given here go together nowhere else.
-fn run_beside<R, N, K, W, S>(
+fn run_beside<R, N, K, W, S, G>(
     rt: &R,
     alloc: Global,
     started: ClientStarted<N, K>,
@@ -131,7 +130,7 @@ fn run_beside<R, N, K, W, S>(
     core: &mut Core,
     writer: &mut W,
     screen: &mut S,
-    stop: &AtomicBool,
+    watch: &Watch<G>,
 ) -> Result<(Report, ClientPorts), SessionFault>
 where
     R: Threads + Wait,
@@ -139,6 +138,7 @@ where
     K: Source,
     W: Finish,
     S: Drain,
+    G: Gate,
     requires mailbox { (receives_on ends.from ≡ sends_on ends.to) × IsSeatAt (sends_on ends.to) pass ×
         (view pass ≡ core_view []) }
     requires net { (sends_on started.net.promise.to.value ≡ sends_on ends.to) ×
@@ -153,7 +153,7 @@ where
         (known_writing S.contents S.told screen.old screen.new) (client_result r.0 r.1)) }
     ensures finished { IfOk result (λ r. IsFinished (W.sending writer.old) (W.sending writer.new)) }
 {
-    let Some(pass) = run_core(rt, alloc, &ends.from, pass, core, writer, screen, stop) else {
+    let Some(pass) = run_core(rt, alloc, &ends.from, pass, core, writer, screen, watch) else {
         writer.finish();
         drop(ends);
         started.join(rt);
@@ -229,7 +229,7 @@ where
     };
     let started = ClientStarted { net, keys };
     run_beside(
-        &rt, alloc, started, ends, pass, core, writer, screen, &*own.stop,
+        &rt, alloc, started, ends, pass, core, writer, screen, &own,
     )
 }
 

@@ -11,11 +11,12 @@ ghost use Rattle.tn_streams.specs.Sending.{StaysOpen, IsFinished};
 use crate::channels::{Handles, MailPass, MailReceiver};
 use crate::closing::{Standing, close};
 use crate::mail::{Mail, Sender};
+use crate::parties::Gate;
 use crate::term::{finish_unless, leaves};
+use crate::threads::Watch;
 use crate::writing::write_out;
 use std::alloc::Global;
 use std::sync::Wait;
-use std::sync::atomic::AtomicBool;
 use tn_client_core::{Core, Mark, Origin, Progress, Told};
 use tn_streams::{Drain, Finish};
 
@@ -96,7 +97,7 @@ fn standing_of(progress: Progress) -> Standing
 // tools/progress: proctype Core
 /// Handles the mails until both senders have left. `None` where the other end of the mailbox is gone. It
 /// takes eight, since the core, the writer and the screen are lent each by itself.
-pub(crate) fn run_core<R: Wait, W: Finish, S: Drain>(
+pub(crate) fn run_core<R: Wait, W: Finish, S: Drain, G: Gate>(
     rt: &R,
     alloc: Global,
     from: &MailReceiver,
@@ -104,7 +105,7 @@ pub(crate) fn run_core<R: Wait, W: Finish, S: Drain>(
     core: &mut Core,
     writer: &mut W,
     screen: &mut S,
-    stop: &AtomicBool,
+    watch: &Watch<G>,
 ) -> Option<MailPass>
     requires mailbox { IsSeatAt (receives_on from.now) pass × ((view pass).handled ≡ Some []) }
     ensures mailbox { IfSome result (λ p. IsSeatAt (receives_on from.now) p) }
@@ -127,7 +128,8 @@ pub(crate) fn run_core<R: Wait, W: Finish, S: Drain>(
         };
         let left = leaves(&mail.message);
         turn(core, told_of(mail), &mut out, &mut text, writer, screen);
-        closed = close(writer, stop, standing_of(core.progress()), closed);
+        closed = close(writer, &*watch.stop, standing_of(core.progress()), closed);
+        watch.gate.agreed(core.terms());
         lefts += left;
     }
     unreachable!()

@@ -8,6 +8,7 @@ pub use entries::{EntryPass, EntryReceiver, EntrySender, Hand, InTurn};
 pub use mail::{Mail, Sender};
 pub use parties::{ClientPorts, Gate, Maker, Place, Ports, Report, Unwatched};
 pub use session::serve_session;
+pub use tn_client_core::Terms;
 pub use tn_messages::{Ended, Message, SessionFault};
 pub use tn_streams::Finish;
 

@@ -6,6 +6,7 @@ ghost use Rattle.tn_session.specs.Makers.{MakesJob};
 use crate::channels::MailPass;
 use crate::entries::EntryPass;
 use std::alloc::{AllocError, Global};
+use tn_client_core::Terms;
 use tn_jobs::{Job, JobId};
 use tn_messages::Ended;
 
@@ -47,7 +48,11 @@ pub enum Place {
 
 /// Who watches the threads. It changes no answer.
 pub trait Gate {
+    /// A thread comes by this place.
     fn at(&self, place: Place);
+
+    /// A client's core has handled a message, and these are its terms now.
+    fn agreed(&self, _terms: Terms) {}
 }
 
 /// A gate that does nothing: nobody watches the threads.

@@ -10,6 +10,7 @@ ghost use Rattle.tn_streams.specs.Foretelling.{ForetellsCall};
 ghost use Rattle.tn_streams.specs.Telling.{CountsRead, TellsCall};
 
 use crate::keys::Typing;
+use crate::link::Link;
 use libc::net::{POLLIN, poll};
 use libc::types::pollfd;
 use std::io;
@@ -166,14 +167,13 @@ impl<'a, H: Copy + Print, K> Deeds<'a, H, K> {
             height,
             ..
         } = &self.typing;
-        let editing = place_of(link.edits_here());
         let echo = place_of(!link.echoes_there());
         let _ = print!(self.rt;
-            "\r\nconnected to {} port {}\r\nlines are edited {}, echo is made {}\r\nwindow {} by {}\r\n\
+            "\r\nconnected to {} port {}\r\n{}, echo is made {}\r\nwindow {} by {}\r\n\
             {} bytes came, {} went\r\n",
             host,
             port,
-            editing,
+            editing_of(link),
             echo,
             width,
             height,
@@ -190,6 +190,18 @@ fn waits_at(fd: i32) -> pollfd {
         events: POLLIN,
         revents: 0,
     }
+}
+
+// Who edits lines. Without LINEMODE a server that echoes takes keys one by one and edits them, as a rule; where it
+// does not echo, they are not edited by anybody.
+fn editing_of(link: &Link) -> &'static str {
+    if link.edits_here() {
+        return "lines are edited here";
+    }
+    if link.has_linemode() || link.echoes_there() {
+        return "lines are edited at the other end";
+    }
+    "nobody edits lines, and each key is sent at once"
 }
 
 fn place_of(is_here: bool) -> &'static str {

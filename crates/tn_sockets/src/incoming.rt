@@ -11,40 +11,6 @@ use std::alloc::Global;
 use std::io;
 use std::io::{ErrorKind, Read};
 use std::sync::{Arc, Wait};
-use tn_codes::{ECHO, EDIT, LINEMODE, MODE, Verb};
-use tn_nvt::{Decoder, Item};
-
-// Sees from what the server says who edits and who echoes.
-#[derive(Drop)]
-struct Watch {
-    decoder: Decoder,
-    items: Vec<Item>,
-}
-
-impl Watch {
-    // A stream that can't be read, for want of memory, is watched no more.
-    fn see(&mut self, bytes: &[u8], link: &Link) {
-        let _ = self.decoder.feed(bytes, &mut self.items);
-        for item in &self.items {
-            see_item(item, link);
-        }
-        self.items.clear();
-    }
-}
-
-fn see_item(item: &Item, link: &Link) {
-    match item {
-        Item::Neg(Verb::Will, ECHO) => link.note_echo(true),
-        Item::Neg(Verb::Wont, ECHO) => link.note_echo(false),
-        Item::Neg(Verb::DontIt, LINEMODE) => link.note_editing(false),
-        Item::Sub(LINEMODE, params) => {
-            if let [MODE, mask] = params.as_slice() {
-                link.note_editing(mask & EDIT != 0);
-            }
-        },
-        _ => {},
-    }
-}
 
 /// What the peer sends. That no more comes is noted, so that the keys can end too.
 #[derive(Drop)]
@@ -52,32 +18,21 @@ pub struct Incoming<H, N> {
     reader: N,
     link: Arc<Link, Global>,
     trace: Trace<H>,
-    watch: Option<Watch>,
 }
 
 impl<H, N> Incoming<H, N> {
-    /// Where the session is watched, it is seen who edits and who echoes.
-    pub fn new(
-        alloc: Global,
-        reader: N,
-        link: Arc<Link, Global>,
-        trace: Trace<H>,
-        is_watched: bool,
-    ) -> Incoming<H, N> {
-        let watch = if is_watched {
-            Some(Watch {
-                decoder: Decoder::new(alloc),
-                items: Vec::new(alloc),
-            })
-        } else {
-            None
-        };
+    /// What comes from there.
+    pub fn new(reader: N, link: Arc<Link, Global>, trace: Trace<H>) -> Incoming<H, N> {
         Incoming {
             reader,
             link,
             trace,
-            watch,
         }
+    }
+
+    /// What the parts of the connection know of each other.
+    pub fn link(&self) -> &Arc<Link, Global> {
+        &self.link
     }
 }
 
@@ -87,9 +42,6 @@ impl<H: Copy + Wait, N: Read> Incoming<H, N> {
     {
         self.link.count_came(bytes.len());
         self.trace.note(Direction::Came, bytes);
-        if let Some(watch) = &mut self.watch {
-            watch.see(bytes, &self.link);
-        }
     }
 }
 

@@ -17,8 +17,12 @@ pub struct Link {
     dark: AtomicBool,
     /// The user has left.
     left: AtomicBool,
+    /// LINEMODE is on.
+    linemode: AtomicBool,
     edits_here: AtomicBool,
     echoes_there: AtomicBool,
+    /// How many bytes of a line are held here.
+    held: AtomicUsize,
     came: AtomicUsize,
     went: AtomicUsize,
 }
@@ -32,8 +36,10 @@ impl Link {
             broken: AtomicBool::new(false),
             dark: AtomicBool::new(false),
             left: AtomicBool::new(false),
+            linemode: AtomicBool::new(false),
             edits_here: AtomicBool::new(false),
             echoes_there: AtomicBool::new(false),
+            held: AtomicUsize::new(0),
             came: AtomicUsize::new(0),
             went: AtomicUsize::new(0),
         }
@@ -110,12 +116,29 @@ impl Link {
         self.went.load(Ordering::SeqCst)
     }
 
-    pub(crate) fn note_editing(&self, here: bool) {
+    /// Notes whether LINEMODE is on, and whether lines are edited here.
+    pub fn note_editing(&self, linemode: bool, here: bool) {
+        self.linemode.store(linemode, Ordering::SeqCst);
         self.edits_here.store(here, Ordering::SeqCst);
     }
 
-    pub(crate) fn note_echo(&self, there: bool) {
+    /// Notes whether the other end echoes.
+    pub fn note_echo(&self, there: bool) {
         self.echoes_there.store(there, Ordering::SeqCst);
+    }
+
+    /// Notes how many bytes of a line are held here.
+    pub fn note_held(&self, bytes: usize) {
+        self.held.store(bytes, Ordering::SeqCst);
+    }
+
+    pub(crate) fn has_linemode(&self) -> bool {
+        self.linemode.load(Ordering::SeqCst)
+    }
+
+    /// How many bytes of a line are held here.
+    pub fn held(&self) -> usize {
+        self.held.load(Ordering::SeqCst)
     }
 
     pub(crate) fn edits_here(&self) -> bool {

@@ -1,0 +1,14 @@
+//! What a client end has agreed on with its server, as the user is told.
+
+/// Who edits lines and who echoes, and how much of a line waits at this end.
+#[derive(Clone, Copy, Debug, PartialEq, Eq)]
+pub struct Terms {
+    /// LINEMODE is on (RFC 1184).
+    pub linemode: bool,
+    /// Lines are edited at this end (RFC 1184, section 2.2, EDIT).
+    pub edits: bool,
+    /// The server echoes (RFC 857).
+    pub echoed: bool,
+    /// How many bytes of the half line are held at this end.
+    pub held: usize,
+}

@@ -1,0 +1,33 @@
+//! What a session has agreed on is kept where the user's questions are answered.
+
+use std::alloc::{AllocError, Global};
+use std::sync::Arc;
+use tn_session::{Gate, Place, Terms};
+use tn_sockets::Link;
+
+/// Notes what the client's core tells, after each message.
+#[derive(Drop)]
+pub(crate) struct Publisher {
+    link: Arc<Link, Global>,
+}
+
+impl Publisher {
+    /// Notes it at this connection.
+    pub(crate) fn new(
+        alloc: Global,
+        link: &Arc<Link, Global>,
+    ) -> Result<Arc<Publisher, Global>, AllocError> {
+        let link = Arc::try_clone(link)?;
+        Ok(Arc::new(alloc, Publisher { link })?)
+    }
+}
+
+impl Gate for Publisher {
+    fn at(&self, _place: Place) {}
+
+    fn agreed(&self, terms: Terms) {
+        self.link.note_editing(terms.linemode, terms.edits);
+        self.link.note_echo(terms.echoed);
+        self.link.note_held(terms.held);
+    }
+}
