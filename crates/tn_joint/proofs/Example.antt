@@ -377,7 +377,10 @@ module _ (width height : ℕ) where
     core = record nobody { handled = Some mails };
   }
 
-  keys_sent : ReaderSends who.Keys true keys_reader client_result.keys
+  not_stopped : false ≡ true → ⊥
+  not_stopped e = cc
+
+  keys_sent : ReaderSends who.Keys false keys_reader client_result.keys
   keys_sent = (piece_told typed ∷ [], Some [], HangUp ∷ Left ∷ [], refl, inl (HangUp, (refl, tt), refl), refl, All-cons IsPiece typed [] short (All-nil IsPiece), (None, refl))
 
   net_sent : ReaderSends who.Net false a_socket client_result.net
@@ -394,8 +397,10 @@ module _ (width height : ℕ) where
         net_is = refl;
         core_is = refl;
         woven = interleaved;
+        stopped = false;
         typed = keys_sent;
         read = net_sent;
+        stopped_for = λ on. absurd (not_stopped on);
         marked = told_all;
         messages = refl;
         run = c5;

@@ -117,9 +117,9 @@ reader_bytes who may_stop reader v mails (told, left, close, consumed, closes, i
     let P : List ℕ → Type 0 = λ bs. Consumes reader.bytes left bs in
     (left, subst P (sym all) consumed)
 
-pub keys_brought : (reader : KnownReader) (v : View) (handled mails : List Mail) → ReaderSends Keys true reader v → v ≡ sender Keys mails → from Keys handled ≡ mails → (left : Option (List ℕ)) × Consumes reader.bytes left (brought origin.Keys (all_told handled))
-keys_brought reader v handled mails sent e is =
-    let r = reader_bytes Keys true reader v mails sent e in
+pub keys_brought : (stopped : Bool) (reader : KnownReader) (v : View) (handled mails : List Mail) → ReaderSends Keys stopped reader v → v ≡ sender Keys mails → from Keys handled ≡ mails → (left : Option (List ℕ)) × Consumes reader.bytes left (brought origin.Keys (all_told handled))
+keys_brought stopped reader v handled mails sent e is =
+    let r = reader_bytes Keys stopped reader v mails sent e in
     let P : List ℕ → Type 0 = λ bs. Consumes reader.bytes r.0 bs in
     (r.0, subst P (sym (keys_all handled ∙ ap bytes_sent is)) r.1)
 

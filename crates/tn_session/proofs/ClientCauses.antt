@@ -1,5 +1,5 @@
 -- Why a client's session ended by a read or a write.
-use Rattle.std.proofs.Common.{◌≡◌, ℕ, Bool, true, false, ◌&&◌, ◌⊎◌, inl, inr, ⊎_elim, List, [], ◌∷◌, ◌++◌, Option, refl, sym, ap, ◌∙◌, subst, map, length}
+use Rattle.std.proofs.Common.{◌≡◌, ℕ, Bool, false, ◌&&◌, ◌⊎◌, inl, inr, ⊎_elim, List, [], ◌∷◌, ◌++◌, Option, refl, sym, ap, ◌∙◌, subst, map, length}
 use Rattle.tn_client_core.specs.Ending.{IsEndedAt}
 use Rattle.tn_client_core.specs.Marks.{no_write_failed, no_show_failed, all_by}
 use Rattle.tn_client_core.specs.Run.{Run}
@@ -52,8 +52,8 @@ close_cause may_stop foretold told left close closes h =
     (λ x. absurd (failure_never told (subst Fails x.2 h)))
     closes
 
-pub read_cause : (keys_reader net_reader : KnownReader) (from_keys from_net handled : List Mail) (keys net : View) (marked : List (Told × Mark)) → keys ≡ sender Keys from_keys → net ≡ sender Net from_net → Interleaves handled (four from_net [] [] from_keys) → (typed : ReaderSends Keys true keys_reader keys) → (read : ReaderSends Net false net_reader net) → map (λ m. m.0) marked ≡ all_told handled → (c : Run) → IsEndedAt c marked (ended.Fault fault.Read) → WillFail max_reads (length (pieces_in typed.0)) keys_reader.failures ⊎ WillFail max_reads (length (pieces_in read.0)) net_reader.failures
-read_cause keys_reader net_reader from_keys from_net handled keys net marked keys_is net_is woven typed read messages c r =
+pub read_cause : (stopped : Bool) (keys_reader net_reader : KnownReader) (from_keys from_net handled : List Mail) (keys net : View) (marked : List (Told × Mark)) → keys ≡ sender Keys from_keys → net ≡ sender Net from_net → Interleaves handled (four from_net [] [] from_keys) → (typed : ReaderSends Keys stopped keys_reader keys) → (read : ReaderSends Net false net_reader net) → map (λ m. m.0) marked ≡ all_told handled → (c : Run) → IsEndedAt c marked (ended.Fault fault.Read) → WillFail max_reads (length (pieces_in typed.0)) keys_reader.failures ⊎ WillFail max_reads (length (pieces_in read.0)) net_reader.failures
+read_cause stopped keys_reader net_reader from_keys from_net handled keys net marked keys_is net_is woven typed read messages c r =
     let who = failure_from handled (failure_told marked r.before r.last r.after handled r.whole messages r.ends) in
     by who.0 who.1
   where
@@ -62,7 +62,7 @@ read_cause keys_reader net_reader from_keys from_net handled keys net marked key
 
     by : (s : Sender) → HasFailure (messages_of (from s handled)) → WillFail max_reads (length (pieces_in typed.0)) keys_reader.failures ⊎ WillFail max_reads (length (pieces_in read.0)) net_reader.failures
     by Net h = inr (close_cause false net_reader.failures read.0 read.1 read.2 read.4 (subst HasFailure (messages_from Net net from_net handled (told_messages read.0 ++ read.2) net_is read.5 (woven Net)) h))
-    by Keys h = inl (close_cause true keys_reader.failures typed.0 typed.1 typed.2 typed.4 (subst HasFailure (messages_from Keys keys from_keys handled (told_messages typed.0 ++ typed.2) keys_is typed.5 (woven Keys)) h))
+    by Keys h = inl (close_cause stopped keys_reader.failures typed.0 typed.1 typed.2 typed.4 (subst HasFailure (messages_from Keys keys from_keys handled (told_messages typed.0 ++ typed.2) keys_is typed.5 (woven Keys)) h))
     by Desk h = absurd (none Desk (woven Desk) h)
     by Back h = absurd (none Back (woven Back) h)
 

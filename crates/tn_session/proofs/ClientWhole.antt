@@ -17,12 +17,14 @@ use Rattle.tn_session.proofs.Going.{false_true}
 use Rattle.tn_session.proofs.Lefts.{none_over}
 use Rattle.tn_session.proofs.Mailbox.{all_woven}
 use Rattle.tn_session.proofs.Sent.{reader_sent}
+use Rattle.tn_session.proofs.Stopped.{stops_from}
 use Rattle.tn_session.proofs.lemmas.Sessions.{client_transcript, client_reads, as_read}
 use Rattle.tn_session.specs.Client.{core_view, AreTwoSettled, IsClientRun, client_report}
 use Rattle.tn_session.specs.CoreTurns.{CoreHandles, all_told}
 use Rattle.tn_session.specs.Facts.{ClientResult}
 use Rattle.tn_session.specs.Mailbox.{Interleaves, from, four, sender, union, nobody, everyone, with_handled, Total}
 use Rattle.tn_session.specs.Reader.{ReaderSends}
+use Rattle.tn_session.specs.Stops.{StopsWithin, EndsFrom}
 use Rattle.tn_session.specs.Transcripts.{bytes_sent, came_by}
 use Rattle.tn_session.specs.declared.channels.View.{View}
 use Rattle.tn_session.specs.declared.mail.Mail.{Mail}
@@ -67,24 +69,25 @@ all_out marked rest all never = by (all_written marked) refl
     by false e = absurd (false_true (never (unwritten marked e)))
 
 -- all of a client's session that ran
-pub client_ran : (core last : Core) (keys_reader net_reader : KnownReader) (writer screen : KnownWriting) (pass₀ pass₁ net keys : View) (result : ClientResult)
-    → pass₀ ≡ core_view [] → CoreHandles core pass₀ pass₁ writer screen last → ReaderSends Net false net_reader net → ReaderSends Keys true keys_reader keys
+pub client_ran : (core last : Core) (stopped : Bool) (keys_reader net_reader : KnownReader) (writer screen : KnownWriting) (pass₀ pass₁ net keys : View) (result : ClientResult)
+    → pass₀ ≡ core_view [] → (acted : CoreHandles core pass₀ pass₁ writer screen last) → ReaderSends Net false net_reader net → ReaderSends Keys stopped keys_reader keys
+    → (stopped ≡ true → StopsWithin (EndsFrom core) acted.handled)
     → AreTwoSettled pass₁ net keys result.net result.keys result.core → result.report ≡ client_report last.progress
     → IsClientRun core keys_reader net_reader writer screen result
-client_ran core last keys_reader net_reader writer screen pass₀ pass₁ net keys result ep acted sn sk settled er window at =
+client_ran core last stopped keys_reader net_reader writer screen pass₀ pass₁ net keys result ep acted sn sk told settled er window at =
     let begin = start window.width window.height window.limit in
     let g = acted.goes.leads begin at in
     let ns = reader_sent Net false net_reader net sn in
-    let ks = reader_sent Keys true keys_reader keys sk in
+    let ks = reader_sent Keys stopped keys_reader keys sk in
     let view : pass₁ ≡ core_view acted.handled = acted.view ∙ ap (λ (w : View). with_handled w acted.handled) ep in
     let s = settled acted.handled ns.mails ks.mails view ns.is ks.is in
     let none = none_over acted.handled s.3.0 ns.mails [] [] ks.mails s.3.1 ns.ends tt tt ks.ends (omega (arith, ns.one, ks.one, acted.lefts)) in
     let woven : Interleaves acted.handled (four ns.mails [] [] ks.mails) = λ w. ap (from w) (sym (append-nil acted.handled) ∙ ap (λ (l : List Mail). acted.handled ++ l) (sym none)) ∙ s.3.1 w in
-    let typed : ReaderSends Keys true keys_reader result.keys = subst (λ (w : View). ReaderSends Keys true keys_reader w) (ks.is ∙ sym s.1) sk in
+    let typed : ReaderSends Keys stopped keys_reader result.keys = subst (λ (w : View). ReaderSends Keys stopped keys_reader w) (ks.is ∙ sym s.1) sk in
     let read : ReaderSends Net false net_reader result.net = subst (λ (w : View). ReaderSends Net false net_reader w) (ns.is ∙ sym s.0) sn in
     let said = client_transcript window.width window.height window.limit acted.goes.marked g.0 acted.goes.bytes g.3.0 g.1 g.3.1 in
     let net_first = net_brought net_reader net acted.handled ns.mails sn ns.is (woven Net) (woven Desk) (woven Back) in
-    let keys_first = keys_brought keys_reader keys acted.handled ks.mails sk ks.is (woven Keys) in
+    let keys_first = keys_brought stopped keys_reader keys acted.handled ks.mails sk ks.is (woven Keys) in
     let is : result.report ≡ client_report g.0.progress = er ∙ ap client_report g.2.progress in
     let caused = λ (f : SessionFault) (e : result.report.ended ≡ ended.Fault f). fault_cause window.width window.height window.limit acted.goes.marked g.0 f g.1 (sym (ap (λ (o : Report). o.ended) is) ∙ e) in
     record {
@@ -95,8 +98,10 @@ client_ran core last keys_reader net_reader writer screen pass₀ pass₁ net ke
       net_is = s.0;
       core_is = ap (λ (w : View). w.handled) s.2;
       woven = woven;
+      stopped = stopped;
       typed = typed;
       read = read;
+      stopped_for = λ on. stops_from core begin acted.handled at (told on);
       marked = acted.goes.marked;
       messages = acted.goes.whole;
       run = g.0;
@@ -125,6 +130,6 @@ client_ran core last keys_reader net_reader writer screen pass₀ pass₁ net ke
       all_shown = g.4.2;
       report_is = is;
       caused = caused;
-      read_failed = λ e. read_cause keys_reader net_reader ks.mails ns.mails acted.handled result.keys result.net acted.goes.marked s.1 s.0 woven typed read acted.goes.whole begin (caused fault.Read e);
+      read_failed = λ e. read_cause stopped keys_reader net_reader ks.mails ns.mails acted.handled result.keys result.net acted.goes.marked s.1 s.0 woven typed read acted.goes.whole begin (caused fault.Read e);
       write_failed = λ e. write_cause writer.before.calls writer.after.calls screen.before.calls screen.after.calls acted.goes.marked acted.goes.tells acted.goes.tells_shown begin (caused fault.Write e);
     }

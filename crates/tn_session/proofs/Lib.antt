@@ -10,6 +10,7 @@ pub mod Finishing
 pub mod Reach
 pub mod Lefts
 pub mod Sent
+pub mod Stopped
 pub mod Numbering
 pub mod Makers
 pub mod lemmas

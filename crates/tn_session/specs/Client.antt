@@ -1,5 +1,5 @@
 -- The running client session, of what its ports give back, for every schedule.
-use Rattle.std.specs.Prelude.{◌≡◌, ◌⊎◌, ℕ, true, false, Some, None, List, [], ◌++◌, length, map}
+use Rattle.std.specs.Prelude.{◌≡◌, ◌⊎◌, ℕ, Bool, true, false, Some, None, List, [], ◌++◌, length, map}
 use Rattle.std.specs.Io.KnownBytes.{Appends}
 use Rattle.crossbeam_channel.specs.Claims.{view, IsSeatAt}
 use Rattle.crossbeam_channel.specs.Ends.{sends_on, receives_on, ruled_capacity}
@@ -21,6 +21,7 @@ use Rattle.tn_session.specs.Facts.{ClientResult, Window}
 use Rattle.tn_session.specs.Mailbox.{Interleaves, four, sender}
 use Rattle.tn_session.specs.Reader.{ReaderSends}
 use Rattle.tn_session.specs.Reading.{max_reads, pieces_in}
+use Rattle.tn_session.specs.Stops.{StopsWithin, LeadsToEnd}
 use Rattle.tn_session.specs.Transcripts.{Exchange, ReadsPrefix, Transcribes, all_read, all_wrote, came_by}
 use Rattle.tn_session.specs.Turns.{Tells, max_writes}
 use Rattle.tn_session.specs.declared.channels.View.{View}
@@ -84,8 +85,12 @@ pub record RunningClient (window : Window) (keys net : KnownReader) (writer scre
   -- what was handled is an interleaving of all that was sent
   pub woven : Interleaves handled (four from_net [] [] from_keys)
   -- the pieces are prefixes of what the readers gave
-  pub typed : ReaderSends Keys true keys result.keys
+  pub stopped : Bool
+  pub typed : ReaderSends Keys stopped keys result.keys
   pub read : ReaderSends Net false net result.net
+  -- where the keys' thread left after a piece, it was told to: of what was handled a front, in which it had not left,
+  -- leads to where the run is over, or nothing more comes from the network
+  pub stopped_for : stopped ≡ true → StopsWithin (LeadsToEnd (start window.width window.height window.limit)) handled
   -- the run of the messages with their marks
   pub marked : List (Told × Mark)
   pub messages : map (λ m. m.0) marked ≡ all_told handled

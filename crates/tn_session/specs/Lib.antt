@@ -4,6 +4,7 @@ pub mod Credits
 pub mod Reading
 pub mod Talk
 pub mod Stepping
+pub mod Stops
 pub mod Turning
 pub mod Turns
 pub mod Closing

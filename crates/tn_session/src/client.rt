@@ -1,24 +1,26 @@
 //! A running client session, from its first key to its report.
 
-ghost use Rattle.std.specs.Prelude.{◌≡◌, [], true, false, is_some, IfOk, IfErr};
+ghost use Rattle.std.specs.Prelude.{◌≡◌, [], None, IfOk, IfErr, IfSome};
 ghost use Rattle.crossbeam_channel.specs.Claims.{view, IsSeatAt};
 ghost use Rattle.crossbeam_channel.specs.Ends.{sends_on, receives_on};
 ghost use Rattle.tn_session.specs.Client.{core_view, IsReadyForTwo, AreTwoSettled, IsClientRun, RunningClient, client_report};
+ghost use Rattle.tn_queue.specs.Queue.{putter};
 ghost use Rattle.tn_session.specs.Facts.{client_result};
 ghost use Rattle.tn_session.specs.Session.{IsRefusal, IsOfThreads};
+ghost use Rattle.tn_session.specs.Stops.{AreNewStops};
 ghost use Rattle.tn_streams.specs.Known.{known_reader, known_writing};
 ghost use Rattle.tn_streams.specs.Sending.{IsFinished};
 
 use crate::channels::{
     AllRoles, CutKeys, CutNet, Knows, MailPass, MailReceiver, MailSeat, MailSender, Union, View,
 };
-use crate::client_loop::run_core;
+use crate::client_loop::{Watched, run_core};
 use crate::mail::{Mail, Sender};
 use crate::net::ReaderPart;
 use crate::parties::{ClientPorts, Gate, Place, Report};
 use crate::session::MAILS;
-use crate::sharing::{Shared, share};
-use crate::threads::{ClientReturned, ClientStarted, Watch, start_reader};
+use crate::stops::{StopSeat, make_stops};
+use crate::threads::{ClientReturned, ClientStarted, ReaderLeft, start_reader};
 use crossbeam_channel::bounded_with;
 use std::alloc::{AllocError, Global};
 use std::sync::{Arc, Wait};
@@ -71,15 +73,30 @@ fn make_mailbox(alloc: Global) -> Result<Mailbox, AllocError>
 #[derive(Drop)]
 struct Outfit<G> {
     mailbox: Mailbox,
-    shared: Shared<G>,
+    stops: StopSeat,
+    net_gate: Arc<G, Global>,
+    keys_gate: Arc<G, Global>,
+    watched: Watched<G>,
 }
 
 fn equip<G: Gate + Drop>(alloc: Global, gate: Arc<G, Global>) -> Result<Outfit<G>, AllocError>
-    ensures { IfOk result (λ outfit. IsReadyForTwo outfit.mailbox) }
+    ensures mailbox { IfOk result (λ outfit. IsReadyForTwo outfit.mailbox) }
+    ensures stops { IfOk result (λ outfit. AreNewStops outfit.watched.stops outfit.stops) }
 {
     let mailbox = make_mailbox(alloc)?;
-    let shared = share(alloc, gate)?;
-    Ok(Outfit { mailbox, shared })
+    let (teller, stops) = make_stops(alloc)?;
+    let net_gate = Arc::try_clone(&gate)?;
+    let keys_gate = Arc::try_clone(&gate)?;
+    Ok(Outfit {
+        mailbox,
+        stops,
+        net_gate,
+        keys_gate,
+        watched: Watched {
+            gate,
+            stops: teller,
+        },
+    })
 }
 
 // Where a session reads from.
@@ -130,7 +147,7 @@ fn run_beside<R, N, K, W, S, G>(
     core: &mut Core,
     writer: &mut W,
     screen: &mut S,
-    watch: &Watch<G>,
+    mut watched: Watched<G>,
 ) -> Result<(Report, ClientPorts), SessionFault>
 where
     R: Threads + Wait,
@@ -138,13 +155,16 @@ where
     K: Source,
     W: Finish,
     S: Drain,
-    G: Gate,
+    G: Gate + Drop,
     requires mailbox { (receives_on ends.from ≡ sends_on ends.to) × IsSeatAt (sends_on ends.to) pass ×
         (view pass ≡ core_view []) }
     requires net { (sends_on started.net.promise.to.value ≡ sends_on ends.to) ×
-        (started.net.promise.who ≡ Sender.Net) × (is_some started.net.promise.stop.value ≡ false) }
+        (started.net.promise.who ≡ Sender.Net) × (started.net.promise.stops.value ≡ None) }
     requires keys { (sends_on started.keys.promise.to.value ≡ sends_on ends.to) ×
-        (started.keys.promise.who ≡ Sender.Keys) × (is_some started.keys.promise.stop.value ≡ true) }
+        (started.keys.promise.who ≡ Sender.Keys) }
+    requires stops { IfSome started.keys.promise.stops.value (λ seat. AreNewStops watched.stops seat) }
+    requires teller { IsSeatAt (sends_on watched.stops.to) watched.stops.pass ×
+        (view watched.stops.pass ≡ putter []) }
     ensures fault { IfErr result (λ fault. fault ≡ SessionFault.Channel) }
     ensures ran { IfOk result (λ r.
         IsClientRun core.old (known_reader K.remaining K.foretold K.sizes started.keys.promise.reader.value)
@@ -153,7 +173,16 @@ where
         (known_writing S.contents S.told screen.old screen.new) (client_result r.0 r.1)) }
     ensures finished { IfOk result (λ r. IsFinished (W.sending writer.old) (W.sending writer.new)) }
 {
-    let Some(pass) = run_core(rt, alloc, &ends.from, pass, core, writer, screen, watch) else {
+    let Some(pass) = run_core(
+        rt,
+        alloc,
+        &ends.from,
+        pass,
+        core,
+        writer,
+        screen,
+        &mut watched,
+    ) else {
         writer.finish();
         drop(ends);
         started.join(rt);
@@ -163,6 +192,8 @@ where
         return Err(SessionFault::Channel);
     };
     let ClientReturned { net, keys } = returned;
+    let ReaderLeft { pass: keys, stops } = keys;
+    watched.stops.settle(stops);
     let ports = settle(&ends.to, pass, net, keys);
     Ok((report(core.progress()), ports))
 }
@@ -185,7 +216,8 @@ where
     W: Finish,
     S: Drain,
     G: Gate + Drop + Send + Sync + 'static,
-    requires { IsReadyForTwo outfit.mailbox }
+    requires mailbox { IsReadyForTwo outfit.mailbox }
+    requires stops { AreNewStops outfit.watched.stops outfit.stops }
     ensures fault { IfErr result IsOfThreads }
     ensures ran { IfOk result (λ r.
         IsClientRun core.old (known_reader K.remaining K.foretold K.sizes readers.keys)
@@ -200,28 +232,22 @@ where
         net,
         keys,
     } = outfit.mailbox;
-    let Shared {
-        net: gate,
-        told,
-        own,
-    } = outfit.shared;
     let part = ReaderPart {
         who: Sender::Net,
         place: Place::NetPiece,
-        stop: None,
-        gate,
+        gate: outfit.net_gate,
     };
-    let Some(net) = start_reader(rt, alloc, net, readers.net, part, None) else {
+    let Some(net) = start_reader(rt, alloc, net, readers.net, part, None, None) else {
         writer.finish();
         return Err(SessionFault::Start);
     };
     let part = ReaderPart {
         who: Sender::Keys,
         place: Place::KeysPiece,
-        stop: Some(told.stop),
-        gate: told.gate,
+        gate: outfit.keys_gate,
     };
-    let Some(keys) = start_reader(rt, alloc, keys, readers.keys, part, None) else {
+    let stops = Some(outfit.stops);
+    let Some(keys) = start_reader(rt, alloc, keys, readers.keys, part, None, stops) else {
         writer.finish();
         drop(ends);
         net.join(&rt);
@@ -229,7 +255,15 @@ where
     };
     let started = ClientStarted { net, keys };
     run_beside(
-        &rt, alloc, started, ends, pass, core, writer, screen, &own,
+        &rt,
+        alloc,
+        started,
+        ends,
+        pass,
+        core,
+        writer,
+        screen,
+        outfit.watched,
     )
 }
 

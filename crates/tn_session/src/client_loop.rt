@@ -1,23 +1,27 @@
 //! The core of a client's session: mails are handled until both senders have left.
 
-ghost use Rattle.std.specs.Prelude.{◌≡◌, ◌&&◌, ◌||◌, not, true, Some, [], IfSome};
+ghost use Rattle.std.specs.Prelude.{◌≡◌, ◌&&◌, ◌||◌, not, true, List, Some, [], IfSome};
 ghost use Rattle.crossbeam_channel.specs.Claims.{view, IsSeatAt};
-ghost use Rattle.crossbeam_channel.specs.Ends.{receives_on};
+ghost use Rattle.crossbeam_channel.specs.Ends.{receives_on, sends_on};
 ghost use Rattle.tn_client_core.specs.Marks.{is_whole};
+ghost use Rattle.tn_queue.specs.Queue.{putter};
 ghost use Rattle.tn_session.specs.CoreTurns.{TurnsTold, CoreHandles, origin_of, told_of};
+ghost use Rattle.tn_session.specs.Stops.{TellsStop, is_over, leaves_keys};
+ghost use Rattle.tn_session.specs.declared.stops.Stop.{Stop as StopT};
 ghost use Rattle.tn_streams.specs.Known.{known_writing};
 ghost use Rattle.tn_streams.specs.Sending.{StaysOpen, IsFinished};
 
 use crate::channels::{Handles, MailPass, MailReceiver};
-use crate::closing::{Standing, close};
+use crate::closing::finish_once;
 use crate::mail::{Mail, Sender};
 use crate::parties::Gate;
+use crate::stops::StopTeller;
 use crate::term::{finish_unless, leaves};
-use crate::threads::Watch;
 use crate::writing::write_out;
 use std::alloc::Global;
-use std::sync::Wait;
+use std::sync::{Arc, Wait};
 use tn_client_core::{Core, Mark, Origin, Progress, Told};
+use tn_messages::Message;
 use tn_streams::{Drain, Finish};
 
 /// How many threads send mails.
@@ -85,13 +89,41 @@ fn turn<W: Finish, S: Drain>(
 }
 
 // Keys leaves where no more comes from the network or nothing has any effect any more.
-fn standing_of(progress: Progress) -> Standing
-    ensures closes { result.closes ≡ (progress.over || progress.closed) }
+fn is_over(progress: Progress) -> bool
+    ensures { result ≡ is_over progress }
 {
-    Standing {
-        stops: progress.over || progress.at_end,
-        closes: progress.over || progress.closed,
+    progress.over || progress.at_end
+}
+
+// Nothing more goes to the network.
+fn closes(progress: Progress) -> bool
+    ensures { result ≡ (progress.over || progress.closed) }
+{
+    progress.over || progress.closed
+}
+
+// Whether Keys has left, after this mail.
+fn has_left(before: bool, mail: &Mail) -> bool
+    ensures { result ≡ (before || leaves_keys mail.now) }
+{
+    match (mail.from, &mail.message) {
+        (Sender::Keys, Message::Left) => true,
+        _ => before,
     }
+}
+
+// Whether Keys is to be told to stop: not once it has left.
+fn is_due(progress: Progress, keys_left: bool) -> bool
+    ensures { result ≡ (is_over progress && not keys_left) }
+{
+    is_over(progress) && !keys_left
+}
+
+/// Who watches the core, and how it tells Keys to stop.
+#[derive(Drop)]
+pub(crate) struct Watched<G> {
+    pub(crate) gate: Arc<G, Global>,
+    pub(crate) stops: StopTeller,
 }
 
 // tools/progress: proctype Core
@@ -105,19 +137,28 @@ pub(crate) fn run_core<R: Wait, W: Finish, S: Drain, G: Gate>(
     core: &mut Core,
     writer: &mut W,
     screen: &mut S,
-    watch: &Watch<G>,
+    watched: &mut Watched<G>,
 ) -> Option<MailPass>
     requires mailbox { IsSeatAt (receives_on from.now) pass × ((view pass).handled ≡ Some []) }
+    requires stops { IsSeatAt (sends_on watched.old.stops.to) watched.old.stops.pass ×
+        (view watched.old.stops.pass ≡ putter []) }
     ensures mailbox { IfSome result (λ p. IsSeatAt (receives_on from.now) p) }
     ensures acted { IfSome result (λ p.
         CoreHandles core.old (view pass) (view p) (known_writing W.contents W.told writer.old writer.new)
         (known_writing S.contents S.told screen.old screen.new) core.new) }
     ensures finished { IfSome result (λ p. IsFinished (W.sending writer.old) (W.sending writer.new)) }
+    ensures stops { IfSome result (λ p. (watched.new.stops.to ≡ watched.old.stops.to) ×
+        IsSeatAt (sends_on watched.new.stops.to) watched.new.stops.pass ×
+        ((l : List StopT) × (view watched.new.stops.pass ≡ putter l))) }
+    ensures stopped { IfSome result (λ p. TellsStop core.old (view pass) (view p)
+        (view watched.old.stops.pass) (view watched.new.stops.pass)) }
 {
     let mut out = Vec::new(alloc);
     let mut text = Vec::new(alloc);
     let mut lefts = 0u64;
     let mut closed = false;
+    let mut told = false;
+    let mut keys_left = false;
     for _ in rt.forever() {
         if lefts >= SENDERS {
             finish_unless(closed, writer);
@@ -127,9 +168,13 @@ pub(crate) fn run_core<R: Wait, W: Finish, S: Drain, G: Gate>(
             return None;
         };
         let left = leaves(&mail.message);
+        keys_left = has_left(keys_left, &mail);
         turn(core, told_of(mail), &mut out, &mut text, writer, screen);
-        closed = close(writer, &*watch.stop, standing_of(core.progress()), closed);
-        watch.gate.agreed(core.terms());
+        closed = finish_once(writer, closes(core.progress()), closed);
+        told = watched
+            .stops
+            .tell(rt, is_due(core.progress(), keys_left), told);
+        watched.gate.agreed(core.terms());
         lefts += left;
     }
     unreachable!()

@@ -16,8 +16,20 @@ pub(crate) struct Standing {
     pub(crate) closes: bool,
 }
 
-/// Tells a thread to stop where it is to, and the writer once that no more comes from this end. Answers
-/// whether the writer was told, now or before.
+/// Tells the writer once that no more comes from this end. Answers whether it was told, now or before.
+pub(crate) fn finish_once<W: Finish>(writer: &mut W, closes: bool, closed: bool) -> bool
+    ensures contents { Keeps (W.contents writer.old) (W.contents writer.new) }
+    ensures told { W.told writer.new ≡ W.told writer.old }
+    ensures closes { Closes closes closed result (W.sending writer.old) (W.sending writer.new) }
+{
+    if closes && !closed {
+        writer.finish();
+        return true;
+    }
+    closed
+}
+
+/// The same, and tells a thread to stop where it is to.
 pub(crate) fn close<W: Finish>(
     writer: &mut W,
     stop: &AtomicBool,
@@ -31,9 +43,5 @@ pub(crate) fn close<W: Finish>(
     if standing.stops {
         stop.store(true, Ordering::SeqCst);
     }
-    if standing.closes && !closed {
-        writer.finish();
-        return true;
-    }
-    closed
+    finish_once(writer, standing.closes, closed)
 }

@@ -28,6 +28,7 @@ mod parties;
 mod sending;
 mod session;
 mod sharing;
+mod stops;
 mod term;
 mod threads;
 mod writing;

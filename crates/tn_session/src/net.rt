@@ -1,12 +1,13 @@
 //! The threads that read: one from the network, and in a client's session one the keys.
 
-ghost use Rattle.std.specs.Prelude.{◌≡◌, List, [], true, is_some, IfSome};
+ghost use Rattle.std.specs.Prelude.{◌≡◌, List, [], IfSome};
 ghost use Rattle.crossbeam_channel.specs.Claims.{view, IsSeatAt};
 ghost use Rattle.crossbeam_channel.specs.Ends.{sends_on};
 ghost use Rattle.tn_session.specs.Credits.{HaveTaken, IsSeated, pieces_among};
 ghost use Rattle.tn_session.specs.Mailbox.{sender};
 ghost use Rattle.tn_session.specs.Reader.{ReaderSends, SaysSize};
 ghost use Rattle.tn_session.specs.Reading.{Gives, IsForetold};
+ghost use Rattle.tn_session.specs.Stops.{StopsStay, has_stopped};
 ghost use Rattle.tn_session.specs.declared.mail.Mail.{Mail as MailT};
 ghost use Rattle.tn_streams.specs.Known.{known_reader};
 
@@ -15,8 +16,8 @@ use crate::credit::{CreditSeat, take_credit};
 use crate::mail::Sender;
 use crate::parties::{Gate, Place};
 use crate::sending::say;
+use crate::stops::{StopSeat, is_stopped};
 use std::alloc::Global;
-use std::sync::atomic::{AtomicBool, Ordering};
 use std::sync::{Arc, Wait};
 use tn_discipline::Text;
 use tn_messages::Message;
@@ -51,13 +52,11 @@ fn read_piece<Rd: Source>(reader: &mut Rd, alloc: Global) -> Got
     }
 }
 
-/// The part of a thread that reads: who it is, the place that the gate is told, its flag where it may be
-/// stopped, and its gate.
+/// The part of a thread that reads: who it is, the place that the gate is told, and its gate.
 #[derive(Drop)]
 pub(crate) struct ReaderPart<G> {
     pub(crate) who: Sender,
     pub(crate) place: Place,
-    pub(crate) stop: Option<Arc<AtomicBool, Global>>,
     pub(crate) gate: Arc<G, Global>,
 }
 
@@ -83,20 +82,10 @@ fn tell_size<R: Wait, Rd: Source>(
     }
 }
 
-// Whether the thread is to read on no more.
-fn is_stopped<G: Gate>(part: &ReaderPart<G>) -> bool
-    ensures { result ≡ true → is_some part.now.stop ≡ true }
-{
-    match &part.stop {
-        Some(flag) => flag.load(Ordering::SeqCst),
-        None => false,
-    }
-}
-
 // tools/progress: proctype Net, ClientNet and ClientKeys
 /// Sends the pieces that the reader gives, each for a credit where these are needed, with the sizes that it
-/// tells between them, and then how it ended: after 4,294,967,295 reads as if one had failed. Where there is
-/// a flag and it is set after a piece, it leaves. `None` where the other end is gone.
+/// tells between them, and then how it ended: after 4,294,967,295 reads as if one had failed. Where it is told
+/// to stop it leaves after a piece. `None` where the other end is gone.
 pub(crate) fn run_reader<R: Wait, Rd: Source + Drop, G: Gate>(
     rt: &R,
     alloc: Global,
@@ -104,12 +93,15 @@ pub(crate) fn run_reader<R: Wait, Rd: Source + Drop, G: Gate>(
     mut reader: Rd,
     part: &ReaderPart<G>,
     credits: &mut Option<CreditSeat>,
+    stops: &mut Option<StopSeat>,
 ) -> Option<MailPass>
     requires mailbox { IsSeatAt (sends_on seat.to) seat.pass × (view seat.pass ≡ sender part.now.who []) }
     requires credits { IsSeated credits.old }
+    requires stops { StopsStay stops.old stops.old }
     ensures seat { IfSome result (λ p. IsSeatAt (sends_on seat.to) p) }
-    ensures sent { IfSome result (λ p. ReaderSends part.now.who (is_some part.now.stop)
+    ensures sent { IfSome result (λ p. ReaderSends part.now.who (has_stopped stops.new)
         (known_reader Rd.remaining Rd.foretold Rd.sizes reader) (view p)) }
+    ensures stays { StopsStay stops.old stops.new }
     ensures credited { IfSome result (λ p. (mails : List MailT) → view p ≡ sender part.now.who mails →
         HaveTaken (pieces_among mails) credits.old credits.new) }
 {
@@ -121,7 +113,7 @@ pub(crate) fn run_reader<R: Wait, Rd: Source + Drop, G: Gate>(
                 take_credit(rt, credits)?;
                 pass = say(rt, &to, pass, part.who, Message::Piece(text))?;
                 part.gate.at(part.place);
-                if is_stopped(part) {
+                if is_stopped(rt, stops) {
                     return say(rt, &to, pass, part.who, Message::Left);
                 }
             },

@@ -1,6 +1,6 @@
 //! A running session, from its first job to its report.
 
-ghost use Rattle.std.specs.Prelude.{◌≡◌, ◌≢◌, [], ◌∷◌, false, is_some, Some, IfOk, IfErr, IsErrOf};
+ghost use Rattle.std.specs.Prelude.{◌≡◌, ◌≢◌, [], ◌∷◌, None, Some, IfOk, IfErr, IsErrOf};
 ghost use Rattle.crossbeam_channel.specs.Claims.{view, IsSeatAt};
 ghost use Rattle.crossbeam_channel.specs.Ends.{sends_on, receives_on};
 ghost use Rattle.tn_session.specs.Facts.{job_acts, job_facts, session_result};
@@ -214,7 +214,7 @@ where
     requires entries { IsSeatAt (sends_on ends.put) passes.hand × (view passes.hand ≡ putter []) }
     requires credits { IsSeatAt (sends_on ends.give) passes.give }
     requires net { (sends_on started.net.promise.to.value ≡ sends_on ends.to) ×
-        (started.net.promise.who ≡ Sender.Net) × (is_some started.net.promise.stop.value ≡ false) }
+        (started.net.promise.who ≡ Sender.Net) × (started.net.promise.stops.value ≡ None) }
     requires desk { (sends_on started.desk.promise.to.value ≡ sends_on ends.to) ×
         (receives_on started.desk.promise.from.value ≡ sends_on ends.put) }
     requires back { sends_on started.back.promise.to.value ≡ sends_on ends.to }
@@ -302,10 +302,9 @@ where
     let part = ReaderPart {
         who: Sender::Net,
         place: Place::NetPiece,
-        stop: None,
         gate: net_gate,
     };
-    let Some(net) = start_reader(rt, alloc, net, reader, part, Some(credits)) else {
+    let Some(net) = start_reader(rt, alloc, net, reader, part, Some(credits), None) else {
         writer.finish();
         return Err(SessionFault::Start);
     };

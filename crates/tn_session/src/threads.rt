@@ -1,6 +1,6 @@
 //! The threads of a session are started, each with a promise of what it gives back, and joined.
 
-ghost use Rattle.std.specs.Prelude.{◌≡◌, [], is_some, IfSome};
+ghost use Rattle.std.specs.Prelude.{◌≡◌, [], false, None, IfSome};
 ghost use Rattle.crossbeam_channel.specs.Claims.{view, IsSeatAt};
 ghost use Rattle.crossbeam_channel.specs.Ends.{sends_on, receives_on};
 ghost use Rattle.tn_session.specs.Credits.{IsSeated};
@@ -8,6 +8,7 @@ ghost use Rattle.tn_session.specs.Mailbox.{sender};
 ghost use Rattle.tn_queue.specs.Queue.{taker};
 ghost use Rattle.tn_session.specs.Reader.{ReaderSends};
 ghost use Rattle.tn_session.specs.Stepping.{AreSteps};
+ghost use Rattle.tn_session.specs.Stops.{StopsStay, has_stopped};
 ghost use Rattle.tn_session.specs.Talk.{IsJob, IsTalk};
 ghost use Rattle.tn_session.specs.Turning.{Holds, IsQueue, queue_of};
 ghost use Rattle.tn_session.specs.declared.mail.Sender.TheVariants.{Desk, Back};
@@ -21,6 +22,7 @@ use crate::entries::{EntryPass, EntryReceiver, EntrySeat};
 use crate::mail::Sender;
 use crate::net::{ReaderPart, run_reader};
 use crate::parties::Gate;
+use crate::stops::StopSeat;
 use std::alloc::Global;
 use std::collections::VecDeque;
 use std::marker::PhantomData;
@@ -32,26 +34,35 @@ use std::thread::{Promise, PromisedHandle, Threads};
 use tn_jobs::{Job, JobId};
 use tn_streams::Source;
 
-/// What a thread that reads promises: who it is, and its flag where it may be stopped.
+/// What a thread that reads gives back: its pass, and the seat where it may have been told to stop.
+#[derive(Drop)]
+pub(crate) struct ReaderLeft {
+    pub(crate) pass: MailPass,
+    pub(crate) stops: Option<StopSeat>,
+}
+
+/// What a thread that reads promises: who it is, and its seat where it may be told to stop.
 #[derive(Drop)]
 pub(crate) struct ReaderSays<Rd> {
     to: Snapshot<MailSender>,
     reader: Snapshot<Rd>,
     who: Sender,
-    stop: Snapshot<Option<Arc<AtomicBool, Global>>>,
+    stops: Snapshot<Option<StopSeat>>,
 }
 
-impl<Rd: Source> Promise<Option<MailPass>> for ReaderSays<Rd> {
-    ghost use Rattle.std.specs.Prelude.{IfSome, is_some};
+impl<Rd: Source> Promise<Option<ReaderLeft>> for ReaderSays<Rd> {
+    ghost use Rattle.std.specs.Prelude.{IfSome};
     ghost use Rattle.crossbeam_channel.specs.Claims.{view, IsSeatAt};
     ghost use Rattle.crossbeam_channel.specs.Ends.{sends_on};
     ghost use Rattle.tn_session.specs.Reader.{ReaderSends};
+    ghost use Rattle.tn_session.specs.Stops.{StopsStay, has_stopped};
     ghost use Rattle.tn_streams.specs.Known.{known_reader};
 
     ghost kept_by = { λ p r.
-        IfSome r (λ pass. IsSeatAt (sends_on p.to.value) pass ×
-        ReaderSends p.who (is_some p.stop.value)
-        (known_reader Rd.remaining Rd.foretold Rd.sizes p.reader.value) (view pass)) };
+        IfSome r (λ left. IsSeatAt (sends_on p.to.value) left.pass ×
+        ReaderSends p.who (has_stopped left.stops)
+        (known_reader Rd.remaining Rd.foretold Rd.sizes p.reader.value) (view left.pass) ×
+        StopsStay p.stops.value left.stops) };
 }
 
 /// What the thread of the foreground job promises.
@@ -102,8 +113,8 @@ pub(crate) struct Watch<G> {
     pub(crate) stop: Arc<AtomicBool, Global>,
 }
 
-/// Starts a thread that reads, for this part, and with the seat where it takes credits if it needs any.
-/// `None` where it can't be started.
+/// Starts a thread that reads, for this part, with the seat where it takes credits if it needs any, and the one
+/// where it is told to stop if it may be. `None` where it can't be started.
 pub(crate) fn start_reader<
     R: Threads + Wait + Copy + Send + 'static,
     Rd: Source + Drop + Send + 'static,
@@ -115,28 +126,33 @@ pub(crate) fn start_reader<
     reader: Rd,
     part: ReaderPart<G>,
     credits: Option<CreditSeat>,
-) -> Option<PromisedHandle<Option<MailPass>, ReaderSays<Rd>>>
+    stops: Option<StopSeat>,
+) -> Option<PromisedHandle<Option<ReaderLeft>, ReaderSays<Rd>>>
     requires mailbox { IsSeatAt (sends_on seat.to) seat.pass × (view seat.pass ≡ sender part.who []) }
     requires credits { IsSeated credits }
+    requires stops { StopsStay stops stops }
     ensures { IfSome result (λ h. (sends_on h.promise.to.value ≡ sends_on seat.to) ×
-        (h.promise.reader.value ≡ reader) × (h.promise.who ≡ part.who) ×
-        (is_some h.promise.stop.value ≡ is_some part.stop)) }
+        (h.promise.reader.value ≡ reader) × (h.promise.who ≡ part.who) × (h.promise.stops.value ≡ stops)) }
 {
     let promise = ReaderSays {
         to: Snapshot::of(&seat.to),
         reader: Snapshot::of(&reader),
         who: part.who,
-        stop: Snapshot::of(&part.stop),
+        stops: Snapshot::of(&stops),
     };
-    let work = move || -> Option<MailPass>
+    let work = move || -> Option<ReaderLeft>
         requires { IsSeatAt (sends_on seat.to) seat.pass × (view seat.pass ≡ sender part.who []) ×
-            IsSeated credits }
-        ensures { IfSome result (λ p. IsSeatAt (sends_on seat.to) p ×
-            ReaderSends part.who (is_some part.stop) (known_reader Rd.remaining Rd.foretold Rd.sizes reader)
-            (view p)) }
+            IsSeated credits × StopsStay stops stops }
+        ensures { IfSome result (λ left. IsSeatAt (sends_on seat.to) left.pass ×
+            ReaderSends part.who (has_stopped left.stops) (known_reader Rd.remaining Rd.foretold Rd.sizes reader)
+            (view left.pass) × StopsStay stops left.stops) }
     {
         let mut credits = credits;
-        run_reader(&rt, alloc, seat, reader, &part, &mut credits)
+        let mut stops = stops;
+        match run_reader(&rt, alloc, seat, reader, &part, &mut credits, &mut stops) {
+            Some(pass) => Some(ReaderLeft { pass, stops }),
+            None => None,
+        }
     };
     match thread::spawn_with(&rt, promise, work) {
         Ok(handle) => Some(handle),
@@ -223,7 +239,7 @@ pub(crate) fn start_back<
 
 /// The threads of a session that were started.
 pub(crate) struct Started<Rd: Source, J: Job> {
-    pub(crate) net: PromisedHandle<Option<MailPass>, ReaderSays<Rd>>,
+    pub(crate) net: PromisedHandle<Option<ReaderLeft>, ReaderSays<Rd>>,
     pub(crate) desk: PromisedHandle<Option<(MailPass, EntryPass)>, DeskSays<J>>,
     pub(crate) back: PromisedHandle<Option<MailPass>, BackSays<J>>,
 }
@@ -241,8 +257,8 @@ impl<Rd: Source, J: Job> Started<Rd, J> {
     /// Joins them all. `None` where a channel of one was disconnected.
     pub(crate) fn join<R: Threads + Wait>(self, rt: &R) -> Option<Returned>
         ensures net { IfSome result (λ r. IsSeatAt (sends_on self.net.promise.to.value) r.net ×
-            ReaderSends self.net.promise.who (is_some self.net.promise.stop.value)
-            (known_reader Rd.remaining Rd.foretold Rd.sizes self.net.promise.reader.value) (view r.net)) }
+            (self.net.promise.stops.value ≡ None → ReaderSends self.net.promise.who false
+            (known_reader Rd.remaining Rd.foretold Rd.sizes self.net.promise.reader.value) (view r.net))) }
         ensures desk { IfSome result (λ r. IsSeatAt (sends_on self.desk.promise.to.value) r.desk ×
             IsSeatAt (receives_on self.desk.promise.from.value) r.took ×
             IsTalk self.desk.promise.id (IsJob self.desk.promise.job.value) J.reacts (view r.desk) (view r.took)) }
@@ -254,7 +270,10 @@ impl<Rd: Source, J: Job> Started<Rd, J> {
         let net = net.join(rt);
         let desk = desk.join(rt);
         let back = back.join(rt);
-        let net = net?;
+        let ReaderLeft {
+            pass: net,
+            stops: _,
+        } = net?;
         let (desk, took) = desk?;
         let back = back?;
         Some(Returned {
@@ -268,31 +287,35 @@ impl<Rd: Source, J: Job> Started<Rd, J> {
 
 /// The threads of a client's session that were started.
 pub(crate) struct ClientStarted<N: Source, K: Source> {
-    pub(crate) net: PromisedHandle<Option<MailPass>, ReaderSays<N>>,
-    pub(crate) keys: PromisedHandle<Option<MailPass>, ReaderSays<K>>,
+    pub(crate) net: PromisedHandle<Option<ReaderLeft>, ReaderSays<N>>,
+    pub(crate) keys: PromisedHandle<Option<ReaderLeft>, ReaderSays<K>>,
 }
 
 /// What the threads of a client's session give back.
 #[derive(Drop)]
 pub(crate) struct ClientReturned {
     pub(crate) net: MailPass,
-    pub(crate) keys: MailPass,
+    pub(crate) keys: ReaderLeft,
 }
 
 impl<N: Source, K: Source> ClientStarted<N, K> {
     /// Joins them both. `None` where the mailbox of one was disconnected.
     pub(crate) fn join<R: Threads + Wait>(self, rt: &R) -> Option<ClientReturned>
         ensures net { IfSome result (λ r. IsSeatAt (sends_on self.net.promise.to.value) r.net ×
-            ReaderSends self.net.promise.who (is_some self.net.promise.stop.value)
-            (known_reader N.remaining N.foretold N.sizes self.net.promise.reader.value) (view r.net)) }
-        ensures keys { IfSome result (λ r. IsSeatAt (sends_on self.keys.promise.to.value) r.keys ×
-            ReaderSends self.keys.promise.who (is_some self.keys.promise.stop.value)
-            (known_reader K.remaining K.foretold K.sizes self.keys.promise.reader.value) (view r.keys)) }
+            (self.net.promise.stops.value ≡ None → ReaderSends self.net.promise.who false
+            (known_reader N.remaining N.foretold N.sizes self.net.promise.reader.value) (view r.net))) }
+        ensures keys { IfSome result (λ r. IsSeatAt (sends_on self.keys.promise.to.value) r.keys.pass ×
+            ReaderSends self.keys.promise.who (has_stopped r.keys.stops)
+            (known_reader K.remaining K.foretold K.sizes self.keys.promise.reader.value) (view r.keys.pass)) }
+        ensures stays { IfSome result (λ r. StopsStay self.keys.promise.stops.value r.keys.stops) }
     {
         let ClientStarted { net, keys } = self;
         let net = net.join(rt);
         let keys = keys.join(rt);
-        let net = net?;
+        let ReaderLeft {
+            pass: net,
+            stops: _,
+        } = net?;
         let keys = keys?;
         Some(ClientReturned { net, keys })
     }

@@ -1,10 +1,11 @@
-use Rattle.std.proofs.Common.{true, false, ap, ◌∙◌}
+use Rattle.std.proofs.Common.{false, ap, subst, ◌∙◌}
 use Rattle.crossbeam_channel.specs.Claims.{view}
 use Rattle.tn_session.proofs.ClientWhole.{client_ran}
-use Rattle.tn_session.proofs.Readers.{sends_as}
+use Rattle.tn_session.proofs.Stopped.{was_told, seat_at}
+use Rattle.tn_session.specs.Reader.{ReaderSends}
+use Rattle.tn_session.specs.Stops.{has_stopped}
 use Rattle.tn_session.specs.Client.{client_report}
 use Rattle.tn_session.specs.Facts.{client_result}
-use Rattle.tn_session.specs.declared.mail.Sender.TheVariants.{Net, Keys}
 use Rattle.tn_streams.specs.Known.{known_reader, known_writing}
 use Rattle.tn_session.proofs.client.run_beside.Goals as goal
 
@@ -19,8 +20,18 @@ returns-clause-ran g c =
     let net_reader = known_reader g.N.Source.remaining g.N.Source.foretold g.N.Source.sizes started.net.promise.reader.value in
     let writer = known_writing g.W.Drain.contents g.W.Drain.told c.args.writer.now c.run_core.new.writer in
     let screen = known_writing g.S.Drain.contents g.S.Drain.told c.args.screen.now c.run_core.new.screen in
-    client_ran c.args.core.now c.run_core.new.core keys_reader net_reader writer screen (view c.args.pass) (view ended.pass) (view returned.net) (view returned.keys) (client_result c.report.result ports)
+    client_ran c.args.core.now c.run_core.new.core (has_stopped returned.keys.stops) keys_reader net_reader writer screen (view c.args.pass) (view ended.pass) (view returned.net) (view returned.keys.pass) (client_result c.report.result ports)
     c.requires.mailbox.2 ended.ensures.acted
-    (sends_as _ Net _ false net_reader (view returned.net) c.requires.net.1 c.requires.net.2 join.ensures.net.1)
-    (sends_as _ Keys _ true keys_reader (view returned.keys) c.requires.keys.1 c.requires.keys.2 join.ensures.keys.1)
+    (subst (λ s. ReaderSends s false net_reader (view returned.net)) c.requires.net.1 (join.ensures.net.1 c.requires.net.2))
+    (subst (λ s. ReaderSends s (has_stopped returned.keys.stops) keys_reader (view returned.keys.pass)) c.requires.keys.1 join.ensures.keys.1)
+    (was_told c.args.core.now (view c.args.pass) (view ended.pass) (view c.args.watched.stops.pass) (view c.run_core.new.watched.stops.pass) ended.ensures.acted.handled (has_stopped returned.keys.stops) ended.ensures.stopped ended.ensures.acted.view c.requires.teller.1 c.settle.ensures)
     c.settle-ports.ensures (c.report.ensures ∙ ap client_report c.progress.ensures)
+
+pub settle-requires : goal.settle-requires
+settle-requires g c =
+    let ended = c.in-Some.ensures.stops in
+    record {
+      teller = ended.1;
+      told = ended.2;
+      seat = seat_at c.args.started.keys.promise.stops.value c.in-Some-join.returned.keys.stops c.args.watched.stops c.run_core.new.watched.stops c.in-Some-join.ensures.stays c.requires.stops ended.0;
+    }

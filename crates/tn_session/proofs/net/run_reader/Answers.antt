@@ -2,12 +2,13 @@ use Rattle.std.proofs.Common.{◌≡◌, arith, None}
 use Rattle.std.proofs.lemmas.Option.{IfSome_then}
 use Rattle.tn_messages.specs.declared.messages.Message.TheVariants.{ReadFailed}
 use Rattle.tn_session.proofs.Readers.{said, role}
+use Rattle.tn_session.proofs.Stopped.{stays_on, stays_here}
 use Rattle.tn_session.proofs.Telling.{told_nothing, told_size, told_one, told_none, told_end, told_all, told_stop, paid_end, paid_stop}
 use Rattle.tn_streams.specs.Known.{known_reader}
 use Rattle.tn_session.proofs.net.run_reader.Goals as goal
 
 pub loop-read-init : goal.loop-read-init
-loop-read-init g c = (c.requires.mailbox.0, told_nothing c.args.part.now.who _ _ _ c.requires.mailbox.1, c.requires.credits)
+loop-read-init g c = (c.requires.mailbox.0, told_nothing c.args.part.now.who _ _ _ c.requires.mailbox.1, c.requires.credits, c.requires.stops)
 
 pub tell_size-requires-clause-role : goal.tell_size-requires-clause-role
 tell_size-requires-clause-role g c = role c.args.part.now.who _ _ c.loop-read.invariant.1.sent
@@ -18,6 +19,9 @@ say-requires-clause-role g c =
     let h = told_size c.args.part.now.who _ _ (known c.tell_size.new.reader) _ _ _ _ _ c.loop-read.invariant.1 c.in_ok-pass.ensures.told c.tell_size.ensures.bytes c.tell_size.ensures.foretold in
     role c.args.part.now.who _ _ h.sent
 
+pub is_stopped-requires : goal.is_stopped-requires
+is_stopped-requires g c = record { seat = stays_here c.args.stops.now c.loop-read.stops c.loop-read.invariant.3 }
+
 pub loop-read-preserved : goal.loop-read-preserved
 loop-read-preserved g c =
     let known = known_reader g.Rd.Source.remaining g.Rd.Source.foretold g.Rd.Source.sizes in
@@ -25,6 +29,7 @@ loop-read-preserved g c =
       c.in_ok-pass-in-Bytes.ensures.seat,
       told_one c.args.part.now.who _ _ _ _ c.in-Bytes.text _ _ _ _ _ h c.in-Bytes.ensures.gives.0 c.in-Bytes.ensures.gives.1 c.in-Bytes.ensures.foretold c.in-Bytes.ensures.sizes c.in_ok-take_credit-in-Bytes.ensures.taken c.in_ok-pass-in-Bytes.ensures.said,
       c.take_credit.ensures.seat,
+      stays_on c.args.stops.now c.loop-read.stops c.is_stopped.new.stops c.loop-read.invariant.3 c.is_stopped.ensures.stays,
     )
 
 pub loop-read-preserved-in-Again : goal.loop-read-preserved-in-Again
@@ -34,13 +39,14 @@ loop-read-preserved-in-Again g c =
       c.in_ok-pass.ensures.seat,
       told_none c.args.part.now.who _ _ _ _ _ _ _ h c.in-Again.ensures.gives c.in-Again.ensures.foretold c.in-Again.ensures.sizes,
       c.loop-read.invariant.2,
+      c.loop-read.invariant.3,
     )
 
 pub returns-then-is_stopped-clause-sent : goal.returns-then-is_stopped-clause-sent
 returns-then-is_stopped-clause-sent g c =
     let known = known_reader g.Rd.Source.remaining g.Rd.Source.foretold g.Rd.Source.sizes in
     let h = told_size c.args.part.now.who _ _ (known c.tell_size.new.reader) _ _ _ _ _ c.loop-read.invariant.1 c.in_ok-pass.ensures.told c.tell_size.ensures.bytes c.tell_size.ensures.foretold in
-    IfSome_then c.say-then-is_stopped.result c.say-then-is_stopped.ensures.said (λ v f. told_stop c.args.part.now.who _ _ _ (known c.read_piece.new.reader) _ c.in-Bytes.text _ _ _ _ _ h (c.is_stopped.ensures c.if-is_stopped.true) c.in-Bytes.ensures.gives.0 c.in-Bytes.ensures.gives.1 c.in_ok-pass-in-Bytes.ensures.said f)
+    IfSome_then c.say-then-is_stopped.result c.say-then-is_stopped.ensures.said (λ v f. told_stop c.args.part.now.who _ _ _ (known c.read_piece.new.reader) _ c.in-Bytes.text _ _ _ _ _ h (c.is_stopped.ensures.told c.if-is_stopped.true) c.in-Bytes.ensures.gives.0 c.in-Bytes.ensures.gives.1 c.in_ok-pass-in-Bytes.ensures.said f)
 
 pub say-requires-in-Last-clause-role : goal.say-requires-in-Last-clause-role
 say-requires-in-Last-clause-role g c =
@@ -86,3 +92,6 @@ returns-in-Last-clause-credited g c =
 pub returns-clause-credited : goal.returns-clause-credited
 returns-clause-credited g c =
     IfSome_then c.say-3.result c.say-3.ensures.said (λ v f. paid_end c.args.part.now.who _ _ _ _ _ ReadFailed None _ _ _ c.loop-read.invariant.1 tt c.in_ok-pass-2.ensures.said f)
+
+pub returns-then-is_stopped-clause-stays : goal.returns-then-is_stopped-clause-stays
+returns-then-is_stopped-clause-stays g c = stays_on c.args.stops.now c.loop-read.stops c.is_stopped.new.stops c.loop-read.invariant.3 c.is_stopped.ensures.stays

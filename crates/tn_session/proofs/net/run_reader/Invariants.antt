@@ -2,6 +2,7 @@ use Rattle.crossbeam_channel.specs.Claims.{view, IsSeatAt}
 use Rattle.crossbeam_channel.specs.Ends.{sends_on}
 use Rattle.tn_session.specs.Credits.{IsSeated}
 use Rattle.tn_session.proofs.Telling.{HasTold}
+use Rattle.tn_session.specs.Stops.{StopsStay}
 use Rattle.tn_streams.specs.Known.{known_reader}
 use Rattle.tn_session.proofs.net.run_reader.Given as goal
 
@@ -11,3 +12,4 @@ invariant-loop-read g l =
     IsSeatAt (sends_on l.to) l.pass
     × HasTold l.part.who (known l.fn.reader) (known l.reader) l._read l.fn.credits l.credits (view l.pass)
     × IsSeated l.credits
+    × StopsStay l.fn.stops l.stops

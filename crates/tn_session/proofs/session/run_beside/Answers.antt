@@ -1,10 +1,9 @@
-use Rattle.std.proofs.Common.{false, ap, sym, ◌∙◌}
+use Rattle.std.proofs.Common.{false, ap, subst, sym, ◌∙◌}
 use Rattle.crossbeam_channel.specs.Claims.{view}
-use Rattle.tn_session.proofs.Readers.{sends_as}
 use Rattle.tn_session.proofs.Whole.{scheduled}
+use Rattle.tn_session.specs.Reader.{ReaderSends}
 use Rattle.tn_session.specs.Facts.{job_acts, session_result}
 use Rattle.tn_session.specs.Session.{report_of}
-use Rattle.tn_session.specs.declared.mail.Sender.TheVariants.{Net}
 use Rattle.tn_streams.specs.Known.{known_reader, known_writer}
 use Rattle.tn_session.specs.declared.parties.Report.{Report}
 use Rattle.tn_term.specs.declared.progress.Progress.{Progress}
@@ -24,7 +23,7 @@ returns-clause-ran g c began words first opened settings table at ew =
     (record { net = view returned.net; desk = view returned.desk; back = view returned.back; term = view ended.passes.mails; put = view ended.passes.hand; took = view returned.took })
     (session_result c.report.result ports)
     c.requires.mailbox.2 c.requires.entries.1 opened ended.ensures.acted
-    (sends_as _ Net _ false reader (view returned.net) c.requires.net.1 c.requires.net.2 join.ensures.net.1) join.ensures.desk.2 join.ensures.back.1
+    (subst (λ s. ReaderSends s false reader (view returned.net)) c.requires.net.1 (join.ensures.net.1 c.requires.net.2)) join.ensures.desk.2 join.ensures.back.1
     c.settle-ports.ensures (c.report.ensures ∙ ap report_of c.progress.ensures)
     settings table at ew
 

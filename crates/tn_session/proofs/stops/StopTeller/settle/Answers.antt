@@ -1,0 +1,15 @@
+use Rattle.std.proofs.Common.{◌≡◌, true, subst}
+use Rattle.crossbeam_channel.specs.Claims.{view}
+use Rattle.tn_queue.proofs.lemmas.Queue as channel
+use Rattle.tn_session.proofs.Stopped.{told_first}
+use Rattle.tn_session.specs.Stops.{has_stopped}
+use Rattle.tn_session.proofs.stops.StopTeller.settle.Goals as goal
+
+pub absorb-requires-clause-rule : goal.absorb-requires-clause-rule
+absorb-requires-clause-rule c = channel.joins c.args.self.pass.id (view c.args.self.pass) c.in-Some.field-0.pass.id (view c.in-Some.field-0.pass)
+
+pub learn_as-requires-clause-rule : goal.learn_as-requires-clause-rule
+learn_as-requires-clause-rule c = channel.leaves c.absorb.new.pass.id (view c.absorb.new.pass)
+
+pub returns : goal.returns
+returns c took none = told_first (view c.args.self.pass) (view c.in-Some.field-0.pass) (view c.absorb.new.pass) c.learn_as.ensures.rule.0 c.absorb.ensures.rule c.learn_as.ensures.rule.1 (subst (λ o. has_stopped o ≡ true) c.in-Some.is took) none

@@ -1,0 +1,103 @@
+//! The thread that reads the keys is told once to stop after its next piece.
+
+ghost use Rattle.std.specs.Prelude.{◌≡◌, ◌≢◌, List, [], true, IfOk, IfSome};
+ghost use Rattle.crossbeam_channel.specs.Claims.{view, IsSeatAt};
+ghost use Rattle.crossbeam_channel.specs.Ends.{sends_on, receives_on};
+ghost use Rattle.tn_queue.specs.Queue.{putter, taker};
+ghost use Rattle.tn_session.specs.Stops.{AreNewStops, MayTell, StopsStay, TakesStop, has_stopped};
+ghost use Rattle.tn_session.specs.declared.stops.Stop.{Stop as StopT};
+
+use crossbeam_channel::bounded_with;
+use std::alloc::{AllocError, Global};
+use std::sync::Wait;
+use tn_queue::{
+    CutTaker, Hand, InTurn, JoinHands, Puts, QueuePass, QueueReceiver, QueueSender, Takes,
+};
+
+/// The word to stop.
+#[derive(Drop)]
+pub struct Stop;
+
+/// The seat of the one that is told.
+#[derive(Drop)]
+pub(crate) struct StopSeat {
+    pub(crate) from: QueueReceiver<Stop>,
+    pub(crate) pass: QueuePass<Stop>,
+}
+
+/// The seat of the one that tells it.
+#[derive(Drop)]
+pub(crate) struct StopTeller {
+    pub(crate) to: QueueSender<Stop>,
+    pub(crate) pass: QueuePass<Stop>,
+}
+
+/// Makes both seats. Nobody has been told.
+pub(crate) fn make_stops(alloc: Global) -> Result<(StopTeller, StopSeat), AllocError>
+    ensures { IfOk result (λ r. AreNewStops r.0 r.1) }
+{
+    let (to, from, mut pass) = bounded_with::<Stop, Hand<Stop>, InTurn, Global>(alloc, 1)?;
+    let taken = to.another::<CutTaker>(&mut pass);
+    Ok((StopTeller { to, pass }, StopSeat { from, pass: taken }))
+}
+
+impl StopSeat {
+    // Whether it was told by now.
+    fn take<R: Wait>(&mut self, rt: &R) -> bool
+        requires seat { IsSeatAt (receives_on self.old.from) self.old.pass }
+        requires role { (l : List StopT) × (view self.old.pass ≡ taker l) }
+        ensures seat { IsSeatAt (receives_on self.new.from) self.new.pass }
+        ensures from { self.new.from ≡ self.old.from }
+        ensures took { TakesStop result (view self.old.pass) (view self.new.pass) }
+    {
+        match self.from.try_recv_as::<Takes, R>(rt, &mut self.pass) {
+            Ok(Stop) => true,
+            Err(_) => false,
+        }
+    }
+}
+
+/// Whether a thread is to read on no more: never where it has no seat.
+pub(crate) fn is_stopped<R: Wait>(rt: &R, stops: &mut Option<StopSeat>) -> bool
+    requires seat { StopsStay stops.old stops.old }
+    ensures stays { StopsStay stops.old stops.new }
+    ensures told { result ≡ true → has_stopped stops.new ≡ true }
+{
+    match stops {
+        Some(seat) => seat.take(rt),
+        None => false,
+    }
+}
+
+impl StopTeller {
+    /// Tells it where it is due and was not told before. Answers whether it was told, now or before. It
+    /// waits for nobody: one whom nobody hears was not told.
+    pub(crate) fn tell<R: Wait>(&mut self, rt: &R, is_due: bool, told: bool) -> bool
+        requires seat { IsSeatAt (sends_on self.old.to) self.old.pass }
+        requires role { (l : List StopT) × (view self.old.pass ≡ putter l) }
+        ensures seat { IsSeatAt (sends_on self.new.to) self.new.pass }
+        ensures to { self.new.to ≡ self.old.to }
+        ensures told { MayTell is_due (view self.old.pass) (view self.new.pass) }
+    {
+        if told || !is_due {
+            return told;
+        }
+        self.to
+            .try_send_as::<Puts, R>(rt, &mut self.pass, Stop)
+            .is_ok()
+    }
+
+    /// Joins both passes, so that what was taken is compared with what was put.
+    pub(crate) fn settle(mut self, stops: Option<StopSeat>)
+        requires teller { IsSeatAt (sends_on self.to) self.pass }
+        requires told { (l : List StopT) × (view self.pass ≡ putter l) }
+        requires seat { IfSome stops (λ s. IsSeatAt (sends_on self.to) s.pass) }
+        ensures { has_stopped stops ≡ true → view self.pass ≢ putter [] }
+    {
+        let Some(StopSeat { from: _, pass }) = stops else {
+            return;
+        };
+        self.to.absorb::<JoinHands>(&mut self.pass, pass);
+        self.to.learn_as::<Takes>(&mut self.pass);
+    }
+}
