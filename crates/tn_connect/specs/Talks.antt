@@ -8,6 +8,7 @@ use Rattle.tn_discipline.specs.Characters.{standard_characters}
 use Rattle.tn_discipline.specs.Keys.{standard_flags}
 use Rattle.tn_discipline.specs.declared.termios.Settings.{Settings}
 use Rattle.tn_lines.specs.Kinds.{Kind, typed, read}
+use Rattle.tn_lines_client.specs.Logs.{bytes_in}
 use Rattle.tn_lines_client.specs.Talking.{Talked, streams}
 use Rattle.tn_sockets.specs.Logs.{logged}
 
@@ -28,13 +29,16 @@ is_terminal Terminal = true
 is_terminal Reader = false
 is_terminal Input = false
 
--- A talk was held with these keys and this screen, before and after it: all that was told stands in the log, and so many
--- bytes more were to be told.
+-- A talk was held with these keys and this screen, before and after it: all that was typed, said and told stands in the
+-- logs, and so many bytes more were to be told.
 pub record RunsTalk (plain : Plain) (bytes seen now : Option (List ℕ)) (report : TalkReport) : Type 0 where
   pub unsent : List ℕ
   pub keys_left : Option (List ℕ)
   pub service : Option (List ℕ)
   pub service_left : Option (List ℕ)
-  pub ran : Talked (kind_of plain) (is_terminal plain.origin) unsent (streams bytes service (Some []) seen)
-      (streams keys_left service_left (Some (logged report.told)) now)
+  pub warned : Option ℕ
+  pub warned_at_last : Option ℕ
+  pub ran : Talked (kind_of plain) (is_terminal plain.origin) (bytes_in report.typed) (bytes_in report.heard) unsent
+      (streams bytes service (Some []) seen warned)
+      (streams keys_left service_left (Some (logged report.told)) now warned_at_last)
   pub count : report.unsent ≡ length unsent

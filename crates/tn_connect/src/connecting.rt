@@ -287,8 +287,8 @@ fn connect_over<H: Host, K: Read + Drop + Send + 'static, S: Write, E: Drain>(
         causes,
         link,
     } = notes;
-    news.connect(host, connecting.escape);
     tell_standing(stands);
+    news.connect(host, connecting.escape);
     let trace = Trace::new(rt, alloc, trace)?;
     let (queue, throttle) = new_queue(rt, alloc)?;
     let typing = Typing {

@@ -15,7 +15,7 @@ pub use news::News;
 pub use settings::{Connecting, Notes, Origin, Plain};
 pub use talks::{TalkReport, connect_plain};
 pub use tn_lines::LineEnd;
-pub use tn_lines_client::Over;
+pub use tn_lines_client::{Over, ReadLog};
 pub use tn_sockets::{Host, Link, Screen};
 
 mod connected;

@@ -73,8 +73,8 @@ impl<'a, W: Drain> Trying for News<'a, W> {
     }
 }
 
-// Writes a line, or its first bytes where a write fails.
-fn tell<W: Drain>(writer: &mut W, line: &[u8]) {
+/// Writes a line, or its first bytes where a write fails.
+pub(crate) fn tell<W: Drain>(writer: &mut W, line: &[u8]) {
     let mut at = 0;
     for _write in 0..u64::MAX {
         if at >= line.len() {

@@ -1,10 +1,13 @@
 //! Waiting for keys, for what a service says, and for room.
 
-use crate::settings::Origin;
+use crate::news::tell;
+use crate::settings::{Origin, Plain};
 use libc::net::{POLLIN, POLLOUT, poll};
 use libc::types::pollfd;
 use std::sync::Wait;
+use std::time::{Clock, Instant};
 use tn_lines_client::{Await, Ready, Wants};
+use tn_streams::Drain;
 
 /// The descriptor of standard input (POSIX, `STDIN_FILENO`).
 const STANDARD_INPUT: i32 = 0;
@@ -12,23 +15,63 @@ const STANDARD_INPUT: i32 = 0;
 /// The descriptor that `poll` passes over (POSIX).
 const NO_DESCRIPTOR: i32 = -1;
 
+/// The time for which `poll` waits without an end (POSIX).
+const FOR_EVER: i32 = -1;
+
+/// After how many milliseconds it is looked whether the service is to be told that no more comes.
+const LOOK: i32 = 200;
+
+const TELNET: &[u8] = b"tn: the other end speaks Telnet: leave out --plain\n";
+
 /// Waits by POSIX's `poll`. Keys of a reader of which nothing else is known can always be read.
 #[derive(Drop)]
-pub(crate) struct Polling<H> {
+pub(crate) struct Polling<'a, H, E> {
     rt: H,
     origin: Origin,
     service: i32,
+    /// How many seconds after the end of the keys the service is told that no more comes.
+    wait: u32,
+    /// Since when it is to be told.
+    ended: Option<Instant>,
     /// What the service said comes next, where both that and telling it more can be done.
     hears_next: bool,
+    errors: &'a mut E,
 }
 
-impl<H> Polling<H> {
-    pub(crate) fn new(rt: H, origin: Origin, service: i32) -> Polling<H> {
+impl<'a, H, E> Polling<'a, H, E> {
+    pub(crate) fn new(rt: H, plain: &Plain, service: i32, errors: &'a mut E) -> Polling<'a, H, E> {
         Polling {
             rt,
-            origin,
+            origin: plain.origin,
             service,
+            wait: wait_of(plain),
+            ended: None,
             hears_next: false,
+            errors,
+        }
+    }
+}
+
+// A user who types the end of file means it at once.
+fn wait_of(plain: &Plain) -> u32 {
+    match plain.origin {
+        Origin::Terminal => 0,
+        Origin::Reader | Origin::Input => plain.wait,
+    }
+}
+
+impl<'a, H: Clock, E> Polling<'a, H, E> {
+    // Whether the time since the end of the keys has passed. Without a clock it has.
+    fn is_past(&mut self) -> bool {
+        if self.wait == 0 {
+            return true;
+        }
+        if self.ended.is_none() {
+            self.ended = Instant::now(&self.rt).ok();
+        }
+        match self.ended.map(|ended| ended.elapsed(&self.rt)) {
+            Some(Ok(elapsed)) => elapsed.as_secs() >= u64::from(self.wait),
+            _ => true,
         }
     }
 }
@@ -42,19 +85,24 @@ fn waits_at(wanted: bool, fd: i32, events: i16) -> pollfd {
     }
 }
 
-impl<H: Wait> Await for Polling<H> {
+impl<'a, H: Clock + Copy + Wait, E: Drain> Await for Polling<'a, H, E> {
     fn next(&mut self, wants: Wants) -> Ready {
         if wants.keys && self.origin == Origin::Reader {
             return Ready::Keys;
         }
         self.hears_next = !self.hears_next;
-        for _ in self.rt.forever() {
+        let rt = self.rt;
+        for _ in rt.forever() {
+            if wants.end && self.is_past() {
+                return Ready::End;
+            }
             let mut waited = [
                 waits_at(wants.keys, STANDARD_INPUT, POLLIN),
                 waits_at(true, self.service, POLLIN),
                 waits_at(wants.room, self.service, POLLOUT),
             ];
-            if poll(&mut waited, -1) <= 0 {
+            let time = if wants.end { LOOK } else { FOR_EVER };
+            if poll(&mut waited, time) <= 0 {
                 continue;
             }
             let [keys, bytes, room] = waited;
@@ -69,5 +117,9 @@ impl<H: Wait> Await for Polling<H> {
             }
         }
         Ready::Bytes
+    }
+
+    fn hear_telnet(&mut self) {
+        tell(self.errors, TELNET);
     }
 }

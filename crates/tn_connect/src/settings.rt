@@ -48,6 +48,8 @@ pub struct Plain {
     pub line_end: LineEnd,
     /// Where the lines come from: they are edited where it is a terminal.
     pub origin: Origin,
+    /// How many seconds after the end of standard input the service is told that no more comes.
+    pub wait: u32,
 }
 
 /// What a client's session has beside its keys and its screen.

@@ -1,6 +1,6 @@
 //! `tn connect --plain`: a talk with a service that takes lines and negotiates nothing.
 
-ghost use Rattle.std.specs.Prelude.{◌≡◌, [], IfOk};
+ghost use Rattle.std.specs.Prelude.{◌≡◌, [], IfOk, Ok};
 ghost use Rattle.tn_connect.specs.Clients.{ConnectsBy};
 ghost use Rattle.tn_connect.specs.Talks.{RunsTalk, is_terminal, kind_of};
 ghost use Rattle.tn_lines.specs.Kinds.{LeadsTo};
@@ -17,21 +17,23 @@ use std::os::fd::AsRawFd;
 use std::sync::Wait;
 use tn_discipline::Settings;
 use tn_lines::{AnyLines, FileLines, KeyLines};
-use tn_lines_client::{Await, Over, Talk, TalkFault};
+use tn_lines_client::{Await, Over, ReadLog, Talk, TalkFault};
 use tn_network::{Network, reach};
 use tn_sockets::{Connection, Host, Logged, WriteLog};
 use tn_streams::{Drain, Finish, Source};
 
-/// A talk that is over.
+/// A talk that is over. In its logs contracts see all that was typed, said and told.
 #[derive(Drop)]
 pub struct TalkReport {
     pub over: Over,
-    /// In it contracts see all that was told to the service.
+    /// The keys that were read.
+    pub typed: ReadLog,
+    /// What the service said.
+    pub heard: ReadLog,
+    /// What the service was told.
     pub told: WriteLog,
-    /// How many bytes more the service was to be told.
+    /// How many bytes more it was to be told.
     pub unsent: usize,
-    /// The first that the service said was a command of Telnet that negotiates an option.
-    pub negotiates: bool,
 }
 
 fn lines_of(alloc: Global, plain: Plain) -> Result<AnyLines, AllocError>
@@ -48,11 +50,11 @@ fn lines_of(alloc: Global, plain: Plain) -> Result<AnyLines, AllocError>
 }
 
 /// Talks by these streams, until the service has closed, the connection is broken, or the user has left.
-fn talk<H: Wait, A: Await + Drop, K: Source + Drop, N: Source + Drop, W: Finish + Drop, S: Drain>(
+fn talk<H: Wait, A: Await, K: Source + Drop, N: Source + Drop, W: Finish + Drop, S: Drain>(
     rt: &H,
     alloc: Global,
     plain: Plain,
-    mut ready: A,
+    ready: &mut A,
     mut keys: K,
     mut service: N,
     writer: W,
@@ -63,13 +65,16 @@ fn talk<H: Wait, A: Await + Drop, K: Source + Drop, N: Source + Drop, W: Finish 
     let at_terminal = is_terminal(plain.origin);
     let mut talk = Talk::new(alloc, lines_of(alloc, plain)?, at_terminal);
     let mut writer = Logged::new(writer);
-    let over = talk.run(rt, &mut ready, &mut keys, &mut service, &mut writer, screen)?;
+    let over = talk.run(rt, ready, &mut keys, &mut service, &mut writer, screen)?;
     let (_, told) = writer.into_parts();
+    let unsent = talk.unsent();
+    let (typed, heard) = talk.into_logs();
     Ok(TalkReport {
         over,
+        typed,
+        heard,
         told,
-        unsent: talk.unsent(),
-        negotiates: talk.negotiates(),
+        unsent,
     })
 }
 
@@ -81,7 +86,8 @@ fn is_terminal(origin: Origin) -> bool
 
 /// Connects to a host, an address or a name, and talks to the service there by lines, with these keys and this
 /// screen, until the service has closed or the user has left. At a terminal lines are edited as at one of its own;
-/// those of any other input go as they are. Of a fault the causes are noted.
+/// those of any other input go as they are. That the service speaks Telnet is told as soon as it shows. Of a fault
+/// the causes are noted.
 pub fn connect_plain<H: Host + Network, K: Read + Drop, S: Write, E: Drain>(
     rt: H,
     alloc: Global,
@@ -102,33 +108,35 @@ pub fn connect_plain<H: Host + Network, K: Read + Drop, S: Write, E: Drain>(
         ..
     } = notes;
     let stream = reach(&rt, host, plain.port, &mut news, causes)?;
-    news.connect(host, None);
     tell_standing(stands);
+    news.connect(host, None);
     link.attach(&rt, stream.try_clone()?);
-    let ended = talk_over(rt, alloc, stream, plain, keys, screen, causes);
+    let talked = talk_over(rt, alloc, stream, plain, keys, screen, news.writer)?;
+    let ended = ended_of(talked, causes);
     news.close(host, has_left(&ended), ended.is_ok());
     ended
 }
 
 // The same, over a connection that stands.
-fn talk_over<H: Host, K: Read + Drop, S: Write>(
+fn talk_over<H: Host, K: Read + Drop, S: Write, E: Drain>(
     rt: H,
     alloc: Global,
     stream: TcpStream,
     plain: Plain,
     keys: K,
     screen: &mut S,
-    causes: &mut Vec<u8>,
-) -> Result<TalkReport, ConnectFault>
-    ensures { IfOk result (RunsTalk plain (K.remaining keys) (S.contents screen.old) (S.contents screen.new)) }
+    errors: &mut E,
+) -> Result<Result<TalkReport, TalkFault>, ConnectFault>
+    ensures { IfOk result (λ talked. IfOk talked
+        (RunsTalk plain (K.remaining keys) (S.contents screen.old) (S.contents screen.new))) }
 {
     let (service, connection) = Connection::split(stream)?;
     service.set_nonblocking(true)?;
-    let ready = Polling::new(rt, plain.origin, service.as_raw_fd());
-    match talk(&rt, alloc, plain, ready, keys, service, connection, screen) {
-        Ok(report) => if_whole(report, causes),
-        Err(fault) => Err(noted(fault, causes)),
-    }
+    let mut ready = Polling::new(rt, &plain, service.as_raw_fd(), errors);
+    let talked = talk(
+        &rt, alloc, plain, &mut ready, keys, service, connection, screen,
+    );
+    Ok(talked)
 }
 
 fn has_left(ended: &Result<TalkReport, ConnectFault>) -> bool {
@@ -138,15 +146,24 @@ fn has_left(ended: &Result<TalkReport, ConnectFault>) -> bool {
     }
 }
 
-// A talk that is over, unless its connection broke. What the user is to know is noted.
+// A talk that is over, unless it ended in a fault or its connection broke. What the user is to know is noted.
+fn ended_of(
+    talked: Result<TalkReport, TalkFault>,
+    causes: &mut Vec<u8>,
+) -> Result<TalkReport, ConnectFault>
+    ensures { IfOk result (λ whole. talked ≡ Ok whole) }
+{
+    match talked {
+        Ok(report) => if_whole(report, causes),
+        Err(fault) => Err(noted(fault, causes)),
+    }
+}
+
 fn if_whole(report: TalkReport, causes: &mut Vec<u8>) -> Result<TalkReport, ConnectFault>
     ensures { IfOk result (λ whole. whole ≡ report) }
 {
     if report.unsent > 0 {
         let _ = writeln!(causes, "tn: {} bytes typed were not sent", report.unsent);
-    }
-    if report.negotiates {
-        let _ = writeln!(causes, "tn: the other end speaks Telnet: leave out --plain");
     }
     if report.over == Over::Broken {
         let _ = writeln!(causes, "tn: the connection broke");

@@ -3,8 +3,10 @@ use Rattle.std.proofs.Common.{◌≡◌, ◌≤◌, ℕ, Bool, List, [], ◌∷�
 use Rattle.std.specs.Io.KnownBytes.{Appends, Consumes, Keeps}
 use Rattle.tn_lines.specs.Edges.{HasShown, at_screen}
 use Rattle.tn_lines.specs.Kinds.{Kind, typed, read, LeadsTo, said_by, shown_by}
-use Rattle.tn_lines_client.specs.Talking.{Streams, streams, Piece, echo, came, all_shown, echoed, came_in, Leads, GoesOn, TypesKeys, ShowsBytes, Begins}
+use Rattle.tn_lines_client.specs.Logs.{bytes_in}
+use Rattle.tn_lines_client.specs.Talking.{Streams, streams, Piece, echo, came, all_shown, echoed, came_in, Leads, LeadsBy, GoesOn, TypesKeys, ShowsBytes, Begins}
 use Rattle.tn_lines_client.specs.declared.talk.Talk.{Talk}
+use Rattle.tn_lines_client.proofs.FirstBytes.{rises_more, rises_none}
 use Rattle.tn_lines_client.proofs.Writing.{appends_more, appends_kept, appends_none, consumes_more, consumes_kept, consumes_none}
 
 -- ONE PIECE MORE
@@ -24,6 +26,13 @@ came_more [] p = refl
 came_more (echo b ∷ pieces) p = came_more pieces p
 came_more (came b ∷ pieces) p = ap (λ (l : List ℕ). b ++ l) (came_more pieces p) ∙ sym (append_assoc b (came_in pieces) (came_in (p ∷ [])))
 
+-- the logs name these keys and these bytes
+named : (kind : Kind) (at : Bool) (first last : Streams) (talk : Talk) (all seen : List ℕ) → bytes_in talk.typed ≡ all → bytes_in talk.heard ≡ seen
+    → LeadsBy all seen kind at first last talk → Leads kind at first last talk
+named kind at first last talk all seen is_all is_seen had =
+    subst (λ (l : List ℕ). LeadsBy l (bytes_in talk.heard) kind at first last talk) (sym is_all)
+    (subst (λ (l : List ℕ). LeadsBy all l kind at first last talk) (sym is_seen) had)
+
 -- nothing waits
 none_of : (xs : List ℕ) → length xs ≤ 0 → xs ≡ []
 none_of [] h = refl
@@ -31,56 +40,58 @@ none_of (x ∷ xs) h = absurd (omega arith)
 
 -- KEYS
 
-pub keys_more : (kind : Kind) (at : Bool) (first : Streams) (keys keys_after service told seen shown : Option (List ℕ)) (piece : List ℕ) (old new : Talk)
+pub keys_more : (kind : Kind) (at : Bool) (first : Streams) (keys keys_after service told seen shown : Option (List ℕ)) (warned : Option ℕ) (piece : List ℕ) (old new : Talk)
     → length old.waiting ≤ 0 → Consumes keys keys_after piece → TypesKeys piece seen old shown new
-    → Leads kind at first (streams keys service told seen) old → Leads kind at first (streams keys_after service told shown) new
-keys_more kind at first keys keys_after service told seen shown piece old new none reads types had =
+    → Leads kind at first (streams keys service told seen warned) old → Leads kind at first (streams keys_after service told shown warned) new
+keys_more kind at first keys keys_after service told seen shown warned piece old new none reads types had =
     let t = had.talked in
     let e = types.echo_of in
-    let all_told : t.told ≡ said_by kind t.typed =
+    let keys_were = bytes_in old.typed in
+    let all_told : t.told ≡ said_by kind keys_were =
     sym (append-nil t.told) ∙ ap (λ (l : List ℕ). t.told ++ l) (sym (none_of old.waiting none)) ∙ t.lines in
-    record {
+    named kind at first (streams keys_after service told shown warned) new (keys_were ++ piece) (bytes_in old.heard) types.typed types.heard
+    (record {
       talked = record {
-        typed = t.typed ++ piece;
-        heard = t.heard;
         told = t.told;
         pieces = t.pieces ++ echo e ∷ [];
-        keys = consumes_more first.keys keys keys_after t.typed piece t.keys reads;
+        keys = consumes_more first.keys keys keys_after keys_were piece t.keys reads;
         service = t.service;
         tells = t.tells;
         shows =
             subst (λ (l : List ℕ). Appends first.screen shown l) (sym (shown_more t.pieces (echo e) ∙ ap (λ (l : List ℕ). all_shown t.pieces ++ l) (append-nil e)))
             (appends_more first.screen seen shown (all_shown t.pieces) e t.shows types.shows);
         lines =
-            ap (λ (l : List ℕ). l ++ new.waiting) all_told ∙ sym (types.takes.says kind t.typed had.typed);
+            ap (λ (l : List ℕ). l ++ new.waiting) all_told ∙ sym (types.takes.says kind keys_were had.typed);
         echoes =
             echoed_more t.pieces (echo e) ∙ ap (λ (l : List ℕ). echoed t.pieces ++ l) (append-nil e)
             ∙ ap (λ (l : List ℕ). l ++ e) t.echoes
-            ∙ sym (types.takes.shows kind t.typed had.typed);
+            ∙ sym (types.takes.shows kind keys_were had.typed);
         comes =
             came_more t.pieces (echo e) ∙ append-nil (came_in t.pieces) ∙ t.comes;
+        warns = t.warns;
       };
-      typed = types.takes.leads kind t.typed had.typed;
-      shown = subst (λ edge. HasShown t.heard edge) (sym types.edge) had.shown;
+      typed = types.takes.leads kind keys_were had.typed;
+      shown = subst (λ edge. HasShown (bytes_in old.heard) edge) (sym types.edge) had.shown;
       terminal = ap (λ edge. edge.at_terminal) types.edge ∙ had.terminal;
-    }
+      opening = types.opening ∙ had.opening;
+    })
 
 -- BYTES OF THE SERVICE
 
-pub bytes_more : (kind : Kind) (at : Bool) (first : Streams) (keys service service_after told seen shown : Option (List ℕ)) (piece : List ℕ) (old new : Talk)
-    → Consumes service service_after piece → ShowsBytes piece seen old shown new
-    → Leads kind at first (streams keys service told seen) old → Leads kind at first (streams keys service_after told shown) new
-bytes_more kind at first keys service service_after told seen shown piece old new reads shows had =
+pub bytes_more : (kind : Kind) (at : Bool) (first : Streams) (keys service service_after told seen shown : Option (List ℕ)) (warned tells : Option ℕ) (piece : List ℕ) (old new : Talk)
+    → Consumes service service_after piece → ShowsBytes piece seen warned old shown tells new
+    → Leads kind at first (streams keys service told seen warned) old → Leads kind at first (streams keys service_after told shown tells) new
+bytes_more kind at first keys service service_after told seen shown warned tells piece old new reads shows had =
     let t = had.talked in
     let b = shows.bytes in
-    record {
+    let came_before = bytes_in old.heard in
+    named kind at first (streams keys service_after told shown tells) new (bytes_in old.typed) (came_before ++ piece) shows.typed shows.heard
+    (record {
       talked = record {
-        typed = t.typed;
-        heard = t.heard ++ piece;
         told = t.told;
         pieces = t.pieces ++ came b ∷ [];
         keys = t.keys;
-        service = consumes_more first.service service service_after t.heard piece t.service reads;
+        service = consumes_more first.service service service_after came_before piece t.service reads;
         tells = t.tells;
         shows =
             subst (λ (l : List ℕ). Appends first.screen shown l) (sym (shown_more t.pieces (came b) ∙ ap (λ (l : List ℕ). all_shown t.pieces ++ l) (append-nil b)))
@@ -90,25 +101,27 @@ bytes_more kind at first keys service service_after told seen shown piece old ne
         comes =
             came_more t.pieces (came b) ∙ ap (λ (l : List ℕ). came_in t.pieces ++ l) (append-nil b)
             ∙ ap (λ (l : List ℕ). l ++ b) t.comes
-            ∙ sym (subst (λ (x : Bool). at_screen x (t.heard ++ piece) ≡ at_screen x t.heard ++ b) had.terminal (shows.takes.shows t.heard had.shown));
+            ∙ sym (subst (λ (x : Bool). at_screen x (came_before ++ piece) ≡ at_screen x came_before ++ b) had.terminal (shows.takes.shows came_before had.shown));
+        warns = rises_more first.warned warned tells came_before piece old.opening new.opening shows.listens had.opening t.warns;
       };
-      typed = subst (λ lines. LeadsTo kind t.typed lines) (sym shows.lines) had.typed;
-      shown = shows.takes.leads t.heard had.shown;
+      typed = subst (λ lines. LeadsTo kind (bytes_in old.typed) lines) (sym shows.lines) had.typed;
+      shown = shows.takes.leads came_before had.shown;
       terminal = shows.takes.at_terminal ∙ had.terminal;
-    }
+      opening = shows.listens.hears.leads came_before had.opening;
+    })
 
 -- WHAT WAITS
 
-pub told_more : (kind : Kind) (at : Bool) (first : Streams) (keys service told told_after screen : Option (List ℕ)) (old new : Talk) (n : ℕ)
+pub told_more : (kind : Kind) (at : Bool) (first : Streams) (keys service told told_after screen : Option (List ℕ)) (warned : Option ℕ) (old new : Talk) (n : ℕ)
     → Appends told told_after (take n old.waiting) → new.waiting ≡ drop n old.waiting → new.lines ≡ old.lines → new.edge ≡ old.edge
-    → Leads kind at first (streams keys service told screen) old → Leads kind at first (streams keys service told_after screen) new
-told_more kind at first keys service told told_after screen old new n wrote waiting lines edge had =
+    → new.typed ≡ old.typed → new.heard ≡ old.heard → new.opening ≡ old.opening
+    → Leads kind at first (streams keys service told screen warned) old → Leads kind at first (streams keys service told_after screen warned) new
+told_more kind at first keys service told told_after screen warned old new n wrote waiting lines edge same_typed same_heard same_opening had =
     let t = had.talked in
     let left = old.waiting in
-    record {
+    named kind at first (streams keys service told_after screen warned) new (bytes_in old.typed) (bytes_in old.heard) (ap bytes_in same_typed) (ap bytes_in same_heard)
+    (record {
       talked = record {
-        typed = t.typed;
-        heard = t.heard;
         told = t.told ++ take n left;
         pieces = t.pieces;
         keys = t.keys;
@@ -122,38 +135,41 @@ told_more kind at first keys service told told_after screen old new n wrote wait
             ∙ t.lines;
         echoes = t.echoes;
         comes = t.comes;
+        warns = t.warns;
       };
-      typed = subst (λ l. LeadsTo kind t.typed l) (sym lines) had.typed;
-      shown = subst (λ e. HasShown t.heard e) (sym edge) had.shown;
+      typed = subst (λ l. LeadsTo kind (bytes_in old.typed) l) (sym lines) had.typed;
+      shown = subst (λ e. HasShown (bytes_in old.heard) e) (sym edge) had.shown;
       terminal = ap (λ e. e.at_terminal) edge ∙ had.terminal;
-    }
+      opening = same_opening ∙ had.opening;
+    })
 
 -- NOTHING IS DONE
 
-pub kept_more : (kind : Kind) (at : Bool) (first : Streams) (keys keys_after service service_after told told_after screen : Option (List ℕ)) (old new : Talk)
+pub kept_more : (kind : Kind) (at : Bool) (first : Streams) (keys keys_after service service_after told told_after screen : Option (List ℕ)) (warned : Option ℕ) (old new : Talk)
     → Keeps keys keys_after → Keeps service service_after → Keeps told told_after
-    → new.waiting ≡ old.waiting → new.lines ≡ old.lines → new.edge ≡ old.edge
-    → Leads kind at first (streams keys service told screen) old → Leads kind at first (streams keys_after service_after told_after screen) new
-kept_more kind at first keys keys_after service service_after told told_after screen old new same_keys same_service same_told waiting lines edge had =
+    → new.waiting ≡ old.waiting → new.lines ≡ old.lines → new.edge ≡ old.edge → new.typed ≡ old.typed → new.heard ≡ old.heard → new.opening ≡ old.opening
+    → Leads kind at first (streams keys service told screen warned) old → Leads kind at first (streams keys_after service_after told_after screen warned) new
+kept_more kind at first keys keys_after service service_after told told_after screen warned old new same_keys same_service same_told waiting lines edge same_typed same_heard same_opening had =
     let t = had.talked in
-    record {
+    named kind at first (streams keys_after service_after told_after screen warned) new (bytes_in old.typed) (bytes_in old.heard) (ap bytes_in same_typed) (ap bytes_in same_heard)
+    (record {
       talked = record {
-        typed = t.typed;
-        heard = t.heard;
         told = t.told;
         pieces = t.pieces;
-        keys = consumes_kept first.keys keys keys_after t.typed t.keys same_keys;
-        service = consumes_kept first.service service service_after t.heard t.service same_service;
+        keys = consumes_kept first.keys keys keys_after (bytes_in old.typed) t.keys same_keys;
+        service = consumes_kept first.service service service_after (bytes_in old.heard) t.service same_service;
         tells = appends_kept first.told told told_after t.told t.tells same_told;
         shows = t.shows;
         lines = ap (λ (l : List ℕ). t.told ++ l) waiting ∙ t.lines;
         echoes = t.echoes;
         comes = t.comes;
+        warns = t.warns;
       };
-      typed = subst (λ l. LeadsTo kind t.typed l) (sym lines) had.typed;
-      shown = subst (λ e. HasShown t.heard e) (sym edge) had.shown;
+      typed = subst (λ l. LeadsTo kind (bytes_in old.typed) l) (sym lines) had.typed;
+      shown = subst (λ e. HasShown (bytes_in old.heard) e) (sym edge) had.shown;
       terminal = ap (λ e. e.at_terminal) edge ∙ had.terminal;
-    }
+      opening = same_opening ∙ had.opening;
+    })
 
 pub nothing_done : (old : Streams) (talk : Talk) → GoesOn old talk old talk
 nothing_done old talk kind at first had = had
@@ -167,24 +183,31 @@ shown_nothing (typed canon line_end) = refl
 shown_nothing (read line_end) = refl
 
 pub begun : (kind : Kind) (first : Streams) (talk : Talk) → Begins kind talk → Leads kind talk.edge.at_terminal first first talk
-begun kind first talk b = record {
-  talked = record {
-    typed = [];
-    heard = [];
-    told = [];
-    pieces = [];
-    keys = consumes_none first.keys;
-    service = consumes_none first.service;
-    tells = appends_none first.told;
-    shows = appends_none first.screen;
-    lines = b.2 ∙ said_nothing kind;
-    echoes = shown_nothing kind;
-    comes = refl;
-  };
-  typed = b.0;
-  shown = b.1;
-  terminal = refl;
-}
+begun kind first talk b = named kind talk.edge.at_terminal first first talk [] [] b.typed b.heard
+    (record {
+      talked = record {
+        told = [];
+        pieces = [];
+        keys = consumes_none first.keys;
+        service = consumes_none first.service;
+        tells = appends_none first.told;
+        shows = appends_none first.screen;
+        lines = b.waiting ∙ said_nothing kind;
+        echoes = shown_nothing kind;
+        comes = refl;
+        warns = rises_none first.warned;
+      };
+      typed = b.lines;
+      shown = b.edge;
+      terminal = refl;
+      opening = b.opening;
+    })
 
 pub goes_both : (a b c : Streams) (old mid new : Talk) → GoesOn a old b mid → GoesOn b mid c new → GoesOn a old c new
 goes_both a b c old mid new one two kind at first had = two kind at first (one kind at first had)
+
+-- what stands by it was asked what can be done
+pub waited : (kind : Kind) (at : Bool) (first : Streams) (keys service told screen : Option (List ℕ)) (was now : Option ℕ) (talk : Talk) → now ≡ was
+    → Leads kind at first (streams keys service told screen was) talk → Leads kind at first (streams keys service told screen now) talk
+waited kind at first keys service told screen was now talk same had =
+    subst (λ (w : Option ℕ). Leads kind at first (streams keys service told screen w) talk) (sym same) had

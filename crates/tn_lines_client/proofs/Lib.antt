@@ -1,2 +1,3 @@
 pub mod Writing
 pub mod Going
+pub mod FirstBytes

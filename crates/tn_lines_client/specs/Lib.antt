@@ -1,1 +1,3 @@
+pub mod Logs
+pub mod Openings
 pub mod Talking

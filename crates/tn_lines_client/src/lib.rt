@@ -10,10 +10,13 @@
 #![tactic(auto)]
 
 pub use fault::TalkFault;
+pub use read_log::ReadLog;
 pub use ready::{Await, Ready, Wants};
 pub use talk::{Over, Talk};
 
 mod fault;
+mod opening;
+mod read_log;
 mod ready;
 mod screen;
 mod talk;

@@ -1,5 +1,8 @@
 //! What can be done without waiting.
 
+ghost use Rattle.std.specs.Prelude.{◌≡◌, ℕ, None, Option, true};
+ghost use Rattle.tn_lines_client.specs.Openings.{warned_on};
+
 /// What a talk can do next.
 #[derive(Clone, Copy, Debug, PartialEq, Eq)]
 pub enum Ready {
@@ -9,6 +12,8 @@ pub enum Ready {
     Bytes,
     /// The service takes more.
     Room,
+    /// The service is to be told that no more comes.
+    End,
 }
 
 /// What a talk wants to do, beside reading what the service says.
@@ -18,9 +23,21 @@ pub struct Wants {
     pub keys: bool,
     /// To tell the service more.
     pub room: bool,
+    /// To tell it that no more comes.
+    pub end: bool,
 }
 
-/// Says what a talk can do next. Where it says what is not so, the talk waits or does nothing, and goes on.
+/// Stands by a talk.
 pub trait Await {
-    fn next(&mut self, wants: Wants) -> Ready;
+    // How often it heard that the service speaks Telnet, where that is told.
+    ghost warned: { Self → Option ℕ } = { λ _. None };
+
+    /// Says what the talk can do next. Where that is not so, the talk waits or does nothing, and goes on.
+    fn next(&mut self, wants: Wants) -> Ready
+        ensures { warned self.new ≡ warned self.old };
+
+    /// Hears, as soon as it shows and once, that the service speaks Telnet: what it says first is a command that
+    /// negotiates an option.
+    fn hear_telnet(&mut self)
+        ensures { warned self.new ≡ warned_on true (warned self.old) };
 }

@@ -2,9 +2,13 @@
 
 ghost use Rattle.std.specs.Prelude.{◌≡◌, ℕ, List, Option, [], OnOk, length};
 ghost use Rattle.tn_lines.specs.Kinds.{Kind, LeadsTo};
+ghost use Rattle.tn_lines_client.specs.Logs.{bytes_in};
+ghost use Rattle.tn_lines_client.specs.Openings.{Listens};
 ghost use Rattle.tn_lines_client.specs.Talking.{Begins, GoesOn, ShowsBytes, Talked, TypesKeys, streams};
 
 use crate::fault::TalkFault;
+use crate::opening::Opening;
+use crate::read_log::ReadLog;
 use crate::ready::{Await, Ready, Wants};
 use crate::screen::show_whole;
 use crate::unsent::Waiting;
@@ -17,11 +21,6 @@ use tn_streams::{Drain, Finish, Source, is_interrupted};
 
 /// How many bytes one read asks for.
 const PIECE_BYTES: usize = 4_096;
-
-/// The first byte of a command of Telnet, and the least of the second of one that negotiates an option.
-const IAC: u8 = 255;
-
-const WILL: u8 = 251;
 
 /// How a talk ended.
 #[derive(Clone, Copy, Debug, PartialEq, Eq)]
@@ -42,10 +41,11 @@ pub struct Talk {
     output: Output,
     shown: Vec<u8>,
     waiting: Waiting,
+    typed: ReadLog,
+    heard: ReadLog,
+    opening: Opening,
     keys_ended: bool,
     finished: bool,
-    heard: bool,
-    negotiates: bool,
 }
 
 impl Talk {
@@ -60,10 +60,11 @@ impl Talk {
             output: Output::new(alloc),
             shown: Vec::new(alloc),
             waiting: Waiting::new(alloc),
+            typed: ReadLog::new(),
+            heard: ReadLog::new(),
+            opening: Opening::Nothing,
             keys_ended: false,
             finished: false,
-            heard: false,
-            negotiates: false,
         }
     }
 
@@ -74,9 +75,13 @@ impl Talk {
         self.waiting.as_slice().len()
     }
 
-    /// Whether the first that the service said was a command of Telnet that negotiates an option.
-    pub fn negotiates(&self) -> bool {
-        self.negotiates
+    /// The logs of the keys that were read, and of what the service said.
+    pub fn into_logs(self) -> (ReadLog, ReadLog)
+        ensures typed { bytes_in result.0 ≡ bytes_in self.typed }
+        ensures heard { bytes_in result.1 ≡ bytes_in self.heard }
+    {
+        let Talk { typed, heard, .. } = self;
+        (typed, heard)
     }
 
     // Reads keys, shows their echo, and lets what they say wait. None are read while bytes wait.
@@ -85,9 +90,9 @@ impl Talk {
         keys: &mut K,
         screen: &mut S,
     ) -> Result<(), TalkFault>
-        ensures { OnOk result ((service told : Option (List ℕ)) →
-            GoesOn (streams (K.remaining keys.old) service told (S.contents screen.old)) self.old
-            (streams (K.remaining keys.new) service told (S.contents screen.new)) self.new) }
+        ensures { OnOk result ((service told : Option (List ℕ)) (warned : Option ℕ) →
+            GoesOn (streams (K.remaining keys.old) service told (S.contents screen.old) warned) self.old
+            (streams (K.remaining keys.new) service told (S.contents screen.new) warned) self.new) }
     {
         if self.unsent() > 0 {
             return Ok(());
@@ -110,6 +115,7 @@ impl Talk {
             (S.contents screen.new) self.new) }
     {
         self.lines.take(piece, &mut self.output)?;
+        self.typed.add(piece);
         self.waiting.refill(&mut self.output.said);
         if !show_whole(screen, &self.output.shown) {
             return Err(TalkFault::Screen);
@@ -118,20 +124,21 @@ impl Talk {
     }
 
     // Reads what the service says, and shows it. Returns how the talk ended, if it did.
-    fn take_bytes<N: Source, S: Drain>(
+    fn take_bytes<A: Await, N: Source, S: Drain>(
         &mut self,
+        ready: &mut A,
         service: &mut N,
         screen: &mut S,
     ) -> Result<Option<Over>, TalkFault>
         ensures { OnOk result ((keys told : Option (List ℕ)) →
-            GoesOn (streams keys (N.remaining service.old) told (S.contents screen.old)) self.old
-            (streams keys (N.remaining service.new) told (S.contents screen.new)) self.new) }
+            GoesOn (streams keys (N.remaining service.old) told (S.contents screen.old) (A.warned ready.old)) self.old
+            (streams keys (N.remaining service.new) told (S.contents screen.new) (A.warned ready.new)) self.new) }
     {
         let mut piece = [0; PIECE_BYTES];
         match service.read_some(&mut piece) {
             Ok(0) => Ok(Some(Over::Closed)),
             Ok(count) => {
-                self.show(&piece[..count], screen)?;
+                self.show(&piece[..count], ready, screen)?;
                 Ok(None)
             },
             Err(error) if is_for_later(&error) => Ok(None),
@@ -139,11 +146,18 @@ impl Talk {
         }
     }
 
-    fn show<S: Drain>(&mut self, piece: &[u8], screen: &mut S) -> Result<(), TalkFault>
-        ensures { OnOk result (ShowsBytes piece.now (S.contents screen.old) self.old
-            (S.contents screen.new) self.new) }
+    // Shows what came, and hears it.
+    fn show<A: Await, S: Drain>(
+        &mut self,
+        piece: &[u8],
+        ready: &mut A,
+        screen: &mut S,
+    ) -> Result<(), TalkFault>
+        ensures { OnOk result (ShowsBytes piece.now (S.contents screen.old) (A.warned ready.old) self.old
+            (S.contents screen.new) (A.warned ready.new) self.new) }
     {
-        self.listen(piece);
+        listen(&mut self.opening, piece, ready);
+        self.heard.add(piece);
         self.edge.take(piece, &mut self.shown)?;
         if !show_whole(screen, &self.shown) {
             return Err(TalkFault::Screen);
@@ -151,23 +165,11 @@ impl Talk {
         Ok(())
     }
 
-    // Sees whether the first that comes is a command that negotiates an option.
-    fn listen(&mut self, piece: &[u8])
-        ensures lines { self.new.lines ≡ self.old.lines }
-        ensures edge { self.new.edge ≡ self.old.edge }
-        ensures waiting { self.new.waiting ≡ self.old.waiting }
-    {
-        if !self.heard {
-            self.heard = true;
-            self.negotiates = piece.len() > 1 && piece[0] == IAC && piece[1] >= WILL;
-        }
-    }
-
     // Tells the service what waits, as far as it takes it at once. Returns whether the connection stands.
     fn tell<W: Drain>(&mut self, writer: &mut W) -> bool
-        ensures { (keys service screen : Option (List ℕ)) →
-            GoesOn (streams keys service (W.contents writer.old) screen) self.old
-            (streams keys service (W.contents writer.new) screen) self.new }
+        ensures { (keys service screen : Option (List ℕ)) (warned : Option ℕ) →
+            GoesOn (streams keys service (W.contents writer.old) screen warned) self.old
+            (streams keys service (W.contents writer.new) screen warned) self.new }
     {
         if self.unsent() == 0 {
             return true;
@@ -191,9 +193,9 @@ impl Talk {
     }
 
     fn finish<W: Finish>(&mut self, writer: &mut W)
-        ensures { (keys service screen : Option (List ℕ)) →
-            GoesOn (streams keys service (W.contents writer.old) screen) self.old
-            (streams keys service (W.contents writer.new) screen) self.new }
+        ensures { (keys service screen : Option (List ℕ)) (warned : Option ℕ) →
+            GoesOn (streams keys service (W.contents writer.old) screen warned) self.old
+            (streams keys service (W.contents writer.new) screen warned) self.new }
     {
         if self.is_to_finish() {
             writer.finish();
@@ -203,9 +205,9 @@ impl Talk {
 
     // Once the user has left, what waits is told as far as the service takes it at once.
     fn leave<W: Drain>(&mut self, writer: &mut W) -> Option<Over>
-        ensures { (keys service screen : Option (List ℕ)) →
-            GoesOn (streams keys service (W.contents writer.old) screen) self.old
-            (streams keys service (W.contents writer.new) screen) self.new }
+        ensures { (keys service screen : Option (List ℕ)) (warned : Option ℕ) →
+            GoesOn (streams keys service (W.contents writer.old) screen warned) self.old
+            (streams keys service (W.contents writer.new) screen warned) self.new }
     {
         if !self.lines.has_left() {
             return None;
@@ -219,13 +221,14 @@ impl Talk {
         Wants {
             keys: !room && !self.keys_ended,
             room,
+            end: self.is_to_finish(),
         }
     }
 
     // Does what can be done next. Returns how the talk ended, if it did.
-    fn turn<K: Source, N: Source, W: Finish, S: Drain>(
+    fn turn<A: Await, K: Source, N: Source, W: Finish, S: Drain>(
         &mut self,
-        next: Ready,
+        ready: &mut A,
         keys: &mut K,
         service: &mut N,
         writer: &mut W,
@@ -233,28 +236,33 @@ impl Talk {
     ) -> Result<Option<Over>, TalkFault>
         ensures { OnOk result (GoesOn
             (streams (K.remaining keys.old) (N.remaining service.old) (W.contents writer.old)
-            (S.contents screen.old)) self.old
+            (S.contents screen.old) (A.warned ready.old)) self.old
             (streams (K.remaining keys.new) (N.remaining service.new) (W.contents writer.new)
-            (S.contents screen.new)) self.new) }
+            (S.contents screen.new) (A.warned ready.new)) self.new) }
     {
-        match next {
+        match ready.next(self.wants()) {
             Ready::Keys => {
                 self.take_keys(keys, screen)?;
                 let over = self.leave(writer);
                 Ok(over)
             },
             Ready::Bytes => {
-                let over = self.take_bytes(service, screen)?;
+                let over = self.take_bytes(ready, service, screen)?;
                 Ok(over)
             },
             Ready::Room => {
                 let stands = self.tell(writer);
                 Ok(broken_unless(stands))
             },
+            Ready::End => {
+                self.finish(writer);
+                Ok(None)
+            },
         }
     }
 
-    /// Talks until the service has closed, the connection is broken, or the user has left.
+    /// Talks until the service has closed, the connection is broken, or the user has left. The logs name the keys
+    /// that were read, and what the service said.
     pub fn run<H: Wait, A: Await, K: Source, N: Source, W: Finish, S: Drain>(
         &mut self,
         rt: &H,
@@ -266,24 +274,31 @@ impl Talk {
     ) -> Result<Over, TalkFault>
         ensures goes_on { OnOk result (GoesOn
             (streams (K.remaining keys.old) (N.remaining service.old) (W.contents writer.old)
-            (S.contents screen.old)) self.old
+            (S.contents screen.old) (A.warned ready.old)) self.old
             (streams (K.remaining keys.new) (N.remaining service.new) (W.contents writer.new)
-            (S.contents screen.new)) self.new) }
+            (S.contents screen.new) (A.warned ready.new)) self.new) }
         ensures talked { (kind : Kind) → Begins kind self.old → OnOk result (Talked kind
-            self.old.edge.at_terminal self.new.waiting
+            self.old.edge.at_terminal (bytes_in self.new.typed) (bytes_in self.new.heard) self.new.waiting
             (streams (K.remaining keys.old) (N.remaining service.old) (W.contents writer.old)
-            (S.contents screen.old))
+            (S.contents screen.old) (A.warned ready.old))
             (streams (K.remaining keys.new) (N.remaining service.new) (W.contents writer.new)
-            (S.contents screen.new))) }
+            (S.contents screen.new) (A.warned ready.new))) }
     {
         for _ in rt.forever() {
-            self.finish(writer);
-            let next = ready.next(self.wants());
-            if let Some(over) = self.turn(next, keys, service, writer, screen)? {
+            if let Some(over) = self.turn(ready, keys, service, writer, screen)? {
                 return Ok(over);
             }
         }
         unreachable!()
+    }
+}
+
+// Hears what came, and warns where with it the service shows that it speaks Telnet.
+fn listen<A: Await>(opening: &mut Opening, piece: &[u8], ready: &mut A)
+    ensures { Listens piece.now opening.old (A.warned ready.old) opening.new (A.warned ready.new) }
+{
+    if opening.hear(piece) {
+        ready.hear_telnet();
     }
 }
 

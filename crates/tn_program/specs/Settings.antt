@@ -75,4 +75,10 @@ end_as asked_end.Cr = line_end.Cr
 -- a talk with a service that takes lines
 abbrev pub plain_as : Connecting → AskedEnd → Origin → Plain
 plain_as asked chosen origin =
-    record { port = asked.port; line_limit = asked.line_limit; line_end = end_as chosen; origin = origin }
+    record {
+      port = asked.port;
+      line_limit = asked.line_limit;
+      line_end = end_as chosen;
+      origin = origin;
+      wait = asked.wait;
+    }

@@ -109,11 +109,13 @@ pub(crate) fn plain_of(
     ensures { result ≡ plain_as asked.now line_end origin }
 {
     let port = asked.port;
+    let wait = asked.wait;
     Plain {
         port,
         line_limit: asked.line_limit,
         line_end: end_of(line_end),
         origin,
+        wait,
     }
 }
 

@@ -82,10 +82,8 @@ capital_writes = (65, refl, inl (record { letter_is = refl; at_least = omega ari
 pub small_writes : WritesEscape (codes "^a") (escape.Key 1)
 small_writes = (97, refl, inr (record { letter_is = refl; at_least = omega arith; at_most = omega arith }))
 
-standard : (rows : List Row) (e : Escape) → first_of (codes "escape") rows ≡ Some (codes "^]") → HasEscape rows e → e ≡ escape.Key 29
-standard rows e is h =
-    let same : h.text ≡ codes "^]" = ap (λ o. unwrap_or o (codes "^]")) (sym h.has ∙ is) in
-    one_escape (codes "^]") e (escape.Key 29) (subst (λ text. WritesEscape text e) same h.writes) sign_writes
+standard : (rows : List Row) (e : Escape) → unwrap_or (first_of (codes "escape") rows) (codes "^]") ≡ codes "^]" → HasEscape rows e → e ≡ escape.Key 29
+standard rows e is h = one_escape (codes "^]") e (escape.Key 29) (subst (λ text. WritesEscape text e) is h) sign_writes
 
 no_value : {A B : Type 0} (f : A → B) (o : Option A) → option_map f o ≡ None → o ≡ None
 no_value f None is = refl
@@ -116,6 +114,12 @@ two_words = codes "tn" ∷ codes "connect" ∷ codes "h:7" ∷ codes "7" ∷ []
 
 abbrev wait_words : List Text
 wait_words = codes "tn" ∷ codes "connect" ∷ codes "h" ∷ codes "-q" ∷ codes "2" ∷ []
+
+abbrev traced_words : List Text
+traced_words = codes "tn" ∷ codes "connect" ∷ codes "h" ∷ codes "--plain" ∷ codes "--trace" ∷ codes "f" ∷ []
+
+abbrev escaped_words : List Text
+escaped_words = codes "tn" ∷ codes "connect" ∷ codes "h" ∷ codes "--plain" ∷ codes "--escape=^]" ∷ []
 
 abbrev lf_words : List Text
 lf_words = codes "tn" ∷ codes "connect" ∷ codes "h" ∷ codes "--lf" ∷ []
@@ -212,4 +216,14 @@ wait_asks asked asks =
 pub lf_asks : AsksNothing (subcommand_of tn lf_words)
 unfolding clap_on_literals
 lf_asks = connects_not (subcommand_of tn lf_words) (codes "connect") (rows_for lf_words) refl refl refl
+    (λ connecting asks. let bad : false ≡ true = ap is_some asks.plain in absurd (cc))
+
+pub traced_ask : AsksNothing (subcommand_of tn traced_words)
+unfolding clap_on_literals
+traced_ask = connects_not (subcommand_of tn traced_words) (codes "connect") (rows_for traced_words) refl refl refl
+    (λ connecting asks. let bad : false ≡ true = ap is_some asks.plain in absurd (cc))
+
+pub escaped_ask : AsksNothing (subcommand_of tn escaped_words)
+unfolding clap_on_literals
+escaped_ask = connects_not (subcommand_of tn escaped_words) (codes "connect") (rows_for escaped_words) refl refl refl
     (λ connecting asks. let bad : false ≡ true = ap is_some asks.plain in absurd (cc))

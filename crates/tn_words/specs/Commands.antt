@@ -72,10 +72,6 @@ host_rule = with_default (text_rule (codes "host")) (codes "127.0.0.1")
 abbrev pub line_rule : Rule
 line_rule = with_default (whole_rule (codes "line") 255 4095) (codes "255")
 
--- the key ^], where no other one is given
-abbrev pub escape_rule : Rule
-escape_rule = with_default (text_rule (codes "escape")) (codes "^]")
-
 abbrev pub serve : Shape
 serve = with_rules (codes "serve") (
     host_rule
@@ -100,7 +96,7 @@ connect = with_rules (codes "connect") (
     ∷ whole_rule (codes "width") 0 65535
     ∷ whole_rule (codes "height") 0 65535
     ∷ line_rule
-    ∷ escape_rule
+    ∷ text_rule (codes "escape")
     ∷ text_rule (codes "trace")
     ∷ wait_rule
     ∷ flag_rule (codes "quiet")

@@ -1,5 +1,5 @@
 -- What words ask for, of the command line that `tn` takes.
-use Rattle.std.specs.Prelude.{◌≡◌, ◌≢◌, ◌⊎◌, ◌≤◌, ⊤, ℕ, Bool, true, false, Option, Some, None, MatchOption, is_some, option_map, List, [], codes, string_bytes}
+use Rattle.std.specs.Prelude.{◌≡◌, ◌≢◌, ◌⊎◌, ◌≤◌, ◌||◌, ⊤, ℕ, Bool, true, false, unwrap_or, Option, Some, None, MatchOption, is_some, option_map, List, [], codes, string_bytes}
 use Rattle.std.specs.Option.{option_map_or}
 use Rattle.std.specs.Str.{bytes_eq}
 use Rattle.clap.specs.Words.{Row, Text, subcommand_of, takes, fault_of, first_of, one_of, IsAmong}
@@ -106,23 +106,27 @@ pub record AsksPlace (rows : List Row) (host : Text) (port : ℕ) : Type 0 where
 abbrev pub is_flagged : Text → List Row → Bool
 is_flagged name rows = option_map_or (λ text. bytes_eq text (codes "true")) (first_of name rows) false
 
--- the line end that `--plain`, `--lf` and `--cr` choose, or none of it; no other choice of them is accepted
-abbrev pub chosen_line_end : Bool → Bool → Bool → Option (Option LineEnd)
-chosen_line_end false false false = Some None
-chosen_line_end true false false = Some (Some CrLf)
-chosen_line_end true true false = Some (Some Lf)
-chosen_line_end true false true = Some (Some Cr)
-chosen_line_end plain lf cr = None
+-- an option is given that is of use to a client of Telnet alone
+abbrev pub has_telnet_option : List Row → Bool
+has_telnet_option rows = is_given (codes "escape") rows || is_given (codes "trace") rows
+    || is_given (codes "width") rows || is_given (codes "height") rows
+
+-- the line end that `--plain`, `--lf` and `--cr` choose, or none of it; no other choice of them is accepted, and with
+-- `--plain` no option for Telnet
+abbrev pub chosen_line_end : Bool → Bool → Bool → Bool → Option (Option LineEnd)
+chosen_line_end false false false telnet = Some None
+chosen_line_end true false false false = Some (Some CrLf)
+chosen_line_end true true false false = Some (Some Lf)
+chosen_line_end true false true false = Some (Some Cr)
+chosen_line_end plain lf cr telnet = None
 
 abbrev pub line_end_in : List Row → Option (Option LineEnd)
 line_end_in rows = chosen_line_end (is_flagged (codes "plain") rows) (is_flagged (codes "lf") rows)
-    (is_flagged (codes "cr") rows)
+    (is_flagged (codes "cr") rows) (has_telnet_option rows)
 
--- The text of the option `--escape` writes this key.
-pub record HasEscape (rows : List Row) (escape : Escape) : Type 0 where
-  pub text : Text
-  pub has : HasText rows (codes "escape") text
-  pub writes : WritesEscape text escape
+-- the text of the option `--escape` writes this key, which is `^]` where it is not given
+abbrev pub HasEscape : List Row → Escape → Type 0
+HasEscape rows escape = WritesEscape (unwrap_or (first_of (codes "escape") rows) (codes "^]")) escape
 
 pub record AsksConnect (rows : List Row) (asked : Connecting) : Type 0 where
   pub place : AsksPlace rows (string_bytes asked.host) asked.port

@@ -2,7 +2,7 @@
 
 ghost use Rattle.std.specs.Prelude.{◌≡◌, false, IfOk, codes, pos};
 ghost use Rattle.tn_words.specs.Commands.{tn, alone, offline, plain, serve, connect, whole_rule, with_default, flag_rule};
-ghost use Rattle.tn_words.specs.Commands.{escape_rule, host_rule, line_rule, maybe_port_rule, number_rule, place_rule};
+ghost use Rattle.tn_words.specs.Commands.{host_rule, line_rule, maybe_port_rule, number_rule, place_rule};
 ghost use Rattle.tn_words.specs.Commands.{port_rule, text_rule, wait_rule};
 ghost use Rattle.clap.specs.Words.{app_of, new_app, rule_of, shape_of, with_rule};
 ghost use Rattle.clap.specs.declared.builder.command.Command.TheViews.{out-Command};
@@ -384,7 +384,7 @@ fn with_window_options<'a>(alloc: Global, command: Command<'a>) -> Result<Comman
 fn with_terminal_options<'a>(alloc: Global, command: Command<'a>) -> Result<Command<'a>, AllocError>
     requires { (out-Command command).has_globals ≡ false }
     ensures app { IfOk result (λ new. app_of new ≡ with_rule (with_rule (with_rule (with_rule
-        (app_of command.entry) escape_rule) (text_rule (codes "trace"))) wait_rule) (flag_rule (codes "quiet"))) }
+        (app_of command.entry) (text_rule (codes "escape"))) (text_rule (codes "trace"))) wait_rule) (flag_rule (codes "quiet"))) }
     ensures local { IfOk result (λ new. (out-Command new).has_globals ≡ false) }
 {
     let command = command
@@ -569,7 +569,7 @@ fn port_place<'a>(alloc: Global) -> Arg<'a>
 }
 
 fn escape_option<'a>(alloc: Global) -> Arg<'a>
-    ensures rule { rule_of result ≡ escape_rule }
+    ensures rule { rule_of result ≡ text_rule (codes "escape") }
     ensures local { result.global ≡ false }
 {
     text_option(
@@ -577,9 +577,8 @@ fn escape_option<'a>(alloc: Global) -> Arg<'a>
         ESCAPE,
         "C",
         "The key that speaks to the client itself at a terminal: a caret and one of A to Z, [, \\, ], ^ \
-         and _, or `none`",
+         and _, or `none`; default: ^]",
     )
-    .default_value("^]")
 }
 
 fn line_option<'a>(alloc: Global) -> Arg<'a>

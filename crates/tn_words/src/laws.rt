@@ -54,7 +54,8 @@ pub fn hosts_and_ports()
 {}
 
 /// Without options the sizes are open, the escape key is `^]`, no trace is written, the end of the keys is
-/// told at once, and the connection is one of Telnet. How a line ends is not chosen without `--plain`.
+/// told at once, and the connection is one of Telnet. How a line ends is not chosen without `--plain`, with which
+/// there is no trace and no escape key.
 pub fn options()
     ensures none { (asked : Connecting)
         → AskFor (codes "tn" ∷ codes "connect" ∷ codes "::1" ∷ []) (Connect asked)
@@ -64,6 +65,10 @@ pub fn options()
         → AskFor (codes "tn" ∷ codes "connect" ∷ codes "h" ∷ codes "-q" ∷ codes "2" ∷ []) (Connect asked)
         → asked.wait ≡ 2 }
     ensures lf { AsksNothing (subcommand_of tn (codes "tn" ∷ codes "connect" ∷ codes "h" ∷ codes "--lf" ∷ [])) }
+    ensures traced { AsksNothing (subcommand_of tn
+        (codes "tn" ∷ codes "connect" ∷ codes "h" ∷ codes "--plain" ∷ codes "--trace" ∷ codes "f" ∷ [])) }
+    ensures escaped { AsksNothing (subcommand_of tn
+        (codes "tn" ∷ codes "connect" ∷ codes "h" ∷ codes "--plain" ∷ codes "--escape=^]" ∷ [])) }
 {}
 
 /// A host, a colon and a port write an address, and no text writes two; brackets around a host are none of

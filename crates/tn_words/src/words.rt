@@ -1,11 +1,11 @@
 //! The words of the command line.
 
-ghost use Rattle.std.specs.Prelude.{◌≡◌, ◌≤◌, ℕ, List, ⊤, None, Option, IfOk, IfErr, IfSome, codes, map, option_map, string_bytes};
+ghost use Rattle.std.specs.Prelude.{◌≡◌, ◌≤◌, ℕ, List, ⊤, None, Option, IfOk, IfErr, IfSome, codes, map, option_map, string_bytes, unwrap_or};
 ghost use Rattle.clap.specs.Words.{kind_of, rows_of, first_of, found_of, subcommand_rows_of};
 ghost use Rattle.tn_words.specs.Words.{AskFor, AsksIn, AsksNothing, AsksServe, AsksConnect, AsksPlace, AsksPort, HasEscape};
 ghost use Rattle.tn_words.specs.Words.{HasNumber, HasPlace, HasText, Lacks, MayHaveAddress, MayHaveNumber, MissesNumber};
-ghost use Rattle.tn_words.specs.Words.{Refuses, TellsKind, chosen_line_end, detail_of, is_flagged, is_given, line_end_in};
-ghost use Rattle.tn_words.specs.Words.{one_port};
+ghost use Rattle.tn_words.specs.Words.{Refuses, TellsKind, chosen_line_end, detail_of, has_telnet_option};
+ghost use Rattle.tn_words.specs.Words.{is_flagged, is_given, line_end_in, one_port};
 
 use crate::commands::{
     AT, CONNECT, COUNT, CR, CRLF, DECODE, ESCAPE, HEIGHT, HOST, IDLE, LF, LIMIT, LINE, LOCAL,
@@ -24,6 +24,9 @@ const THIS_MACHINE: &str = "127.0.0.1";
 
 /// The port of a connection where only a host is named.
 const TELNET_PORT: u16 = 23;
+
+/// The key that speaks to a client at a terminal where no other one is given.
+const USUAL_ESCAPE: &str = "^]";
 
 /// What the words ask for.
 #[derive(Debug, Drop, PartialEq, Eq)]
@@ -90,6 +93,9 @@ enum Lack<'a> {
     #[error("error: '--lf' and '--cr' exclude each other, and need '--plain'\n\n\
          For more information, try '--help'.\n")]
     LineEnd,
+    #[error("error: '--plain' excludes '--escape', '--trace', '--width' and '--height'\n\n\
+         For more information, try '--help'.\n")]
+    Telnet,
     /// The text writes no key.
     #[error("error: invalid value '{0}' for '--escape <C>': it is neither `none` nor a caret and one of \
          A to Z, [, \\, ], ^ and _\n\nFor more information, try '--help'.\n")]
@@ -199,7 +205,7 @@ fn connecting(alloc: Global, words: &ArgMatches<'_>) -> Result<Connecting, Words
     let place = place_of(alloc, words)?;
     let escape = escape_of(alloc, words)?;
     let Some(plain) = line_end_in(words) else {
-        return Err(lacking(alloc, &Lack::LineEnd));
+        return Err(lacking(alloc, &line_end_lack(words)));
     };
     let trace = trace_of(alloc, words)?;
     match connecting_to(place, escape, plain, trace, words) {
@@ -308,12 +314,20 @@ fn escape_of(alloc: Global, words: &ArgMatches<'_>) -> Result<Escape, WordsFault
     ensures lacks { IfErr result
         (Lacks ((escape : Escape) → ¬ HasEscape (rows_of (found_of words.now)) escape)) }
 {
-    let Some(text) = words.get_str(ESCAPE) else {
-        return Err(lacking(alloc, &Lack::Value));
-    };
+    let text = escape_text(words);
     match Escape::from_text(text) {
         Some(escape) => Ok(escape),
         None => Err(lacking(alloc, &Lack::Escape(text))),
+    }
+}
+
+// The text of the option, which need not be given.
+fn escape_text<'a>(words: &ArgMatches<'a>) -> &'a str
+    ensures { result.now ≡ unwrap_or (first_of (codes "escape") (rows_of (found_of words.now))) (codes "^]") }
+{
+    match words.get_str(ESCAPE) {
+        Some(text) => text,
+        None => USUAL_ESCAPE,
     }
 }
 
@@ -325,18 +339,39 @@ fn line_end_in(words: &ArgMatches<'_>) -> Option<Option<LineEnd>>
         is_flagged(words, PLAIN),
         is_flagged(words, LF),
         is_flagged(words, CR),
+        has_telnet_option(words),
     )
 }
 
-fn chosen_line_end(plain: bool, lf: bool, cr: bool) -> Option<Option<LineEnd>>
-    ensures { result ≡ chosen_line_end plain lf cr }
+fn chosen_line_end(plain: bool, lf: bool, cr: bool, telnet: bool) -> Option<Option<LineEnd>>
+    ensures { result ≡ chosen_line_end plain lf cr telnet }
 {
-    match (plain, lf, cr) {
-        (false, false, false) => Some(None),
-        (true, false, false) => Some(Some(LineEnd::CrLf)),
-        (true, true, false) => Some(Some(LineEnd::Lf)),
-        (true, false, true) => Some(Some(LineEnd::Cr)),
+    match (plain, lf, cr, telnet) {
+        (false, false, false, _) => Some(None),
+        (true, false, false, false) => Some(Some(LineEnd::CrLf)),
+        (true, true, false, false) => Some(Some(LineEnd::Lf)),
+        (true, false, true, false) => Some(Some(LineEnd::Cr)),
         _ => None,
+    }
+}
+
+// Whether an option is given that is of use to a client of Telnet alone.
+fn has_telnet_option(words: &ArgMatches<'_>) -> bool
+    ensures { result ≡ has_telnet_option (rows_of (found_of words.now)) }
+{
+    let escape = is_given(words, ESCAPE);
+    let trace = is_given(words, TRACE);
+    let width = is_given(words, WIDTH.name);
+    let height = is_given(words, HEIGHT.name);
+    escape || trace || width || height
+}
+
+// What is wrong where the words choose no line end.
+fn line_end_lack<'a>(words: &ArgMatches<'_>) -> Lack<'a> {
+    if is_flagged(words, PLAIN) && has_telnet_option(words) {
+        Lack::Telnet
+    } else {
+        Lack::LineEnd
     }
 }
 
