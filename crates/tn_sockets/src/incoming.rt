@@ -11,6 +11,7 @@ use std::alloc::Global;
 use std::io;
 use std::io::{ErrorKind, Read};
 use std::sync::{Arc, Wait};
+use std::time::Clock;
 use tn_codes::{ECHO, EDIT, LINEMODE, MODE, Verb};
 use tn_nvt::{Decoder, Item};
 
@@ -81,7 +82,7 @@ impl<H, N> Incoming<H, N> {
     }
 }
 
-impl<H: Copy + Wait, N: Read> Incoming<H, N> {
+impl<H: Clock + Copy + Wait, N: Read> Incoming<H, N> {
     fn take(&mut self, bytes: &[u8])
         ensures { self.new.reader ≡ self.old.reader }
     {
@@ -93,7 +94,7 @@ impl<H: Copy + Wait, N: Read> Incoming<H, N> {
     }
 }
 
-impl<H: Copy + Wait, N: Read> Read for Incoming<H, N> {
+impl<H: Clock + Copy + Wait, N: Read> Read for Incoming<H, N> {
     fn read(&mut self, buf: &mut [u8]) -> io::Result<usize>
         ensures bound { ReadsAtMost result buf.new }
         ensures bytes { ReadConsumes None None result buf.new }
