@@ -21,6 +21,7 @@ bool server_blind;	/* reads nothing more and stays */
 bool server_closed;
 bool red_typed, red_gone;
 
+#define CLIENT
 #include "parts.pml"
 #include "client.pml"
 

@@ -37,7 +37,7 @@ byte k = K;
 #define USER_RESTS :: atomic { MAY_END && !user_silent -> user_silent = true; false }
 #endif
 #ifdef LEAVES
-#define USER_LEAVES :: atomic { MAY_END -> user_left = true; link_left = true; HANG_UP; last = HangUp }
+#define USER_LEAVES :: atomic { MAY_END && !link_left -> user_left = true; asks_to_close = true }
 #else
 #define USER_LEAVES
 #endif
@@ -52,6 +52,7 @@ byte k = K;
 	fi
 #endif
 
+#define CLIENT
 #include "parts.pml"
 #include "server.pml"
 #include "client.pml"

@@ -27,7 +27,6 @@ byte writes;			/* Waiting */
 chan screen = [SCREEN] of { byte };
 bool screen_dead;
 
-bool link_closed, link_left, link_down;	/* Link: nothing more comes; the user has left; both directions are shut */
 bool c_over, c_at_end, c_closed;	/* Progress of Core */
 bool c_stop;			/* the flag that Keys looks at */
 bool c_net_done, c_keys_done, sending_done, client_done;
@@ -35,6 +34,40 @@ bool c_blocked_out, c_blocked_screen;	/* the core waits in a write */
 
 /* Link::hang_up shuts down both directions */
 #define HANG_UP link_down = true; fin[C2S] = true
+
+/* Link::leave, after which both directions end once all was sent */
+inline link_leave() {
+	link_left = true;
+	if
+	:: atomic { link_sent -> HANG_UP }
+	:: !link_sent
+	fi
+}
+
+inline link_end_sending() {
+	link_sent = true;
+	if
+	:: atomic { link_left -> HANG_UP }
+	:: !link_left
+	fi
+}
+
+/* Throttle::holds */
+#ifdef MUT_NO_THROTTLE
+#define HELD false
+#else
+#define HELD (writes > MARK && sending_up)
+#endif
+
+#ifndef KEPT
+#define KEPT 1		/* how many keys are read ahead at most: MAX_KEPT, 16 MB */
+#endif
+#ifdef MUT_NO_AHEAD
+#define READS_AHEAD false
+#else
+#define READS_AHEAD nfull(kept)
+#endif
+chan kept = [KEPT] of { byte };	/* the keys that were read ahead */
 
 /* Net: run_reader over Incoming */
 proctype ClientNet() {
@@ -84,7 +117,7 @@ out:	true;
 /* Keys: run_reader over Console, or over Keys (PLAIN), which waits for its reader alone */
 proctype ClientKeys() {
 	byte x = 0;
-	bool ok, has_size;
+	bool ok, has_size, asks_to_close;
 	mtype last = Left;
 	do
 	::
@@ -103,45 +136,56 @@ proctype ClientKeys() {
 		:: atomic { MAY_FAIL -> FAIL; last = Refused; goto ends }	/* no memory for the piece */
 		:: true
 		fi;
-#ifndef MUT_NO_THROTTLE
-		/* Throttle::wait */
+#ifdef PLAIN
+		/* Throttle::wait, then a read */
 		do
-#ifdef FIX_LEAVE
-		:: user?[0] -> break			/* the key that leaves is looked for meanwhile */
-		:: link_closed -> break
-#endif
 		:: writes <= MARK -> break
 		:: writes > MARK ->
 			if
-#ifdef FIX_LEAVE
-			:: user?[0] -> break
-			:: link_closed -> break
-#endif
 			:: nempty(sent) -> sent?_
 			:: atomic { empty(sent) && !sending_up -> break }
 			fi
 		od;
-#endif
-		/* Console::wait, then a read */
 		if
-#ifndef PLAIN
-		:: atomic { link_closed -> last = HangUp }
+		:: atomic { nempty(user) -> user?x }
+		:: atomic { empty(user) && user_ended -> last = HangUp }
+		:: atomic { MAY_FAIL -> FAIL; last = ReadFailed }
+		fi;
+#else
+#ifdef USER_INLINE
+		if
+		:: !HELD
+		:: link_closed
+		fi;
 #endif
+		/* Console::wait, or leave once the user has, then a read */
+		if
+		:: atomic { link_closed -> last = HangUp }
+		:: atomic { link_left && !link_closed && nempty(kept) && !HELD -> kept?x }
+		:: atomic { link_left && !link_closed && nempty(kept) && HELD -> last = HangUp }	/* is_late */
+		:: atomic { link_left && empty(kept) -> last = HangUp }
 #ifdef USER_INLINE
 		USER_TYPES(x)
 #else
-		:: atomic { nempty(user) -> user?x;
+		:: atomic { !link_left && !HELD && nempty(kept) -> kept?x }
+		:: atomic { !link_left && !HELD && empty(kept) && nempty(user) -> user?x; asks_to_close = (x == 0) }
+		:: atomic { !link_left && HELD && READS_AHEAD && nempty(user) -> user?x;
 			if
-			:: x == 0 -> link_left = true; HANG_UP; last = HangUp	/* Link::leave */
-			:: else
+			:: x == 0 -> asks_to_close = true
+			:: else -> kept!x; x = 0; goto again
 			fi }
 #endif
-		:: atomic { empty(user) && user_ended -> last = HangUp }
+		:: atomic { !link_left && !HELD && empty(kept) && empty(user) && user_ended -> last = HangUp }
 		:: atomic { MAY_FAIL -> FAIL; last = ReadFailed }
 #ifdef SIZES
-		:: atomic { sizes > 0 -> sizes--; has_size = true; goto again }		/* Interrupted: it reads again */
+		:: atomic { !HELD && sizes > 0 -> sizes--; has_size = true; goto again }		/* Interrupted: it reads again */
 #endif
 		fi;
+		if
+		:: atomic { asks_to_close -> asks_to_close = false; x = 0 }; link_leave(); goto again
+		:: !asks_to_close
+		fi;
+#endif
 ends:		true;
 		if
 		:: last == Left ->
@@ -167,7 +211,12 @@ again:		true
 leaves:	true;
 	atomic { say(CLI, KEYS, Left, 0, 0, 0, ok); goto out };
 out:	true;
-	atomic { x = 0; ok = 0; c_keys_done = true }
+	atomic { x = 0; ok = 0; asks_to_close = 0;
+		do
+		:: nempty(kept) -> kept?_
+		:: empty(kept) -> break
+		od;
+		c_keys_done = true }
 }
 
 /* Sending: a thread of its own. So many bytes do not wait any more: `note` */
@@ -196,8 +245,8 @@ proctype Sending() {
 		:: (n == 0 && u == 0) || !ok -> break
 		od };
 		if
-		:: atomic { !ok && !link_left -> HANG_UP; goto out }
-		:: atomic { !ok && link_left -> goto fails }
+		:: atomic { !ok && !link_left && !link_dark -> HANG_UP; goto out }
+		:: atomic { !ok && (link_left || link_dark) -> goto fails }
 		:: ok
 		fi;
 		note()
@@ -212,6 +261,7 @@ fails:	note();
 		note()
 	od;
 ends:	fin[C2S] = true;					/* finish */
+	link_end_sending();
 out:	true;
 	atomic { n = 0; u = 0; ok = 0; sending_up = false; sending_done = true }
 }
@@ -316,7 +366,12 @@ shows:		/* what is shown */
 #ifdef MUT_NO_DARKEN
 			:: atomic { screen_dead -> shown = false; c_blocked_screen = false }
 #else
-			:: atomic { screen_dead -> HANG_UP; shown = false; c_blocked_screen = false }	/* darken */
+			:: atomic { screen_dead -> link_dark = true; HANG_UP; c_blocked_screen = false;	/* darken */
+#ifdef HEAD
+				text = 0; textu = 0 }				/* its reader has left: the rest is dropped */
+#else
+				shown = false }
+#endif
 #endif
 			fi
 #endif

@@ -11,6 +11,11 @@
 #define FAULTS 0	/* how many faults may come: no memory, a failed read or write, a refused call */
 #endif
 
+#ifdef CLIENT
+bool link_closed, link_left, link_down;	/* Link: nothing more comes; the user has left; both directions are shut */
+bool link_dark, link_sent;	/* the screen takes no more; nothing more is sent */
+#endif
+
 #define C2S 0		/* from the client to the server */
 #define S2C 1
 #define G2L 2		/* from the gateway to the line service */
@@ -85,8 +90,8 @@ inline put_unit(d, u, ok) {
 #ifdef FIX_WRITE_LOOKS
 	:: atomic { d == S2C && peer_silent && full(wire[S2C]) -> ok = false }	/* the peer takes nothing for the time of --idle */
 #endif
-#ifdef FIX_SENDING_LOOKS
-	:: atomic { d == C2S && c_net_done && c_keys_done && full(wire[C2S]) -> ok = false }	/* the session is over, likewise */
+#if defined(CLIENT) && !defined(MUT_SENDING_WAITS)
+	:: atomic { d == C2S && (link_left || link_dark || link_closed) && full(wire[C2S]) -> ok = false }	/* Link::is_late */
 #endif
 	fi
 }

@@ -16,7 +16,7 @@
 use crate::outlet::Outlet;
 use std::alloc::{AllocError, Global};
 use std::env::{Env, FillError};
-use std::fs::{File, Files};
+use std::fs::{File, Files, OpenOptions};
 use std::process::ExitCode;
 use std::sync::Arc;
 use std::{env, io, str};
@@ -33,6 +33,9 @@ const SIZES: &str = "TN_SIZES";
 
 /// The environment variable by which the launcher names the pipe in which it hears that a connection stands.
 const STANDS: &str = "TN_STANDS";
+
+/// The terminal that a process was started at (POSIX).
+const TERMINAL_PATH: &str = "/dev/tty";
 
 /// How many bytes the path of such a pipe has at most.
 const MAX_PATH: usize = 4_096;
@@ -64,6 +67,14 @@ fn stands_of<R: Env + Files<File = File>>(rt: &R) -> Option<File> {
     File::create(rt, path).ok()
 }
 
+// The terminal that keys are typed at, though standard output may be a file.
+fn terminal_of<R: Files<File = File>>(rt: &R, origin: Origin) -> Option<File> {
+    match origin {
+        Origin::Terminal => OpenOptions::new().write(true).open(rt, TERMINAL_PATH).ok(),
+        Origin::Reader | Origin::Input => None,
+    }
+}
+
 // A connection that is to be, for the keys and for the screen.
 fn links(alloc: Global) -> Result<(Arc<Link, Global>, Arc<Link, Global>), AllocError> {
     let link = Arc::new(alloc, Link::new())?;
@@ -92,11 +103,13 @@ fn main(rt: HostRuntime) -> ExitCode {
         let _ = eprintln!(rt; "tn: memory");
         return ExitCode::from(NO_MEMORY);
     };
+    let origin = origin_of(&rt);
     let seat = Seat {
-        origin: origin_of(&rt),
+        origin,
         reader: rt.stdin(),
         sizes: sizes_of(&rt),
         stands: stands_of(&rt),
+        terminal: terminal_of(&rt, origin),
         link,
     };
     let mut screen = Outlet {

@@ -17,7 +17,7 @@ ghost use Rattle.tn_streams.specs.Known.{known_reader};
 
 use crate::connected::Connected;
 use crate::fault::ConnectFault;
-use crate::news::tell_standing;
+use crate::news::tell_that_it_stands;
 use crate::publishing::Publisher;
 use crate::sending::{Delivered, Sender};
 use crate::settings::{Connecting, Notes, Origin};
@@ -30,13 +30,17 @@ use std::marker::Brand;
 use std::net::TcpStream;
 use std::sync::Arc;
 use std::sync::atomic::AtomicBool;
+use std::time::Duration;
 use tn_network::{Network, reach};
 use tn_session::{ClientPorts, Ended, Report, SessionFault, client_session};
 use tn_sockets::{
     Connection, Console, Host, Incoming, Keys, Link, Logged, NewQueue, Outgoing, PiecePass, Queue,
-    Sent, Sizes, Trace, Typing, WriteLog, new_queue,
+    Sent, Sizes, Terminal, Trace, Typing, WriteLog, new_queue,
 };
 use tn_streams::{Drain, Source};
+
+/// After how many milliseconds a write that waits looks whether the user has left.
+const WRITE_LOOK: u64 = 100;
 
 // A connection that stands, and what it shares with the rest of the client.
 #[derive(Drop)]
@@ -85,6 +89,7 @@ fn wire<H: Host, Q: Queue>(
         queue,
     } = opened;
     let (reader, writer) = Connection::split(stream)?;
+    reader.set_write_timeout(Some(Duration::from_millis(WRITE_LOOK)))?;
     link.attach(&rt, reader.try_clone()?);
     let sent = Arc::try_clone(&link)?;
     let is_over = Arc::new(alloc, AtomicBool::new(false))?;
@@ -153,14 +158,14 @@ fn talk_from<H: Host, K: Read + Drop + Send + 'static, S: Write, Q: Queue>(
         Origin::Input => {
             let keys = Patient {
                 rt,
-                keys: Console::new(rt, typing, None),
+                keys: Console::new(rt, alloc, typing, None),
                 seconds: connecting.wait,
                 is_over,
             };
             talk(rt, alloc, incoming, outgoing, keys, screen, connecting)
         },
         Origin::Terminal => {
-            let keys = Console::new(rt, typing, connecting.escape);
+            let keys = Console::new(rt, alloc, typing, connecting.escape);
             talk(rt, alloc, incoming, outgoing, keys, screen, connecting)
         },
     }
@@ -242,6 +247,7 @@ pub fn connect<H: Host + Network, K: Read + Drop + Send + 'static, S: Write, E: 
         trace,
         sizes,
         stands,
+        terminal,
         mut news,
         causes,
         link,
@@ -254,6 +260,7 @@ pub fn connect<H: Host + Network, K: Read + Drop + Send + 'static, S: Write, E: 
         trace,
         sizes,
         stands,
+        terminal,
         news,
         causes,
         link,
@@ -282,12 +289,13 @@ fn connect_over<H: Host, K: Read + Drop + Send + 'static, S: Write, E: Drain>(
     let Notes {
         trace,
         sizes,
-        stands,
+        mut stands,
+        terminal,
         mut news,
         causes,
         link,
     } = notes;
-    tell_standing(stands);
+    tell_that_it_stands(&mut stands);
     news.connect(host, connecting.escape);
     let trace = Trace::new(rt, alloc, trace)?;
     let (queue, throttle) = new_queue(rt, alloc)?;
@@ -300,6 +308,7 @@ fn connect_over<H: Host, K: Read + Drop + Send + 'static, S: Write, E: Drain>(
         width: connecting.width,
         height: connecting.height,
         sizes: Sizes::new(sizes),
+        terminal: Some(Terminal::new(terminal, stands)),
     };
     let opened = Opened {
         stream,
@@ -309,7 +318,7 @@ fn connect_over<H: Host, K: Read + Drop + Send + 'static, S: Write, E: Drain>(
     };
     let talked = talk_and_send::<H, K, S, Brand>(rt, alloc, opened, typing, screen, connecting)?;
     note_talked(causes, &talked, &link);
-    if !trace.end() {
+    if !trace.is_whole() {
         let _ = writeln!(causes, "tn: the trace is not whole");
     }
     let is_left = link.is_left();
@@ -324,7 +333,11 @@ fn note_talked(causes: &mut Vec<u8>, talked: &Talked, link: &Link) {
     if let Some(fault) = fault_of(&talked.ended) {
         note_fault(causes, fault, link);
     }
-    note_unsent(causes, &talked.sent, talked.unsent);
+    if let Err(error) = &talked.sent {
+        let _ = writeln!(causes, "tn: sending failed: {}", error);
+    }
+    let unsent = talked.unsent.saturating_add(link.dropped());
+    note_unsent(causes, unsent, link);
 }
 
 // The result of a session that is over. Where its sending failed it is a fault, unless its user has left.
@@ -384,18 +397,20 @@ fn note_fault(causes: &mut Vec<u8>, fault: SessionFault, link: &Link) {
     };
 }
 
-// Notes what was not sent, and why.
-fn note_unsent(causes: &mut Vec<u8>, sent: &io::Result<Sent>, waiting: usize) {
-    if let Err(error) = sent {
-        let _ = writeln!(causes, "tn: sending failed: {}", error);
+// Notes how much was not sent, and why. Whoever reads the screen and leaves wants no more of it.
+fn note_unsent(causes: &mut Vec<u8>, unsent: usize, link: &Link) {
+    if unsent == 0 || link.is_dark() {
+        return;
     }
-    if waiting > 0 {
-        let _ = writeln!(
+    let _ = if link.is_left() {
+        writeln!(causes, "tn: {} bytes typed were not sent", unsent)
+    } else {
+        writeln!(
             causes,
             "tn: closed by the other end; {} bytes typed were not sent",
-            waiting
-        );
-    }
+            unsent
+        )
+    };
 }
 
 // The result of a session that ended without a fault.

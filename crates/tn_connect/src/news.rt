@@ -90,8 +90,13 @@ pub(crate) fn tell<W: Drain>(writer: &mut W, line: &[u8]) {
 }
 
 /// Whoever waits for the connection hears that it stands.
-pub(crate) fn tell_standing(stands: Option<File>) {
-    if let Some(mut stands) = stands {
+pub(crate) fn tell_standing(mut stands: Option<File>) {
+    tell_that_it_stands(&mut stands);
+}
+
+/// The same, of somebody who hears more later.
+pub(crate) fn tell_that_it_stands(stands: &mut Option<File>) {
+    if let Some(stands) = stands {
         let _ = stands.write_all(STANDS);
     }
 }

@@ -1,7 +1,7 @@
 -- What is typed at a terminal, of which an escape character makes commands to the client itself.
-use Rattle.std.specs.Prelude.{◌≡◌, ℕ, nat_eq, Bool, true, false, Option, None, Some, List, [], ◌∷◌, ◌++◌, if◌then◌else◌}
+use Rattle.std.specs.Prelude.{◌≡◌, ◌≤◌, ◌⊎◌, ℕ, nat_eq, Bool, true, false, Option, None, Some, List, [], ◌∷◌, ◌++◌, length, take, if◌then◌else◌}
 use Rattle.tn_escape.specs.declared.escaping.Command.{Command}
-use Rattle.tn_escape.specs.declared.escaping.Command.TheVariants.{Close, Help, Status, Unknown}
+use Rattle.tn_escape.specs.declared.escaping.Command.TheVariants.{Close, Help, Status, Suspend, Unknown}
 use Rattle.tn_escape.specs.declared.escaping.Escaping.{Escaping}
 use Rattle.tn_escape.specs.declared.escaping.Typed.{Typed}
 use Rattle.tn_escape.specs.declared.escaping.Typed.TheVariants as typed
@@ -19,11 +19,11 @@ keys character false (byte ∷ bytes) =
 keys character true (byte ∷ bytes) =
     if is_escape character byte then byte ∷ keys character false bytes else keys character false bytes
 
--- what the byte behind an escape character asks for: q, ? and s
+-- what the byte behind an escape character asks for: q, ?, s and z
 abbrev pub command : ℕ → Command
 command byte =
     if nat_eq byte 113 then Close else if nat_eq byte 63 then Help else if nat_eq byte 115 then Status
-    else Unknown byte
+    else if nat_eq byte 122 then Suspend else Unknown byte
 
 -- what one byte is
 abbrev pub typed_after : Option ℕ → Bool → ℕ → Typed
@@ -82,3 +82,13 @@ waits_behind character waits (byte ∷ bytes) = waits_behind character (waits_af
 abbrev pub Obeys : Option (List Command) → List Command → Option (List Command) → Type 0
 Obeys None these new = new ≡ None
 Obeys (Some old) these new = new ≡ Some (old ++ these)
+
+-- the last of these asks to close
+abbrev pub AskToClose : List Command → Type 0
+AskToClose these = (before : List Command) × (these ≡ before ++ (Close ∷ []))
+
+-- so many bytes were taken: all, or those up to one that asks to close
+abbrev pub IsTakenUpTo : ℕ → Option ℕ → Bool → List ℕ → Type 0
+IsTakenUpTo count character waits bytes =
+    (count ≤ length bytes)
+    × ((count ≡ length bytes) ⊎ AskToClose (commands character waits (take count bytes)))

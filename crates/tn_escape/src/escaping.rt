@@ -1,7 +1,7 @@
 //! One typed byte after another.
 
 ghost use Rattle.std.specs.Prelude.{◌≡◌, ◌≤◌, false, List, Option, None, [], ◌∷◌, length, take};
-ghost use Rattle.tn_escape.specs.Typing.{Obeys, command, commands, is_escape, keys, reading, waits, waits_behind};
+ghost use Rattle.tn_escape.specs.Typing.{IsTakenUpTo, Obeys, command, commands, is_escape, keys, reading, waits, waits_behind};
 
 /// What the user asks the client itself for.
 #[derive(Clone, Copy, Debug, PartialEq, Eq)]
@@ -12,6 +12,8 @@ pub enum Command {
     Help,
     /// `s`: show the state of the session.
     Status,
+    /// `z`: stop, until the shell goes on with it.
+    Suspend,
     /// Any other byte: it means nothing.
     Unknown(u8),
 }
@@ -36,6 +38,13 @@ pub trait Obey {
 
     fn obey(&mut self, command: Command)
         ensures { Obeys (obeyed self.old) (command ∷ []) (obeyed self.new) };
+}
+
+/// How many bytes were taken, and how many keys are among them.
+#[derive(Clone, Copy, Debug, PartialEq, Eq)]
+pub struct Split {
+    pub keys: usize,
+    pub taken: usize,
 }
 
 /// Splits what is typed into keys and commands.
@@ -80,14 +89,17 @@ impl Escaping {
     }
 
     /// Leaves the keys among these bytes at their front, in order, and has each command obeyed once, in order.
-    /// Returns how many keys there are.
-    pub fn split<O: Obey>(&mut self, bytes: &mut [u8], obeying: &mut O) -> usize
-        ensures room { result ≤ length bytes.new }
-        ensures keys { take result bytes.new ≡ keys self.old.character self.old.waits bytes.old }
-        ensures commands { Obeys (O.obeyed obeying.old) (commands self.old.character self.old.waits bytes.old)
-            (O.obeyed obeying.new) }
+    /// What stands behind a byte that asks to close is not taken.
+    pub fn split<O: Obey>(&mut self, bytes: &mut [u8], obeying: &mut O) -> Split
+        ensures room { result.keys ≤ result.taken }
+        ensures keys { take result.keys bytes.new
+            ≡ keys self.old.character self.old.waits (take result.taken bytes.old) }
+        ensures commands { Obeys (O.obeyed obeying.old)
+            (commands self.old.character self.old.waits (take result.taken bytes.old)) (O.obeyed obeying.new) }
+        ensures taken { IsTakenUpTo result.taken self.old.character self.old.waits bytes.old }
         ensures character { self.new.character ≡ self.old.character }
-        ensures waits { self.new.waits ≡ waits_behind self.old.character self.old.waits bytes.old }
+        ensures waits { self.new.waits
+            ≡ waits_behind self.old.character self.old.waits (take result.taken bytes.old) }
     {
         let mut keys = 0;
         for place in 0..bytes.len() {
@@ -96,11 +108,17 @@ impl Escaping {
                     bytes[keys] = key;
                     keys += 1;
                 },
+                Typed::Command(Command::Close) => {
+                    obeying.obey(Command::Close);
+                    let taken = place + 1;
+                    return Split { keys, taken };
+                },
                 Typed::Command(command) => obeying.obey(command),
                 Typed::Nothing => {},
             }
         }
-        keys
+        let taken = bytes.len();
+        Split { keys, taken }
     }
 
     fn is_escape(&self, byte: u8) -> bool
@@ -120,6 +138,7 @@ fn command_of(byte: u8) -> Command
         b'q' => Command::Close,
         b'?' => Command::Help,
         b's' => Command::Status,
+        b'z' => Command::Suspend,
         _ => Command::Unknown(byte),
     }
 }

@@ -11,7 +11,7 @@
 //! It reads and writes nothing. A session gets the keys alone, in their order.
 #![tactic(auto)]
 
-pub use escaping::{Command, Escaping, Obey, Typed};
+pub use escaping::{Command, Escaping, Obey, Split, Typed};
 
 mod escaping;
 pub mod laws;

@@ -2,7 +2,7 @@
 //!
 //! ```
 //! let link = Arc::new(alloc, Link::new())?;
-//! let seat = Seat { origin: Origin::Input, reader: rt.stdin(), sizes: None, stands: None, link };
+//! let seat = Seat { origin: Origin::Input, reader: rt.stdin(), sizes: None, stands: None, terminal: None, link };
 //! let status = run_words(rt, alloc, Ok(words), seat, &mut rt.stdout(), &mut rt.stderr());
 //! ```
 //!

@@ -268,6 +268,7 @@ fn run_plain<H: Network + Host, R: Read + Drop + Send + 'static, W: Write, E: Dr
         reader,
         sizes,
         stands,
+        terminal,
         link,
     } = seat;
     let news = News {
@@ -279,6 +280,7 @@ fn run_plain<H: Network + Host, R: Read + Drop + Send + 'static, W: Write, E: Dr
         trace: None,
         sizes,
         stands,
+        terminal,
         news,
         causes,
         link,
@@ -317,6 +319,7 @@ fn run_connect<
         reader,
         sizes,
         stands,
+        terminal,
         link,
     } = seat;
     let news = News {
@@ -328,6 +331,7 @@ fn run_connect<
         trace,
         sizes,
         stands,
+        terminal,
         news,
         causes,
         link,

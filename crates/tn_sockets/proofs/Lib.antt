@@ -3,3 +3,4 @@ pub mod Writing
 pub mod Passing
 pub mod lemmas
 pub mod Digits
+pub mod Typed

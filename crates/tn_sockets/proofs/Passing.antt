@@ -1,7 +1,7 @@
 -- What a reader hands on.
-use Rattle.std.proofs.Common.{◌≡◌, ◌≢◌, ◌<◌, ℕ, List, [], ◌++◌, length, take, Option, Some, None, Result, Ok, Err, refl, sym, ap, ◌∙◌, subst}
+use Rattle.std.proofs.Common.{ℕ, List, [], Option, Some, None, Result, Ok, Err, refl, sym, ◌∙◌}
 use Rattle.std.specs.Io.KnownBytes.{Consumes, Keeps, ReadConsumes}
-use Rattle.tn_sockets.specs.Passing.{HandsOn, GivesNext}
+use Rattle.tn_sockets.specs.Passing.{HandsOn}
 
 pub keeps_same : (a : Option (List ℕ)) → Keeps a a
 keeps_same None = tt

@@ -1,92 +1,172 @@
 //! Standard input as keys: it is waited for, so that a session ends though nobody types, and at a terminal
 //! the user speaks to the client itself behind an escape character.
 
-ghost use Rattle.std.specs.Prelude.{◌≡◌, ◌≤◌, None, length, take};
+ghost use Rattle.std.specs.Prelude.{◌≡◌, ◌≤◌, ◌+◌, ◌++◌, [], None, length, take};
 ghost use Rattle.std.specs.Io.{ReadsAtMost};
 ghost use Rattle.std.specs.Io.KnownBytes.{ReadConsumes};
-ghost use Rattle.tn_escape.specs.Typing.{keys};
-ghost use Rattle.tn_sockets.specs.Passing.{GivesKeys};
+ghost use Rattle.std.specs.VecDeque.{deque_capacity, deque_len};
+ghost use Rattle.tn_escape.specs.Typing.{IsTakenUpTo, keys, waits_behind};
+ghost use Rattle.tn_sockets.specs.Passing.{GivesKeys, given_of};
 ghost use Rattle.tn_streams.specs.Foretelling.{ForetellsCall};
 ghost use Rattle.tn_streams.specs.Telling.{CountsRead, TellsCall};
 
+use crate::deeds::Deeds;
+use crate::kept;
 use crate::keys::Typing;
-use crate::link::Link;
+use crate::terminal::Terminal;
 use libc::net::{POLLIN, poll};
 use libc::types::pollfd;
-use std::io;
-use std::io::{ErrorKind, Print, Read};
+use std::alloc::Global;
+use std::collections::VecDeque;
+use std::io::{ErrorKind, Read};
 use std::sync::Wait;
-use tn_escape::{Command, Escaping, Obey};
+use std::time::{Clock, Duration, Instant};
+use std::{io, mem};
+use tn_escape::{Escaping, Split};
 use tn_streams::{Source, WindowSize};
 
 /// The descriptor of standard input (POSIX, `STDIN_FILENO`).
 const STANDARD_INPUT: i32 = 0;
 
+/// The descriptor that `poll` passes over (POSIX).
+const NO_DESCRIPTOR: i32 = -1;
+
 /// After how many milliseconds without a key it is looked whether the session is over.
 const LOOK: i32 = 200;
 
-/// What the keys of the escape character do, in lines of their own.
-const HELP: &str = "q  closes the connection and leaves\r\n?  shows these keys\r\n\
-    s  shows the state of the session\r\nand the escape character again sends itself\r\n";
+/// The same where keys are held back.
+const HOLD: u64 = 200;
+
+/// How many milliseconds a terminal has at most to bring the next keys of a paste that is read ahead.
+const REFILL: i32 = 2;
+
+/// How many milliseconds a user who leaves waits at most for the keys before to be taken.
+const LEAVING: u64 = 1_000;
 
 // What a wait ends with.
+#[derive(Clone, Copy)]
 enum Ready {
     Size,
+    /// Keys can be given, or read.
     Key,
+    /// Keys can be read, and are to be kept.
+    Ahead,
     Over,
 }
 
 /// Keys from standard input, and what its user asks the client itself for. Of what is typed nothing is known
-/// beforehand.
+/// beforehand. While keys are held back, a user who speaks to the client itself is heard: what is typed is read ahead.
 #[derive(Drop)]
 pub struct Console<H, K> {
     rt: H,
+    alloc: Global,
     typing: Typing<H, K>,
     escaping: Escaping,
+    terminal: Terminal,
+    // What was read ahead, whether the last read was, and whether there is no room for more.
+    kept: VecDeque<u8>,
+    is_ahead: bool,
+    is_full: bool,
+    // The end of what is typed was read ahead.
+    has_ended: bool,
+    // When it was seen that the user leaves.
+    left: Option<Instant>,
     // The size that was told last, and has not been said.
     resized: Option<WindowSize>,
 }
 
-impl<H: Copy + Print + Wait, K: Read + Drop> Console<H, K> {
+impl<H: Clock + Copy + Wait, K: Read + Drop> Console<H, K> {
     /// Keys that come from there, which is standard input. With an escape character its user speaks to the
     /// client itself.
-    pub fn new(rt: H, typing: Typing<H, K>, escape: Option<u8>) -> Console<H, K> {
+    pub fn new(
+        rt: H,
+        alloc: Global,
+        mut typing: Typing<H, K>,
+        escape: Option<u8>,
+    ) -> Console<H, K> {
+        let terminal = typing.terminal.take();
+        let terminal = terminal.unwrap_or(Terminal::new(None, None));
         Console {
             rt,
+            alloc,
             typing,
             escaping: Escaping::new(escape),
+            terminal,
+            kept: VecDeque::new(alloc),
+            is_ahead: false,
+            is_full: false,
+            has_ended: false,
+            left: None,
             resized: None,
         }
     }
 
     // tools/progress: proctype ClientKeys
-    // Waits until a size is told, a key can be read, or the session is over.
+    // Waits until a size is told, a key can be given or read, or the session is over.
     fn wait(&self) -> Ready {
         for _ in self.rt.forever() {
             if self.typing.link.is_closed() {
                 return Ready::Over;
             }
-            let mut waited = [
-                waits_at(self.typing.sizes.descriptor()),
-                waits_at(STANDARD_INPUT),
-            ];
-            if poll(&mut waited, LOOK) <= 0 {
-                continue;
-            }
-            let [sizes, keys] = waited;
-            if sizes.revents != 0 {
-                return Ready::Size;
-            }
-            if keys.revents != 0 {
-                return Ready::Key;
+            let ready = if self.typing.throttle.holds(0) {
+                self.look_ahead()
+            } else {
+                self.look()
+            };
+            if let Some(ready) = ready {
+                return ready;
             }
         }
         Ready::Over
     }
 
+    // What can be done where keys can be given, if there is anything.
+    fn look(&self) -> Option<Ready> {
+        if self.kept.len() > 0 {
+            return Some(Ready::Key);
+        }
+        if self.has_ended {
+            return Some(Ready::Over);
+        }
+        let mut waited = [
+            waits_at(self.typing.sizes.descriptor()),
+            waits_at(STANDARD_INPUT),
+        ];
+        if poll(&mut waited, LOOK) <= 0 {
+            return None;
+        }
+        let [sizes, keys] = waited;
+        if sizes.revents != 0 {
+            return Some(Ready::Size);
+        }
+        if keys.revents != 0 {
+            return Some(Ready::Key);
+        }
+        None
+    }
+
+    // The same where they are held back. A terminal brings a paste in pieces.
+    fn look_ahead(&self) -> Option<Ready> {
+        let time = if self.is_ahead { REFILL } else { 0 };
+        if self.can_read_ahead() {
+            let mut waited = [waits_at(STANDARD_INPUT)];
+            if poll(&mut waited, time) > 0 {
+                return Some(Ready::Ahead);
+            }
+        }
+        let _held = self.typing.throttle.holds(HOLD);
+        None
+    }
+
+    fn can_read_ahead(&self) -> bool {
+        self.escaping.character.is_some() && !self.is_full && !self.has_ended
+    }
+
     // A size is said between two reads.
     fn take_size(&mut self)
         ensures keys { self.new.typing.keys ≡ self.old.typing.keys }
+        ensures escaping { self.new.escaping ≡ self.old.escaping }
+        ensures kept { self.new.kept ≡ self.old.kept }
     {
         if let Some(size) = self.typing.sizes.read() {
             self.typing.width = size.width;
@@ -95,91 +175,142 @@ impl<H: Copy + Print + Wait, K: Read + Drop> Console<H, K> {
         }
     }
 
-    // Leaves the keys of the session at the front of the bytes, and does what the others ask for. Returns
-    // how many keys there are.
-    fn split(&mut self, bytes: &mut [u8]) -> usize
-        ensures room { result ≤ length bytes.new }
-        ensures keys { take result bytes.new ≡
-            keys self.old.escaping.character self.old.escaping.waits bytes.old }
+    // Leaves the keys of the session at the front of the bytes, and does what the others ask for.
+    fn split(&mut self, bytes: &mut [u8]) -> Split
+        ensures room { result.keys ≤ length bytes.new }
+        ensures keys { take result.keys bytes.new
+            ≡ keys self.old.escaping.character self.old.escaping.waits (take result.taken bytes.old) }
+        ensures taken { IsTakenUpTo result.taken self.old.escaping.character self.old.escaping.waits bytes.old }
+        ensures character { self.new.escaping.character ≡ self.old.escaping.character }
+        ensures waits { self.new.escaping.waits
+            ≡ waits_behind self.old.escaping.character self.old.escaping.waits (take result.taken bytes.old) }
         ensures typing { self.new.typing ≡ self.old.typing }
+        ensures kept { self.new.kept ≡ self.old.kept }
     {
         let mut deeds = Deeds {
-            rt: self.rt,
+            alloc: self.alloc,
             typing: &self.typing,
+            terminal: mem::replace(&mut self.terminal, Terminal::new(None, None)),
         };
-        self.escaping.split(bytes, &mut deeds)
+        let split = self.escaping.split(bytes, &mut deeds);
+        let Deeds { mut terminal, .. } = deeds;
+        terminal.settle(self.escaping.waits);
+        self.terminal = terminal;
+        split
     }
 
-    // Reads what is typed. Keys are the next of those that are typed; where there are none, it is as if a signal
-    // had come.
-    fn read_keys(&mut self, buf: &mut [u8]) -> io::Result<usize>
+    // Gives the first of the keys that are kept, or reads what is typed. Keys are the next of those that are typed;
+    // where there are none, it is as if a signal had come.
+    fn give(&mut self, buf: &mut [u8]) -> io::Result<usize>
         ensures bound { ReadsAtMost result buf.new }
         ensures keys { GivesKeys (K.remaining self.old.typing.keys) (K.remaining self.new.typing.keys)
-            self.old.escaping result buf.new }
+            self.old.escaping self.new.escaping self.old.kept.items self.new.kept.items
+            (given_of result buf.new) }
+    {
+        if self.kept.is_empty() {
+            return self.read_keys(buf);
+        }
+        let count = kept::give(&mut self.kept, buf);
+        self.is_full = false;
+        Ok(count)
+    }
+
+    fn read_keys(&mut self, buf: &mut [u8]) -> io::Result<usize>
+        requires none { self.old.kept.items ≡ [] }
+        ensures bound { ReadsAtMost result buf.new }
+        ensures keys { GivesKeys (K.remaining self.old.typing.keys) (K.remaining self.new.typing.keys)
+            self.old.escaping self.new.escaping [] self.new.kept.items (given_of result buf.new) }
     {
         let count = self.typing.keys.read(buf)?;
         if count == 0 {
             return Ok(0);
         }
-        let keys = self.split(&mut buf[..count]);
-        if self.typing.link.is_left() {
-            return Ok(0);
-        }
-        if keys == 0 {
+        let split = self.split(&mut buf[..count]);
+        if split.keys == 0 {
             return Err(io::Error::from(ErrorKind::Interrupted));
         }
-        Ok(keys)
+        Ok(split.keys)
     }
-}
 
-// What the user asks the client itself for is done at once.
-#[derive(Drop)]
-struct Deeds<'a, H, K> {
-    rt: H,
-    typing: &'a Typing<H, K>,
-}
+    // Reads what is typed, and keeps the keys.
+    fn read_ahead(&mut self, buf: &mut [u8]) -> io::Result<()>
+        requires room { deque_len self.old.kept + length buf.old ≤ deque_capacity self.old.kept }
+        ensures keys { GivesKeys (K.remaining self.old.typing.keys) (K.remaining self.new.typing.keys)
+            self.old.escaping self.new.escaping self.old.kept.items self.new.kept.items [] }
+    {
+        let count = self.typing.keys.read(buf)?;
+        if count == 0 {
+            self.has_ended = true;
+            return Ok(());
+        }
+        let split = self.split(&mut buf[..count]);
+        kept::keep(&mut self.kept, &buf[..split.keys]);
+        Ok(())
+    }
 
-impl<'a, H: Copy + Print, K> Obey for Deeds<'a, H, K> {
-    // What is shown begins on a line of its own. A line that can't be written is dropped.
-    fn obey(&mut self, command: Command) {
-        match command {
-            Command::Close => self.typing.link.leave(),
-            Command::Help => {
-                let _ = print!(self.rt; "\r\n{}", HELP);
-            },
-            Command::Status => self.show_status(),
-            Command::Unknown(_) => {
-                let _ = print!(self.rt;
-                    "\r\nunknown; the escape character and ? show the keys\r\n"
-                );
-            },
+    // The same, where there is room to keep them. Nothing is given.
+    fn keep_keys(&mut self, buf: &mut [u8]) -> io::Result<usize>
+        ensures bound { ReadsAtMost result buf.new }
+        ensures keys { GivesKeys (K.remaining self.old.typing.keys) (K.remaining self.new.typing.keys)
+            self.old.escaping self.new.escaping self.old.kept.items self.new.kept.items
+            (given_of result buf.new) }
+    {
+        if kept::makes_room(&mut self.kept, buf.len()) {
+            self.read_ahead(buf)?;
+        } else {
+            self.is_full = true;
+        }
+        Err(io::Error::from(ErrorKind::Interrupted))
+    }
+
+    // Whether the keys that are kept are given up: the user left a while ago, or there is no clock.
+    fn is_late(&self) -> bool {
+        let Some(left) = self.left else {
+            return true;
+        };
+        match left.elapsed(&self.rt) {
+            Ok(elapsed) => elapsed >= Duration::from_millis(LEAVING),
+            Err(_) => true,
         }
     }
-}
 
-impl<'a, H: Copy + Print, K> Deeds<'a, H, K> {
-    fn show_status(&self) {
-        let Typing {
-            link,
-            host,
-            port,
-            width,
-            height,
-            ..
-        } = &self.typing;
-        let echo = place_of(!link.echoes_there());
-        let _ = print!(self.rt;
-            "\r\nconnected to {} port {}\r\n{}, echo is made {}\r\nwindow {} by {}\r\n\
-            {} bytes came, {} went\r\n",
-            host,
-            port,
-            editing_of(link),
-            echo,
-            width,
-            height,
-            link.came(),
-            link.went()
-        );
+    // Waits, since the user leaves, until keys that are kept can be given. False where none will be.
+    fn can_still_give(&self) -> bool {
+        for _ in self.rt.forever() {
+            if self.kept.len() == 0 || self.typing.link.is_closed() {
+                return false;
+            }
+            if !self.typing.throttle.holds(0) {
+                return true;
+            }
+            if self.is_late() {
+                return false;
+            }
+            let _held = self.typing.throttle.holds(HOLD);
+        }
+        false
+    }
+
+    // Once the user leaves, keys that were typed before are given, as long as they are taken, and then end.
+    fn leave(&mut self, buf: &mut [u8]) -> usize
+        ensures bound { result ≤ length buf.new }
+        ensures given { take result buf.new ++ self.new.kept.items ≡ self.old.kept.items }
+        ensures typing { self.new.typing ≡ self.old.typing }
+        ensures escaping { self.new.escaping ≡ self.old.escaping }
+    {
+        if self.left.is_none() {
+            self.left = Instant::now(&self.rt).ok();
+        }
+        if self.can_still_give() {
+            return kept::give(&mut self.kept, buf);
+        }
+        self.count_dropped();
+        0
+    }
+
+    // The keys that are kept are given to no session.
+    fn count_dropped(&self) {
+        self.typing.link.count_dropped(self.kept.len());
     }
 }
 
@@ -192,23 +323,7 @@ fn waits_at(fd: i32) -> pollfd {
     }
 }
 
-// Who edits lines. Without LINEMODE a server that echoes takes keys one by one and edits them, as a rule; where it
-// does not echo, they are not edited by anybody.
-fn editing_of(link: &Link) -> &'static str {
-    if link.edits_here() {
-        return "lines are edited here";
-    }
-    if link.has_linemode() || link.echoes_there() {
-        return "lines are edited at the other end";
-    }
-    "nobody edits lines, and each key is sent at once"
-}
-
-fn place_of(is_here: bool) -> &'static str {
-    if is_here { "here" } else { "at the other end" }
-}
-
-impl<H: Copy + Print + Wait, K: Read + Drop> Source for Console<H, K> {
+impl<H: Clock + Copy + Wait, K: Read + Drop> Source for Console<H, K> {
     ghost sizes = { λ _. None };
 
     fn resized(&mut self) -> Option<WindowSize>
@@ -223,17 +338,25 @@ impl<H: Copy + Print + Wait, K: Read + Drop> Source for Console<H, K> {
         ensures tells { TellsCall (CountsRead result) None None }
         ensures foretells { ForetellsCall result None None }
         ensures keys { GivesKeys (K.remaining self.old.typing.keys) (K.remaining self.new.typing.keys)
-            self.old.escaping result buf.new }
+            self.old.escaping self.new.escaping self.old.kept.items self.new.kept.items
+            (given_of result buf.new) }
     {
-        self.typing.throttle.wait();
-        match self.wait() {
-            Ready::Over => return Ok(0),
+        if self.typing.link.is_left() {
+            return Ok(self.leave(buf));
+        }
+        let ready = self.wait();
+        self.is_ahead = matches!(ready, Ready::Ahead);
+        match ready {
+            Ready::Over => {
+                self.count_dropped();
+                Ok(0)
+            },
             Ready::Size => {
                 self.take_size();
-                return Err(io::Error::from(ErrorKind::Interrupted));
+                Err(io::Error::from(ErrorKind::Interrupted))
             },
-            Ready::Key => {},
+            Ready::Key => self.give(buf),
+            Ready::Ahead => self.keep_keys(buf),
         }
-        self.read_keys(buf)
     }
 }

@@ -11,6 +11,7 @@ use std::alloc::Global;
 use std::io;
 use std::io::{ErrorKind, Read};
 use std::sync::{Arc, Wait};
+use std::time::Clock;
 
 /// What the peer sends. That no more comes is noted, so that the keys can end too.
 #[derive(Drop)]
@@ -36,7 +37,7 @@ impl<H, N> Incoming<H, N> {
     }
 }
 
-impl<H: Copy + Wait, N: Read> Incoming<H, N> {
+impl<H: Clock + Copy + Wait, N: Read> Incoming<H, N> {
     fn take(&mut self, bytes: &[u8])
         ensures { self.new.reader ≡ self.old.reader }
     {
@@ -45,7 +46,7 @@ impl<H: Copy + Wait, N: Read> Incoming<H, N> {
     }
 }
 
-impl<H: Copy + Wait, N: Read> Read for Incoming<H, N> {
+impl<H: Clock + Copy + Wait, N: Read> Read for Incoming<H, N> {
     fn read(&mut self, buf: &mut [u8]) -> io::Result<usize>
         ensures bound { ReadsAtMost result buf.new }
         ensures bytes { ReadConsumes None None result buf.new }

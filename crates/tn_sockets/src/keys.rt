@@ -5,6 +5,7 @@ ghost use Rattle.std.specs.Prelude.{◌≡◌};
 use crate::link::Link;
 use crate::outgoing::Throttle;
 use crate::sizes::Sizes;
+use crate::terminal::Terminal;
 use std::alloc::Global;
 use std::io;
 use std::io::Read;
@@ -24,6 +25,8 @@ pub struct Typing<H, K> {
     pub width: u16,
     pub height: u16,
     pub sizes: Sizes,
+    /// The terminal at which they are typed, if they are.
+    pub terminal: Option<Terminal>,
 }
 
 /// The bytes of a reader as keys, which are read only while few of those before them wait to be sent.

@@ -4,6 +4,12 @@ use std::net::{Shutdown, TcpStream};
 use std::sync::atomic::{AtomicBool, AtomicUsize, Ordering};
 use std::sync::{OnceLock, Wait};
 
+/// How often what is sent may have to wait once the user has left, and once nothing more comes. Each time takes as
+/// long as a write waits.
+const MAX_LATE: usize = 4;
+
+const MAX_LINGER: usize = 50;
+
 /// A client's connection, as its parts share it. It is made before there is a connection, so that the screen
 /// has it.
 #[derive(Drop)]
@@ -19,6 +25,12 @@ pub struct Link {
     left: AtomicBool,
     /// LINEMODE is on.
     linemode: AtomicBool,
+    /// Nothing more is sent.
+    sent: AtomicBool,
+    /// How often something could not be sent at once since then.
+    late: AtomicUsize,
+    /// How many keys were typed and never came to the session.
+    dropped: AtomicUsize,
     edits_here: AtomicBool,
     echoes_there: AtomicBool,
     /// How many bytes of a line are held here.
@@ -37,6 +49,9 @@ impl Link {
             dark: AtomicBool::new(false),
             left: AtomicBool::new(false),
             linemode: AtomicBool::new(false),
+            sent: AtomicBool::new(false),
+            late: AtomicUsize::new(0),
+            dropped: AtomicUsize::new(0),
             edits_here: AtomicBool::new(false),
             echoes_there: AtomicBool::new(false),
             held: AtomicUsize::new(0),
@@ -68,15 +83,47 @@ impl Link {
         self.dark.load(Ordering::SeqCst)
     }
 
-    /// The same, as the user wants it: what still fails then is no fault.
+    /// The user leaves: what still fails is no fault, and both directions end once all was sent.
     pub(crate) fn leave(&self) {
         self.left.store(true, Ordering::SeqCst);
-        self.hang_up();
+        if self.sent.load(Ordering::SeqCst) {
+            self.hang_up();
+        }
     }
 
     /// Whether the user has left.
     pub fn is_left(&self) -> bool {
         self.left.load(Ordering::SeqCst)
+    }
+
+    /// Nothing more is sent.
+    pub(crate) fn end_sending(&self) {
+        self.sent.store(true, Ordering::SeqCst);
+        if self.is_left() {
+            self.hang_up();
+        }
+    }
+
+    /// Whether what can't be sent is no fault: the user has left, or the screen takes no more.
+    pub(crate) fn is_given_up(&self) -> bool {
+        self.is_left() || self.is_dark()
+    }
+
+    /// Notes that something could not be sent at once. Whether it is to be tried no more.
+    pub(crate) fn is_late(&self) -> bool {
+        if self.is_given_up() {
+            return self.late.fetch_add(1, Ordering::SeqCst) >= MAX_LATE;
+        }
+        self.is_closed() && self.late.fetch_add(1, Ordering::SeqCst) >= MAX_LINGER
+    }
+
+    pub(crate) fn count_dropped(&self, keys: usize) {
+        self.dropped.fetch_add(keys, Ordering::SeqCst);
+    }
+
+    /// How many keys were typed and never came to the session.
+    pub fn dropped(&self) -> usize {
+        self.dropped.load(Ordering::SeqCst)
     }
 
     /// Reading failed: nothing more comes.

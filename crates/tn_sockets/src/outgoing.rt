@@ -14,13 +14,14 @@ use crate::pieces::{
 };
 use crate::sending::Sending;
 use crate::trace::{Direction, Trace};
-use crossbeam_channel::{Receiver, Sender, bounded, bounded_with};
+use crossbeam_channel::{Receiver, RecvTimeoutError, Sender, bounded, bounded_with};
 use std::alloc::{AllocError, Global};
 use std::io;
 use std::io::{ErrorKind, Write};
 use std::marker::PhantomData;
 use std::sync::atomic::{AtomicUsize, Ordering};
 use std::sync::{Arc, Wait};
+use std::time::{Clock, Duration};
 use tn_streams::Finish;
 
 /// How many writes of a session wait at most, and their end. A piece of keys makes one write, and at most 66
@@ -45,9 +46,12 @@ impl Waiting {
         self.bytes.fetch_add(bytes, Ordering::SeqCst);
     }
 
-    pub(crate) fn remove(&self, bytes: usize) {
-        self.writes.fetch_sub(1, Ordering::SeqCst);
+    pub(crate) fn remove_bytes(&self, bytes: usize) {
         self.bytes.fetch_sub(bytes, Ordering::SeqCst);
+    }
+
+    pub(crate) fn remove_write(&self) {
+        self.writes.fetch_sub(1, Ordering::SeqCst);
     }
 
     fn bytes(&self) -> usize {
@@ -221,7 +225,7 @@ impl<H: Copy + Wait, Q: Queue> Outgoing<H, Q> {
     }
 }
 
-impl<H: Copy + Wait, Q: Queue> Write for Outgoing<H, Q> {
+impl<H: Clock + Copy + Wait, Q: Queue> Write for Outgoing<H, Q> {
     ghost contents = { λ outgoing. put_bytes (view outgoing.pass) };
 
     fn write(&mut self, buf: &[u8]) -> io::Result<usize> {
@@ -241,7 +245,7 @@ impl<H: Copy + Wait, Q: Queue> Write for Outgoing<H, Q> {
     }
 }
 
-impl<H: Copy + Wait, Q: Queue> Finish for Outgoing<H, Q> {
+impl<H: Clock + Copy + Wait, Q: Queue> Finish for Outgoing<H, Q> {
     fn finish(&mut self) {
         self.end();
     }
@@ -255,6 +259,21 @@ impl<H: Wait> Throttle<H> {
             if self.waiting.is_little() || self.sent.recv(&self.rt).is_err() {
                 return;
             }
+        }
+    }
+}
+
+impl<H: Clock + Wait> Throttle<H> {
+    /// Whether no keys are to be given: more waits than the marks, though so many milliseconds were waited for some of
+    /// it to be sent, and somebody sends it.
+    pub(crate) fn holds(&self, milliseconds: u64) -> bool {
+        if self.waiting.is_little() {
+            return false;
+        }
+        let time = Duration::from_millis(milliseconds);
+        match self.sent.recv_timeout(&self.rt, time) {
+            Err(RecvTimeoutError::Disconnected) => false,
+            _ => !self.waiting.is_little(),
         }
     }
 }

@@ -40,7 +40,7 @@ pub struct Sending<H, W, Q: Queue> {
 pub enum Sent {
     /// It was sent, up to its end.
     Whole,
-    /// The user has left: what came after a write that failed was discarded.
+    /// The user has left, or the screen takes no more: what came after a write that failed was discarded.
     Left,
     /// The other side is gone, and put no end.
     Cut,
@@ -49,7 +49,7 @@ pub enum Sent {
 impl<H: Copy + Wait, W: Drop + Finish, Q: Queue> Sending<H, W, Q> {
     // tools/progress: proctype Sending
     /// Sends all up to the end, and finishes the writer. Where a write fails the link is ended, since the other
-    /// end hears no more. Once the user has left, what still comes is discarded.
+    /// end hears no more. Once the user has left, what can't be sent in time is discarded, and the link is ended.
     pub fn run(&mut self) -> io::Result<Sent>
         ensures sent { WritesTaken (view self.old.pass) (view self.new.pass)
             (W.contents self.old.writer) (W.contents self.new.writer) }
@@ -64,21 +64,24 @@ impl<H: Copy + Wait, W: Drop + Finish, Q: Queue> Sending<H, W, Q> {
             };
             let Some(bytes) = piece else {
                 self.writer.finish();
+                self.link.end_sending();
                 return Ok(Sent::Whole);
             };
-            if let Err(error) = send_whole(&mut self.writer, &bytes) {
-                if !self.link.is_left() {
+            if let Err(error) = send_whole(&mut self.writer, &bytes, &self.link, &self.waiting) {
+                if !self.link.is_given_up() {
                     self.link.hang_up();
                     return Err(error);
                 }
-                self.note(bytes.len());
+                self.note();
                 self.discard();
                 self.writer.finish();
+                self.link.end_sending();
                 return Ok(Sent::Left);
             }
-            self.note(bytes.len());
+            self.note();
         }
         self.writer.finish();
+        self.link.end_sending();
         Ok(Sent::Cut)
     }
 
@@ -115,23 +118,28 @@ impl<H: Copy + Wait, W: Drop + Finish, Q: Queue> Sending<H, W, Q> {
             let Some(piece) = self.next() else {
                 return;
             };
-            let Some(bytes) = piece else {
+            let Some(_) = piece else {
                 return;
             };
-            self.note(bytes.len());
+            self.note();
         }
     }
 
-    // So many bytes do not wait any more.
-    fn note(&self, bytes: usize) {
-        self.link.count_went(bytes);
-        self.waiting.remove(bytes);
+    // One write does not wait any more.
+    fn note(&self) {
+        self.waiting.remove_write();
         let _ = self.sent.try_send(&self.rt, ());
     }
 }
 
-// Writes these bytes, or the first of them where a write fails. A write that takes none has failed.
-fn send_whole<W: Drain>(writer: &mut W, bytes: &[u8]) -> io::Result<()>
+// Writes these bytes, or the first of them where a write fails. A write that takes none has failed. Those that were
+// written do not wait any more.
+fn send_whole<W: Drain>(
+    writer: &mut W,
+    bytes: &[u8],
+    link: &Link,
+    waiting: &Waiting,
+) -> io::Result<()>
     ensures whole { OnOk result (Appends (W.contents writer.old) (W.contents writer.new) bytes.now) }
     ensures begun { OnErr result (Begins (W.contents writer.old) (W.contents writer.new) bytes.now) }
 {
@@ -142,10 +150,19 @@ fn send_whole<W: Drain>(writer: &mut W, bytes: &[u8]) -> io::Result<()>
         }
         match writer.write_some(&bytes[at..]) {
             Ok(0) => return Err(io::Error::from(ErrorKind::WriteZero)),
-            Ok(n) => at += n,
-            Err(error) if is_interrupted(&error) => continue,
+            Ok(n) => {
+                at += n;
+                link.count_went(n);
+                waiting.remove_bytes(n);
+            },
+            Err(error) if is_to_be_made_again(&error, link) => continue,
             Err(error) => return Err(error),
         }
     }
     Err(io::Error::from(ErrorKind::WriteZero))
+}
+
+// Whether a write is to be made again: a signal came, or it had to wait, and there is time.
+fn is_to_be_made_again(error: &io::Error, link: &Link) -> bool {
+    is_interrupted(error) || (error.kind() == ErrorKind::WouldBlock && !link.is_late())
 }

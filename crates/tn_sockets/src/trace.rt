@@ -1,10 +1,12 @@
-//! A trace of what comes and goes: a line for each item, in the order in which it passes.
+//! A trace of what comes and goes: a line for each item, in the order in which it passes, with the seconds since
+//! the beginning.
 
 use std::alloc::{AllocError, Global};
 use std::fs::File;
 use std::io;
 use std::io::Write;
 use std::sync::{Arc, Mutex, Wait};
+use std::time::{Clock, Duration, Instant};
 use tn_decode::{Lines, Prefix};
 use tn_nvt::Decoder;
 
@@ -37,13 +39,10 @@ impl Side {
         }
     }
 
-    fn write_to(&mut self, file: &mut File) -> io::Result<()> {
-        file.write_all(&self.lines.take_text())
-    }
-
-    fn end(&mut self, file: &mut File) -> io::Result<()> {
+    // The lines of what was read, the data that are held too.
+    fn take_lines(&mut self) -> Result<Vec<u8>, AllocError> {
         self.lines.end_data()?;
-        self.write_to(file)
+        Ok(self.lines.take_text())
     }
 }
 
@@ -57,40 +56,41 @@ struct Sides {
 }
 
 impl Sides {
-    fn pass(&mut self, direction: Direction, bytes: &[u8]) -> io::Result<()> {
-        match direction {
-            Direction::Came => {
-                self.went.end(&mut self.file)?;
-                self.came.read(bytes)?;
-                self.came.write_to(&mut self.file)
-            },
-            Direction::Went => {
-                self.came.end(&mut self.file)?;
-                self.went.read(bytes)?;
-                self.went.write_to(&mut self.file)
-            },
+    // Writes each line of what passes at this time.
+    fn pass(&mut self, time: Duration, direction: Direction, bytes: &[u8]) -> io::Result<()> {
+        let side = match direction {
+            Direction::Came => &mut self.came,
+            Direction::Went => &mut self.went,
+        };
+        side.read(bytes)?;
+        let lines = side.take_lines()?;
+        for line in lines.split(|byte| *byte == b'\n') {
+            if !line.is_empty() {
+                write!(self.file, "{}.{:03} ", time.as_secs(), time.subsec_millis())?;
+                self.file.write_all(line)?;
+                self.file.write_all(b"\n")?;
+            }
         }
-    }
-
-    fn end(&mut self) -> io::Result<()> {
-        self.came.end(&mut self.file)?;
-        self.went.end(&mut self.file)
+        Ok(())
     }
 }
 
-/// Notes what passes, if a trace is wanted. Data that follow one another in one direction are joined, and
-/// are written once something else comes, or passes the other way.
+/// Notes what passes, if a trace is wanted, and when: what is read or written at once has one time. Where there is no
+/// clock, each time is that of the beginning.
 #[derive(Drop)]
 pub struct Trace<H> {
     rt: H,
+    begin: Option<Instant>,
     sides: Option<Arc<Mutex<Sides>, Global>>,
 }
 
-impl<H: Copy + Wait> Trace<H> {
+impl<H: Clock + Copy + Wait> Trace<H> {
     /// A trace into this file, or none.
     pub fn new(rt: H, alloc: Global, file: Option<File>) -> Result<Trace<H>, AllocError> {
+        let begin = Instant::now(&rt).ok();
         let Some(file) = file else {
-            return Ok(Trace { rt, sides: None });
+            let sides = None;
+            return Ok(Trace { rt, begin, sides });
         };
         let sides = Sides {
             came: Side::new(alloc, Prefix::Came),
@@ -99,10 +99,8 @@ impl<H: Copy + Wait> Trace<H> {
             failed: false,
         };
         let sides = Arc::new(alloc, Mutex::new(sides))?;
-        Ok(Trace {
-            rt,
-            sides: Some(sides),
-        })
+        let sides = Some(sides);
+        Ok(Trace { rt, begin, sides })
     }
 
     /// The same trace, for one more part of the connection.
@@ -111,7 +109,16 @@ impl<H: Copy + Wait> Trace<H> {
             Some(sides) => Some(Arc::try_clone(sides)?),
             None => None,
         };
-        Ok(Trace { rt: self.rt, sides })
+        let (rt, begin) = (self.rt, self.begin);
+        Ok(Trace { rt, begin, sides })
+    }
+
+    // How long after the beginning it is.
+    fn time(&self) -> Duration {
+        match self.begin.map(|begin| begin.elapsed(&self.rt)) {
+            Some(Ok(time)) => time,
+            _ => Duration::ZERO,
+        }
     }
 
     pub(crate) fn note(&self, direction: Direction, bytes: &[u8]) {
@@ -119,17 +126,16 @@ impl<H: Copy + Wait> Trace<H> {
             return;
         };
         let mut sides = sides.lock(&self.rt);
-        if !sides.failed && sides.pass(direction, bytes).is_err() {
+        if !sides.failed && sides.pass(self.time(), direction, bytes).is_err() {
             sides.failed = true;
         }
     }
 
-    /// Writes the data that are still to be written. False where the trace is not whole.
-    pub fn end(&self) -> bool {
-        let Some(sides) = &self.sides else {
-            return true;
-        };
-        let mut sides = sides.lock(&self.rt);
-        !sides.failed && sides.end().is_ok()
+    /// Whether all that passed was written.
+    pub fn is_whole(&self) -> bool {
+        match &self.sides {
+            Some(sides) => !sides.lock(&self.rt).failed,
+            None => true,
+        }
     }
 }

@@ -1,6 +1,5 @@
 -- What was sent of a queue that was new, once both of its passes are joined.
 use Rattle.std.proofs.Common.{◌≡◌, ℕ, arith, length, List, [], ◌∷◌, ◌++◌, Option, Some, None, option_map, refl, sym, ap, ◌∙◌, subst, append_assoc}
-use Rattle.std.specs.Io.KnownBytes.{Appends}
 use Rattle.std.specs.Vec.{vec_items}
 use Rattle.tn_queue.specs.Queue.{one_of, taker}
 use Rattle.tn_sockets.proofs.Queued.{bytes_of-append}

@@ -103,6 +103,7 @@ where
         trace: None,
         sizes: None,
         stands: None,
+        terminal: None,
         news: News {
             writer: &mut told,
             alloc,

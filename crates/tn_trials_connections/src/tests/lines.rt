@@ -239,6 +239,7 @@ where
         trace: None,
         sizes: None,
         stands: None,
+        terminal: None,
         news: News {
             writer: &mut told,
             alloc,

@@ -72,6 +72,7 @@ fn faults_are_told(rt: HostRuntime) {
             reader: Cursor::new(*b"a\n"),
             sizes: None,
             stands: None,
+            terminal: None,
             link,
         };
         let ended = run_words(rt, alloc, Ok(words), seat, &mut writer, &mut errors);
@@ -103,6 +104,7 @@ fn the_line_of_a_fault_is_told(rt: HostRuntime) {
             reader: *script,
             sizes: None,
             stands: None,
+            terminal: None,
             link,
         };
         let ended = run_words(rt, alloc, Ok(words), seat, &mut output, &mut errors);

@@ -1,4 +1,4 @@
-use Rattle.std.proofs.Common.{◌≡◌, refl, arith, take, drop, length, ◌-◌, length-drop}
+use Rattle.std.proofs.Common.{◌≡◌, arith, take, drop, length, ◌-◌, length-drop}
 use Rattle.std.proofs.Math.Seq.{take-add}
 use Rattle.tn_sockets.proofs.Writing.{appends_more, appends_kept, take_all, stops_at, stops_now, writes_all, ok_writes}
 use Rattle.tn_sockets.proofs.sending.send_whole.Goals as goal

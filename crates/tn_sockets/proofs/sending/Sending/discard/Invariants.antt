@@ -1,4 +1,4 @@
-use Rattle.std.proofs.Common.{◌≡◌, ℕ, List}
+use Rattle.std.proofs.Common.{◌≡◌, List}
 use Rattle.crossbeam_channel.specs.Claims.{view}
 use Rattle.tn_sockets.specs.Queue.{Piece, TakesOn}
 use Rattle.tn_sockets.proofs.sending.Sending.discard.Given as goal

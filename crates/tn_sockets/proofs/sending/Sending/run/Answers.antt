@@ -5,21 +5,21 @@ use Rattle.tn_sockets.specs.Queue.{Piece}
 use Rattle.tn_sockets.proofs.Queued.{all_ended, all_more, broken, discarded, end_written}
 use Rattle.tn_sockets.proofs.sending.Sending.run.Goals as goal
 
-pub returns-then-not-is_left-clause-sent : goal.returns-then-not-is_left-clause-sent
-returns-then-not-is_left-clause-sent g c =
+pub returns-then-not-is_given_up-clause-sent : goal.returns-then-not-is_given_up-clause-sent
+returns-then-not-is_given_up-clause-sent g c =
     let contents = g.W.Drain.contents in
     let n = c.in-Some-next in
-    broken (view c.args.self.now.pass) (view c.loop.self.pass) (view c.next-in-loop.new.self.pass) c.in-Some-piece.bytes c.deref.result.now
+    broken (view c.args.self.now.pass) (view c.loop.self.pass) (view c.next-in-loop.new.self.pass) c.in-Some-piece.bytes c.deref-in-loop.result.now
     (contents c.args.self.now.writer) (contents c.loop.self.writer) (contents c.next-in-loop.new.self.writer) (contents c.send_whole.new.writer)
-    c.loop.invariant.2 (n.ensures.took ∙ ap (λ (x : Piece). taken_more (view c.loop.self.pass) x) c.in-Some-piece.is) (ap contents n.ensures.writer) c.deref.ensures.value c.in-Err.ensures.begun
+    c.loop.invariant.2 (n.ensures.took ∙ ap (λ (x : Piece). taken_more (view c.loop.self.pass) x) c.in-Some-piece.is) (ap contents n.ensures.writer) c.deref-in-loop.ensures.value c.in-Err.ensures.begun
 
 pub returns-in-Err-clause-sent : goal.returns-in-Err-clause-sent
 returns-in-Err-clause-sent g c =
     let contents = g.W.Drain.contents in
     let n = c.in-Some-next in
-    let sent = broken (view c.args.self.now.pass) (view c.loop.self.pass) (view c.next-in-loop.new.self.pass) c.in-Some-piece.bytes c.deref.result.now
+    let sent = broken (view c.args.self.now.pass) (view c.loop.self.pass) (view c.next-in-loop.new.self.pass) c.in-Some-piece.bytes c.deref-in-loop.result.now
     (contents c.args.self.now.writer) (contents c.loop.self.writer) (contents c.next-in-loop.new.self.writer) (contents c.send_whole.new.writer)
-    c.loop.invariant.2 (n.ensures.took ∙ ap (λ (x : Piece). taken_more (view c.loop.self.pass) x) c.in-Some-piece.is) (ap contents n.ensures.writer) c.deref.ensures.value c.in-Err.ensures.begun in
+    c.loop.invariant.2 (n.ensures.took ∙ ap (λ (x : Piece). taken_more (view c.loop.self.pass) x) c.in-Some-piece.is) (ap contents n.ensures.writer) c.deref-in-loop.ensures.value c.in-Err.ensures.begun in
     discarded (view c.args.self.now.pass) (view c.next-in-loop.new.self.pass) (view c.discard.new.self.pass)
     (contents c.args.self.now.writer) (contents c.send_whole.new.writer) (contents c.discard.new.self.writer) (contents c.finish-in-Err.new.self)
     sent c.discard.ensures.took (ap contents c.discard.ensures.writer) c.finish-in-Err.ensures.contents
@@ -43,7 +43,7 @@ loop-preserved g c =
     let n = c.in-Some-next in (
       tt,
       tt,
-      all_more (view c.args.self.now.pass) (view c.loop.self.pass) (view c.next-in-loop.new.self.pass) c.in-Some-piece.bytes c.deref.result.now
+      all_more (view c.args.self.now.pass) (view c.loop.self.pass) (view c.next-in-loop.new.self.pass) c.in-Some-piece.bytes c.deref-in-loop.result.now
           (contents c.args.self.now.writer) (contents c.loop.self.writer) (contents c.next-in-loop.new.self.writer) (contents c.send_whole.new.writer)
-          c.loop.invariant.2 (n.ensures.took ∙ ap (λ (x : Piece). taken_more (view c.loop.self.pass) x) c.in-Some-piece.is) (ap contents n.ensures.writer) c.deref.ensures.value c.in_default-send_whole.ensures.whole,
+          c.loop.invariant.2 (n.ensures.took ∙ ap (λ (x : Piece). taken_more (view c.loop.self.pass) x) c.in-Some-piece.is) (ap contents n.ensures.writer) c.deref-in-loop.ensures.value c.in_default-send_whole.ensures.whole,
     )
