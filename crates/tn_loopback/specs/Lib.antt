@@ -2,5 +2,4 @@ pub mod Ends
 pub mod Faults
 pub mod Services
 pub mod Servers
-pub mod Turns
 pub mod Counted

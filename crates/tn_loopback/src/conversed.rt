@@ -1,7 +1,7 @@
 //! A session over a connection that came to its report.
 
 ghost use Rattle.std.specs.Prelude.{◌≡◌};
-ghost use Rattle.tn_loopback.specs.Ends.{finished_as, not_started};
+ghost use Rattle.tn_loopback.specs.Ends.{finished_as};
 
 use crate::finished::Finished;
 use tn_session::{Ports, Report, SessionFault};
@@ -28,9 +28,7 @@ pub(crate) struct Ran {
 
 impl Ran {
     // None of its threads could be started.
-    pub(crate) fn unstarted() -> Ran
-        ensures { finished_as result ≡ not_started }
-    {
+    pub(crate) fn unstarted() -> Ran {
         Ran {
             ended: Err(SessionFault::Start),
             idle: false,

@@ -19,7 +19,6 @@ pub use serving::{serve, serve_on};
 pub use session::serve_connection;
 pub use settings::{Serving, SessionOptions};
 pub use tn_sockets::{Hook, Host};
-pub use turns::Turn;
 
 mod acceptor;
 mod asked;
@@ -35,4 +34,3 @@ mod service;
 mod serving;
 mod session;
 mod settings;
-mod turns;

@@ -1,10 +1,9 @@
 //! Each connection has a session in threads of its own.
 
-ghost use Rattle.std.specs.Prelude.{◌≡◌, ◌<◌, ◌≤◌, ◌+◌, ◌^◌, ◌-◌, true, IfOk, IfSome, IfNone, IsErrOf, vec_items, vec_len};
-ghost use Rattle.tn_loopback.specs.Counted.{CountsSessions, HasEnded, StillCounts, facts_of, server_of};
+ghost use Rattle.std.specs.Prelude.{◌≡◌, ◌<◌, ◌≤◌, ◌+◌, ◌^◌, ◌-◌, true, IfOk, IfSome, IsErrOf, vec_len};
+ghost use Rattle.tn_loopback.specs.Counted.{CountsSessions, StillCounts, facts_of, server_of};
 ghost use Rattle.tn_loopback.specs.Ends.{ServesAll};
 ghost use Rattle.tn_loopback.specs.Services.{MakesOnly, StillMakes, TurnsAway, WasTurnedAway};
-ghost use Rattle.tn_loopback.specs.Turns.{HearsAll, HearsOfJobs, HearsOfNone, StillHears, live_of};
 ghost use Rattle.tn_network.specs.Asked.{Accepts, Listens};
 ghost use Rattle.tn_roster.specs.Held.{IsLimit, held_count};
 
@@ -60,9 +59,6 @@ where
     ensures each { IfOk result (λ served. CountsSessions (server_of
         (facts_of V.Job.fresh V.Jobs.gives V.Job.reacts V.Job.steps) V.Jobs.left serving.options
         (V.makes service) (WasTurnedAway (H.dismisses rt))) served.whole served.faulted served.refused) }
-    ensures heard { IfOk result (λ served. HearsAll V.turns (HasEnded (server_of
-        (facts_of V.Job.fresh V.Jobs.gives V.Job.reacts V.Job.steps) V.Jobs.left serving.options
-        (V.makes service) (WasTurnedAway (H.dismisses rt)))) service (served.whole + served.faulted)) }
     ensures listened { Listens (H.listens rt host.now port) (H.shares rt) (H.accepts rt)
         (λ (served : Served). served.accepted) result }
     ensures limit { IsErrOf result ServeFault.Limit → ¬ IsLimit serving.sessions }
@@ -84,9 +80,6 @@ pub fn serve_on<H: Host + Network, V: Service + Drop, E: Write>(
     ensures each { IfOk result (λ served. CountsSessions (server_of
         (facts_of V.Job.fresh V.Jobs.gives V.Job.reacts V.Job.steps) V.Jobs.left serving.options
         (V.makes service) (WasTurnedAway (H.dismisses rt))) served.whole served.faulted served.refused) }
-    ensures heard { IfOk result (λ served. HearsAll V.turns (HasEnded (server_of
-        (facts_of V.Job.fresh V.Jobs.gives V.Job.reacts V.Job.steps) V.Jobs.left serving.options
-        (V.makes service) (WasTurnedAway (H.dismisses rt)))) service (served.whole + served.faulted)) }
     ensures accepted { IfOk result (λ served. Accepts (H.shares rt listener.now) (H.accepts rt) served.accepted) }
     ensures limit { IsErrOf result ServeFault.Limit → ¬ IsLimit serving.sessions }
     ensures bad_limit { (¬ IsLimit serving.sessions) → IsErrOf result ServeFault.Limit }
@@ -110,9 +103,6 @@ fn serve_as<H: Host + Network, V: Service + Drop, E: Write, O: Asked<V::Jobs>>(
     ensures each { IfOk result (λ served. CountsSessions (server_of
         (facts_of V.Job.fresh V.Jobs.gives V.Job.reacts V.Job.steps) V.Jobs.left O.options O.made O.turned)
         served.whole served.faulted served.refused) }
-    ensures heard { IfOk result (λ served. HearsAll V.turns (HasEnded (server_of
-        (facts_of V.Job.fresh V.Jobs.gives V.Job.reacts V.Job.steps) V.Jobs.left O.options O.made O.turned))
-        service (served.whole + served.faulted)) }
     ensures accepted { IfOk result (λ served. Accepts (H.shares rt listener.now) (H.accepts rt) served.accepted) }
     ensures limit { IsErrOf result ServeFault.Limit → ¬ IsLimit serving.sessions }
     ensures bad_limit { (¬ IsLimit serving.sessions) → IsErrOf result ServeFault.Limit }
@@ -145,9 +135,8 @@ fn serve_as<H: Host + Network, V: Service + Drop, E: Write, O: Asked<V::Jobs>>(
         turned_away: VecDeque::new(alloc),
     };
     open.serve_all(&receiver, errors);
-    open.join_all(errors);
-    let served = open.running.served();
-    drop(open);
+    let Open { running, .. } = open;
+    let served = running.join_all(&rt, errors);
     drop(receiver);
     let accepted = acceptor.join(&rt);
     if served.accepted() != count || accepted != count {
@@ -181,12 +170,6 @@ impl<H: Host + Network, V: Service, O: Asked<V::Jobs>> Open<H, V, O> {
             (facts_of V.Job.fresh V.Jobs.gives V.Job.reacts V.Job.steps) V.Jobs.left O.options O.made O.turned)
             self.old.running.whole self.old.running.faulted self.old.running.refused
             self.new.running.whole self.new.running.faulted self.new.running.refused }
-        ensures heard { StillHears V.turns (HasEnded (server_of
-            (facts_of V.Job.fresh V.Jobs.gives V.Job.reacts V.Job.steps) V.Jobs.left O.options O.made O.turned))
-            (self.old.running.whole + self.old.running.faulted) self.old.service
-            (live_of (vec_items self.old.running.started) (λ s. s.number))
-            (self.new.running.whole + self.new.running.faulted) self.new.service
-            (live_of (vec_items self.new.running.started) (λ s. s.number)) }
     {
         let rt = self.rt;
         for _ in rt.forever() {
@@ -217,12 +200,6 @@ impl<H: Host + Network, V: Service, O: Asked<V::Jobs>> Open<H, V, O> {
             (facts_of V.Job.fresh V.Jobs.gives V.Job.reacts V.Job.steps) V.Jobs.left O.options O.made O.turned)
             self.old.running.whole self.old.running.faulted self.old.running.refused
             self.new.running.whole self.new.running.faulted self.new.running.refused }
-        ensures heard { StillHears V.turns (HasEnded (server_of
-            (facts_of V.Job.fresh V.Jobs.gives V.Job.reacts V.Job.steps) V.Jobs.left O.options O.made O.turned))
-            (self.old.running.whole + self.old.running.faulted) self.old.service
-            (live_of (vec_items self.old.running.started) (λ s. s.number))
-            (self.new.running.whole + self.new.running.faulted) self.new.service
-            (live_of (vec_items self.new.running.started) (λ s. s.number)) }
         ensures makes { StillMakes V.makes self.old.service self.new.service }
         ensures rt { self.new.rt ≡ self.old.rt }
     {
@@ -264,12 +241,6 @@ impl<H: Host + Network, V: Service, O: Asked<V::Jobs>> Open<H, V, O> {
         ensures running { self.new.running ≡ self.old.running }
         ensures roster { self.new.roster ≡ self.old.roster }
         ensures makes { StillMakes V.makes self.old.service self.new.service }
-        ensures jobs { IfSome result (λ _. HearsOfJobs V.turns (HasEnded (server_of
-            (facts_of V.Job.fresh V.Jobs.gives V.Job.reacts V.Job.steps) V.Jobs.left O.options O.made O.turned))
-            number self.old.service self.new.service) }
-        ensures none { IfNone result (HearsOfNone V.turns (HasEnded (server_of
-            (facts_of V.Job.fresh V.Jobs.gives V.Job.reacts V.Job.steps) V.Jobs.left O.options O.made O.turned))
-            self.old.service self.new.service) }
         ensures rt { self.new.rt ≡ self.old.rt }
     {
         let events = self.events.clone().ok()?;
@@ -287,78 +258,31 @@ impl<H: Host + Network, V: Service, O: Asked<V::Jobs>> Open<H, V, O> {
             jobs,
             standing,
         };
-        if let Some(started) = session.start(number, events) {
-            return Some(started);
+        let started = session.start(number, events);
+        if started.is_none() {
+            self.service.ended(number, &Ran::unstarted().finished());
         }
-        self.service.ended(number, &Ran::unstarted().finished());
-        None
+        started
     }
 
-    // The session with this number has ended.
+    // The session with this number has ended, and its number is free.
     fn end<E: Write>(&mut self, number: usize, errors: &mut E)
         ensures each { StillCounts (server_of
             (facts_of V.Job.fresh V.Jobs.gives V.Job.reacts V.Job.steps) V.Jobs.left O.options O.made O.turned)
             self.old.running.whole self.old.running.faulted self.old.running.refused
             self.new.running.whole self.new.running.faulted self.new.running.refused }
-        ensures heard { StillHears V.turns (HasEnded (server_of
-            (facts_of V.Job.fresh V.Jobs.gives V.Job.reacts V.Job.steps) V.Jobs.left O.options O.made O.turned))
-            (self.old.running.whole + self.old.running.faulted) self.old.service
-            (live_of (vec_items self.old.running.started) (λ s. s.number))
-            (self.new.running.whole + self.new.running.faulted) self.new.service
-            (live_of (vec_items self.new.running.started) (λ s. s.number)) }
         ensures makes { StillMakes V.makes self.old.service self.new.service }
         ensures rt { self.new.rt ≡ self.old.rt }
     {
-        if let Some(place) = self.running.place_of(number) {
-            self.end_at(place, errors);
-        }
-    }
-
-    // The session at this place has ended, and its number is free.
-    fn end_at<E: Write>(&mut self, place: usize, errors: &mut E)
-        requires { place < vec_len self.old.running.started }
-        ensures each { StillCounts (server_of
-            (facts_of V.Job.fresh V.Jobs.gives V.Job.reacts V.Job.steps) V.Jobs.left O.options O.made O.turned)
-            self.old.running.whole self.old.running.faulted self.old.running.refused
-            self.new.running.whole self.new.running.faulted self.new.running.refused }
-        ensures heard { StillHears V.turns (HasEnded (server_of
-            (facts_of V.Job.fresh V.Jobs.gives V.Job.reacts V.Job.steps) V.Jobs.left O.options O.made O.turned))
-            (self.old.running.whole + self.old.running.faulted) self.old.service
-            (live_of (vec_items self.old.running.started) (λ s. s.number))
-            (self.new.running.whole + self.new.running.faulted) self.new.service
-            (live_of (vec_items self.new.running.started) (λ s. s.number)) }
-        ensures fewer { vec_len self.new.running.started + 1 ≡ vec_len self.old.running.started }
-        ensures accepted { self.new.running.accepted ≡ self.old.running.accepted }
-        ensures makes { StillMakes V.makes self.old.service self.new.service }
-        ensures rt { self.new.rt ≡ self.old.rt }
-    {
-        let (number, finished) = self.running.join_at(&self.rt, place);
+        let Some(finished) = self.running.join(&self.rt, number) else {
+            return;
+        };
         self.service.ended(number, &finished);
         self.roster.leave(number);
         if self.serving.verbose {
             note_end(&self.rt, number, &finished);
         }
         tell_if_faulted(&finished, errors);
-    }
-
-    // Joins all sessions that still run.
-    fn join_all<E: Write>(&mut self, errors: &mut E)
-        ensures each { StillCounts (server_of
-            (facts_of V.Job.fresh V.Jobs.gives V.Job.reacts V.Job.steps) V.Jobs.left O.options O.made O.turned)
-            self.old.running.whole self.old.running.faulted self.old.running.refused
-            self.new.running.whole self.new.running.faulted self.new.running.refused }
-        ensures heard { StillHears V.turns (HasEnded (server_of
-            (facts_of V.Job.fresh V.Jobs.gives V.Job.reacts V.Job.steps) V.Jobs.left O.options O.made O.turned))
-            (self.old.running.whole + self.old.running.faulted) self.old.service
-            (live_of (vec_items self.old.running.started) (λ s. s.number))
-            (self.new.running.whole + self.new.running.faulted) self.new.service
-            (live_of (vec_items self.new.running.started) (λ s. s.number)) }
-        ensures none { vec_len self.new.running.started ≡ 0 }
-        ensures accepted { self.new.running.accepted ≡ self.old.running.accepted }
-    {
-        while !self.running.is_empty() {
-            self.end_at(0, errors);
-        }
     }
 
     // Keeps a connection open that was told that there is no room. The longest of those is closed for it.

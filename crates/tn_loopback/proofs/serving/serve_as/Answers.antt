@@ -7,7 +7,6 @@ returns-clause-each g c =
     let server = server_of (facts_of g.V.Job.Job.fresh g.V.Jobs.Maker.gives g.V.Job.Job.reacts g.V.Job.Job.steps) g.V.Jobs.Maker.left g.O.Asked.options g.O.Asked.made g.O.Asked.turned in
     let started = c.new-2.result in
     let ended = c.serve_all.new.self.running in
-    let joined = c.join_all.new.self.running in
-    rw c.served-served.ensures.counts.0
-    (counts_from_none server started.whole started.faulted started.refused ended.whole ended.faulted ended.refused joined.whole joined.faulted joined.refused
-    c.new-2.ensures.counts c.serve_all.ensures.each c.join_all.ensures.each)
+    let served = c.join_all-served.result in
+    counts_from_none server started.whole started.faulted started.refused ended.whole ended.faulted ended.refused served.whole served.faulted served.refused
+    c.new-2.ensures.counts c.serve_all.ensures.each c.join_all-served.ensures.each
