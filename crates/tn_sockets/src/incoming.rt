@@ -59,8 +59,8 @@ impl<H: Clock + Copy + Wait, N: Read> Read for Incoming<H, N> {
             Err(error) if error.kind() == ErrorKind::Interrupted => {},
             Err(_) => {
                 self.link.break_off();
-                // A user who leaves has broken the connection.
-                if self.link.is_left() {
+                // A user who leaves has broken the connection, and so has a screen that takes no more.
+                if self.link.is_given_up() {
                     return Ok(0);
                 }
             },

@@ -1,0 +1,219 @@
+-- A server's session goes on by itself, or waits for the network, for its foreground job or for a write.
+use Rattle.std.proofs.Common.{arith, ◌≡◌, ◌≢◌, ℕ, zero, suc, ◌<◌, ◌≤◌, Bool, true, false, ◌⊎◌, inl, inr, refl, ap, subst}
+use Rattle.tn_progress.proofs.Invariant.{Holds, net_left_in, desk_left_in, back_left_in, is_waiting}
+use Rattle.tn_progress.proofs.Keeps.{holds}
+use Rattle.tn_progress.specs.Server.{one, End, nothing_comes, no_memory, Net, reading, holding, handing, net_tells, net_leaves, net_gone, is_done, is_refused, Cause, stops, none_comes, Desk, asking, waiting, answering, desk_says, desk_tells, desk_leaves, desk_gone, Back, stepping, back_says, back_tells, back_leaves, back_gone, Term, receiving, writing, joining, ended, Kind, piece, ending, take, said, done, refusal, left, Box, State, Sizes, HasRoom, waiting_mails, count_of}
+use Rattle.tn_progress.specs.ServerSteps.{gives, Own, takes_credit, hands_piece, tells_end, net_left, asks_entry, takes_entry, takes_end, says_answer, tells_stop, desk_left, says_step, is_stopped, tells_refusal, back_left, handles, joins, finishes, MayGo, gone_on, Goes, WaitsFor, for_network, for_job, for_write, brings, answers, writes, let_on, IsLet, NeverGetsStuck, PutsNeverWait}
+
+abbrev DoesNotGetStuck : Sizes → State → Type 0
+DoesNotGetStuck sizes s = ((t : State) × Goes sizes s t) ⊎ (WaitsFor s × ((t : State) × IsLet sizes s t))
+
+goes_by : (sizes : Sizes) (s : State) (own : Own) → MayGo sizes own s → DoesNotGetStuck sizes s
+goes_by sizes s own may = inl (gone_on sizes own s, (own, may, refl))
+
+-- a message waits, or there is room
+mail_or_room : (box : Box) → ((kind : Kind) × (0 < count_of kind box)) ⊎ (waiting_mails box ≡ 0)
+mail_or_room box = by box.pieces box.endings box.takes box.said box.done box.refusals box.left refl refl refl refl refl refl refl
+  where
+    by : (a b c d e f g : ℕ) → box.pieces ≡ a → box.endings ≡ b → box.takes ≡ c → box.said ≡ d → box.done ≡ e → box.refusals ≡ f → box.left ≡ g → ((kind : Kind) × (0 < count_of kind box)) ⊎ (waiting_mails box ≡ 0)
+    by (suc a) b c d e f g p q r s t u v = inl (piece, omega arith)
+    by zero (suc b) c d e f g p q r s t u v = inl (ending, omega arith)
+    by zero zero (suc c) d e f g p q r s t u v = inl (take, omega arith)
+    by zero zero zero (suc d) e f g p q r s t u v = inl (said, omega arith)
+    by zero zero zero zero (suc e) f g p q r s t u v = inl (done, omega arith)
+    by zero zero zero zero zero (suc f) g p q r s t u v = inl (refusal, omega arith)
+    by zero zero zero zero zero zero (suc g) p q r s t u v = inl (left, omega arith)
+    by zero zero zero zero zero zero zero p q r s t u v = inr (omega arith)
+
+-- What is known of a state in which Term waits for a message and none is there, with its threads at these places.
+record Idle (sizes : Sizes) (s : State) (n : Net) (d : Desk) (b : Back) (asks : Bool) (waits : ℕ) : Type 0 where
+  pub holds : Holds sizes (record s { net = n; desk = d; back = b; term = receiving; asks = asks; waits = waits })
+  pub no_mail : waiting_mails s.box ≡ 0
+  pub not_all : s.lefts ≢ 3
+
+-- Net waits for a credit, and then Desk does not wait for an entry, nor has it left
+no_credit : (sizes : Sizes) (s : State) (b : Back) (asks : Bool) (waits : ℕ) → Idle sizes s holding waiting b asks waits → s.credits ≡ 0
+    → (s.entries ≡ 0) × (s.ends ≡ 0) → ⊥
+no_credit sizes s b true zero i c e = let h = i.holds in grind arith
+no_credit sizes s b true (suc waits) i c e = let h = i.holds in grind arith
+no_credit sizes s b false waits i c e = let h = i.holds in grind arith
+
+nor_left : (sizes : Sizes) (s : State) (x : Cause) (b : Back) (asks : Bool) (waits : ℕ) → Idle sizes s holding (desk_gone x) b asks waits → s.credits ≡ 0 → ⊥
+nor_left sizes s (stops is_done) b asks waits i c = let h = i.holds in grind arith
+nor_left sizes s (stops is_refused) b asks waits i c = let h = i.holds in grind arith
+nor_left sizes s none_comes b asks waits i c = let h = i.holds in grind arith
+
+-- Net has left, and then Back was told to stop, and Desk does not wait for an entry
+gone_waiting : (sizes : Sizes) (s : State) (e : End) (b : Back) (asks : Bool) (waits : ℕ) → Idle sizes s (net_gone e) waiting b asks waits
+    → (s.entries ≡ 0) × (s.ends ≡ 0) → ⊥
+gone_waiting sizes s nothing_comes b asks waits i e = let h = i.holds in grind arith
+gone_waiting sizes s no_memory b asks waits i e = let h = i.holds in grind arith
+
+not_stopped : (sizes : Sizes) (s : State) (e : End) (d : Desk) (b : Back) (asks : Bool) (waits : ℕ) → Idle sizes s (net_gone e) d b asks waits
+    → s.stop ≡ false → ⊥
+not_stopped sizes s nothing_comes d b asks waits i e = let h = i.holds in let f = ap one e in grind arith
+not_stopped sizes s no_memory d b asks waits i e = let h = i.holds in let f = ap one e in grind arith
+
+all_gone : (sizes : Sizes) (s : State) (e : End) (c : Cause) (asks : Bool) (waits : ℕ) → Idle sizes s (net_gone e) (desk_gone c) back_gone asks waits → ⊥
+all_gone sizes s e c asks waits i = i.not_all (let h = i.holds in omega arith)
+
+module _ (sizes : Sizes) (s : State) (room : HasRoom sizes s) where
+  -- Desk's turn, with what is so where it waits in vain or has left
+  by_desk : (d : Desk) (entries ends : ℕ) → s.desk ≡ d → s.entries ≡ entries → s.ends ≡ ends
+      → (d ≡ waiting → entries ≡ 0 → ends ≡ 0 → DoesNotGetStuck sizes s) → ((c : Cause) → d ≡ desk_gone c → DoesNotGetStuck sizes s) → DoesNotGetStuck sizes s
+  by_desk asking entries ends at e f w g = goes_by sizes s asks_entry (at, room)
+  by_desk waiting (suc entries) ends at e f w g = goes_by sizes s takes_entry (at, omega arith)
+  by_desk waiting zero (suc ends) at e f w g = goes_by sizes s takes_end (at, omega arith)
+  by_desk waiting zero zero at e f w g = w refl refl refl
+  by_desk answering entries ends at e f w g = inr (for_job at, (let_on sizes answers s, (answers, at, refl)))
+  by_desk desk_says entries ends at e f w g = goes_by sizes s says_answer (at, room)
+  by_desk (desk_tells c) entries ends at e f w g = goes_by sizes s (tells_stop c) (at, room)
+  by_desk (desk_leaves c) entries ends at e f w g = goes_by sizes s (desk_left c) (at, room)
+  by_desk (desk_gone c) entries ends at e f w g = g c refl
+
+  -- Back's turn
+  by_back : (b : Back) (stop : Bool) → s.back ≡ b → s.stop ≡ stop
+      → (b ≡ stepping → stop ≡ false → DoesNotGetStuck sizes s) → (b ≡ back_gone → DoesNotGetStuck sizes s) → DoesNotGetStuck sizes s
+  by_back stepping true at e w g = goes_by sizes s is_stopped (at, e)
+  by_back stepping false at e w g = w refl refl
+  by_back back_says stop at e w g = goes_by sizes s says_step (at, room)
+  by_back back_tells stop at e w g = goes_by sizes s tells_refusal (at, room)
+  by_back back_leaves stop at e w g = goes_by sizes s back_left (at, room)
+  by_back back_gone stop at e w g = g refl
+
+-- what is known with its threads at these places
+idle : (sizes : Sizes) (s : State) (n : Net) (d : Desk) (b : Back) → Holds sizes s → s.term ≡ receiving → waiting_mails s.box ≡ 0 → s.lefts ≢ 3
+    → s.net ≡ n → s.desk ≡ d → s.back ≡ b → Idle sizes s n d b s.asks s.waits
+idle sizes s n d b h at none not_all en ed eb = record {
+  holds =
+      subst (λ (m : Net). Holds sizes (record s { net = m; desk = d; back = b; term = receiving })) en
+      (subst (λ (m : Desk). Holds sizes (record s { desk = m; back = b; term = receiving })) ed
+      (subst (λ (m : Back). Holds sizes (record s { back = m; term = receiving })) eb
+      (subst (λ (m : Term). Holds sizes (record s { term = m })) at h)));
+  no_mail = none;
+  not_all = not_all;
+}
+
+-- Term waits for a message, and none is there
+module _ (sizes : Sizes) (s : State) (h : Holds sizes s) (at : s.term ≡ receiving) (none : waiting_mails s.box ≡ 0)
+    (not_all : s.lefts ≢ 3) (room : HasRoom sizes s) where
+  holding_on : s.net ≡ holding → s.credits ≡ 0 → DoesNotGetStuck sizes s
+  holding_on en c =
+      by_desk sizes s room s.desk s.entries s.ends refl refl refl
+      (λ ed e f. absurd (no_credit sizes s s.back s.asks s.waits (idle sizes s holding waiting s.back h at none not_all en ed refl) c (e, f)))
+      (λ x ed. absurd (nor_left sizes s x s.back s.asks s.waits (idle sizes s holding (desk_gone x) s.back h at none not_all en ed refl) c))
+
+  gone_on_by : (e : End) → s.net ≡ net_gone e → DoesNotGetStuck sizes s
+  gone_on_by e en =
+      by_desk sizes s room s.desk s.entries s.ends refl refl refl
+      (λ ed f g. absurd (gone_waiting sizes s e s.back s.asks s.waits (idle sizes s (net_gone e) waiting s.back h at none not_all en ed refl) (f, g)))
+      (λ x ed. by_back sizes s room s.back s.stop refl refl
+      (λ eb f. absurd (not_stopped sizes s e (desk_gone x) stepping s.asks s.waits (idle sizes s (net_gone e) (desk_gone x) stepping h at none not_all en ed eb) f))
+      (λ eb. absurd (all_gone sizes s e x s.asks s.waits (idle sizes s (net_gone e) (desk_gone x) back_gone h at none not_all en ed eb))))
+
+  by_net : (n : Net) (credits : ℕ) → s.net ≡ n → s.credits ≡ credits → DoesNotGetStuck sizes s
+  by_net reading credits en c = inr (for_network en, (let_on sizes brings s, (brings, en, refl)))
+  by_net holding zero en c = holding_on en c
+  by_net holding (suc credits) en c = goes_by sizes s takes_credit (en, omega arith)
+  by_net handing credits en c = goes_by sizes s hands_piece (en, room)
+  by_net (net_tells e) credits en c = goes_by sizes s (tells_end e) (en, room)
+  by_net (net_leaves e) credits en c = goes_by sizes s (net_left e) (en, room)
+  by_net (net_gone e) credits en c = gone_on_by e en
+
+-- all have left, once Term has heard of all three
+net_gone_of : (n : Net) → net_left_in n ≡ 1 → (e : End) × (n ≡ net_gone e)
+net_gone_of (net_gone e) f = (e, refl)
+net_gone_of reading f = cc
+net_gone_of holding f = cc
+net_gone_of handing f = cc
+net_gone_of (net_tells e) f = cc
+net_gone_of (net_leaves e) f = cc
+
+desk_gone_of : (d : Desk) → desk_left_in d ≡ 1 → (c : Cause) × (d ≡ desk_gone c)
+desk_gone_of (desk_gone c) f = (c, refl)
+desk_gone_of asking f = cc
+desk_gone_of waiting f = cc
+desk_gone_of answering f = cc
+desk_gone_of desk_says f = cc
+desk_gone_of (desk_tells c) f = cc
+desk_gone_of (desk_leaves c) f = cc
+
+back_gone_of : (b : Back) → back_left_in b ≡ 1 → b ≡ back_gone
+back_gone_of back_gone f = refl
+back_gone_of stepping f = cc
+back_gone_of back_says f = cc
+back_gone_of back_tells f = cc
+back_gone_of back_leaves f = cc
+
+at_most_net : (n : Net) → net_left_in n ≤ 1
+at_most_net (net_gone e) = omega arith
+at_most_net reading = omega arith
+at_most_net holding = omega arith
+at_most_net handing = omega arith
+at_most_net (net_tells e) = omega arith
+at_most_net (net_leaves e) = omega arith
+
+at_most_desk : (d : Desk) → desk_left_in d ≤ 1
+at_most_desk (desk_gone c) = omega arith
+at_most_desk asking = omega arith
+at_most_desk waiting = omega arith
+at_most_desk answering = omega arith
+at_most_desk desk_says = omega arith
+at_most_desk (desk_tells c) = omega arith
+at_most_desk (desk_leaves c) = omega arith
+
+at_most_back : (b : Back) → back_left_in b ≤ 1
+at_most_back back_gone = omega arith
+at_most_back stepping = omega arith
+at_most_back back_says = omega arith
+at_most_back back_tells = omega arith
+at_most_back back_leaves = omega arith
+
+finishing : (sizes : Sizes) (s : State) → Holds sizes s → s.term ≡ joining → DoesNotGetStuck sizes s
+finishing sizes s h at =
+    let i = subst (λ (t : Term). Holds sizes (record s { term = t })) at h in
+    let n = at_most_net s.net in
+    let d = at_most_desk s.desk in
+    let b = at_most_back s.back in
+    let j = i.joins in
+    let l = i.leaves in
+    goes_by sizes s finishes (at, net_gone_of s.net (omega arith), desk_gone_of s.desk (omega arith), back_gone_of s.back (omega arith))
+
+-- Term waits for a message, and not all have left
+waiting_on : (sizes : Sizes) (s : State) → 0 < sizes.mails → Holds sizes s → s.term ≡ receiving → s.lefts ≢ 3
+    → ((kind : Kind) × (0 < count_of kind s.box)) ⊎ (waiting_mails s.box ≡ 0) → DoesNotGetStuck sizes s
+waiting_on sizes s some h at not_all (inl (kind, there)) = goes_by sizes s (handles (gives 0) kind) (at, not_all, there)
+waiting_on sizes s some h at not_all (inr none) = by_net sizes s h at none not_all (omega arith) s.net s.credits refl refl
+
+by_lefts : (sizes : Sizes) (s : State) (lefts : ℕ) → 0 < sizes.mails → Holds sizes s → s.term ≡ receiving → s.lefts ≡ lefts → DoesNotGetStuck sizes s
+by_lefts sizes s zero some h at e = waiting_on sizes s some h at (λ f. omega arith) (mail_or_room s.box)
+by_lefts sizes s (suc zero) some h at e = waiting_on sizes s some h at (λ f. omega arith) (mail_or_room s.box)
+by_lefts sizes s (suc (suc zero)) some h at e = waiting_on sizes s some h at (λ f. omega arith) (mail_or_room s.box)
+by_lefts sizes s (suc (suc (suc zero))) some h at e = goes_by sizes s joins (at, e)
+by_lefts sizes s (suc (suc (suc (suc more)))) some h at e = waiting_on sizes s some h at (λ f. omega arith) (mail_or_room s.box)
+
+by_term : (sizes : Sizes) (s : State) (t : Term) → 0 < sizes.mails → Holds sizes s → s.term ≡ t → s.term ≢ ended → DoesNotGetStuck sizes s
+by_term sizes s receiving some h at on = by_lefts sizes s s.lefts some h at refl
+by_term sizes s (writing p last) some h at on = inr (for_write p last at, (let_on sizes (writes false p last) s, (writes false p last, at, refl)))
+by_term sizes s joining some h at on = finishing sizes s h at
+by_term sizes s ended some h at on = absurd (on at)
+
+pub never_gets_stuck : NeverGetsStuck
+never_gets_stuck sizes s some r on = by_term sizes s s.term some (holds sizes s r) refl on
+
+at_most_waiting : (d : Desk) → is_waiting d ≤ 1
+at_most_waiting waiting = omega arith
+at_most_waiting asking = omega arith
+at_most_waiting answering = omega arith
+at_most_waiting desk_says = omega arith
+at_most_waiting (desk_tells c) = omega arith
+at_most_waiting (desk_leaves c) = omega arith
+at_most_waiting (desk_gone c) = omega arith
+
+pub puts_never_wait : PutsNeverWait
+puts_never_wait sizes s r =
+    let h = holds sizes s r in
+    let w = at_most_waiting s.desk in
+    let q = h.one_request in
+    let c = h.one_credit in
+    (omega arith, omega arith)

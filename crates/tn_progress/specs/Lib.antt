@@ -1,0 +1,4 @@
+pub mod Client
+pub mod ClientSteps
+pub mod Server
+pub mod ServerSteps
