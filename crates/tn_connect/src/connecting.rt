@@ -336,8 +336,8 @@ fn note_talked(causes: &mut Vec<u8>, talked: &Talked, link: &Link) {
     if let Err(error) = &talked.sent {
         let _ = writeln!(causes, "tn: sending failed: {}", error);
     }
-    let unsent = talked.unsent.saturating_add(link.dropped());
-    note_unsent(causes, unsent, link);
+    let kept = link.dropped().saturating_add(link.held());
+    note_unsent(causes, talked.unsent.saturating_add(kept), link);
 }
 
 // The result of a session that is over. Where its sending failed it is a fault, unless its user has left.
