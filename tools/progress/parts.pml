@@ -87,7 +87,7 @@ inline put_unit(d, u, ok) {
 	:: atomic { fin[d] -> ok = false }
 	:: atomic { deaf[d] && !fin[d] -> struck[d] = true; ok = false }
 	:: atomic { MAY_FAIL -> FAIL; ok = false }
-#ifdef FIX_WRITE_LOOKS
+#if defined(IDLE) && !defined(MUT_WRITES_FOR_EVER)
 	:: atomic { d == S2C && peer_silent && full(wire[S2C]) -> ok = false }	/* the peer takes nothing for the time of --idle */
 #endif
 #if defined(CLIENT) && !defined(MUT_SENDING_WAITS)

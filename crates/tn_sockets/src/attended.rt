@@ -113,7 +113,8 @@ pub struct Attended<H, S> {
 
 impl<H: Clock + Copy> Attended<H, TcpStream> {
     /// The reading side of a connection, whose peer may send nothing for `idle` seconds, or for ever where
-    /// that is 0.
+    /// that is 0. A write to it that the peer does not take for so long fails: while it waits, nobody hears that the
+    /// peer is silent.
     pub fn new(
         rt: H,
         stream: TcpStream,
@@ -121,6 +122,9 @@ impl<H: Clock + Copy> Attended<H, TcpStream> {
         idle: u32,
     ) -> io::Result<Attended<H, TcpStream>> {
         stream.set_read_timeout(Some(Duration::from_millis(LOOK)))?;
+        if idle > 0 {
+            stream.set_write_timeout(Some(Duration::from_secs(u64::from(idle))))?;
+        }
         let heard = Instant::now(&rt).ok();
         Ok(Attended {
             rt,
