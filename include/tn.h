@@ -30,7 +30,7 @@
 extern "C" {
 #endif
 
-#define TN_VERSION "1.0.0"
+#define TN_VERSION "1.1.0"
 #define TN_VERSION_MAJOR 1
 #define TN_VERSION_MINOR 0
 #define TN_VERSION_PATCH 0

@@ -8,4 +8,5 @@ pub mod Hanging
 pub mod Agreeing
 pub mod Handling
 pub mod Turning
+pub mod Requesting
 pub mod lemmas

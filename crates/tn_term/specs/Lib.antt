@@ -8,3 +8,4 @@ pub mod Giving
 pub mod Hearing
 pub mod Agreeing
 pub mod Welcoming
+pub mod Requests

@@ -11,6 +11,7 @@ ghost use Rattle.tn_term.specs.Giving.{GivesPrefix};
 ghost use Rattle.tn_term.specs.Hearing.{Hears, HangsUp, MayAllCome};
 ghost use Rattle.tn_term.specs.Marks.{Turns, Runs, run_after_opening};
 ghost use Rattle.tn_term.specs.Reaching.{LeadsTo};
+ghost use Rattle.tn_term.specs.Requests.{AnswersRequests, requests_among};
 ghost use Rattle.tn_term.specs.Run.{Run, start};
 ghost use Rattle.tn_messages.specs.declared.faults.Ended.TheVariants.{HangUp, Fault};
 ghost use Rattle.tn_messages.specs.declared.faults.SessionFault.{SessionFault};
@@ -76,4 +77,13 @@ pub fn welcome_messages_find_room()
     ensures { (c new : Run) (term : Term) (message : Message) (mark : Mark) → LeadsTo c term →
         IsWelcome c message → Turns c (message, mark) new → new.progress.ended ≡ too_far_ahead →
         c.progress.ended ≡ too_far_ahead }
+{}
+
+/// What was put for the foreground job, and its request that waits, are no more than it has asked for: no put finds
+/// an entry that was put before and was not asked for.
+pub fn puts_answer_requests()
+    ensures { (opens : Bool) (canon : Canon) (editing : Editing) (jobs : Jobs)
+        (marked : List (Message × Mark)) (new : Run) →
+        Runs (run_after_opening opens (start canon editing jobs)) marked new →
+        AnswersRequests (requests_among marked) new }
 {}
