@@ -32,7 +32,7 @@ extern "C" {
 
 #define TN_VERSION "1.1.0"
 #define TN_VERSION_MAJOR 1
-#define TN_VERSION_MINOR 0
+#define TN_VERSION_MINOR 1
 #define TN_VERSION_PATCH 0
 
 typedef struct tn_handle {
