@@ -14,6 +14,7 @@ use tn_cli::{
     run_replay,
 };
 use tn_discipline::Limit;
+use tn_lines::LineEnd;
 use tn_streams::{Drain, Source, Tally};
 
 // What the words of a line ask for. Want of memory is an ordinary answer, and help is asked for elsewhere.
@@ -55,14 +56,14 @@ fn words_ask_for_a_server(rt: HostRuntime) -> Result<(), Fail> {
         host: String::from_str(rt.alloc(), "127.0.0.1")?,
         port: 2323,
         sessions: 8,
-        count: 1,
+        count: Some(1),
         ticks: 0,
         line_limit: Limit::standard(),
         idle: 0,
         local: false,
         verbose: false,
         to: None,
-        crlf: false,
+        line_end: LineEnd::Lf,
     });
     asks(&rt, rt.alloc(), "tn serve --port 2323", Some(asked));
     Ok(())
@@ -74,7 +75,7 @@ fn words_ask_for_all_of_a_server(rt: HostRuntime) -> Result<(), Fail> {
         host: String::from_str(rt.alloc(), "::1")?,
         port: 2323,
         sessions: 64,
-        count: 1_000_000,
+        count: Some(1_000_000),
         ticks: 1_000,
         line_limit: Limit::new(4_095).unwrap_or(Limit::standard()),
         idle: 86_400,
@@ -84,7 +85,7 @@ fn words_ask_for_all_of_a_server(rt: HostRuntime) -> Result<(), Fail> {
             host: String::from_str(rt.alloc(), "::1")?,
             port: 7,
         }),
-        crlf: true,
+        line_end: LineEnd::CrLf,
     });
     let line =
         "tn serve --limit=64 --count 1000000 --ticks=1000 --host ::1 --line 4095 --idle 86400 \
