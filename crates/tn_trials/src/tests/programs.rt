@@ -94,6 +94,29 @@ fn words_ask_for_all_of_a_server(rt: HostRuntime) -> Result<(), Fail> {
     Ok(())
 }
 
+#[test]
+fn words_ask_for_a_server_without_end(rt: HostRuntime) -> Result<(), Fail> {
+    let asked = Asked::Serve(Serving {
+        host: String::from_str(rt.alloc(), "127.0.0.1")?,
+        port: 7,
+        sessions: 8,
+        count: None,
+        ticks: 0,
+        line_limit: Limit::standard(),
+        idle: 0,
+        local: false,
+        verbose: false,
+        to: Some(Address {
+            host: String::from_str(rt.alloc(), "h")?,
+            port: 7,
+        }),
+        line_end: LineEnd::Cr,
+    });
+    let line = "tn serve --forever -p 7 --cr --to h:7";
+    asks(&rt, rt.alloc(), line, Some(asked));
+    Ok(())
+}
+
 // A connection of this machine without any option but its port.
 fn connecting(alloc: Global) -> Result<Connecting, AllocError> {
     Ok(Connecting {
@@ -189,6 +212,10 @@ const REFUSED: &[&str] = &[
     "tn serve --port 7 --to h:7x",
     "tn serve --port 7 --to [::1:7",
     "tn serve --port 7 --to []:7",
+    "tn serve --port 7 --crlf",
+    "tn serve --port 7 --cr",
+    "tn serve --port 7 --to h:7 --cr --crlf",
+    "tn serve --port 7 --forever --count 2",
     "tn serve --port 7 --line 254",
     "tn serve --port 7 --line 4096",
     "tn serve --port 7 --ticks -1",
@@ -244,6 +271,11 @@ const TOLD: &[(&str, &str)] = &[
     ("tn connect h:7 7", "more than one port is given"),
     ("tn connect h:x", "invalid value 'h:x' for '[HOST]'"),
     ("tn connect h --cr", "need '--plain'"),
+    ("tn serve -p 7 --cr", "need '--to'"),
+    (
+        "tn serve -p 7 --count 1 --forever",
+        "'--count' and '--forever' exclude",
+    ),
     (
         "tn connect h --escape ^1",
         "invalid value '^1' for '--escape <C>'",
