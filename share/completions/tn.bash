@@ -27,7 +27,7 @@ _tn() {
             world)
                 words='-h --help' ;;
             serve)
-                words='--host -p --port --limit --count --ticks --line --idle --local --verbose --to --crlf -h --help' ;;
+                words='--host -p --port --limit --count --forever --ticks --line --idle --local --verbose --to --crlf --cr -h --help' ;;
             connect)
                 if [[ $word != -* ]]; then mapfile -t COMPREPLY < <(compgen -A hostname -- "$word"); return; fi
                 words='-p --port --width --height --line --escape --trace -q --quiet --plain --lf --cr -h --help' ;;

@@ -3,3 +3,4 @@ pub mod Ends
 pub mod Talks
 pub mod Shown
 pub mod Steps
+pub mod NewLines

@@ -6,16 +6,16 @@ use Rattle.tn_discipline.specs.declared.reads.Entry.TheVariants.{Text, Eof, Sign
 use Rattle.tn_discipline.specs.declared.reads.Sig.TheVariants.{Int, Quit, Tstp}
 use Rattle.tn_gateway.proofs.Written.{kept_appends, keeps_on, keeps_same, writes_more, stops_more, tells_more}
 use Rattle.tn_gateway.specs.Joining.{Reacts}
-use Rattle.tn_gateway.specs.Lines.{line_sent}
 use Rattle.tn_gateway.specs.Sending.{Goes, WritesNothing, way_after}
 use Rattle.tn_gateway.specs.Talks.{SendsAll, SendsTalk, due, goes_well}
 use Rattle.tn_gateway.specs.declared.joining.Gateway.{Gateway}
 use Rattle.tn_gateway.specs.declared.joining.Gateway.TheVariants as side
-use Rattle.tn_gateway.specs.declared.line_ends.LineEnd.{LineEnd}
 use Rattle.tn_gateway.specs.declared.sending.Sending.{Sending}
 use Rattle.tn_gateway.specs.declared.sending.Way.{Way}
 use Rattle.tn_gateway.specs.declared.sending.Way.TheVariants.{Open, Ended, Broken}
 use Rattle.tn_jobs.specs.declared.reactions.Reaction.{Reaction}
+use Rattle.tn_lines.specs.LineEnds.{line_said}
+use Rattle.tn_lines.specs.declared.line_ends.LineEnd.{LineEnd}
 use Rattle.tn_session.specs.Talk.{Answers}
 use Rattle.tn_session.specs.Turns.{Writes, Tells, max_writes}
 use Rattle.tn_streams.proofs.lemmas.Telling.{accounts_none}
@@ -125,7 +125,7 @@ all_due line_end before [] new after (way_is, writer_is) =
     let both = kept before after (subst P (sym writer_is) (record { bytes = keeps_same before.bytes; calls = refl })) in
     sent_as [] before after Open new way_is both.0 both.1
 all_due line_end before (Text line ∷ entries) new after (way, writer, goes, rest) =
-    line_due line_end (line_sent line_end line) (due line_end entries) before writer entries way new after goes.whole goes.wrote goes.tells goes.leaves rest (all_due line_end writer entries new after)
+    line_due line_end (line_said line_end line) (due line_end entries) before writer entries way new after goes.whole goes.wrote goes.tells goes.leaves rest (all_due line_end writer entries new after)
 all_due line_end before (Eof ∷ entries) new after (way, writer, goes, rest) =
     ends line_end before writer entries way new after goes.0 goes.1 rest
 all_due line_end before (Signal Int ∷ entries) new after (way, writer, goes, rest) =

@@ -1,15 +1,15 @@
 -- The jobs of a session that is joined to a service.
-use Rattle.std.specs.Prelude.{◌≡◌, ℕ, ◌+◌, Option, Some, None, List}
+use Rattle.std.specs.Prelude.{◌≡◌, ℕ, ◌+◌, false, Option, Some, None, List}
 use Rattle.tn_discipline.specs.declared.reads.Entry.{Entry}
 use Rattle.tn_gateway.specs.Sending.{SendsEntry, silent}
 use Rattle.tn_gateway.specs.Showing.{Shows}
 use Rattle.tn_gateway.specs.declared.joining.Gateway.{Gateway}
 use Rattle.tn_gateway.specs.declared.joining.Gateway.TheVariants as side
-use Rattle.tn_gateway.specs.declared.line_ends.LineEnd.{LineEnd}
 use Rattle.tn_gateway.specs.declared.makers.Gateways.{Gateways}
 use Rattle.tn_gateway.specs.declared.sending.Way.TheVariants.{Open}
 use Rattle.tn_jobs.specs.declared.reactions.Reaction.{Reaction}
 use Rattle.tn_jobs.specs.declared.verdicts.After.TheVariants.{Stay, Done}
+use Rattle.tn_lines.specs.declared.line_ends.LineEnd.{LineEnd}
 use Rattle.tn_streams.specs.Foretelling.{Failures}
 use Rattle.tn_streams.specs.Known.{known_reader}
 use Rattle.tn_streams.specs.declared.window.WindowSize.{WindowSize}
@@ -46,7 +46,7 @@ GivesReached reached line_end None job = Unit {0}
 
 abbrev pub IsFresh : {R W : Type 0} → Gateway R W → Type 0
 IsFresh (side.Sends sending) = sending.way ≡ Open
-IsFresh (side.Shows showing) = Unit {0}
+IsFresh (side.Shows showing) = showing.waits ≡ false
 
 -- an entry goes to the job in the foreground; the other one is never asked
 abbrev pub Reacts : {R W : Type 0} → (W → Option (List ℕ)) → (W → Option Calls)
@@ -61,7 +61,7 @@ Reacts contents told (side.Shows old) entry reaction new =
 abbrev pub Steps : {R W : Type 0} → (R → Option (List ℕ)) → (R → Option Failures)
     → (R → Option (List WindowSize)) → Gateway R W → Reaction → Gateway R W → Type 0
 Steps remaining foretold sizes (side.Shows old) reaction (side.Shows new) =
-    Shows reaction.text reaction.after
+    Shows old.waits reaction.text reaction.after new.waits
     (known_reader remaining foretold sizes old.reader) (known_reader remaining foretold sizes new.reader)
 Steps remaining foretold sizes (side.Shows old) reaction (side.Sends new) = ⊥
 Steps remaining foretold sizes (side.Sends old) reaction new =

@@ -1,6 +1,6 @@
 pub mod Dialing
 pub mod Joining
-pub mod Lines
+pub mod NewLines
 pub mod Sending
 pub mod Showing
 pub mod Talks

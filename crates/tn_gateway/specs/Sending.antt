@@ -4,14 +4,14 @@ use Rattle.std.specs.Io.KnownBytes.{Keeps}
 use Rattle.tn_discipline.specs.declared.reads.Entry.{Entry}
 use Rattle.tn_discipline.specs.declared.reads.Entry.TheVariants.{Text, Eof, Signal}
 use Rattle.tn_discipline.specs.declared.reads.Sig.TheVariants.{Int, Quit, Tstp}
-use Rattle.tn_gateway.specs.Lines.{line_sent}
-use Rattle.tn_gateway.specs.declared.line_ends.LineEnd.{LineEnd}
 use Rattle.tn_gateway.specs.declared.sending.Sending.{Sending}
 use Rattle.tn_gateway.specs.declared.sending.Way.{Way}
 use Rattle.tn_gateway.specs.declared.sending.Way.TheVariants.{Open, Ended, Broken}
 use Rattle.tn_jobs.specs.declared.reactions.Reaction.{Reaction}
 use Rattle.tn_jobs.specs.declared.verdicts.After.{After}
 use Rattle.tn_jobs.specs.declared.verdicts.After.TheVariants.{Stay, Done}
+use Rattle.tn_lines.specs.LineEnds.{line_said}
+use Rattle.tn_lines.specs.declared.line_ends.LineEnd.{LineEnd}
 use Rattle.tn_session.specs.Turns.{Writes, Tells}
 use Rattle.tn_streams.specs.Known.{KnownWriting, known_writing}
 use Rattle.tn_streams.specs.Telling.{Calls}
@@ -56,7 +56,7 @@ pub record WritesNothing (writer : KnownWriting) : Type 0 where
 
 -- what goes to the service at an entry, and how the way there stands before and after it
 abbrev pub Goes : LineEnd → Way → Entry → KnownWriting → Way → Type 0
-Goes line_end Open (Text line) writer new = WritesBytes (line_sent line_end line) writer new
+Goes line_end Open (Text line) writer new = WritesBytes (line_said line_end line) writer new
 Goes line_end Ended (Text line) writer new = WritesNothing writer × (new ≡ Ended)
 Goes line_end Broken (Text line) writer new = WritesNothing writer × (new ≡ Broken)
 Goes line_end old Eof writer new = WritesNothing writer × (new ≡ ended old)

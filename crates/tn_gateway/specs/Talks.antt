@@ -1,21 +1,22 @@
 -- What went to the service in a whole talk, and what of its words was shown.
-use Rattle.std.specs.Prelude.{◌≡◌, ◌⊎◌, ℕ, Bool, true, false, Option, List, [], ◌∷◌, ◌++◌, map}
+use Rattle.std.specs.Prelude.{◌≡◌, ◌⊎◌, ℕ, Bool, true, false, Option, List, [], ◌∷◌, ◌++◌, length, map}
 use Rattle.std.specs.List.{concat}
 use Rattle.std.specs.Io.KnownBytes.{Consumes, IsAtEnd}
 use Rattle.tn_discipline.specs.declared.reads.Entry.{Entry}
 use Rattle.tn_discipline.specs.declared.reads.Entry.TheVariants.{Text, Eof, Signal}
 use Rattle.tn_discipline.specs.declared.reads.Sig.TheVariants.{Int, Quit, Tstp}
-use Rattle.tn_gateway.specs.Lines.{line_sent}
+use Rattle.tn_gateway.specs.NewLines.{shown_of, waiting}
 use Rattle.tn_gateway.specs.Showing.{IsToFail}
 use Rattle.tn_gateway.specs.declared.joining.Gateway.{Gateway}
 use Rattle.tn_gateway.specs.declared.joining.Gateway.TheVariants as side
-use Rattle.tn_gateway.specs.declared.line_ends.LineEnd.{LineEnd}
 use Rattle.tn_gateway.specs.declared.sending.Sending.{Sending}
 use Rattle.tn_gateway.specs.declared.sending.Way.{Way}
 use Rattle.tn_gateway.specs.declared.sending.Way.TheVariants.{Open, Ended, Broken}
 use Rattle.tn_gateway.specs.declared.showing.Showing.{Showing}
 use Rattle.tn_jobs.specs.declared.reactions.Reaction.{Reaction}
 use Rattle.tn_jobs.specs.declared.verdicts.After.TheVariants.{Stay, Done}
+use Rattle.tn_lines.specs.LineEnds.{line_said}
+use Rattle.tn_lines.specs.declared.line_ends.LineEnd.{LineEnd}
 use Rattle.tn_session.specs.Turns.{Writes, Tells}
 use Rattle.tn_streams.specs.Foretelling.{Failures}
 use Rattle.tn_streams.specs.Known.{KnownReader, KnownWriting, known_reader, known_writing}
@@ -25,7 +26,7 @@ use Rattle.tn_streams.specs.Telling.{Calls}
 -- what is due to the service: each line once, in order, up to the end of file, an interrupt or a quit
 abbrev pub due : LineEnd → List Entry → List ℕ
 due line_end [] = []
-due line_end (Text line ∷ entries) = line_sent line_end line ++ due line_end entries
+due line_end (Text line ∷ entries) = line_said line_end line ++ due line_end entries
 due line_end (Signal Tstp ∷ entries) = due line_end entries
 due line_end (Signal Int ∷ entries) = []
 due line_end (Signal Quit ∷ entries) = []
@@ -58,16 +59,20 @@ EndsAtLast [] = ⊥
 EndsAtLast (r ∷ []) = r.after ≡ Done
 EndsAtLast (r ∷ next ∷ reactions) = (r.after ≡ Stay) × EndsAtLast (next ∷ reactions)
 
--- What was shown is what the reader gave, in order; and all of it once the job has ended, unless a read is to
--- fail.
-pub record ShowsAll (reactions : List Reaction) (first last : KnownReader) : Type 0 where
-  pub shown : Consumes first.bytes last.bytes (texts_of reactions)
+-- What was shown is what the reader gave, in order, with a line feed for each new line, but for a carriage return
+-- that waits; and all of it once the job has ended, unless a read is to fail. Each step made one read.
+pub record ShowsAll (waited : Bool) (reactions : List Reaction) (waits : Bool) (first last : KnownReader) : Type 0 where
+  pub reads : List (List ℕ)
+  pub each : length reads ≡ length reactions
+  pub came : Consumes first.bytes last.bytes (concat reads)
+  pub shown : texts_of reactions ++ waiting waits ≡ shown_of (waiting waited) reads
+  pub none_waits : EndsAtLast reactions → waits ≡ false
   pub all : EndsAtLast reactions → IsAtEnd last.bytes ⊎ IsToFail first.failures
 
 -- these steps led the job in the background here
 abbrev pub ShowsTalk : {R W : Type 0} → (R → Option (List ℕ)) → (R → Option Failures)
     → (R → Option (List WindowSize)) → Showing R → List Reaction → Gateway R W → Type 0
 ShowsTalk remaining foretold sizes first reactions (side.Shows last) =
-    ShowsAll reactions
+    ShowsAll first.waits reactions last.waits
     (known_reader remaining foretold sizes first.reader) (known_reader remaining foretold sizes last.reader)
 ShowsTalk remaining foretold sizes first reactions (side.Sends last) = ⊥

@@ -9,14 +9,15 @@ ghost use Rattle.tn_network.specs.Asked.{Reaches};
 ghost use Rattle.tn_sockets.specs.Passing.{HandsOn};
 
 use crate::joining::Gateway;
-use crate::line_ends::LineEnd;
 use crate::makers::Gateways;
 use std::alloc::{AllocError, Global};
 use std::io;
 use std::io::{ErrorKind, Read, Write};
 use std::net::{Shutdown, TcpStream};
-use std::sync::Wait;
+use std::sync::atomic::{AtomicBool, Ordering};
+use std::sync::{Arc, Wait};
 use std::time::Duration;
+use tn_lines::LineEnd;
 use tn_network::{Network, Unheard, reach};
 use tn_session::{Finish, Maker};
 use tn_sockets::{Closing, Hook};
@@ -27,8 +28,22 @@ const LOOK: u64 = 250;
 /// How often a write looks that at least, while the service takes nothing.
 const LOOKS: u32 = 20;
 
+/// How many milliseconds a read waits behind a carriage return, until that is shown by itself.
+const SOON: u64 = 20;
+
 /// What a user is told in place of what the service says.
 const UNREACHED: &[u8] = b"the service cannot be reached\n";
+
+/// A stream of which each read waits for a time that can be set.
+pub trait Pacing {
+    fn wait_at_most(&self, milliseconds: u64);
+}
+
+impl Pacing for TcpStream {
+    fn wait_at_most(&self, milliseconds: u64) {
+        let _ = self.set_read_timeout(Some(Duration::from_millis(milliseconds)));
+    }
+}
 
 // Both halves of a connection, of which each call waits for a short time.
 fn halves(stream: TcpStream) -> io::Result<(TcpStream, TcpStream)>
@@ -108,16 +123,20 @@ impl<H: Copy + Network + Wait> Joiner<H> {
             None => (None, None),
         };
         hook.hold();
+        let said_all = Arc::new(alloc, AtomicBool::new(false))?;
         let writer = Told {
             rt,
             stream: told,
             hook: hook.another()?,
+            said_all: Arc::try_clone(&said_all)?,
         };
         let reader = Heard {
             rt,
             stream: heard,
             words: UNREACHED,
             hook,
+            said_all,
+            returned: false,
         };
         Ok(Gateways::new(reader, writer, self.line_end))
     }
@@ -154,7 +173,8 @@ impl<H: Copy + Network + Wait> Maker for Joiner<H> {
     }
 }
 
-/// What the service says. Its end hangs up, and where the session is over, it ends.
+/// What the service says. Its end hangs up, and where the session is over, it ends. Behind a carriage return a read
+/// is interrupted where nothing comes soon, so that one by itself does not wait for what comes next.
 #[derive(Drop)]
 pub struct Heard<H, S> {
     rt: H,
@@ -162,11 +182,21 @@ pub struct Heard<H, S> {
     /// What is read where the service was not reached.
     words: &'static [u8],
     hook: Hook,
+    /// It has said all.
+    said_all: Arc<AtomicBool, Global>,
+    /// A carriage return came last.
+    returned: bool,
 }
 
 // tools/progress: d_gateway.pml, MAKES_STEP
-// Reads what comes, until the session is over.
-fn hear<H: Wait, S: Read>(rt: &H, stream: &mut S, hook: &Hook, buf: &mut [u8]) -> io::Result<usize>
+// Reads what comes, until the session is over, or, behind a carriage return, for a short time.
+fn hear<H: Wait, S: Read>(
+    rt: &H,
+    stream: &mut S,
+    hook: &Hook,
+    returned: bool,
+    buf: &mut [u8],
+) -> io::Result<usize>
     ensures bound { ReadsAtMost result buf.new }
     ensures hands_on { HandsOn (S.remaining stream.old) (S.remaining stream.new) result buf.new }
 {
@@ -179,24 +209,41 @@ fn hear<H: Wait, S: Read>(rt: &H, stream: &mut S, hook: &Hook, buf: &mut [u8]) -
         if hook.is_over() {
             return Ok(0);
         }
+        if returned {
+            return Err(io::Error::from(ErrorKind::Interrupted));
+        }
     }
     Ok(0)
 }
 
-impl<H: Copy + Wait, S: Drop + Read> Heard<H, S> {
+impl<H: Copy + Wait, S: Drop + Read + Pacing> Heard<H, S> {
     fn hear(&mut self, buf: &mut [u8]) -> io::Result<usize>
         ensures bound { ReadsAtMost result buf.new }
         ensures hands_on { HandsOn (bytes_left S.remaining self.old.stream self.old.words.now)
             (bytes_left S.remaining self.new.stream self.new.words.now) result buf.new }
     {
         match &mut self.stream {
-            Some(stream) => hear(&self.rt, stream, &self.hook, buf),
+            Some(stream) => hear(&self.rt, stream, &self.hook, self.returned, buf),
             None => self.words.read(buf),
+        }
+    }
+
+    // From now on a read waits for as long as it may behind this last byte.
+    fn pace(&mut self, returned: bool)
+        ensures stream { self.new.stream ≡ self.old.stream }
+        ensures words { self.new.words ≡ self.old.words }
+    {
+        if returned == self.returned {
+            return;
+        }
+        self.returned = returned;
+        if let Some(stream) = &self.stream {
+            stream.wait_at_most(if returned { SOON } else { LOOK });
         }
     }
 }
 
-impl<H: Copy + Wait, S: Drop + Read> Read for Heard<H, S> {
+impl<H: Copy + Wait, S: Drop + Read + Pacing> Read for Heard<H, S> {
     fn read(&mut self, buf: &mut [u8]) -> io::Result<usize>
         ensures bound { ReadsAtMost result buf.new }
         ensures bytes { ReadConsumes None None result buf.new }
@@ -205,23 +252,34 @@ impl<H: Copy + Wait, S: Drop + Read> Read for Heard<H, S> {
     {
         let read = self.hear(buf);
         if is_last(&read) {
+            self.said_all.store(true, Ordering::SeqCst);
             self.hook.hang_up();
         }
+        self.pace(ends_by_return(&read, buf));
         read
     }
 }
 
-/// What the service is told. Where the session is over, a service that takes nothing is given up in time.
+/// What the service is told. Where the session is over, or the service has said all, one that takes nothing is given
+/// up in time.
 #[derive(Drop)]
 pub struct Told<H, S> {
     rt: H,
     stream: Option<S>,
     hook: Hook,
+    said_all: Arc<AtomicBool, Global>,
 }
 
 // tools/progress: d_gateway.pml, ANSWERS
-// Writes as much as the stream takes at once, until the session is over and it takes nothing in time.
-fn tell<H: Wait, S: Write>(rt: &H, stream: &mut S, hook: &Hook, buf: &[u8]) -> io::Result<usize>
+// Writes as much as the stream takes at once, until the session is over, or the service has said all, and it takes
+// nothing in time.
+fn tell<H: Wait, S: Write>(
+    rt: &H,
+    stream: &mut S,
+    hook: &Hook,
+    said_all: &AtomicBool,
+    buf: &[u8],
+) -> io::Result<usize>
     ensures bound { WritesAtMost result buf.now }
     ensures bytes { WriteAppends (S.contents stream.old) (S.contents stream.new) result buf.now }
 {
@@ -233,7 +291,7 @@ fn tell<H: Wait, S: Write>(rt: &H, stream: &mut S, hook: &Hook, buf: &[u8]) -> i
             Err(error) => return Err(error),
         }
         looks = looks.saturating_add(1);
-        if looks >= LOOKS && hook.is_over() {
+        if looks >= LOOKS && is_to_end(hook, said_all) {
             break;
         }
     }
@@ -245,7 +303,7 @@ impl<H: Copy + Wait, S: Drop + Write> Write for Told<H, S> {
 
     fn write(&mut self, buf: &[u8]) -> io::Result<usize> {
         match &mut self.stream {
-            Some(stream) => tell(&self.rt, stream, &self.hook, buf),
+            Some(stream) => tell(&self.rt, stream, &self.hook, &self.said_all, buf),
             None => Err(io::Error::from(ErrorKind::NotConnected)),
         }
     }
@@ -260,6 +318,20 @@ impl<H: Copy + Wait, S: Drop + Write + Closing> Finish for Told<H, S> {
         if let Some(stream) = &self.stream {
             stream.close(Shutdown::Write);
         }
+    }
+}
+
+// Whether the service is to be told no more than it takes: nothing more comes from the user, or the service has
+// said all, which ends the session.
+fn is_to_end(hook: &Hook, said_all: &AtomicBool) -> bool {
+    hook.is_over() || said_all.load(Ordering::SeqCst)
+}
+
+// Whether a read gave bytes that end with a carriage return.
+fn ends_by_return(read: &io::Result<usize>, buf: &[u8]) -> bool {
+    match read {
+        Ok(count) if *count > 0 => matches!(buf.get(*count - 1), Some(b'\r')),
+        _ => false,
     }
 }
 

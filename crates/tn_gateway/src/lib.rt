@@ -11,12 +11,12 @@
 //! does by its hook.
 #![tactic(auto)]
 
-pub use dialing::{Heard, Joiner, Told};
+pub use dialing::{Heard, Joiner, Pacing, Told};
 pub use joining::Gateway;
-pub use line_ends::LineEnd;
 pub use makers::Gateways;
 pub use sending::{Sending, Way};
 pub use showing::Showing;
+pub use tn_lines::LineEnd;
 pub use writing::write_whole;
 
 mod dialing;

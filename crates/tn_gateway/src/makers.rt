@@ -3,10 +3,10 @@
 ghost use Rattle.std.specs.Prelude.{◌≡◌, Some};
 
 use crate::joining::Gateway;
-use crate::line_ends::LineEnd;
 use crate::sending::{Sending, Way};
 use crate::showing::Showing;
 use std::alloc::{AllocError, Global};
+use tn_lines::LineEnd;
 use tn_session::{Finish, Maker};
 use tn_streams::Source;
 
@@ -54,7 +54,10 @@ impl<R: Source + Drop, W: Finish + Drop> Maker for Gateways<R, W> {
             })));
         }
         match self.reader.take() {
-            Some(reader) => Ok(Some(Gateway::Shows(Showing { reader }))),
+            Some(reader) => Ok(Some(Gateway::Shows(Showing {
+                reader,
+                waits: false,
+            }))),
             None => Ok(None),
         }
     }

@@ -1,15 +1,16 @@
 //! The job in the foreground: each line that the user enters goes to the service.
 
 ghost use Rattle.std.specs.Prelude.{◌≡◌, IfOk, OnOk};
-ghost use Rattle.tn_gateway.specs.Lines.{line_sent};
 ghost use Rattle.tn_gateway.specs.Sending.{SendsEntry, WritesBytes, WritesNothing, ended, say, silent, way_after};
+ghost use Rattle.tn_lines.specs.LineEnds.{line_said};
 ghost use Rattle.tn_streams.specs.Known.{known_writing};
 
-use crate::line_ends::{LineEnd, line_sent};
+use crate::line_ends::line_sent;
 use crate::writing::write_whole;
 use std::alloc::{AllocError, Global};
 use tn_discipline::{Entry, Sig, Text};
 use tn_jobs::{After, Reaction};
+use tn_lines::LineEnd;
 use tn_session::Finish;
 
 /// Whether lines still go to the service.
@@ -66,7 +67,7 @@ impl<W: Finish> Sending<W> {
 
     fn send(&mut self, line: Text) -> Result<(), AllocError>
         requires { self.old.way ≡ Way.Open }
-        ensures sent { OnOk result (WritesBytes (line_sent self.old.line_end line)
+        ensures sent { OnOk result (WritesBytes (line_said self.old.line_end line)
             (known_writing W.contents W.told self.old.writer self.new.writer) self.new.way) }
         ensures line_end { self.new.line_end ≡ self.old.line_end }
     {

@@ -3,7 +3,7 @@ use Rattle.std.proofs.Common.{◌≡◌, ℕ, List, Option, Result, Ok, Err, IfO
 use Rattle.std.specs.declared.net.tcp.TcpStream.{TcpStream}
 use Rattle.tn_answerer.specs.declared.answerers.Answerers.{Answerers}
 use Rattle.tn_gateway.specs.declared.dialing.Joiner.{Joiner}
-use Rattle.tn_gateway.specs.declared.line_ends.LineEnd.{LineEnd}
+use Rattle.tn_lines.specs.declared.line_ends.LineEnd.{LineEnd}
 use Rattle.tn_loopback.specs.Counted.{CountsSessions, server_of}
 use Rattle.tn_loopback.specs.declared.fault.ServeFault.{ServeFault}
 use Rattle.tn_loopback.specs.declared.fault.ServeFault.TheVariants.{Network, Memory, Limit}

@@ -9,6 +9,7 @@ use Rattle.tn_connect.specs.Talks.{RunsTalk}
 use Rattle.tn_connect.specs.declared.connected.Connected.{Connected}
 use Rattle.tn_connect.specs.declared.fault.ConnectFault.{ConnectFault}
 use Rattle.tn_connect.specs.declared.fault.ConnectFault.TheVariants as connect
+use Rattle.tn_lines.specs.declared.line_ends.LineEnd.{LineEnd}
 use Rattle.tn_loopback.specs.Ends.{ServesAll}
 use Rattle.tn_loopback.specs.declared.fault.ServeFault.{ServeFault}
 use Rattle.tn_loopback.specs.declared.fault.ServeFault.TheVariants as serve
@@ -18,14 +19,13 @@ use Rattle.tn_network.specs.Asked.{Asking, Listens, Reaches}
 use Rattle.tn_program.specs.Statuses.{status_of}
 use Rattle.tn_program.specs.declared.outcome.Outcome.{Outcome}
 use Rattle.tn_program.specs.declared.outcome.Outcome.TheVariants as outcome
-use Rattle.tn_program.specs.Settings.{UnlessMemory, plain_as, window_as}
+use Rattle.tn_program.specs.Settings.{UnlessMemory, count_as, plain_as, window_as}
 use Rattle.tn_roster.specs.Held.{IsLimit}
 use Rattle.tn_streams.specs.Known.{KnownReader}
 use Rattle.tn_connect.specs.declared.settings.Origin.{Origin}
 use Rattle.tn_words.specs.Words.{AskFor, AsksForHelp, AsksForVersion, Refuses, version_line}
 use Rattle.tn_connect.specs.declared.talks.TalkReport.{TalkReport}
 use Rattle.tn_words.specs.declared.settings.Connecting.{Connecting}
-use Rattle.tn_words.specs.declared.settings.LineEnd.{LineEnd}
 use Rattle.tn_words.specs.declared.settings.Serving.{Serving}
 use Rattle.tn_words.specs.declared.words.Asked.{Asked}
 use Rattle.tn_words.specs.declared.words.Asked.TheVariants as asked
@@ -34,7 +34,7 @@ use Rattle.tn_words.specs.declared.words.WordsFault.TheVariants as words_fault
 -- What came of serving.
 pub record EndsServing (network : Asking) (serving : Serving) (ended : Result Served ServeFault)
     (old new : Option (List ℕ)) : Type 0 where
-  pub all : IfOk ended (ServesAll serving.count)
+  pub all : IfOk ended (ServesAll (count_as serving.count))
   pub listened : UnlessMemory ended (Listens (network.listens (string_bytes serving.host) serving.port)
       network.shares network.accepts (λ (served : Served). served.accepted) ended)
   pub limit : IsErrOf ended serve.Limit → ¬ IsLimit serving.sessions

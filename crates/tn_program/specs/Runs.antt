@@ -10,13 +10,13 @@ use Rattle.tn_connect.specs.Talks.{RunsTalk}
 use Rattle.tn_connect.specs.declared.talks.TalkReport.{TalkReport}
 use Rattle.tn_connect.specs.declared.connected.Connected.{Connected}
 use Rattle.tn_connect.specs.declared.fault.ConnectFault.{ConnectFault}
+use Rattle.tn_lines.specs.declared.line_ends.LineEnd.{LineEnd}
 use Rattle.tn_loopback.specs.Ends.{ServesAll}
 use Rattle.tn_loopback.specs.declared.fault.ServeFault.{ServeFault}
 use Rattle.tn_loopback.specs.declared.served.Served.{Served}
 use Rattle.tn_messages.specs.Ending.{EndsWhole}
 use Rattle.tn_network.specs.Asked.{Asking, Listens, Reaches}
-use Rattle.tn_program.specs.Settings.{plain_as, window_as}
-use Rattle.tn_words.specs.declared.settings.LineEnd.{LineEnd}
+use Rattle.tn_program.specs.Settings.{count_as, plain_as, window_as}
 use Rattle.tn_connect.specs.declared.settings.Origin.{Origin}
 use Rattle.tn_words.specs.Words.{AskFor, AsksForHelp, AsksForVersion, version_line}
 use Rattle.tn_words.specs.declared.words.Asked.{Asked}
@@ -40,7 +40,7 @@ RunsAsked network Local origin bytes old new = IfSome bytes (λ keys. PrintsKeys
 RunsAsked network Replay origin bytes old new = IfSome bytes (λ stream. Replays stream old new)
 RunsAsked network Decode origin bytes old new = IfSome bytes (λ stream. Decodes stream old new)
 RunsAsked network World origin bytes old new = IfSome bytes (λ script. PlaysScript script old new)
-RunsAsked network (Serve serving) origin bytes old new = (served : Served) × ServesAll serving.count served
+RunsAsked network (Serve serving) origin bytes old new = (served : Served) × ServesAll (count_as serving.count) served
     × Listens (network.listens (string_bytes serving.host) serving.port) network.shares network.accepts
     (λ (served : Served). served.accepted) (ok served) × (new ≡ old)
 RunsAsked network (Connect connecting) origin bytes old new =

@@ -2,21 +2,16 @@
 use Rattle.std.specs.Prelude.{◌≡◌, ℕ, Bool, true, false, Option, None, Some, IsSome, unwrap_or, List, Result, Ok, Err, string_bytes}
 use Rattle.tn_answerer.specs.declared.answerers.Answerers.{Answerers}
 use Rattle.tn_gateway.specs.declared.dialing.Joiner.{Joiner}
-use Rattle.tn_gateway.specs.declared.line_ends.LineEnd.{LineEnd}
-use Rattle.tn_gateway.specs.declared.line_ends.LineEnd.TheVariants.{CrLf, Lf}
 use Rattle.tn_loopback.specs.declared.fault.ServeFault.{ServeFault}
 use Rattle.tn_loopback.specs.declared.fault.ServeFault.TheVariants.{Network, Memory, Limit as BadLimit}
 use Rattle.tn_loopback.specs.declared.settings.SessionOptions.{SessionOptions}
 use Rattle.tn_connect.specs.declared.settings.Origin.{Origin}
 use Rattle.tn_connect.specs.declared.settings.Plain.{Plain}
-use Rattle.tn_lines.specs.declared.line_ends.LineEnd.{LineEnd as PlainEnd}
-use Rattle.tn_lines.specs.declared.line_ends.LineEnd.TheVariants as line_end
+use Rattle.tn_lines.specs.declared.line_ends.LineEnd.{LineEnd}
 use Rattle.tn_server.specs.declared.wishes.Editing.{Editing}
 use Rattle.tn_server.specs.declared.wishes.Editing.TheVariants.{Local, Remote}
 use Rattle.tn_session.specs.Facts.{Window}
 use Rattle.tn_words.specs.declared.settings.Connecting.{Connecting}
-use Rattle.tn_words.specs.declared.settings.LineEnd.{LineEnd as AskedEnd}
-use Rattle.tn_words.specs.declared.settings.LineEnd.TheVariants as asked_end
 use Rattle.tn_words.specs.declared.settings.Escape.{Escape}
 use Rattle.tn_words.specs.declared.settings.Escape.TheVariants as escape
 use Rattle.tn_words.specs.declared.settings.Serving.{Serving}
@@ -25,9 +20,10 @@ abbrev pub editing_as : Bool → Editing
 editing_as true = Local
 editing_as false = Remote
 
-abbrev pub line_end_as : Bool → LineEnd
-line_end_as true = CrLf
-line_end_as false = Lf
+-- after how many connections a server ends: without end it is the greatest number of 32 bits
+abbrev pub count_as : Option ℕ → ℕ
+count_as (Some count) = count
+count_as None = 4294967295
 
 -- out of memory nothing may have been asked for
 abbrev pub UnlessMemory : {A : Type 0} → Result A ServeFault → Type 0 → Type 0
@@ -67,18 +63,13 @@ abbrev pub escape_as : Escape → Option ℕ
 escape_as (escape.Key key) = Some key
 escape_as escape.None = None
 
-abbrev pub end_as : AskedEnd → PlainEnd
-end_as asked_end.CrLf = line_end.CrLf
-end_as asked_end.Lf = line_end.Lf
-end_as asked_end.Cr = line_end.Cr
-
 -- a talk with a service that takes lines
-abbrev pub plain_as : Connecting → AskedEnd → Origin → Plain
-plain_as asked chosen origin =
+abbrev pub plain_as : Connecting → LineEnd → Origin → Plain
+plain_as asked line_end origin =
     record {
       port = asked.port;
       line_limit = asked.line_limit;
-      line_end = end_as chosen;
+      line_end = line_end;
       origin = origin;
       wait = asked.wait;
     }

@@ -5,10 +5,10 @@ ghost use Rattle.tn_loopback.specs.Counted.{CountsSessions, facts_of, server_of}
 ghost use Rattle.tn_loopback.specs.Ends.{ServesAll};
 ghost use Rattle.tn_loopback.specs.Services.{WasTurnedAway};
 ghost use Rattle.tn_network.specs.Asked.{Listens};
-ghost use Rattle.tn_program.specs.Settings.{AnswersAsAsked, JoinsAsAsked, UnlessMemory, line_end_as, options_as};
+ghost use Rattle.tn_program.specs.Settings.{AnswersAsAsked, JoinsAsAsked, UnlessMemory, count_as, options_as};
 ghost use Rattle.tn_roster.specs.Held.{IsLimit};
 
-use crate::settings::{answering_of, line_end_of, serving_of};
+use crate::settings::{answering_of, serving_of};
 use std::alloc::{AllocError, Global};
 use std::io::Write;
 use std::net::TcpStream;
@@ -29,7 +29,7 @@ pub(crate) fn serve_asked<H, E>(
 where
     H: Host + Network,
     E: Write,
-    ensures all { IfOk result (ServesAll asked.now.count) }
+    ensures all { IfOk result (ServesAll (count_as asked.now.count)) }
     ensures listened { UnlessMemory result (Listens (H.listens rt (string_bytes asked.now.host) asked.now.port)
         (H.shares rt) (H.accepts rt) (λ (served : Served). served.accepted) result) }
 
@@ -45,7 +45,7 @@ where
         ⟦<Gateway<Heard<H, TcpStream>, Told<H, TcpStream>> as Job>⟧.fresh ⟦<Joiner<H> as Maker>⟧.gives
         ⟦<Gateway<Heard<H, TcpStream>, Told<H, TcpStream>> as Job>⟧.reacts
         ⟦<Gateway<Heard<H, TcpStream>, Told<H, TcpStream>> as Job>⟧.steps) ⟦<Joiner<H> as Maker>⟧.left
-        (options_as asked.now) (JoinsAsAsked rt (string_bytes to.host) to.port (line_end_as asked.now.crlf))
+        (options_as asked.now) (JoinsAsAsked rt (string_bytes to.host) to.port asked.now.line_end)
         (WasTurnedAway (H.dismisses rt))) served.whole served.faulted served.refused)) }
     ensures limit { IsErrOf result ServeFault.Limit → ¬ IsLimit asked.now.sessions }
 {
@@ -58,7 +58,7 @@ where
         rt,
         host: String::from_str(alloc, to.host.as_str())?,
         port: to.port,
-        line_end: line_end_of(asked),
+        line_end: asked.line_end,
     };
     serve(rt, alloc, host, port, serving, service, errors)
 }

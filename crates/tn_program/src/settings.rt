@@ -2,15 +2,17 @@
 
 ghost use Rattle.std.specs.Prelude.{◌≡◌};
 ghost use Rattle.tn_connect.specs.Clients.{window_of};
-ghost use Rattle.tn_program.specs.Settings.{end_as, escape_as, line_end_as, options_as, plain_as, window_as};
+ghost use Rattle.tn_program.specs.Settings.{count_as, escape_as, options_as, plain_as, window_as};
 
 use std::alloc::{AllocError, Global};
 use tn_answerer::{Answerer, Answerers};
 use tn_connect::{Connecting, Origin, Plain};
-use tn_gateway::LineEnd;
 use tn_loopback::{Call, Service, Serving, SessionOptions};
 use tn_server::Editing;
-use tn_words::{Escape, USUAL_HEIGHT, USUAL_WIDTH};
+use tn_words::{Escape, LineEnd, USUAL_HEIGHT, USUAL_WIDTH};
+
+/// After how many connections a server without end stops: more than are accepted in years.
+const WITHOUT_END: u32 = u32::MAX;
 
 /// Gives each session the jobs of `tn serve`.
 #[derive(Clone, Copy, Drop)]
@@ -36,13 +38,13 @@ impl Service for Answering {
 // How it was asked to serve.
 pub(crate) fn serving_of(asked: &tn_words::Serving) -> Serving
     ensures sessions { result.sessions ≡ asked.now.sessions }
-    ensures count { result.count ≡ asked.now.count }
+    ensures count { result.count ≡ count_as asked.now.count }
     ensures verbose { result.verbose ≡ asked.now.verbose }
     ensures options { result.options ≡ options_as asked.now }
 {
     Serving {
         sessions: asked.sessions,
-        count: asked.count,
+        count: asked.count.unwrap_or(WITHOUT_END),
         options: options_of(asked),
         verbose: asked.verbose,
     }
@@ -53,17 +55,6 @@ pub(crate) fn answering_of(asked: &tn_words::Serving) -> Answering
     ensures { result.ticks ≡ asked.now.ticks }
 {
     Answering { ticks: asked.ticks }
-}
-
-// How lines to a service end.
-pub(crate) fn line_end_of(asked: &tn_words::Serving) -> LineEnd
-    ensures { result ≡ line_end_as asked.now.crlf }
-{
-    if asked.crlf {
-        LineEnd::CrLf
-    } else {
-        LineEnd::Lf
-    }
 }
 
 // What is the same of all sessions that were asked for.
@@ -103,7 +94,7 @@ pub(crate) fn connecting_of(asked: &tn_words::Connecting, origin: Origin) -> Con
 // How it was asked to talk to a service that takes lines.
 pub(crate) fn plain_of(
     asked: &tn_words::Connecting,
-    line_end: tn_words::LineEnd,
+    line_end: LineEnd,
     origin: Origin,
 ) -> Plain
     ensures { result ≡ plain_as asked.now line_end origin }
@@ -113,19 +104,9 @@ pub(crate) fn plain_of(
     Plain {
         port,
         line_limit: asked.line_limit,
-        line_end: end_of(line_end),
+        line_end,
         origin,
         wait,
-    }
-}
-
-fn end_of(line_end: tn_words::LineEnd) -> tn_connect::LineEnd
-    ensures { result ≡ end_as line_end }
-{
-    match line_end {
-        tn_words::LineEnd::CrLf => tn_connect::LineEnd::CrLf,
-        tn_words::LineEnd::Lf => tn_connect::LineEnd::Lf,
-        tn_words::LineEnd::Cr => tn_connect::LineEnd::Cr,
     }
 }
 

@@ -12,7 +12,7 @@ use Rattle.tn_words.specs.Words.{AskFor, AskForHost, AsksConnect, AsksIn, AsksNo
 use Rattle.tn_words.specs.declared.settings.Connecting.{Connecting}
 use Rattle.tn_words.specs.declared.settings.Escape.{Escape}
 use Rattle.tn_words.specs.declared.settings.Escape.TheVariants as escape
-use Rattle.tn_words.specs.declared.settings.LineEnd.{LineEnd}
+use Rattle.tn_lines.specs.declared.line_ends.LineEnd.{LineEnd}
 use Rattle.tn_words.specs.declared.words.Asked.TheVariants.{Connect}
 
 -- what was found for the options of a subcommand

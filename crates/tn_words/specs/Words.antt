@@ -5,6 +5,8 @@ use Rattle.std.specs.Str.{bytes_eq}
 use Rattle.clap.specs.Words.{Row, Text, subcommand_of, takes, fault_of, first_of, one_of, IsAmong}
 use Rattle.clap.specs.declared.error.kind.ErrorKind.{ErrorKind}
 use Rattle.clap.specs.declared.error.kind.ErrorKind.TheVariants as kind
+use Rattle.tn_lines.specs.declared.line_ends.LineEnd.{LineEnd}
+use Rattle.tn_lines.specs.declared.line_ends.LineEnd.TheVariants.{CrLf, Lf, Cr}
 use Rattle.tn_words.specs.Addresses.{WritesAddress, WritesPlace}
 use Rattle.tn_words.specs.Commands.{tn}
 use Rattle.tn_words.specs.Escapes.{WritesEscape}
@@ -14,8 +16,6 @@ use Rattle.tn_words.specs.declared.words.Asked.TheVariants.{Local, Replay, Decod
 use Rattle.tn_words.specs.declared.settings.Address.{Address}
 use Rattle.tn_words.specs.declared.settings.Connecting.{Connecting}
 use Rattle.tn_words.specs.declared.settings.Escape.{Escape}
-use Rattle.tn_words.specs.declared.settings.LineEnd.{LineEnd}
-use Rattle.tn_words.specs.declared.settings.LineEnd.TheVariants.{CrLf, Lf, Cr}
 use Rattle.tn_words.specs.declared.settings.Serving.{Serving}
 use Rattle.tn_words.specs.declared.words.WordsFault.{WordsFault}
 use Rattle.tn_words.specs.declared.words.WordsFault.TheVariants as fault
@@ -62,18 +62,48 @@ abbrev pub MayHaveAddress : List Row → Option Address → Type 0
 MayHaveAddress rows None = is_given (codes "to") rows ≡ false
 MayHaveAddress rows (Some address) = HasAddress rows address
 
+-- the option of this name, which takes no value, was given
+abbrev pub is_flagged : Text → List Row → Bool
+is_flagged name rows = option_map_or (λ text. bytes_eq text (codes "true")) (first_of name rows) false
+
+-- after how many connections a server ends: as many as `--count` says, or one; with `--forever`, after none, and
+-- then no number is accepted
+abbrev pub chosen_count : Bool → Option ℕ → Option (Option ℕ)
+chosen_count false None = Some (Some 1)
+chosen_count false (Some count) = Some (Some count)
+chosen_count true None = Some None
+chosen_count true (Some count) = None
+
+-- The words choose after how many connections a server ends, if it does.
+pub record AsksCount (rows : List Row) (asked : Option ℕ) : Type 0 where
+  pub given : Option ℕ
+  pub by_option : MayHaveNumber rows (codes "count") 1 1000000 given
+  pub chosen : chosen_count (is_flagged (codes "forever") rows) given ≡ Some asked
+
+-- the line end that `--crlf` and `--cr` choose for the service that `--to` names; no other choice of them is accepted,
+-- and none where no service is named
+abbrev pub service_line_end : Bool → Bool → Bool → Option LineEnd
+service_line_end named false false = Some Lf
+service_line_end true true false = Some CrLf
+service_line_end true false true = Some Cr
+service_line_end named crlf cr = None
+
+abbrev pub service_line_end_in : List Row → Option LineEnd
+service_line_end_in rows =
+    service_line_end (is_given (codes "to") rows) (is_flagged (codes "crlf") rows) (is_flagged (codes "cr") rows)
+
 pub record AsksServe (rows : List Row) (asked : Serving) : Type 0 where
   pub host : HasText rows (codes "host") (string_bytes asked.host)
   pub port : HasNumber rows (codes "port") 1 65535 asked.port
   pub limit : HasNumber rows (codes "limit") 1 64 asked.sessions
-  pub count : HasNumber rows (codes "count") 1 1000000 asked.count
+  pub count : AsksCount rows asked.count
   pub ticks : HasNumber rows (codes "ticks") 0 1000 asked.ticks
   pub line : HasNumber rows (codes "line") 255 4095 asked.line_limit
   pub idle : HasNumber rows (codes "idle") 0 86400 asked.idle
   pub edited : HasFlag rows (codes "local") asked.local
   pub verbose : HasFlag rows (codes "verbose") asked.verbose
   pub to : MayHaveAddress rows asked.to
-  pub crlf : HasFlag rows (codes "crlf") asked.crlf
+  pub line_end : service_line_end_in rows ≡ Some asked.line_end
 
 -- HOST writes this host, and this port where it writes one; where it is not given, the host is this machine
 abbrev pub HasPlace : List Row → Text → Option ℕ → Type 0
@@ -101,10 +131,6 @@ pub record AsksPlace (rows : List Row) (host : Text) (port : ℕ) : Type 0 where
   pub within : Option ℕ
   pub named : HasPlace rows host within
   pub ports : AsksPort rows within port
-
--- the option of this name, which takes no value, was given
-abbrev pub is_flagged : Text → List Row → Bool
-is_flagged name rows = option_map_or (λ text. bytes_eq text (codes "true")) (first_of name rows) false
 
 -- an option is given that is of use to a client of Telnet alone
 abbrev pub has_telnet_option : List Row → Bool

@@ -113,6 +113,8 @@ pub(crate) const LF: &str = "lf";
 
 pub(crate) const CR: &str = "cr";
 
+pub(crate) const FOREVER: &str = "forever";
+
 pub(crate) const TO: &str = "to";
 
 pub(crate) const CRLF: &str = "crlf";
@@ -245,20 +247,49 @@ fn serve_command<'a>(alloc: Global) -> Result<Command<'a>, AllocError>
          (^\\) `quit`, and a stop (^Z) `tstp`. One connection more than the limit is told `full` and \
          closed.\n\n\
          It ends by itself, with status 0, once it has taken as many connections as were asked for and \
-         each of their sessions has ended.",
+         each of their sessions has ended; with `--forever` it serves until it is stopped.",
         "Example:\n  tn serve --port 2323 --count 2\n\nAnd in another terminal, one after the other:\n  \
          tn connect --port 2323\n  telnet 127.0.0.1 2323",
     );
+    let command = with_server_options(alloc, command)?;
+    let command = with_session_options(alloc, command)?;
+    let command = with_gateway_options(alloc, command)?;
+    Ok(command)
+}
+
+fn with_server_options<'a>(alloc: Global, command: Command<'a>) -> Result<Command<'a>, AllocError>
+    requires { (out-Command command).has_globals ≡ false }
+    ensures app { IfOk result (λ new. app_of new ≡ with_rule (with_rule (with_rule (with_rule (with_rule
+        (app_of command.entry) host_rule) port_rule) (with_default (whole_rule (codes "limit") 1 64) (codes "8")))
+        (whole_rule (codes "count") 1 1000000)) (flag_rule (codes "forever"))) }
+    ensures local { IfOk result (λ new. (out-Command new).has_globals ≡ false) }
+{
     let command = command
         .arg(host_option(alloc))?
         .arg(required_port(alloc, "The port to listen on"))?
         .arg(whole_option(alloc, LIMIT, "8", "How many sessions there may be at once"))?
-        .arg(whole_option(
+        .arg(optional_number(
             alloc,
             COUNT,
-            "1",
-            "Ends after this many accepted connections",
+            "Ends after this many accepted connections; default: 1",
         ))?
+        .arg(flag_option(
+            alloc,
+            FOREVER,
+            "Serves until it is stopped, in place of a count",
+        ))?;
+    Ok(command)
+}
+
+fn with_session_options<'a>(alloc: Global, command: Command<'a>) -> Result<Command<'a>, AllocError>
+    requires { (out-Command command).has_globals ≡ false }
+    ensures app { IfOk result (λ new. app_of new ≡ with_rule (with_rule (with_rule (with_rule (with_rule
+        (app_of command.entry) (with_default (whole_rule (codes "ticks") 0 1000) (codes "0"))) line_rule)
+        (with_default (whole_rule (codes "idle") 0 86400) (codes "0"))) (flag_rule (codes "local")))
+        (flag_rule (codes "verbose"))) }
+    ensures local { IfOk result (λ new. (out-Command new).has_globals ≡ false) }
+{
+    let command = command
         .arg(whole_option(
             alloc,
             TICKS,
@@ -282,14 +313,13 @@ fn serve_command<'a>(alloc: Global) -> Result<Command<'a>, AllocError>
             VERBOSE,
             "Notes on standard error who connects and how each session ends",
         ))?;
-    let command = with_gateway_options(alloc, command)?;
     Ok(command)
 }
 
 fn with_gateway_options<'a>(alloc: Global, command: Command<'a>) -> Result<Command<'a>, AllocError>
     requires { (out-Command command).has_globals ≡ false }
-    ensures app { IfOk result (λ new. app_of new
-        ≡ with_rule (with_rule (app_of command.entry) (text_rule (codes "to"))) (flag_rule (codes "crlf"))) }
+    ensures app { IfOk result (λ new. app_of new ≡ with_rule (with_rule (with_rule (app_of command.entry)
+        (text_rule (codes "to"))) (flag_rule (codes "crlf"))) (flag_rule (codes "cr"))) }
     ensures local { IfOk result (λ new. (out-Command new).has_globals ≡ false) }
 {
     let command = command
@@ -303,6 +333,11 @@ fn with_gateway_options<'a>(alloc: Global, command: Command<'a>) -> Result<Comma
             alloc,
             CRLF,
             "Ends each line to that service with CR LF in place of LF",
+        ))?
+        .arg(flag_option(
+            alloc,
+            CR,
+            "Ends each line to that service with CR in place of LF",
         ))?;
     Ok(command)
 }
@@ -367,12 +402,12 @@ fn with_window_options<'a>(alloc: Global, command: Command<'a>) -> Result<Comman
     ensures local { IfOk result (λ new. (out-Command new).has_globals ≡ false) }
 {
     let command = command
-        .arg(size_option(
+        .arg(optional_number(
             alloc,
             WIDTH,
             "The width of the window, in characters; 0 tells none; default: the terminal's, or 80",
         ))?
-        .arg(size_option(
+        .arg(optional_number(
             alloc,
             HEIGHT,
             "The height of the window, in lines; 0 tells none; default: the terminal's, or 24",
@@ -509,8 +544,8 @@ fn required_port<'a>(alloc: Global, help: &'static str) -> Arg<'a>
     port_option(alloc, help).required(true)
 }
 
-// An option for a size that need not be given.
-fn size_option<'a>(alloc: Global, whole: Whole, help: &'static str) -> Arg<'a>
+// An option for a number that need not be given.
+fn optional_number<'a>(alloc: Global, whole: Whole, help: &'static str) -> Arg<'a>
     ensures rule { rule_of result ≡ whole_rule whole.name.now whole.least whole.most }
     ensures local { result.global ≡ false }
 {

@@ -7,6 +7,7 @@ ghost use Rattle.tn_words.specs.Escapes.{IsControlOf, WritesEscape};
 
 use std::alloc::{AllocError, Global};
 use tn_discipline::Limit;
+use tn_lines::LineEnd;
 
 /// The width and the height of a window of which no size is known, in characters.
 pub const USUAL_WIDTH: u16 = 80;
@@ -122,8 +123,8 @@ pub struct Serving {
     pub port: u16,
     /// The most sessions at once, from 1 to 64.
     pub sessions: u16,
-    /// After how many accepted connections to end, from 1 to 1,000,000.
-    pub count: u32,
+    /// After how many accepted connections to end, from 1 to 1,000,000; `None` for never.
+    pub count: Option<u32>,
     /// How often the job in the background ticks, from 0 to 1,000; at 0 there is no such job.
     pub ticks: u16,
     /// The most bytes in a line.
@@ -137,8 +138,8 @@ pub struct Serving {
     pub verbose: bool,
     /// The line service that each session is joined to.
     pub to: Option<Address>,
-    /// Whether a line ends for that service with a carriage return and a line feed.
-    pub crlf: bool,
+    /// What ends each line for that service.
+    pub line_end: LineEnd,
 }
 
 /// The key by which the user at a terminal speaks to the client itself.
@@ -174,15 +175,6 @@ fn control_of(letter: u8) -> Option<u8>
         b'a'..=b'z' => Some(letter - b'`'),
         _ => None,
     }
-}
-
-/// What ends a line that is sent without Telnet.
-#[derive(Clone, Copy, Debug, PartialEq, Eq)]
-pub enum LineEnd {
-    /// A carriage return and a line feed.
-    CrLf,
-    Lf,
-    Cr,
 }
 
 /// How to connect.

@@ -2,28 +2,32 @@
 
 ghost use Rattle.std.specs.Prelude.{◌≡◌, ◌≤◌, ℕ, List, ⊤, None, Option, IfOk, IfErr, IfSome, codes, map, option_map, string_bytes, unwrap_or};
 ghost use Rattle.clap.specs.Words.{kind_of, rows_of, first_of, found_of, subcommand_rows_of};
-ghost use Rattle.tn_words.specs.Words.{AskFor, AsksIn, AsksNothing, AsksServe, AsksConnect, AsksPlace, AsksPort, HasEscape};
-ghost use Rattle.tn_words.specs.Words.{HasNumber, HasPlace, HasText, Lacks, MayHaveAddress, MayHaveNumber, MissesNumber};
-ghost use Rattle.tn_words.specs.Words.{Refuses, TellsKind, chosen_line_end, detail_of, has_telnet_option};
-ghost use Rattle.tn_words.specs.Words.{is_flagged, is_given, line_end_in, one_port};
+ghost use Rattle.tn_words.specs.Words.{AskFor, AsksConnect, AsksCount, AsksIn, AsksNothing, AsksPlace, AsksPort, AsksServe};
+ghost use Rattle.tn_words.specs.Words.{HasEscape, HasNumber, HasPlace, HasText, Lacks, MayHaveAddress, MayHaveNumber, MissesNumber};
+ghost use Rattle.tn_words.specs.Words.{Refuses, TellsKind, chosen_count, chosen_line_end, detail_of, has_telnet_option};
+ghost use Rattle.tn_words.specs.Words.{is_flagged, is_given, line_end_in, one_port, service_line_end, service_line_end_in};
 
 use crate::commands::{
-    AT, CONNECT, COUNT, CR, CRLF, DECODE, ESCAPE, HEIGHT, HOST, IDLE, LF, LIMIT, LINE, LOCAL,
-    LOCALLY, PLAIN, PORT, QUIET, REPLAY, SERVE, TICKS, TO, TRACE, VERBOSE, VERSION_LINE, WAIT,
-    WIDTH, WORLD, Whole, tn_command,
+    AT, CONNECT, COUNT, CR, CRLF, DECODE, ESCAPE, FOREVER, HEIGHT, HOST, IDLE, LF, LIMIT, LINE,
+    LOCAL, LOCALLY, PLAIN, PORT, QUIET, REPLAY, SERVE, TICKS, TO, TRACE, VERBOSE, VERSION_LINE,
+    WAIT, WIDTH, WORLD, Whole, tn_command,
 };
-use crate::settings::{Address, Connecting, Escape, LineEnd, Serving, place_in};
+use crate::settings::{Address, Connecting, Escape, Serving, place_in};
 use clap::error::ErrorKind;
 use clap::{ArgMatches, Error};
 use std::alloc::{AllocError, Global};
 use thiserror::Error as ErrorText;
 use tn_discipline::Limit;
+use tn_lines::LineEnd;
 
 /// The host of a connection where none is named.
 const THIS_MACHINE: &str = "127.0.0.1";
 
 /// The port of a connection where only a host is named.
 const TELNET_PORT: u16 = 23;
+
+/// After how many connections a server ends where nothing else is asked for.
+const ONE: u32 = 1;
 
 /// The key that speaks to a client at a terminal where no other one is given.
 const USUAL_ESCAPE: &str = "^]";
@@ -100,6 +104,13 @@ enum Lack<'a> {
     #[error("error: invalid value '{0}' for '--escape <C>': it is neither `none` nor a caret and one of \
          A to Z, [, \\, ], ^ and _\n\nFor more information, try '--help'.\n")]
     Escape(&'a str),
+    #[error("error: '--crlf' and '--cr' exclude each other, and need '--to'\n\n\
+         For more information, try '--help'.\n")]
+    ServiceLineEnd,
+    /// The number of connections is none of its range, or is given for a server without end.
+    #[error("error: '--count' and '--forever' exclude each other\n\n\
+         For more information, try '--help'.\n")]
+    Count,
     /// The text writes no address.
     #[error("error: invalid value '{0}' for '--to <HOST:PORT>': it is no host with a port of 1 to 65535 \
          behind a colon\n\nFor more information, try '--help'.\n")]
@@ -154,8 +165,14 @@ fn serving(alloc: Global, words: &ArgMatches<'_>) -> Result<Serving, WordsFault>
         return Err(lacking(alloc, &Lack::Value));
     };
     let to = to_of(alloc, words)?;
+    let Some(line_end) = service_line_end_in(words) else {
+        return Err(lacking(alloc, &Lack::ServiceLineEnd));
+    };
+    let Some(count) = count_in(words) else {
+        return Err(lacking(alloc, &Lack::Count));
+    };
     let host = String::from_str(alloc, host)?;
-    match serving_at(host, to, words) {
+    match serving_at(host, to, line_end, count, words) {
         Some(serving) => Ok(serving),
         None => Err(lacking(alloc, &Lack::Value)),
     }
@@ -176,9 +193,59 @@ fn to_of(alloc: Global, words: &ArgMatches<'_>) -> Result<Option<Address>, Words
     }
 }
 
-fn serving_at(host: String, to: Option<Address>, words: &ArgMatches<'_>) -> Option<Serving>
+// What ends a line for the service that is named; `None` where the flags make no sense.
+fn service_line_end_in(words: &ArgMatches<'_>) -> Option<LineEnd>
+    ensures { result ≡ service_line_end_in (rows_of (found_of words.now)) }
+{
+    service_line_end(
+        is_given(words, TO),
+        is_flagged(words, CRLF),
+        is_flagged(words, CR),
+    )
+}
+
+fn service_line_end(named: bool, crlf: bool, cr: bool) -> Option<LineEnd>
+    ensures { result ≡ service_line_end named crlf cr }
+{
+    match (named, crlf, cr) {
+        (_, false, false) => Some(LineEnd::Lf),
+        (true, true, false) => Some(LineEnd::CrLf),
+        (true, false, true) => Some(LineEnd::Cr),
+        _ => None,
+    }
+}
+
+// After how many connections to end, if ever; `None` where the words choose no such number.
+fn count_in(words: &ArgMatches<'_>) -> Option<Option<u32>>
+    ensures some { IfSome result (AsksCount (rows_of (found_of words.now))) }
+    ensures none { result ≡ None → (count : Option ℕ) → ¬ AsksCount (rows_of (found_of words.now)) count }
+{
+    let given = given_number(words, COUNT)?;
+    chosen_count(is_flagged(words, FOREVER), given)
+}
+
+fn chosen_count(forever: bool, given: Option<u32>) -> Option<Option<u32>>
+    ensures { result ≡ chosen_count forever given }
+{
+    match (forever, given) {
+        (false, None) => Some(Some(ONE)),
+        (false, Some(count)) => Some(Some(count)),
+        (true, None) => Some(None),
+        (true, Some(_)) => None,
+    }
+}
+
+fn serving_at(
+    host: String,
+    to: Option<Address>,
+    line_end: LineEnd,
+    count: Option<u32>,
+    words: &ArgMatches<'_>,
+) -> Option<Serving>
     requires host { HasText (rows_of (found_of words.now)) (codes "host") (string_bytes host) }
     requires to { MayHaveAddress (rows_of (found_of words.now)) to }
+    requires line_end { service_line_end_in (rows_of (found_of words.now)) ≡ Some line_end }
+    requires count { AsksCount (rows_of (found_of words.now)) count }
     ensures asked { IfSome result (AsksServe (rows_of (found_of words.now))) }
     ensures none { result ≡ None → (asked : Serving) → ¬ AsksServe (rows_of (found_of words.now)) asked }
 {
@@ -186,14 +253,14 @@ fn serving_at(host: String, to: Option<Address>, words: &ArgMatches<'_>) -> Opti
         host,
         port: number(words, PORT)? as u16,
         sessions: number(words, LIMIT)? as u16,
-        count: number(words, COUNT)?,
+        count,
         ticks: number(words, TICKS)? as u16,
         line_limit: Limit::new(number(words, LINE)? as u16)?,
         idle: number(words, IDLE)?,
         local: words.get_flag(LOCALLY),
         verbose: words.get_flag(VERBOSE),
         to,
-        crlf: words.get_flag(CRLF),
+        line_end,
     })
 }
 
@@ -412,6 +479,19 @@ fn size(words: &ArgMatches<'_>, whole: Whole) -> Option<Option<u16>>
         return Some(None);
     }
     Some(Some(number(words, whole)? as u16))
+}
+
+// The number that an option gives, if it is given; `None` where it gives none of its range.
+fn given_number(words: &ArgMatches<'_>, whole: Whole) -> Option<Option<u32>>
+    ensures some { IfSome result
+        (MayHaveNumber (rows_of (found_of words.now)) whole.name.now whole.least whole.most) }
+    ensures none { result ≡ None → (given : Option ℕ) →
+        ¬ MayHaveNumber (rows_of (found_of words.now)) whole.name.now whole.least whole.most given }
+{
+    if !is_given(words, whole.name) {
+        return Some(None);
+    }
+    Some(Some(number(words, whole)?))
 }
 
 // The number of an option, if it is within its range.

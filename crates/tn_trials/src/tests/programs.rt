@@ -14,6 +14,7 @@ use tn_cli::{
     run_replay,
 };
 use tn_discipline::Limit;
+use tn_lines::LineEnd;
 use tn_streams::{Drain, Source, Tally};
 
 // What the words of a line ask for. Want of memory is an ordinary answer, and help is asked for elsewhere.
@@ -55,14 +56,14 @@ fn words_ask_for_a_server(rt: HostRuntime) -> Result<(), Fail> {
         host: String::from_str(rt.alloc(), "127.0.0.1")?,
         port: 2323,
         sessions: 8,
-        count: 1,
+        count: Some(1),
         ticks: 0,
         line_limit: Limit::standard(),
         idle: 0,
         local: false,
         verbose: false,
         to: None,
-        crlf: false,
+        line_end: LineEnd::Lf,
     });
     asks(&rt, rt.alloc(), "tn serve --port 2323", Some(asked));
     Ok(())
@@ -74,7 +75,7 @@ fn words_ask_for_all_of_a_server(rt: HostRuntime) -> Result<(), Fail> {
         host: String::from_str(rt.alloc(), "::1")?,
         port: 2323,
         sessions: 64,
-        count: 1_000_000,
+        count: Some(1_000_000),
         ticks: 1_000,
         line_limit: Limit::new(4_095).unwrap_or(Limit::standard()),
         idle: 86_400,
@@ -84,11 +85,34 @@ fn words_ask_for_all_of_a_server(rt: HostRuntime) -> Result<(), Fail> {
             host: String::from_str(rt.alloc(), "::1")?,
             port: 7,
         }),
-        crlf: true,
+        line_end: LineEnd::CrLf,
     });
     let line =
         "tn serve --limit=64 --count 1000000 --ticks=1000 --host ::1 --line 4095 --idle 86400 \
                 --local --verbose --port=2323 --to [::1]:7 --crlf";
+    asks(&rt, rt.alloc(), line, Some(asked));
+    Ok(())
+}
+
+#[test]
+fn words_ask_for_a_server_without_end(rt: HostRuntime) -> Result<(), Fail> {
+    let asked = Asked::Serve(Serving {
+        host: String::from_str(rt.alloc(), "127.0.0.1")?,
+        port: 7,
+        sessions: 8,
+        count: None,
+        ticks: 0,
+        line_limit: Limit::standard(),
+        idle: 0,
+        local: false,
+        verbose: false,
+        to: Some(Address {
+            host: String::from_str(rt.alloc(), "h")?,
+            port: 7,
+        }),
+        line_end: LineEnd::Cr,
+    });
+    let line = "tn serve --forever -p 7 --cr --to h:7";
     asks(&rt, rt.alloc(), line, Some(asked));
     Ok(())
 }
@@ -188,6 +212,10 @@ const REFUSED: &[&str] = &[
     "tn serve --port 7 --to h:7x",
     "tn serve --port 7 --to [::1:7",
     "tn serve --port 7 --to []:7",
+    "tn serve --port 7 --crlf",
+    "tn serve --port 7 --cr",
+    "tn serve --port 7 --to h:7 --cr --crlf",
+    "tn serve --port 7 --forever --count 2",
     "tn serve --port 7 --line 254",
     "tn serve --port 7 --line 4096",
     "tn serve --port 7 --ticks -1",
@@ -243,6 +271,11 @@ const TOLD: &[(&str, &str)] = &[
     ("tn connect h:7 7", "more than one port is given"),
     ("tn connect h:x", "invalid value 'h:x' for '[HOST]'"),
     ("tn connect h --cr", "need '--plain'"),
+    ("tn serve -p 7 --cr", "need '--to'"),
+    (
+        "tn serve -p 7 --count 1 --forever",
+        "'--count' and '--forever' exclude",
+    ),
     (
         "tn connect h --escape ^1",
         "invalid value '^1' for '--escape <C>'",

@@ -34,12 +34,13 @@ where
     Ok((server, client))
 }
 
-// What a line service gets in one connection, to which it says farewell once nothing more comes.
+// What a line service gets in one connection, to which it says farewell once nothing more comes. It ends what it
+// says as it ends what it is told, by CR LF, which is one new line at the user.
 fn listen(alloc: Global, listener: &TcpListener) -> Option<Vec<u8>> {
     let (mut stream, _) = listener.accept().ok()?;
     let mut got = Vec::new(alloc);
     stream.read_to_end(&mut got).ok()?;
-    let _ = stream.write_all(b"farewell\n");
+    let _ = stream.write_all(b"fare\rwell\r\n");
     let _ = stream.shutdown(Shutdown::Write);
     Some(got)
 }
@@ -68,7 +69,7 @@ fn lines_go_to_a_service_and_its_words_come_back(rt: HostRuntime) -> Result<(), 
     let service = thread::spawn(&rt, move || -> Option<Vec<u8>> { listen(alloc, &listener) })?;
     let (server, client) = join(rt, alloc, port)?;
     let screen = screen_of(alloc, client, b"helo\x7flo\r\0a\x1ab\r\0half\x04\x04")?;
-    assert!(rt; shows(&screen, b"farewell\r\n"));
+    assert!(rt; shows(&screen, b"fare\r\0well\r\n"));
     let got = service.join(&rt).unwrap_or(Vec::new(alloc));
     assert!(rt; got.as_slice() == b"hello\r\nab\r\nhalf".as_slice());
     assert!(rt; server.join(&rt));

@@ -5,9 +5,11 @@ use Rattle.tn_words.proofs.commands.with_gateway_options.Goals as goal
 pub returns-clause-app : goal.returns-clause-app
 returns-clause-app c =
     let a1 = with_one_more c.args.command c.in_ok-arg.field-0 c.text_option.result _ _ c.in_ok-arg.ensures c.text_option.ensures.local c.text_option.ensures.rule refl in
-    with_one_more c.in_ok-arg.field-0 c.in_ok-command.command c.flag_option.result _ _ c.in_ok-command.ensures c.flag_option.ensures.local c.flag_option.ensures.rule a1
+    let a2 = with_one_more c.in_ok-arg.field-0 c.in_ok-arg-2.field-0 c.flag_option.result _ _ c.in_ok-arg-2.ensures c.flag_option.ensures.local c.flag_option.ensures.rule a1 in
+    with_one_more c.in_ok-arg-2.field-0 c.in_ok-command.command c.flag_option-2.result _ _ c.in_ok-command.ensures c.flag_option-2.ensures.local c.flag_option-2.ensures.rule a2
 
 pub returns-clause-local : goal.returns-clause-local
 returns-clause-local c =
     let a1 = still_local c.args.command c.in_ok-arg.field-0 c.text_option.result c.in_ok-arg.ensures c.text_option.ensures.local c.requires in
-    still_local c.in_ok-arg.field-0 c.in_ok-command.command c.flag_option.result c.in_ok-command.ensures c.flag_option.ensures.local a1
+    let a2 = still_local c.in_ok-arg.field-0 c.in_ok-arg-2.field-0 c.flag_option.result c.in_ok-arg-2.ensures c.flag_option.ensures.local a1 in
+    still_local c.in_ok-arg-2.field-0 c.in_ok-command.command c.flag_option-2.result c.in_ok-command.ensures c.flag_option-2.ensures.local a2

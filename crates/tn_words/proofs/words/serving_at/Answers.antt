@@ -13,26 +13,22 @@ returns-in_err-number-2-clause-none c none asked asks =
 
 pub returns-in_err-number-3-clause-none : goal.returns-in_err-number-3-clause-none
 returns-in_err-number-3-clause-none c none asked asks =
-    c.number-3.ensures.none c.in_err-number-3.was asked.count asks.count
+    c.number-3.ensures.none c.in_err-number-3.was asked.ticks asks.ticks
 
 pub returns-in_err-number-4-clause-none : goal.returns-in_err-number-4-clause-none
 returns-in_err-number-4-clause-none c none asked asks =
-    c.number-4.ensures.none c.in_err-number-4.was asked.ticks asks.ticks
+    c.number-4.ensures.none c.in_err-number-4.was asked.line_limit asks.line
 
 pub returns-in_err-number-5-clause-none : goal.returns-in_err-number-5-clause-none
 returns-in_err-number-5-clause-none c none asked asks =
-    c.number-5.ensures.none c.in_err-number-5.was asked.line_limit asks.line
-
-pub returns-in_err-number-6-clause-none : goal.returns-in_err-number-6-clause-none
-returns-in_err-number-6-clause-none c none asked asks =
-    c.number-6.ensures.none c.in_err-number-6.was asked.idle asks.idle
+    c.number-5.ensures.none c.in_err-number-5.was asked.idle asks.idle
 
 pub returns-clause-asked : goal.returns-clause-asked
 returns-clause-asked c = record {
   host = c.requires.host;
   port = search rules;
   limit = search rules;
-  count = search rules;
+  count = c.requires.count;
   ticks = search rules;
   line = search rules;
   idle = search rules;
@@ -47,9 +43,5 @@ returns-clause-asked c = record {
     unknown = λ is. c.get_flag-2.ensures.none (one_text-rows (found_of c.args.words.now) (codes "verbose") ∙ is);
   };
   to = c.requires.to;
-  crlf = record {
-    given = λ is. c.get_flag-3.ensures.value (one_text-rows (found_of c.args.words.now) (codes "crlf") ∙ is);
-    not_given = λ is. c.get_flag-3.ensures.other (one_text-rows (found_of c.args.words.now) (codes "crlf") ∙ is);
-    unknown = λ is. c.get_flag-3.ensures.none (one_text-rows (found_of c.args.words.now) (codes "crlf") ∙ is);
-  };
+  line_end = c.requires.line_end;
 }
