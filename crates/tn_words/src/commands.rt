@@ -120,10 +120,10 @@ pub(crate) const TO: &str = "to";
 pub(crate) const CRLF: &str = "crlf";
 
 /// The version of `tn`, which the line that it prints has too.
-const VERSION: &str = "1.0.0";
+const VERSION: &str = "1.1.0";
 
 /// What `tn --version` prints.
-pub const VERSION_LINE: &str = "tn 1.0.0\n";
+pub const VERSION_LINE: &str = "tn 1.1.0\n";
 
 /// The whole command line.
 pub(crate) fn tn_command<'a>(alloc: Global) -> Result<Command<'a>, AllocError>
