@@ -8,7 +8,7 @@ use std::alloc::{AllocError, Global};
 use tn_answerer::{Answerer, Answerers};
 use tn_connect::{Connecting, Origin, Plain};
 use tn_gateway::LineEnd;
-use tn_loopback::{Call, Service, Serving, SessionOptions};
+use tn_loopback::{Call, Finished, Service, Serving, SessionOptions};
 use tn_server::Editing;
 use tn_words::{Escape, USUAL_HEIGHT, USUAL_WIDTH};
 
@@ -31,6 +31,8 @@ impl Service for Answering {
     fn session(&mut self, _alloc: Global, _call: Call) -> Result<Answerers, AllocError> {
         Ok(Answerers::new(self.ticks))
     }
+
+    fn ended(&mut self, _number: usize, _finished: &Finished) {}
 }
 
 // How it was asked to serve.
