@@ -13,7 +13,7 @@ use std::sync::{Arc, Mutex, Wait};
 use std::{io, thread};
 use tn_discipline::{Entry, Text};
 use tn_jobs::{After, Job, Reaction};
-use tn_loopback::{Call, Host, Service, Serving, serve_on};
+use tn_loopback::{Call, Finished, Host, Service, Serving, serve_on};
 use tn_session::Maker;
 
 fn main(rt: HostRuntime) -> io::Result<()> {
@@ -123,6 +123,8 @@ impl<H: Host> Service for Polling<H> {
             poll: Arc::try_clone(&self.poll)?,
         })))
     }
+
+    fn ended(&mut self, _number: usize, _finished: &Finished) {}
 }
 
 // Makes the job, unless it was made already.

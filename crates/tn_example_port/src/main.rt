@@ -10,7 +10,7 @@ use std::net::{Ipv4Addr, TcpListener, TcpStream};
 use std::{io, thread};
 use tn_discipline::{Entry, Text};
 use tn_jobs::{After, Job, Reaction};
-use tn_loopback::{Call, Service, Serving, serve_on};
+use tn_loopback::{Call, Finished, Service, Serving, serve_on};
 use tn_session::Maker;
 
 fn main(rt: HostRuntime) -> io::Result<()> {
@@ -39,6 +39,8 @@ impl Service for Quoters {
     fn session(&mut self, _alloc: Global, _call: Call) -> Result<OneQuoter, AllocError> {
         Ok(OneQuoter(true))
     }
+
+    fn ended(&mut self, _number: usize, _finished: &Finished) {}
 }
 
 // Makes the job, unless it was made already.

@@ -1,12 +1,13 @@
 -- The sessions that a server counts.
-use Rattle.std.specs.Prelude.{◌≡◌, ℕ, ◌+◌, Option, List, length}
+use Rattle.std.specs.Prelude.{◌≡◌, ℕ, ◌+◌, Option, List, length, ◌⊎◌}
 use Rattle.std.specs.declared.net.tcp.TcpStream.{TcpStream}
 use Rattle.tn_discipline.specs.Limits.{standard_limit}
 use Rattle.tn_discipline.specs.declared.reads.Entry.{Entry}
 use Rattle.tn_jobs.specs.declared.reactions.Reaction.{Reaction}
-use Rattle.tn_loopback.specs.Ends.{IsWhole, finished_as}
+use Rattle.tn_loopback.specs.Ends.{IsWhole, finished_as, not_started}
 use Rattle.tn_loopback.specs.Servers.{IsPromised}
 use Rattle.tn_loopback.specs.declared.conversed.Ran.{Ran}
+use Rattle.tn_loopback.specs.declared.finished.Finished.{Finished}
 use Rattle.tn_loopback.specs.declared.settings.SessionOptions.{SessionOptions}
 use Rattle.tn_server.specs.declared.wishes.Editing.TheVariants.{Remote}
 use Rattle.tn_session.specs.Facts.{JobFacts, job_facts}
@@ -42,6 +43,10 @@ module _ {M J : Type 0} (server : ServerFacts M J) where
     pub made : ∥ server.made jobs ∥₁
     pub ran : Ran
     pub promised : IsPromised (server.facts jobs) (server.left jobs) server.options ran
+
+  -- a session that was joined has ended so, or one that was not started
+  abbrev pub HasEnded : Finished → Type 0
+  HasEnded finished = ((joined : Joined) × (finished ≡ finished_as joined.ran)) ⊎ (finished ≡ not_started)
 
   -- So many sessions were joined that ended whole; of those that were faulted, each was joined or could not be
   -- started; of those that were refused, each connection was told so.

@@ -1,11 +1,12 @@
 -- How the sessions of a server ended.
-use Rattle.std.specs.Prelude.{◌≡◌, ℕ, Result, Ok, Err, IfOk, IsOk}
+use Rattle.std.specs.Prelude.{◌≡◌, ℕ, false, Result, Ok, Err, IfOk, IsOk}
 use Rattle.tn_loopback.specs.declared.conversed.Conversed.{Conversed}
 use Rattle.tn_loopback.specs.declared.conversed.Ran.{Ran}
 use Rattle.tn_loopback.specs.declared.finished.Finished.{Finished}
 use Rattle.tn_loopback.specs.declared.served.Served.{Served}
 use Rattle.tn_messages.specs.Ending.{EndsWhole}
 use Rattle.tn_messages.specs.declared.faults.SessionFault.{SessionFault}
+use Rattle.tn_messages.specs.declared.faults.SessionFault.TheVariants.{Start}
 use Rattle.tn_session.specs.declared.parties.Report.{Report}
 
 -- the session came to its report, and ended without a fault
@@ -19,6 +20,10 @@ report_told (Err fault) = Err fault
 
 abbrev pub finished_as : Ran → Finished
 finished_as ran = record { report = report_told ran.ended; idle = ran.idle }
+
+-- none of its threads could be started
+abbrev pub not_started : Finished
+not_started = record { report = Err Start; idle = false }
 
 -- as many connections were accepted as were asked for
 abbrev pub ServesAll : ℕ → Served → Type 0

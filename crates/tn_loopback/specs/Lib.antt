@@ -2,4 +2,5 @@ pub mod Ends
 pub mod Faults
 pub mod Services
 pub mod Servers
+pub mod Turns
 pub mod Counted

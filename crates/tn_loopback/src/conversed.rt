@@ -1,7 +1,7 @@
 //! A session over a connection that came to its report.
 
 ghost use Rattle.std.specs.Prelude.{◌≡◌};
-ghost use Rattle.tn_loopback.specs.Ends.{finished_as};
+ghost use Rattle.tn_loopback.specs.Ends.{finished_as, not_started};
 
 use crate::finished::Finished;
 use tn_session::{Ports, Report, SessionFault};
@@ -28,7 +28,9 @@ pub(crate) struct Ran {
 
 impl Ran {
     // None of its threads could be started.
-    pub(crate) fn unstarted() -> Ran {
+    pub(crate) fn unstarted() -> Ran
+        ensures { finished_as result ≡ not_started }
+    {
         Ran {
             ended: Err(SessionFault::Start),
             idle: false,

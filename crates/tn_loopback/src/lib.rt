@@ -19,6 +19,7 @@ pub use serving::{serve, serve_on};
 pub use session::serve_connection;
 pub use settings::{Serving, SessionOptions};
 pub use tn_sockets::{Hook, Host};
+pub use turns::Turn;
 
 mod acceptor;
 mod asked;
@@ -34,3 +35,4 @@ mod service;
 mod serving;
 mod session;
 mod settings;
+mod turns;

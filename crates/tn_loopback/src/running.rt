@@ -1,7 +1,8 @@
 //! The sessions that are started and not yet joined, and how the earlier ones ended.
 
-ghost use Rattle.std.specs.Prelude.{◌≡◌, ◌<◌, ◌≤◌, ◌+◌, ◌-◌, ◌^◌, true, IfSome, vec_len, vec_capacity};
-ghost use Rattle.tn_loopback.specs.Counted.{StillCounts, facts_of, server_of};
+ghost use Rattle.std.specs.Prelude.{◌≡◌, ◌<◌, ◌≤◌, ◌+◌, ◌-◌, ◌^◌, true, false, IfSome, vec_items, vec_len, vec_capacity};
+ghost use Rattle.tn_loopback.specs.Counted.{HasEnded, StillCounts, facts_of, server_of};
+ghost use Rattle.tn_loopback.specs.Turns.{IsOneMore, live_of};
 ghost use Rattle.tn_roster.specs.Held.{held_count};
 
 use crate::asked::Asked;
@@ -55,7 +56,8 @@ impl<J: Job, M: Maker<Job = J>, O: Asked<M>> Running<J, M, O> {
     }
 
     pub(crate) fn is_empty(&self) -> bool
-        ensures { result ≡ true → vec_len self.now.started ≡ 0 }
+        ensures none { result ≡ true → vec_len self.now.started ≡ 0 }
+        ensures some { result ≡ false → 0 < vec_len self.now.started }
     {
         self.started.is_empty()
     }
@@ -65,13 +67,14 @@ impl<J: Job, M: Maker<Job = J>, O: Asked<M>> Running<J, M, O> {
         ensures accepted { self.new.accepted ≡ self.old.accepted }
         ensures counts { (self.new.whole ≡ self.old.whole) × (self.new.faulted ≡ self.old.faulted)
             × (self.new.refused ≡ self.old.refused) }
-        ensures same { vec_len self.new.started ≡ vec_len self.old.started }
+        ensures same { vec_items self.new.started ≡ vec_items self.old.started }
         ensures room { result ≡ true → vec_len self.new.started < vec_capacity self.new.started }
     {
         self.started.reserve(1).is_ok()
     }
 
-    fn place_of(&self, number: usize) -> Option<usize>
+    /// Where the session with this number is, if there is one.
+    pub(crate) fn place_of(&self, number: usize) -> Option<usize>
         ensures { IfSome result (λ place. place < vec_len self.now.started) }
     {
         for (place, started) in self.started.iter().enumerate() {
@@ -82,28 +85,26 @@ impl<J: Job, M: Maker<Job = J>, O: Asked<M>> Running<J, M, O> {
         None
     }
 
-    /// Joins the session with this number, if there is one, and counts and returns how it ended.
-    pub(crate) fn join<R: Threads>(&mut self, rt: &R, number: usize) -> Option<Finished>
-        ensures accepted { self.new.accepted ≡ self.old.accepted }
-        ensures some { IfSome result (λ _. vec_len self.new.started + 1 ≡ vec_len self.old.started) }
-        ensures fewer { vec_len self.new.started ≤ vec_len self.old.started }
-        ensures each { StillCounts
-            (server_of (facts_of J.fresh M.gives J.reacts J.steps) M.left O.options O.made O.turned)
-            self.old.whole self.old.faulted self.old.refused self.new.whole self.new.faulted self.new.refused }
-    {
-        let place = self.place_of(number)?;
-        Some(self.join_at(rt, place))
-    }
-
-    fn join_at<R: Threads>(&mut self, rt: &R, place: usize) -> Finished
+    /// Joins the session at this place, and counts how it ended. Returns that, and its number.
+    pub(crate) fn join_at<R: Threads>(&mut self, rt: &R, place: usize) -> (usize, Finished)
         requires { place < vec_len self.old.started }
         ensures accepted { self.new.accepted ≡ self.old.accepted }
         ensures joined { vec_len self.new.started + 1 ≡ vec_len self.old.started }
+        ensures ended { HasEnded
+            (server_of (facts_of J.fresh M.gives J.reacts J.steps) M.left O.options O.made O.turned) result.1 }
+        ensures one { self.new.whole + self.new.faulted ≡ self.old.whole + self.old.faulted + 1 }
+        ensures closed { IsOneMore result.0
+            (live_of (vec_items self.new.started) (λ s. s.number))
+            (live_of (vec_items self.old.started) (λ s. s.number)) }
         ensures each { StillCounts
             (server_of (facts_of J.fresh M.gives J.reacts J.steps) M.left O.options O.made O.turned)
             self.old.whole self.old.faulted self.old.refused self.new.whole self.new.faulted self.new.refused }
     {
-        let Started { session, .. } = self.started.swap_remove(place);
+        let Started {
+            number,
+            session,
+            ..
+        } = self.started.swap_remove(place);
         let ran = session.join(rt);
         let finished = ran.finished();
         if finished.is_whole() {
@@ -111,7 +112,7 @@ impl<J: Job, M: Maker<Job = J>, O: Asked<M>> Running<J, M, O> {
         } else {
             self.faulted += 1;
         }
-        finished
+        (number, finished)
     }
 
     /// Counts an accepted connection, and keeps its session, which was started.
@@ -122,6 +123,9 @@ impl<J: Job, M: Maker<Job = J>, O: Asked<M>> Running<J, M, O> {
         requires more { self.old.accepted < 2 ^ 32 - 1 }
         ensures accepted { self.new.accepted ≡ self.old.accepted + 1 }
         ensures one { vec_len self.new.started ≡ vec_len self.old.started + 1 }
+        ensures opened { IsOneMore number
+            (live_of (vec_items self.old.started) (λ s. s.number))
+            (live_of (vec_items self.new.started) (λ s. s.number)) }
         ensures counts { (self.new.whole ≡ self.old.whole) × (self.new.faulted ≡ self.old.faulted)
             × (self.new.refused ≡ self.old.refused) }
     {
@@ -137,7 +141,8 @@ impl<J: Job, M: Maker<Job = J>, O: Asked<M>> Running<J, M, O> {
     pub(crate) fn fail(&mut self)
         requires { self.old.accepted < 2 ^ 32 - 1 }
         ensures accepted { self.new.accepted ≡ self.old.accepted + 1 }
-        ensures same { vec_len self.new.started ≡ vec_len self.old.started }
+        ensures same { self.new.started ≡ self.old.started }
+        ensures one { self.new.whole + self.new.faulted ≡ self.old.whole + self.old.faulted + 1 }
         ensures each { StillCounts
             (server_of (facts_of J.fresh M.gives J.reacts J.steps) M.left O.options O.made O.turned)
             self.old.whole self.old.faulted self.old.refused self.new.whole self.new.faulted self.new.refused }
@@ -152,7 +157,8 @@ impl<J: Job, M: Maker<Job = J>, O: Asked<M>> Running<J, M, O> {
         requires told { O.turned _told.now }
         requires more { self.old.accepted < 2 ^ 32 - 1 }
         ensures accepted { self.new.accepted ≡ self.old.accepted + 1 }
-        ensures same { vec_len self.new.started ≡ vec_len self.old.started }
+        ensures same { self.new.started ≡ self.old.started }
+        ensures counts { (self.new.whole ≡ self.old.whole) × (self.new.faulted ≡ self.old.faulted) }
         ensures each { StillCounts
             (server_of (facts_of J.fresh M.gives J.reacts J.steps) M.left O.options O.made O.turned)
             self.old.whole self.old.faulted self.old.refused self.new.whole self.new.faulted self.new.refused }
@@ -161,17 +167,13 @@ impl<J: Job, M: Maker<Job = J>, O: Asked<M>> Running<J, M, O> {
         self.accepted += 1;
     }
 
-    /// Joins all sessions, and reports each that ended in a fault.
-    pub(crate) fn join_all<R: Threads, E: Write>(mut self, rt: &R, errors: &mut E) -> Served
-        ensures accepted { result.accepted ≡ self.accepted }
-        ensures each { StillCounts
-            (server_of (facts_of J.fresh M.gives J.reacts J.steps) M.left O.options O.made O.turned)
-            self.whole self.faulted self.refused result.whole result.faulted result.refused }
+    /// What became of the connections, once all sessions are joined.
+    pub(crate) fn served(&self) -> Served
+        requires { vec_len self.now.started ≡ 0 }
+        ensures accepted { result.accepted ≡ self.now.accepted }
+        ensures counts { (result.whole ≡ self.now.whole) × (result.faulted ≡ self.now.faulted)
+            × (result.refused ≡ self.now.refused) }
     {
-        while !self.started.is_empty() {
-            let finished = self.join_at(rt, 0);
-            tell_if_faulted(&finished, errors);
-        }
         Served {
             accepted: self.accepted,
             whole: self.whole,

@@ -1,9 +1,10 @@
 //! Each connection has a session in threads of its own.
 
-ghost use Rattle.std.specs.Prelude.{◌≡◌, ◌<◌, ◌≤◌, ◌+◌, ◌^◌, ◌-◌, true, IfOk, IfSome, IsErrOf, vec_len};
-ghost use Rattle.tn_loopback.specs.Counted.{CountsSessions, StillCounts, facts_of, server_of};
+ghost use Rattle.std.specs.Prelude.{◌≡◌, ◌<◌, ◌≤◌, ◌+◌, ◌^◌, ◌-◌, true, IfOk, IfSome, IfNone, IsErrOf, vec_items, vec_len};
+ghost use Rattle.tn_loopback.specs.Counted.{CountsSessions, HasEnded, StillCounts, facts_of, server_of};
 ghost use Rattle.tn_loopback.specs.Ends.{ServesAll};
 ghost use Rattle.tn_loopback.specs.Services.{MakesOnly, StillMakes, TurnsAway, WasTurnedAway};
+ghost use Rattle.tn_loopback.specs.Turns.{HearsAll, HearsOfJobs, HearsOfNone, StillHears, live_of};
 ghost use Rattle.tn_network.specs.Asked.{Accepts, Listens};
 ghost use Rattle.tn_roster.specs.Held.{IsLimit, held_count};
 
@@ -25,6 +26,7 @@ use std::collections::VecDeque;
 use std::io::Write;
 use std::marker::Brand;
 use std::net::{SocketAddr, TcpListener, TcpStream};
+use std::sync::Arc;
 use std::thread::PromisedHandle;
 use tn_network::Network;
 use tn_roster::{Roster, note};
@@ -59,6 +61,9 @@ where
     ensures each { IfOk result (λ served. CountsSessions (server_of
         (facts_of V.Job.fresh V.Jobs.gives V.Job.reacts V.Job.steps) V.Jobs.left serving.options
         (V.makes service) (WasTurnedAway (H.dismisses rt))) served.whole served.faulted served.refused) }
+    ensures heard { IfOk result (λ served. HearsAll V.turns (HasEnded (server_of
+        (facts_of V.Job.fresh V.Jobs.gives V.Job.reacts V.Job.steps) V.Jobs.left serving.options
+        (V.makes service) (WasTurnedAway (H.dismisses rt)))) service (served.whole + served.faulted)) }
     ensures listened { Listens (H.listens rt host.now port) (H.shares rt) (H.accepts rt)
         (λ (served : Served). served.accepted) result }
     ensures limit { IsErrOf result ServeFault.Limit → ¬ IsLimit serving.sessions }
@@ -80,6 +85,9 @@ pub fn serve_on<H: Host + Network, V: Service + Drop, E: Write>(
     ensures each { IfOk result (λ served. CountsSessions (server_of
         (facts_of V.Job.fresh V.Jobs.gives V.Job.reacts V.Job.steps) V.Jobs.left serving.options
         (V.makes service) (WasTurnedAway (H.dismisses rt))) served.whole served.faulted served.refused) }
+    ensures heard { IfOk result (λ served. HearsAll V.turns (HasEnded (server_of
+        (facts_of V.Job.fresh V.Jobs.gives V.Job.reacts V.Job.steps) V.Jobs.left serving.options
+        (V.makes service) (WasTurnedAway (H.dismisses rt)))) service (served.whole + served.faulted)) }
     ensures accepted { IfOk result (λ served. Accepts (H.shares rt listener.now) (H.accepts rt) served.accepted) }
     ensures limit { IsErrOf result ServeFault.Limit → ¬ IsLimit serving.sessions }
     ensures bad_limit { (¬ IsLimit serving.sessions) → IsErrOf result ServeFault.Limit }
@@ -103,6 +111,9 @@ fn serve_as<H: Host + Network, V: Service + Drop, E: Write, O: Asked<V::Jobs>>(
     ensures each { IfOk result (λ served. CountsSessions (server_of
         (facts_of V.Job.fresh V.Jobs.gives V.Job.reacts V.Job.steps) V.Jobs.left O.options O.made O.turned)
         served.whole served.faulted served.refused) }
+    ensures heard { IfOk result (λ served. HearsAll V.turns (HasEnded (server_of
+        (facts_of V.Job.fresh V.Jobs.gives V.Job.reacts V.Job.steps) V.Jobs.left O.options O.made O.turned))
+        service (served.whole + served.faulted)) }
     ensures accepted { IfOk result (λ served. Accepts (H.shares rt listener.now) (H.accepts rt) served.accepted) }
     ensures limit { IsErrOf result ServeFault.Limit → ¬ IsLimit serving.sessions }
     ensures bad_limit { (¬ IsLimit serving.sessions) → IsErrOf result ServeFault.Limit }
@@ -135,8 +146,9 @@ fn serve_as<H: Host + Network, V: Service + Drop, E: Write, O: Asked<V::Jobs>>(
         turned_away: VecDeque::new(alloc),
     };
     open.serve_all(&receiver, errors);
-    let Open { running, .. } = open;
-    let served = running.join_all(&rt, errors);
+    open.join_all(errors);
+    let served = open.running.served();
+    drop(open);
     drop(receiver);
     let accepted = acceptor.join(&rt);
     if served.accepted() != count || accepted != count {
@@ -170,18 +182,22 @@ impl<H: Host + Network, V: Service, O: Asked<V::Jobs>> Open<H, V, O> {
             (facts_of V.Job.fresh V.Jobs.gives V.Job.reacts V.Job.steps) V.Jobs.left O.options O.made O.turned)
             self.old.running.whole self.old.running.faulted self.old.running.refused
             self.new.running.whole self.new.running.faulted self.new.running.refused }
+        ensures heard { StillHears V.turns (HasEnded (server_of
+            (facts_of V.Job.fresh V.Jobs.gives V.Job.reacts V.Job.steps) V.Jobs.left O.options O.made O.turned))
+            (self.old.running.whole + self.old.running.faulted) self.old.service
+            (live_of (vec_items self.old.running.started) (λ s. s.number))
+            (self.new.running.whole + self.new.running.faulted) self.new.service
+            (live_of (vec_items self.new.running.started) (λ s. s.number)) }
     {
         let rt = self.rt;
         for _ in rt.forever() {
             if self.is_done() {
                 return;
             }
-            match events.recv(&rt) {
-                Ok(Event::Came(stream, peer)) => self.admit(stream, &peer, errors),
-                Ok(Event::Broke) => self.is_broken = true,
-                Ok(Event::Ended(number)) => self.end(number, errors),
-                Err(_) => return,
-            }
+            let Ok(event) = events.recv(&rt) else {
+                return;
+            };
+            self.handle(event, errors);
         }
     }
 
@@ -192,6 +208,30 @@ impl<H: Host + Network, V: Service, O: Asked<V::Jobs>> Open<H, V, O> {
         (self.is_broken || self.running.accepted >= self.serving.count) && self.running.is_empty()
     }
 
+    fn handle<E: Write>(&mut self, event: Event, errors: &mut E)
+        requires makes { MakesOnly V.makes self.old.service O.made }
+        requires turns { TurnsAway (H.dismisses self.old.rt) O.turned }
+        ensures each { StillCounts (server_of
+            (facts_of V.Job.fresh V.Jobs.gives V.Job.reacts V.Job.steps) V.Jobs.left O.options O.made O.turned)
+            self.old.running.whole self.old.running.faulted self.old.running.refused
+            self.new.running.whole self.new.running.faulted self.new.running.refused }
+        ensures heard { StillHears V.turns (HasEnded (server_of
+            (facts_of V.Job.fresh V.Jobs.gives V.Job.reacts V.Job.steps) V.Jobs.left O.options O.made O.turned))
+            (self.old.running.whole + self.old.running.faulted) self.old.service
+            (live_of (vec_items self.old.running.started) (λ s. s.number))
+            (self.new.running.whole + self.new.running.faulted) self.new.service
+            (live_of (vec_items self.new.running.started) (λ s. s.number)) }
+        ensures makes { StillMakes V.makes self.old.service self.new.service }
+        ensures rt { self.new.rt ≡ self.old.rt }
+    {
+        match event {
+            Event::Came(stream, peer) => return self.admit(stream, &peer, errors),
+            Event::Ended(number) => return self.end(number, errors),
+            Event::Broke => {},
+        }
+        self.is_broken = true;
+    }
+
     // Starts a session over a connection that came, or turns it away where the session limit is reached.
     fn admit<E: Write>(&mut self, stream: TcpStream, peer: &SocketAddr, errors: &mut E)
         requires makes { MakesOnly V.makes self.old.service O.made }
@@ -200,6 +240,12 @@ impl<H: Host + Network, V: Service, O: Asked<V::Jobs>> Open<H, V, O> {
             (facts_of V.Job.fresh V.Jobs.gives V.Job.reacts V.Job.steps) V.Jobs.left O.options O.made O.turned)
             self.old.running.whole self.old.running.faulted self.old.running.refused
             self.new.running.whole self.new.running.faulted self.new.running.refused }
+        ensures heard { StillHears V.turns (HasEnded (server_of
+            (facts_of V.Job.fresh V.Jobs.gives V.Job.reacts V.Job.steps) V.Jobs.left O.options O.made O.turned))
+            (self.old.running.whole + self.old.running.faulted) self.old.service
+            (live_of (vec_items self.old.running.started) (λ s. s.number))
+            (self.new.running.whole + self.new.running.faulted) self.new.service
+            (live_of (vec_items self.new.running.started) (λ s. s.number)) }
         ensures makes { StillMakes V.makes self.old.service self.new.service }
         ensures rt { self.new.rt ≡ self.old.rt }
     {
@@ -211,18 +257,81 @@ impl<H: Host + Network, V: Service, O: Asked<V::Jobs>> Open<H, V, O> {
             note(&self.rt, &entered);
         }
         let Ok(number) = entered else {
-            let told = self.rt.dismiss(stream, b"full\r\n");
-            self.running.refuse(&self.roster, &told);
-            return self.keep_open(told);
+            return self.turn_away(stream);
         };
         if self.serving.verbose {
             note_peer(&self.rt, number, peer);
         }
-        if self.running.has_room() {
-            if let Some(session) = self.start(stream, number, *peer) {
-                return self.running.keep(number, session);
-            }
+        self.take_in(stream, number, peer, errors);
+    }
+
+    // Tells a connection that there is no room for it.
+    fn turn_away(&mut self, stream: TcpStream)
+        requires turns { TurnsAway (H.dismisses self.old.rt) O.turned }
+        requires full { held_count self.old.roster ≡ self.old.roster.limit }
+        requires more { self.old.running.accepted < 2 ^ 32 - 1 }
+        ensures each { StillCounts (server_of
+            (facts_of V.Job.fresh V.Jobs.gives V.Job.reacts V.Job.steps) V.Jobs.left O.options O.made O.turned)
+            self.old.running.whole self.old.running.faulted self.old.running.refused
+            self.new.running.whole self.new.running.faulted self.new.running.refused }
+        ensures started { self.new.running.started ≡ self.old.running.started }
+        ensures counts { (self.new.running.whole ≡ self.old.running.whole)
+            × (self.new.running.faulted ≡ self.old.running.faulted) }
+        ensures service { self.new.service ≡ self.old.service }
+        ensures rt { self.new.rt ≡ self.old.rt }
+    {
+        let told = self.rt.dismiss(stream, b"full\r\n");
+        self.running.refuse(&self.roster, &told);
+        self.keep_open(told);
+    }
+
+    // Starts the session with this number, which is held for it.
+    fn take_in<E: Write>(
+        &mut self,
+        stream: TcpStream,
+        number: usize,
+        peer: &SocketAddr,
+        errors: &mut E,
+    )
+        requires makes { MakesOnly V.makes self.old.service O.made }
+        requires held { vec_len self.old.running.started < held_count self.old.roster }
+        requires more { self.old.running.accepted < 2 ^ 32 - 1 }
+        ensures each { StillCounts (server_of
+            (facts_of V.Job.fresh V.Jobs.gives V.Job.reacts V.Job.steps) V.Jobs.left O.options O.made O.turned)
+            self.old.running.whole self.old.running.faulted self.old.running.refused
+            self.new.running.whole self.new.running.faulted self.new.running.refused }
+        ensures heard { StillHears V.turns (HasEnded (server_of
+            (facts_of V.Job.fresh V.Jobs.gives V.Job.reacts V.Job.steps) V.Jobs.left O.options O.made O.turned))
+            (self.old.running.whole + self.old.running.faulted) self.old.service
+            (live_of (vec_items self.old.running.started) (λ s. s.number))
+            (self.new.running.whole + self.new.running.faulted) self.new.service
+            (live_of (vec_items self.new.running.started) (λ s. s.number)) }
+        ensures makes { StillMakes V.makes self.old.service self.new.service }
+        ensures rt { self.new.rt ≡ self.old.rt }
+    {
+        if !self.running.has_room() {
+            return self.give_up(number, errors);
         }
+        let Some(session) = self.start(stream, number, *peer) else {
+            return self.give_up(number, errors);
+        };
+        self.running.keep(number, session);
+    }
+
+    // The session with this number could not be started, and its number is free.
+    fn give_up<E: Write>(&mut self, number: usize, errors: &mut E)
+        requires held { vec_len self.old.running.started < held_count self.old.roster }
+        requires more { self.old.running.accepted < 2 ^ 32 - 1 }
+        ensures each { StillCounts (server_of
+            (facts_of V.Job.fresh V.Jobs.gives V.Job.reacts V.Job.steps) V.Jobs.left O.options O.made O.turned)
+            self.old.running.whole self.old.running.faulted self.old.running.refused
+            self.new.running.whole self.new.running.faulted self.new.running.refused }
+        ensures started { self.new.running.started ≡ self.old.running.started }
+        ensures one { self.new.running.whole + self.new.running.faulted
+            ≡ self.old.running.whole + self.old.running.faulted + 1 }
+        ensures service { self.new.service ≡ self.old.service }
+        ensures rt { self.new.rt ≡ self.old.rt }
+    {
         self.roster.leave(number);
         self.running.fail();
         tell_fault(errors);
@@ -241,11 +350,17 @@ impl<H: Host + Network, V: Service, O: Asked<V::Jobs>> Open<H, V, O> {
         ensures running { self.new.running ≡ self.old.running }
         ensures roster { self.new.roster ≡ self.old.roster }
         ensures makes { StillMakes V.makes self.old.service self.new.service }
+        ensures jobs { IfSome result (λ _. HearsOfJobs V.turns (HasEnded (server_of
+            (facts_of V.Job.fresh V.Jobs.gives V.Job.reacts V.Job.steps) V.Jobs.left O.options O.made O.turned))
+            number self.old.service self.new.service) }
+        ensures none { IfNone result (HearsOfNone V.turns (HasEnded (server_of
+            (facts_of V.Job.fresh V.Jobs.gives V.Job.reacts V.Job.steps) V.Jobs.left O.options O.made O.turned))
+            self.old.service self.new.service) }
         ensures rt { self.new.rt ≡ self.old.rt }
     {
-        let events = self.events.clone().ok()?;
-        let standing = Standing::new(self.alloc).ok()?;
-        let hook = Hook::new(&standing).ok()?;
+        let Some((events, standing, hook)) = self.prepared() else {
+            return None;
+        };
         let call = Call { number, peer, hook };
         let Ok(jobs) = self.service.session(self.alloc, call) else {
             return None;
@@ -258,31 +373,87 @@ impl<H: Host + Network, V: Service, O: Asked<V::Jobs>> Open<H, V, O> {
             jobs,
             standing,
         };
-        let started = session.start(number, events);
-        if started.is_none() {
-            self.service.ended(number, &Ran::unstarted().finished());
+        if let Some(started) = session.start(number, events) {
+            return Some(started);
         }
-        started
+        self.service.ended(number, &Ran::unstarted().finished());
+        None
     }
 
-    // The session with this number has ended, and its number is free.
+    // What a session that is to start needs beside its jobs.
+    fn prepared(&self) -> Option<(Sender<Event, Global>, Arc<Standing, Global>, Hook)> {
+        let events = self.events.clone().ok()?;
+        let standing = Standing::new(self.alloc).ok()?;
+        let hook = Hook::new(&standing).ok()?;
+        Some((events, standing, hook))
+    }
+
+    // The session with this number has ended.
     fn end<E: Write>(&mut self, number: usize, errors: &mut E)
         ensures each { StillCounts (server_of
             (facts_of V.Job.fresh V.Jobs.gives V.Job.reacts V.Job.steps) V.Jobs.left O.options O.made O.turned)
             self.old.running.whole self.old.running.faulted self.old.running.refused
             self.new.running.whole self.new.running.faulted self.new.running.refused }
+        ensures heard { StillHears V.turns (HasEnded (server_of
+            (facts_of V.Job.fresh V.Jobs.gives V.Job.reacts V.Job.steps) V.Jobs.left O.options O.made O.turned))
+            (self.old.running.whole + self.old.running.faulted) self.old.service
+            (live_of (vec_items self.old.running.started) (λ s. s.number))
+            (self.new.running.whole + self.new.running.faulted) self.new.service
+            (live_of (vec_items self.new.running.started) (λ s. s.number)) }
         ensures makes { StillMakes V.makes self.old.service self.new.service }
         ensures rt { self.new.rt ≡ self.old.rt }
     {
-        let Some(finished) = self.running.join(&self.rt, number) else {
+        let Some(place) = self.running.place_of(number) else {
             return;
         };
+        self.end_at(place, errors);
+    }
+
+    // The session at this place has ended, and its number is free.
+    fn end_at<E: Write>(&mut self, place: usize, errors: &mut E)
+        requires { place < vec_len self.old.running.started }
+        ensures each { StillCounts (server_of
+            (facts_of V.Job.fresh V.Jobs.gives V.Job.reacts V.Job.steps) V.Jobs.left O.options O.made O.turned)
+            self.old.running.whole self.old.running.faulted self.old.running.refused
+            self.new.running.whole self.new.running.faulted self.new.running.refused }
+        ensures heard { StillHears V.turns (HasEnded (server_of
+            (facts_of V.Job.fresh V.Jobs.gives V.Job.reacts V.Job.steps) V.Jobs.left O.options O.made O.turned))
+            (self.old.running.whole + self.old.running.faulted) self.old.service
+            (live_of (vec_items self.old.running.started) (λ s. s.number))
+            (self.new.running.whole + self.new.running.faulted) self.new.service
+            (live_of (vec_items self.new.running.started) (λ s. s.number)) }
+        ensures fewer { vec_len self.new.running.started + 1 ≡ vec_len self.old.running.started }
+        ensures accepted { self.new.running.accepted ≡ self.old.running.accepted }
+        ensures makes { StillMakes V.makes self.old.service self.new.service }
+        ensures rt { self.new.rt ≡ self.old.rt }
+    {
+        let (number, finished) = self.running.join_at(&self.rt, place);
         self.service.ended(number, &finished);
         self.roster.leave(number);
         if self.serving.verbose {
             note_end(&self.rt, number, &finished);
         }
         tell_if_faulted(&finished, errors);
+    }
+
+    // Joins all sessions that still run.
+    fn join_all<E: Write>(&mut self, errors: &mut E)
+        ensures each { StillCounts (server_of
+            (facts_of V.Job.fresh V.Jobs.gives V.Job.reacts V.Job.steps) V.Jobs.left O.options O.made O.turned)
+            self.old.running.whole self.old.running.faulted self.old.running.refused
+            self.new.running.whole self.new.running.faulted self.new.running.refused }
+        ensures heard { StillHears V.turns (HasEnded (server_of
+            (facts_of V.Job.fresh V.Jobs.gives V.Job.reacts V.Job.steps) V.Jobs.left O.options O.made O.turned))
+            (self.old.running.whole + self.old.running.faulted) self.old.service
+            (live_of (vec_items self.old.running.started) (λ s. s.number))
+            (self.new.running.whole + self.new.running.faulted) self.new.service
+            (live_of (vec_items self.new.running.started) (λ s. s.number)) }
+        ensures none { vec_len self.new.running.started ≡ 0 }
+        ensures accepted { self.new.running.accepted ≡ self.old.running.accepted }
+    {
+        while !self.running.is_empty() {
+            self.end_at(0, errors);
+        }
     }
 
     // Keeps a connection open that was told that there is no room. The longest of those is closed for it.

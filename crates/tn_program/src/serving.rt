@@ -15,7 +15,7 @@ use std::net::TcpStream;
 use tn_answerer::{Answerer, Answerers};
 use tn_gateway::{Gateway, Heard, Joiner, LineEnd, Told};
 use tn_jobs::Job;
-use tn_loopback::{Call, Host, ServeFault, Served, Service, serve};
+use tn_loopback::{Call, Finished, Host, ServeFault, Served, Service, serve};
 use tn_network::Network;
 use tn_session::Maker;
 
@@ -86,4 +86,6 @@ impl<H: Host + Network> Service for Joining<H> {
         let host = String::from_str(alloc, self.host.as_str())?;
         Ok(Joiner::new(self.rt, host, self.port, self.line_end, call.hook))
     }
+
+    fn ended(&mut self, _number: usize, _finished: &Finished) {}
 }

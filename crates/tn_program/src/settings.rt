@@ -7,7 +7,7 @@ ghost use Rattle.tn_program.specs.Settings.{count_as, escape_as, options_as, pla
 use std::alloc::{AllocError, Global};
 use tn_answerer::{Answerer, Answerers};
 use tn_connect::{Connecting, Origin, Plain};
-use tn_loopback::{Call, Service, Serving, SessionOptions};
+use tn_loopback::{Call, Finished, Service, Serving, SessionOptions};
 use tn_server::Editing;
 use tn_words::{Escape, LineEnd, USUAL_HEIGHT, USUAL_WIDTH};
 
@@ -33,6 +33,8 @@ impl Service for Answering {
     fn session(&mut self, _alloc: Global, _call: Call) -> Result<Answerers, AllocError> {
         Ok(Answerers::new(self.ticks))
     }
+
+    fn ended(&mut self, _number: usize, _finished: &Finished) {}
 }
 
 // How it was asked to serve.
