@@ -1,5 +1,5 @@
 -- Two sessions whose transcripts a socket carries: a line is typed, heard and taken, and both hang up.
-use Rattle.std.proofs.Common.{◌≡◌, ℕ, zero, suc, inl, true, false, Option, Some, None, List, [], ◌∷◌, ◌++◌, refl, sym, ap, ◌∙◌, subst, map, append-nil, append_assoc, arith, lit<}
+use Rattle.std.proofs.Common.{◌≡◌, ℕ, zero, suc, inl, inr, true, false, Option, Some, None, List, [], ◌∷◌, ◌++◌, refl, sym, ap, ◌∙◌, subst, map, append-nil, append_assoc, arith, lit<}
 use Rattle.std.proofs.lemmas.List.Elements.{All-nil, All-cons}
 use Rattle.tn_client.specs.Screen.{text_shown}
 use Rattle.tn_client_core.proofs.lemmas.Bringing.{in_order}
@@ -32,6 +32,10 @@ use Rattle.tn_option.specs.QMethod.{cell}
 use Rattle.tn_server.specs.declared.wishes.Editing.{Editing}
 use Rattle.tn_session.proofs.lemmas.Sessions.{server_transcript, server_reads, client_transcript, client_reads}
 use Rattle.tn_session.specs.Client as of_client
+use Rattle.tn_session.specs.CoreTurns.{all_told}
+use Rattle.tn_session.specs.Stops.{IsTold, LeavesAt, core_stops, term_stops}
+use Rattle.tn_session.specs.Turns.{messages_of}
+use Rattle.tn_session.specs.declared.stops.Stop.{Stop}
 use Rattle.tn_session.specs.Client.{RunningClient}
 use Rattle.tn_queue.specs.Queue.{putter, taker}
 use Rattle.tn_session.specs.Facts.{SessionJobs, SessionResult, TermSettings, ClientResult, Window}
@@ -184,6 +188,9 @@ a_socket = record { bytes = None; failures = None; sizes = None }
 abbrev writes_unknown : KnownWriting
 writes_unknown = record { before = record { bytes = None; calls = None }; after = record { bytes = None; calls = None } }
 
+abbrev word : Stop
+word = record {}
+
 module _ (editing : Editing) where
   abbrev settings : TermSettings
   settings = record { canon = example.canon; editing = editing }
@@ -232,6 +239,7 @@ module _ (editing : Editing) where
       term = record nobody { handled = Some handled };
       put = putter taken;
       took = taker taken;
+      told = putter (word ∷ []);
     };
   }
 
@@ -240,6 +248,34 @@ module _ (editing : Editing) where
 
   abbrev jobs : SessionJobs (Unit {0})
   jobs = record { first = first_job; job = tt; queue = []; tostop = false }
+
+  -- the background has no job, and its thread leaves last
+  back_left : LeavesAt who.Back messages_of (term.Runs r0) handled marked
+  unfolding cell state_of options_after_wish new_options
+  back_left = record {
+    before =
+        mail who.Net (Piece bytes) ∷ mail who.Desk Take ∷ mail who.Desk (Said first_job [] Stay) ∷ mail who.Net HangUp ∷ mail who.Desk Take ∷ mail who.Desk Left
+        ∷ mail who.Net Left ∷ [];
+    after = [];
+    whole = refl;
+    here = refl;
+    first =
+        (Piece bytes, term_is.Whole) ∷ (Take, term_is.Whole) ∷ (Said first_job [] Stay, term_is.Whole) ∷ (HangUp, term_is.Whole) ∷ (Take, term_is.Whole) ∷ (Left, term_is.Whole)
+        ∷ (Left, term_is.Whole) ∷ [];
+    later = (Left, term_is.Whole) ∷ [];
+    marks = refl;
+    messages = refl;
+    by_then = r7;
+    leads = (r1, (items, is_read, refl), (r2, refl, (r3, ([], refl, refl), (r4, refl, (r5, refl, (r6, refl, (r7, refl, refl)))))));
+  }
+
+  back_stops : term_stops back_left.by_then.progress ≡ true
+  unfolding cell state_of options_after_wish new_options back_left
+  back_stops = refl
+
+  back_told : IsTold (term_stops back_left.by_then.progress) (putter (word ∷ []))
+  unfolding cell state_of options_after_wish new_options back_left
+  back_told = (word, refl)
 
   puts_are : r8.puts ≡ taken
   unfolding cell state_of options_after_wish new_options
@@ -273,7 +309,11 @@ module _ (editing : Editing) where
     took_is = refl;
     took_first = ([], append-nil taken ∙ sym puts_are);
     talked = ((Text (97 ∷ 10 ∷ []), calm) ∷ [], tt, tt, refl, (tt, tt, refl), inl (refl, refl));
-    stepped = ([], Left ∷ [], inl refl, refl, tt, λ id i. absurd i, λ id i. absurd i, [], refl);
+    stopped = false;
+    stepped = ([], Left ∷ [], inl refl, refl, tt, λ id i. absurd i, λ id i. absurd i, [], refl, inr (inl refl));
+    back_left = back_left;
+    told = back_told;
+    stopped_for = λ on. back_stops;
     report_is = refl;
   }
 
@@ -375,6 +415,21 @@ module _ (width height : ℕ) where
     keys = sender who.Keys from_keys;
     net = sender who.Net hung_up;
     core = record nobody { handled = Some mails };
+    told = putter [];
+  }
+
+  keys_left : LeavesAt who.Keys all_told (core.Runs c0) mails told_all
+  keys_left = record {
+    before = mail who.Keys (Piece typed) ∷ mail who.Keys HangUp ∷ [];
+    after = mail who.Net HangUp ∷ mail who.Net Left ∷ [];
+    whole = refl;
+    here = refl;
+    first = tell origin.Keys (Piece typed) ∷ tell origin.Keys HangUp ∷ [];
+    later = tell origin.Keys Left ∷ tell origin.Net HangUp ∷ tell origin.Net Left ∷ [];
+    marks = refl;
+    messages = refl;
+    by_then = c2;
+    leads = (c1, refl, (c2, refl, refl));
   }
 
   not_stopped : false ≡ true → ⊥
@@ -385,6 +440,10 @@ module _ (width height : ℕ) where
 
   net_sent : ReaderSends who.Net false a_socket client_result.net
   net_sent = ([], None, HangUp ∷ Left ∷ [], tt, inl (HangUp, (tt, tt), refl), refl, All-nil IsPiece, (None, refl))
+
+  keys_told : IsTold (core_stops keys_left.by_then.progress) (putter [])
+  unfolding keys_left
+  keys_told = refl
 
   conversing : RunningClient window keys_reader a_socket writes_unknown writes_unknown client_result
   conversing =
@@ -405,6 +464,8 @@ module _ (width height : ℕ) where
         messages = refl;
         run = c5;
         runs = client_runs;
+        keys_left = keys_left;
+        told = keys_told;
         in_order = in_order width height example.canon.limit told_all c5 client_runs;
         written = of_client.says c5;
         unwritten = [];

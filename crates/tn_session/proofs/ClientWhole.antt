@@ -17,14 +17,15 @@ use Rattle.tn_session.proofs.Going.{false_true}
 use Rattle.tn_session.proofs.Lefts.{none_over}
 use Rattle.tn_session.proofs.Mailbox.{all_woven}
 use Rattle.tn_session.proofs.Sent.{reader_sent}
-use Rattle.tn_session.proofs.Stopped.{stops_from}
+use Rattle.tn_session.proofs.Stopped.{was_left, stopped_told}
 use Rattle.tn_session.proofs.lemmas.Sessions.{client_transcript, client_reads, as_read}
+use Rattle.tn_queue.specs.Queue.{putter}
 use Rattle.tn_session.specs.Client.{core_view, AreTwoSettled, IsClientRun, client_report}
 use Rattle.tn_session.specs.CoreTurns.{CoreHandles, all_told}
 use Rattle.tn_session.specs.Facts.{ClientResult}
 use Rattle.tn_session.specs.Mailbox.{Interleaves, from, four, sender, union, nobody, everyone, with_handled, Total}
 use Rattle.tn_session.specs.Reader.{ReaderSends}
-use Rattle.tn_session.specs.Stops.{StopsWithin, EndsFrom}
+use Rattle.tn_session.specs.Stops.{IsTold}
 use Rattle.tn_session.specs.Transcripts.{bytes_sent, came_by}
 use Rattle.tn_session.specs.declared.channels.View.{View}
 use Rattle.tn_session.specs.declared.mail.Mail.{Mail}
@@ -70,11 +71,11 @@ all_out marked rest all never = by (all_written marked) refl
 
 -- all of a client's session that ran
 pub client_ran : (core last : Core) (stopped : Bool) (keys_reader net_reader : KnownReader) (writer screen : KnownWriting) (pass₀ pass₁ net keys : View) (result : ClientResult)
-    → pass₀ ≡ core_view [] → (acted : CoreHandles core pass₀ pass₁ writer screen last) → ReaderSends Net false net_reader net → ReaderSends Keys stopped keys_reader keys
-    → (stopped ≡ true → StopsWithin (EndsFrom core) acted.handled)
+    → pass₀ ≡ core_view [] → (acted : CoreHandles core pass₀ pass₁ writer screen result.told last) → ReaderSends Net false net_reader net → ReaderSends Keys stopped keys_reader keys
+    → (stopped ≡ true → result.told ≡ putter [] → ⊥)
     → AreTwoSettled pass₁ net keys result.net result.keys result.core → result.report ≡ client_report last.progress
     → IsClientRun core keys_reader net_reader writer screen result
-client_ran core last stopped keys_reader net_reader writer screen pass₀ pass₁ net keys result ep acted sn sk told settled er window at =
+client_ran core last stopped keys_reader net_reader writer screen pass₀ pass₁ net keys result ep acted sn sk never settled er window at =
     let begin = start window.width window.height window.limit in
     let g = acted.goes.leads begin at in
     let ns = reader_sent Net false net_reader net sn in
@@ -88,6 +89,7 @@ client_ran core last stopped keys_reader net_reader writer screen pass₀ pass�
     let said = client_transcript window.width window.height window.limit acted.goes.marked g.0 acted.goes.bytes g.3.0 g.1 g.3.1 in
     let net_first = net_brought net_reader net acted.handled ns.mails sn ns.is (woven Net) (woven Desk) (woven Back) in
     let keys_first = keys_brought stopped keys_reader keys acted.handled ks.mails sk ks.is (woven Keys) in
+    let left = (acted.stands begin at).gone (was_left Keys acted.handled ks.mails (woven Keys) ks.one) in
     let is : result.report ≡ client_report g.0.progress = er ∙ ap client_report g.2.progress in
     let caused = λ (f : SessionFault) (e : result.report.ended ≡ ended.Fault f). fault_cause window.width window.height window.limit acted.goes.marked g.0 f g.1 (sym (ap (λ (o : Report). o.ended) is) ∙ e) in
     record {
@@ -101,11 +103,13 @@ client_ran core last stopped keys_reader net_reader writer screen pass₀ pass�
       stopped = stopped;
       typed = typed;
       read = read;
-      stopped_for = λ on. stops_from core begin acted.handled at (told on);
       marked = acted.goes.marked;
       messages = acted.goes.whole;
       run = g.0;
       runs = g.1;
+      keys_left = left.0;
+      told = subst (λ (b : Bool). IsTold b result.told) left.1 acted.word;
+      stopped_for = λ on. sym left.1 ∙ stopped_told acted.told stopped result.told acted.word never on;
       in_order = subst (λ (ms : List Told). TakesInOrder ms g.0) acted.goes.whole (in_order window.width window.height window.limit acted.goes.marked g.0 g.1);
       written = acted.goes.bytes;
       unwritten = g.3.0;

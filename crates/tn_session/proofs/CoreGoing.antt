@@ -6,7 +6,7 @@ use Rattle.std.proofs.lemmas.List.{map-append}
 use Rattle.std.specs.Io.KnownBytes.{Appends, Keeps}
 use Rattle.tn_client.specs.Replies.{items_said}
 use Rattle.tn_client.specs.Screen.{text_shown}
-use Rattle.tn_client_core.specs.Marks.{Turns, no_write_failed, no_show_failed, is_written, is_whole, all_by, all_written, all_whole}
+use Rattle.tn_client_core.specs.Marks.{Runs, Turns, no_write_failed, no_show_failed, is_written, is_whole, all_by, all_written, all_whole}
 use Rattle.tn_client_core.specs.Reaching.{LeadsTo, IsTurn, SendsPrefix, ShowsPrefix}
 use Rattle.tn_client_core.specs.Run.{Run, fail}
 use Rattle.tn_client_core.specs.declared.machine.Core.{Core}
@@ -16,9 +16,13 @@ use Rattle.tn_client_core.specs.declared.messages.Told.{Told}
 use Rattle.tn_client_core.specs.declared.progress.Progress.{Progress}
 use Rattle.tn_nvt.specs.Spelling.{spells}
 use Rattle.tn_session.proofs.Going.{true_false, false_true, appends_more, appends_kept, appends_none, from_to, left_over}
+use Rattle.tn_session.proofs.Stopped.{stands_more}
+use Rattle.tn_session.proofs.Stopping.{core_stays}
 use Rattle.tn_session.specs.CoreTurns.{TurnsTold, ToldAll, told_of, all_told}
+use Rattle.tn_session.specs.Stops.{StandsTold, core_stops, has_left}
 use Rattle.tn_session.specs.Turns.{Writes, Tells, max_writes}
 use Rattle.tn_session.specs.declared.mail.Mail.{Mail}
+use Rattle.tn_session.specs.declared.mail.Sender.TheVariants.{Keys}
 use Rattle.tn_streams.proofs.lemmas.Telling.{accounts_none, accounts_well, accounts_both}
 use Rattle.tn_streams.specs.Known.{KnownWriter, KnownWriting}
 use Rattle.tn_streams.specs.Telling.{Calls}
@@ -211,34 +215,36 @@ whole_written mark.WriteFailed e = e
 whole_written mark.ShowFailed e = refl
 whole_written (mark.Refused f) e = e
 
-going_on : (a b d : Core) (ms : List Told) (m : Told) (x y z u v w : KnownWriter) → ToldAll a ms (from_to x y) (from_to u v) b → TurnsTold b m (from_to y z) (from_to v w) d → ToldAll a (ms ++ m ∷ []) (from_to x z) (from_to u w) d
+going_on : (a b d : Core) (ms : List Told) (m : Told) (x y z u v w : KnownWriter) → (one : ToldAll a ms (from_to x y) (from_to u v) b) → (t : TurnsTold b m (from_to y z) (from_to v w) d) → (next : ToldAll a (ms ++ m ∷ []) (from_to x z) (from_to u w) d) × (next.marked ≡ one.marked ++ (m, t.mark) ∷ [])
 going_on a b d ms m x y z u v w one t =
     let marked : List (Told × Mark) = one.marked ++ (m, t.mark) ∷ [] in
     let written-push : all_written marked ≡ (all_written one.marked && is_written t.mark) = by-push is_written one.marked m t.mark in
-    let whole-push : all_whole marked ≡ (all_whole one.marked && is_whole t.mark) = by-push is_whole one.marked m t.mark in
-    record {
-      marked = marked;
-      whole = map-append (λ (k : Told × Mark). k.0) one.marked ((m, t.mark) ∷ []) ∙ ap (λ (ks : List Told). ks ++ m ∷ []) one.whole;
-      bytes = one.bytes ++ t.bytes;
-      text = one.text ++ t.text;
-      wrote = appends_more x.bytes y.bytes z.bytes one.bytes t.bytes one.wrote t.wrote;
-      showed = appends_more u.bytes v.bytes w.bytes one.text t.text one.showed t.showed;
-      tells = subst (λ (well : Bool). Tells well x.calls z.calls) (sym (by-push no_write_failed one.marked m t.mark)) (accounts_both max_writes (all_by no_write_failed one.marked) (no_write_failed t.mark) x.calls y.calls z.calls one.tells t.tells);
-      tells_shown = subst (λ (well : Bool). Tells well u.calls w.calls) (sym (by-push no_show_failed one.marked m t.mark)) (accounts_both max_writes (all_by no_show_failed one.marked) (no_show_failed t.mark) u.calls v.calls w.calls one.tells_shown t.tells_shown);
-      leads = λ c at.
-          let p = one.leads c at in
-          let q = t.turn.leads p.0 p.2 in
-          let sent = left_over (all_written one.marked) (is_written t.mark) (spells (items_said c.sent)) (spells (items_said p.0.sent)) (spells (items_said q.0.sent)) one.bytes t.bytes p.3.0 q.3.0 p.3.1 q.3.1 p.3.2 q.3.2 (λ k. let n = t.turn.idle (one.over (unwritten one.marked k)) in (n.0, whole_written t.mark n.2)) in
-          let shown = left_over (all_whole one.marked) (is_whole t.mark) (text_shown c.history) (text_shown p.0.history) (text_shown q.0.history) one.text t.text p.4.0 q.4.0 p.4.1 q.4.1 p.4.2 q.4.2 (λ k. let n = t.turn.idle (one.over k) in (n.1, n.2)) in (
-            q.0,
-            FoldsTo-push Turns c one.marked p.0 (m, t.mark) q.0 p.1 q.1,
-            q.2,
-            (sent.0, sent.1, λ k. sent.2 (sym written-push ∙ k)),
-            (shown.0, shown.1, λ k. shown.2 (sym whole-push ∙ k)),
-          );
-      over = λ k. ⊎_elim (λ n. t.turn.stays (one.over n)) (λ n. t.turn.over n) (and_false (all_whole one.marked) (is_whole t.mark) (sym whole-push ∙ k));
-      stays = λ off. t.turn.stays (one.stays off);
-    }
+    let whole-push : all_whole marked ≡ (all_whole one.marked && is_whole t.mark) = by-push is_whole one.marked m t.mark in (
+      record {
+        marked = marked;
+        whole = map-append (λ (k : Told × Mark). k.0) one.marked ((m, t.mark) ∷ []) ∙ ap (λ (ks : List Told). ks ++ m ∷ []) one.whole;
+        bytes = one.bytes ++ t.bytes;
+        text = one.text ++ t.text;
+        wrote = appends_more x.bytes y.bytes z.bytes one.bytes t.bytes one.wrote t.wrote;
+        showed = appends_more u.bytes v.bytes w.bytes one.text t.text one.showed t.showed;
+        tells = subst (λ (well : Bool). Tells well x.calls z.calls) (sym (by-push no_write_failed one.marked m t.mark)) (accounts_both max_writes (all_by no_write_failed one.marked) (no_write_failed t.mark) x.calls y.calls z.calls one.tells t.tells);
+        tells_shown = subst (λ (well : Bool). Tells well u.calls w.calls) (sym (by-push no_show_failed one.marked m t.mark)) (accounts_both max_writes (all_by no_show_failed one.marked) (no_show_failed t.mark) u.calls v.calls w.calls one.tells_shown t.tells_shown);
+        leads = λ c at.
+            let p = one.leads c at in
+            let q = t.turn.leads p.0 p.2 in
+            let sent = left_over (all_written one.marked) (is_written t.mark) (spells (items_said c.sent)) (spells (items_said p.0.sent)) (spells (items_said q.0.sent)) one.bytes t.bytes p.3.0 q.3.0 p.3.1 q.3.1 p.3.2 q.3.2 (λ k. let n = t.turn.idle (one.over (unwritten one.marked k)) in (n.0, whole_written t.mark n.2)) in
+            let shown = left_over (all_whole one.marked) (is_whole t.mark) (text_shown c.history) (text_shown p.0.history) (text_shown q.0.history) one.text t.text p.4.0 q.4.0 p.4.1 q.4.1 p.4.2 q.4.2 (λ k. let n = t.turn.idle (one.over k) in (n.1, n.2)) in (
+              q.0,
+              FoldsTo-push Turns c one.marked p.0 (m, t.mark) q.0 p.1 q.1,
+              q.2,
+              (sent.0, sent.1, λ k. sent.2 (sym written-push ∙ k)),
+              (shown.0, shown.1, λ k. shown.2 (sym whole-push ∙ k)),
+            );
+        over = λ k. ⊎_elim (λ n. t.turn.stays (one.over n)) (λ n. t.turn.over n) (and_false (all_whole one.marked) (is_whole t.mark) (sym whole-push ∙ k));
+        stays = λ off. t.turn.stays (one.stays off);
+      },
+      refl,
+    )
 
 pub told_none : (a : Core) (x u : KnownWriter) → ToldAll a [] (from_to x x) (from_to u u) a
 told_none a x u = record {
@@ -261,22 +267,42 @@ told_none a x u = record {
   stays = λ off. off;
 }
 
-pub told_kept : (a b : Core) (ms : List Told) (x y z u v : KnownWriter) → Keeps y.bytes z.bytes → z.calls ≡ y.calls → ToldAll a ms (from_to x y) (from_to u v) b → ToldAll a ms (from_to x z) (from_to u v) b
-told_kept a b ms x y z u v k same g = record {
-  marked = g.marked;
-  whole = g.whole;
-  bytes = g.bytes;
-  text = g.text;
-  wrote = appends_kept x.bytes y.bytes z.bytes g.bytes g.wrote k;
-  showed = g.showed;
-  tells = subst (λ (c : Option Calls). Tells (all_by no_write_failed g.marked) x.calls c) (sym same) g.tells;
-  tells_shown = g.tells_shown;
-  leads = g.leads;
-  over = g.over;
-  stays = g.stays;
-}
+pub told_kept : (a b : Core) (ms : List Told) (x y z u v : KnownWriter) → Keeps y.bytes z.bytes → z.calls ≡ y.calls → (g : ToldAll a ms (from_to x y) (from_to u v) b) → (same : ToldAll a ms (from_to x z) (from_to u v) b) × (same.marked ≡ g.marked)
+told_kept a b ms x y z u v k same g = (
+  record {
+    marked = g.marked;
+    whole = g.whole;
+    bytes = g.bytes;
+    text = g.text;
+    wrote = appends_kept x.bytes y.bytes z.bytes g.bytes g.wrote k;
+    showed = g.showed;
+    tells = subst (λ (c : Option Calls). Tells (all_by no_write_failed g.marked) x.calls c) (sym same) g.tells;
+    tells_shown = g.tells_shown;
+    leads = g.leads;
+    over = g.over;
+    stays = g.stays;
+  },
+  refl,
+)
 
-pub told_next : (a b d : Core) (xs : List Mail) (m : Mail) (x y z k u v w : KnownWriter) → Keeps z.bytes k.bytes → k.calls ≡ z.calls → ToldAll a (all_told xs) (from_to x y) (from_to u v) b → TurnsTold b (told_of m) (from_to y z) (from_to v w) d → ToldAll a (all_told (xs ++ m ∷ [])) (from_to x k) (from_to u w) d
+pub told_next : (a b d : Core) (xs : List Mail) (m : Mail) (x y z k u v w : KnownWriter) → Keeps z.bytes k.bytes → k.calls ≡ z.calls → (one : ToldAll a (all_told xs) (from_to x y) (from_to u v) b) → (t : TurnsTold b (told_of m) (from_to y z) (from_to v w) d) → (next : ToldAll a (all_told (xs ++ m ∷ [])) (from_to x k) (from_to u w) d) × (next.marked ≡ one.marked ++ (told_of m, t.mark) ∷ [])
 told_next a b d xs m x y z k u v w keeps same one t =
-    let P : List Told → Type 0 = λ ms. ToldAll a ms (from_to x k) (from_to u w) d in
-    subst P (sym (map-append told_of xs (m ∷ []))) (told_kept a d _ x z k u w keeps same (going_on a b d (all_told xs) (told_of m) x y z u v w one t))
+    let P : List Told → Type 0 = λ ms. (next : ToldAll a ms (from_to x k) (from_to u w) d) × (next.marked ≡ one.marked ++ (told_of m, t.mark) ∷ []) in
+    let on = going_on a b d (all_told xs) (told_of m) x y z u v w one t in
+    let kept = told_kept a d _ x z k u w keeps same on.0 in
+    subst P (sym (map-append told_of xs (m ∷ []))) (kept.0, kept.1 ∙ on.1)
+
+-- whether it was told to stop, after one mail more
+pub core_told : (a b d : Core) (xs : List Mail) (x : Mail) (w s w₁ s₁ w₂ s₂ : KnownWriting) (told due now gone : Bool) (one : ToldAll a (all_told xs) w s b) (t : TurnsTold b (told_of x) w₁ s₁ d) (next : ToldAll a (all_told (xs ++ x ∷ [])) w₂ s₂ d) → next.marked ≡ one.marked ++ (told_of x, t.mark) ∷ [] → gone ≡ has_left Keys (xs ++ x ∷ []) → due ≡ (core_stops d.progress && not gone) → now ≡ (told || due)
+    → ((c : Run) → LeadsTo c a → StandsTold Keys all_told (Runs c) (λ r. core_stops r.progress) xs one.marked (core_stops b.progress) told)
+    → (c : Run) → LeadsTo c a → StandsTold Keys all_told (Runs c) (λ r. core_stops r.progress) (xs ++ x ∷ []) next.marked (core_stops d.progress) now
+core_told a b d xs x w s w₁ s₁ w₂ s₂ told due now gone one t next marks left is_due tells stands c at =
+    let p = one.leads c at in
+    let q = t.turn.leads p.0 p.2 in
+    let B : Bool → Type 0 = λ n. StandsTold Keys all_told (Runs c) (λ r. core_stops r.progress) xs one.marked n told in
+    let before = subst B (ap core_stops p.2.progress) (stands c at) in
+    let due_now : due ≡ (core_stops q.0.progress && not (has_left Keys (xs ++ x ∷ []))) = is_due ∙ ap (λ (n : Progress). core_stops n && not gone) q.2.progress ∙ ap (λ (n : Bool). core_stops q.0.progress && not n) left in
+    let after = stands_more Keys all_told (Runs c) (λ r. core_stops r.progress) xs x one.marked (told_of x, t.mark) p.0 q.0 told due now before one.whole p.1 (core_stays p.0 q.0 (told_of x) t.mark q.1) due_now tells in
+    let M : List (Told × Mark) → Type 0 = λ ms. StandsTold Keys all_told (Runs c) (λ r. core_stops r.progress) (xs ++ x ∷ []) ms (core_stops q.0.progress) now in
+    let N : Bool → Type 0 = λ n. StandsTold Keys all_told (Runs c) (λ r. core_stops r.progress) (xs ++ x ∷ []) next.marked n now in
+    subst N (sym (ap core_stops q.2.progress)) (subst M (sym marks) after)

@@ -6,14 +6,18 @@ use Rattle.std.specs.Io.KnownBytes.{Appends, Keeps, WriteAppends}
 use Rattle.tn_discipline.specs.declared.reads.Entry.{Entry}
 use Rattle.tn_nvt.specs.Spelling.{spells}
 use Rattle.tn_server.specs.Replies.{items_said}
+use Rattle.tn_session.proofs.Stopped.{stands_more}
+use Rattle.tn_session.proofs.Stopping.{term_stays}
+use Rattle.tn_session.specs.Stops.{StandsTold, has_left, term_stops}
 use Rattle.tn_session.specs.Turns.{Writes, Tells, max_writes, TurnsMessage, GoesOn, left_one, lefts_of, messages_of}
 use Rattle.tn_queue.specs.Queue.{putter}
 use Rattle.tn_session.specs.EntryChannel.{EntryHand}
 use Rattle.tn_session.specs.declared.mail.Mail.{Mail}
+use Rattle.tn_session.specs.declared.mail.Sender.TheVariants.{Back}
 use Rattle.tn_streams.proofs.lemmas.Telling.{accounts_none, accounts_well, accounts_both}
 use Rattle.tn_streams.specs.Known.{KnownWriter, KnownWriting}
 use Rattle.tn_streams.specs.Telling.{Calls}
-use Rattle.tn_term.specs.Marks.{Turns, is_whole, all_whole, no_write_failed, no_writes_failed}
+use Rattle.tn_term.specs.Marks.{Runs, Turns, is_whole, all_whole, no_write_failed, no_writes_failed}
 use Rattle.tn_term.specs.Reaching.{IsTurn, LeadsTo}
 use Rattle.tn_term.specs.Run.{Run, fail, puts_of}
 use Rattle.tn_messages.specs.declared.faults.SessionFault.TheVariants as fault
@@ -202,29 +206,32 @@ and_false false b e = inl refl
 abbrev pub from_to : KnownWriter → KnownWriter → KnownWriting
 from_to x y = record { before = x; after = y }
 
-pub going_on : (a b d : Term) (ms : List Message) (m : Message) (x y z : KnownWriter) (puts : List (Option Entry)) (v w : EntryHand) → GoesOn a ms (from_to x y) puts b → (t : TurnsMessage b m (from_to y z) v w d) → GoesOn a (ms ++ m ∷ []) (from_to x z) (puts ++ (puts_of t.put ++ puts_of t.last)) d
-going_on a b d ms m x y z puts v w one t = record {
-  marked = one.marked ++ (m, t.mark) ∷ [];
-  whole = map-push one.marked (m, t.mark) ms one.whole;
-  bytes = one.bytes ++ t.bytes;
-  wrote = appends_more x.bytes y.bytes z.bytes one.bytes t.bytes one.wrote t.wrote;
-  tells = subst (λ (well : Bool). Tells well x.calls z.calls) (sym (well-push one.marked m t.mark)) (accounts_both max_writes (no_writes_failed one.marked) (no_write_failed t.mark) x.calls y.calls z.calls one.tells t.tells);
-  leads = λ c at.
-      let p = one.leads c at in
-      let q = t.turn.leads p.0 p.2 in
-      let rest = left_over (all_whole one.marked) (is_whole t.mark) (spells (items_said c.history)) (spells (items_said p.0.history)) (spells (items_said q.0.history)) one.bytes t.bytes p.4 q.4 p.5 q.5 p.6 q.6 (λ e. t.turn.idle (one.over e)) in (
-        q.0,
-        FoldsTo-push Turns c one.marked p.0 (m, t.mark) q.0 p.1 q.1,
-        q.2,
-        q.3 ∙ ap (λ (ps : List (Option Entry)). ps ++ (puts_of t.put ++ puts_of t.last)) p.3 ∙ append_assoc c.puts puts (puts_of t.put ++ puts_of t.last),
-        rest.0,
-        rest.1,
-        λ e. rest.2 (sym (whole-push one.marked m t.mark) ∙ e),
-      );
-  over = λ e. ⊎_elim (λ f. t.turn.stays (one.over f)) (λ f. t.turn.over f) (and_false (all_whole one.marked) (is_whole t.mark) (sym (whole-push one.marked m t.mark) ∙ e));
-  stays = λ off. t.turn.stays (one.stays off);
-  idle = λ off. ap (λ (bs : List ℕ). bs ++ t.bytes) (one.idle off) ∙ (t.turn.idle (one.stays off)).0;
-}
+pub going_on : (a b d : Term) (ms : List Message) (m : Message) (x y z : KnownWriter) (puts : List (Option Entry)) (v w : EntryHand) → (one : GoesOn a ms (from_to x y) puts b) → (t : TurnsMessage b m (from_to y z) v w d) → (next : GoesOn a (ms ++ m ∷ []) (from_to x z) (puts ++ (puts_of t.put ++ puts_of t.last)) d) × (next.marked ≡ one.marked ++ (m, t.mark) ∷ [])
+going_on a b d ms m x y z puts v w one t = (
+  record {
+    marked = one.marked ++ (m, t.mark) ∷ [];
+    whole = map-push one.marked (m, t.mark) ms one.whole;
+    bytes = one.bytes ++ t.bytes;
+    wrote = appends_more x.bytes y.bytes z.bytes one.bytes t.bytes one.wrote t.wrote;
+    tells = subst (λ (well : Bool). Tells well x.calls z.calls) (sym (well-push one.marked m t.mark)) (accounts_both max_writes (no_writes_failed one.marked) (no_write_failed t.mark) x.calls y.calls z.calls one.tells t.tells);
+    leads = λ c at.
+        let p = one.leads c at in
+        let q = t.turn.leads p.0 p.2 in
+        let rest = left_over (all_whole one.marked) (is_whole t.mark) (spells (items_said c.history)) (spells (items_said p.0.history)) (spells (items_said q.0.history)) one.bytes t.bytes p.4 q.4 p.5 q.5 p.6 q.6 (λ e. t.turn.idle (one.over e)) in (
+          q.0,
+          FoldsTo-push Turns c one.marked p.0 (m, t.mark) q.0 p.1 q.1,
+          q.2,
+          q.3 ∙ ap (λ (ps : List (Option Entry)). ps ++ (puts_of t.put ++ puts_of t.last)) p.3 ∙ append_assoc c.puts puts (puts_of t.put ++ puts_of t.last),
+          rest.0,
+          rest.1,
+          λ e. rest.2 (sym (whole-push one.marked m t.mark) ∙ e),
+        );
+    over = λ e. ⊎_elim (λ f. t.turn.stays (one.over f)) (λ f. t.turn.over f) (and_false (all_whole one.marked) (is_whole t.mark) (sym (whole-push one.marked m t.mark) ∙ e));
+    stays = λ off. t.turn.stays (one.stays off);
+    idle = λ off. ap (λ (bs : List ℕ). bs ++ t.bytes) (one.idle off) ∙ (t.turn.idle (one.stays off)).0;
+  },
+  refl,
+)
 
 pub going_none : (a : Term) (x : KnownWriter) → GoesOn a [] (from_to x x) [] a
 going_none a x = record {
@@ -239,18 +246,21 @@ going_none a x = record {
   idle = λ off. refl;
 }
 
-pub going_kept : (a b : Term) (ms : List Message) (x y z : KnownWriter) (puts : List (Option Entry)) → Keeps y.bytes z.bytes → z.calls ≡ y.calls → GoesOn a ms (from_to x y) puts b → GoesOn a ms (from_to x z) puts b
-going_kept a b ms x y z puts k told g = record {
-  marked = g.marked;
-  whole = g.whole;
-  bytes = g.bytes;
-  wrote = appends_kept x.bytes y.bytes z.bytes g.bytes g.wrote k;
-  tells = subst (λ (v : Option Calls). Tells (no_writes_failed g.marked) x.calls v) (sym told) g.tells;
-  leads = g.leads;
-  over = g.over;
-  stays = g.stays;
-  idle = g.idle;
-}
+pub going_kept : (a b : Term) (ms : List Message) (x y z : KnownWriter) (puts : List (Option Entry)) → Keeps y.bytes z.bytes → z.calls ≡ y.calls → (g : GoesOn a ms (from_to x y) puts b) → (same : GoesOn a ms (from_to x z) puts b) × (same.marked ≡ g.marked)
+going_kept a b ms x y z puts k told g = (
+  record {
+    marked = g.marked;
+    whole = g.whole;
+    bytes = g.bytes;
+    wrote = appends_kept x.bytes y.bytes z.bytes g.bytes g.wrote k;
+    tells = subst (λ (v : Option Calls). Tells (no_writes_failed g.marked) x.calls v) (sym told) g.tells;
+    leads = g.leads;
+    over = g.over;
+    stays = g.stays;
+    idle = g.idle;
+  },
+  refl,
+)
 
 pub lefts_of-push : (xs : List Mail) (x : Mail) → lefts_of (xs ++ x ∷ []) ≡ lefts_of xs + left_one x.message
 lefts_of-push [] x = omega arith
@@ -264,11 +274,28 @@ messages-push : (xs : List Mail) (x : Mail) → messages_of (xs ++ x ∷ []) ≡
 messages-push [] x = refl
 messages-push (y ∷ ys) x = ap (λ (ms : List Message). y.message ∷ ms) (messages-push ys x)
 
-pub going_next : (a b d : Term) (xs : List Mail) (x : Mail) (u y w z : KnownWriter) (puts : List (Option Entry)) (v h : EntryHand) → Keeps w.bytes z.bytes → z.calls ≡ w.calls → GoesOn a (messages_of xs) (from_to u y) puts b → (t : TurnsMessage b x.message (from_to y w) v h d) → GoesOn a (messages_of (xs ++ x ∷ [])) (from_to u z) (puts ++ (puts_of t.put ++ puts_of t.last)) d
+pub going_next : (a b d : Term) (xs : List Mail) (x : Mail) (u y w z : KnownWriter) (puts : List (Option Entry)) (v h : EntryHand) → Keeps w.bytes z.bytes → z.calls ≡ w.calls → (one : GoesOn a (messages_of xs) (from_to u y) puts b) → (t : TurnsMessage b x.message (from_to y w) v h d) → (next : GoesOn a (messages_of (xs ++ x ∷ [])) (from_to u z) (puts ++ (puts_of t.put ++ puts_of t.last)) d) × (next.marked ≡ one.marked ++ (x.message, t.mark) ∷ [])
 going_next a b d xs x u y w z puts v h k told one t =
     let more = puts ++ (puts_of t.put ++ puts_of t.last) in
-    let P : List Message → Type 0 = λ ms. GoesOn a ms (from_to u z) more d in
-    subst P (sym (messages-push xs x)) (going_kept a d _ u w z more k told (going_on a b d (messages_of xs) x.message u y w puts v h one t))
+    let P : List Message → Type 0 = λ ms. (next : GoesOn a ms (from_to u z) more d) × (next.marked ≡ one.marked ++ (x.message, t.mark) ∷ []) in
+    let on = going_on a b d (messages_of xs) x.message u y w puts v h one t in
+    let kept = going_kept a d _ u w z more k told on.0 in
+    subst P (sym (messages-push xs x)) (kept.0, kept.1 ∙ on.1)
+
+-- whether Back was told to stop, after one mail more
+pub term_told : (a b d : Term) (xs : List Mail) (x : Mail) (w w₁ w₂ : KnownWriting) (puts later : List (Option Entry)) (v h : EntryHand) (told due now gone : Bool) (one : GoesOn a (messages_of xs) w puts b) (t : TurnsMessage b x.message w₁ v h d) (next : GoesOn a (messages_of (xs ++ x ∷ [])) w₂ later d) → next.marked ≡ one.marked ++ (x.message, t.mark) ∷ [] → gone ≡ has_left Back (xs ++ x ∷ []) → due ≡ (term_stops d.progress && not gone) → now ≡ (told || due)
+    → ((c : Run) → LeadsTo c a → StandsTold Back messages_of (Runs c) (λ r. term_stops r.progress) xs one.marked (term_stops b.progress) told)
+    → (c : Run) → LeadsTo c a → StandsTold Back messages_of (Runs c) (λ r. term_stops r.progress) (xs ++ x ∷ []) next.marked (term_stops d.progress) now
+term_told a b d xs x w w₁ w₂ puts later v h told due now gone one t next marks left is_due tells stands c at =
+    let p = one.leads c at in
+    let q = t.turn.leads p.0 p.2 in
+    let B : Bool → Type 0 = λ n. StandsTold Back messages_of (Runs c) (λ r. term_stops r.progress) xs one.marked n told in
+    let before = subst B (ap term_stops p.2.progress) (stands c at) in
+    let due_now : due ≡ (term_stops q.0.progress && not (has_left Back (xs ++ x ∷ []))) = is_due ∙ ap (λ (n : Progress). term_stops n && not gone) q.2.progress ∙ ap (λ (n : Bool). term_stops q.0.progress && not n) left in
+    let after = stands_more Back messages_of (Runs c) (λ r. term_stops r.progress) xs x one.marked (x.message, t.mark) p.0 q.0 told due now before one.whole p.1 (term_stays p.0 q.0 x.message t.mark q.1) due_now tells in
+    let M : List (Message × Mark) → Type 0 = λ ms. StandsTold Back messages_of (Runs c) (λ r. term_stops r.progress) (xs ++ x ∷ []) ms (term_stops q.0.progress) now in
+    let N : Bool → Type 0 = λ n. StandsTold Back messages_of (Runs c) (λ r. term_stops r.progress) (xs ++ x ∷ []) next.marked n now in
+    subst N (sym (ap term_stops q.2.progress)) (subst M (sym marks) after)
 
 pub ok_writes : {E : Type 0} (old new : Option (List ℕ)) (r : Result ℕ E) (n : ℕ) (buf : List ℕ) → r ≡ Ok n → WriteAppends old new r buf → Appends old new (take n buf)
 ok_writes {E} old new r n buf e h = let P : Result ℕ E → Type 0 = λ u. WriteAppends old new u buf in subst P e h

@@ -19,10 +19,10 @@ one_each Desk n a b c d na nb nc nd a1 a0 b1 b0 c1 c0 d1 d0 = let x = a0 refl in
 one_each Back n a b c d na nb nc nd a1 a0 b1 b0 c1 c0 d1 d0 = let x = a0 refl in let y = b0 refl in let z = c1 refl in let w = d0 refl in omega arith
 one_each Keys n a b c d na nb nc nd a1 a0 b1 b0 c1 c0 d1 d0 = let x = a0 refl in let y = b0 refl in let z = c0 refl in let w = d1 refl in omega arith
 
-lefts_here : (s : Sender) (x : Mail) (xs : List Mail) → same x.from s ≡ true → lefts_of (from s (x ∷ xs)) ≡ left_one x.message + lefts_of (from s xs)
+pub lefts_here : (s : Sender) (x : Mail) (xs : List Mail) → same x.from s ≡ true → lefts_of (from s (x ∷ xs)) ≡ left_one x.message + lefts_of (from s xs)
 lefts_here s x xs is = rw is refl
 
-lefts_else : (s : Sender) (x : Mail) (xs : List Mail) → same x.from s ≡ false → lefts_of (from s (x ∷ xs)) ≡ lefts_of (from s xs)
+pub lefts_else : (s : Sender) (x : Mail) (xs : List Mail) → same x.from s ≡ false → lefts_of (from s (x ∷ xs)) ≡ lefts_of (from s xs)
 lefts_else s x xs is = rw is refl
 
 pub lefts_each : (xs : List Mail) → lefts_of (from Net xs) + lefts_of (from Desk xs) + lefts_of (from Back xs) + lefts_of (from Keys xs) ≡ lefts_of xs

@@ -11,6 +11,7 @@ pub mod Reach
 pub mod Lefts
 pub mod Sent
 pub mod Stopped
+pub mod Stopping
 pub mod Numbering
 pub mod Makers
 pub mod lemmas

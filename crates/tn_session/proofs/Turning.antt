@@ -185,30 +185,50 @@ stands_ids true true rest new r e f = absurd (never f)
     never g = cc
 stands_ids false refused rest new r e f = sym (ap (λ l. ids_of l) e.1)
 
+no_push : (ids : List ℕ) (id : ℕ) → ids ++ id ∷ [] ≡ [] → ⊥
+no_push [] id e = cc
+no_push (x ∷ ids) id e = cc
+
+-- where there was no memory for it, the job still runs
+stands_some : {J : Type 0} (on refused : Bool) (rest new : List (Runner J)) (r : Runner J) (ids : List ℕ) → StandsNext on refused rest r new → refused ≡ true → turned on r.id.0 ids ≡ [] → ⊥
+stands_some true refused rest new r ids e f none = no_push ids r.id.0 none
+stands_some false refused rest new r ids e f none = never (sym f ∙ e.0)
+  where
+    never : true ≡ false → ⊥
+    never g = cc
+
+-- where one is first, some are in the queue
+pub some_first : {J : Type 0} (queue rest : List (Runner J)) (r : Runner J) → queue ≡ r ∷ rest → ids_of queue ≡ [] → ⊥
+some_first {J} queue rest r e none = by (sym (ap (λ l. ids_of l) e) ∙ none)
+  where
+    by : r.id.0 ∷ ids_of rest ≡ [] → ⊥
+    by f = cc
+
 takes_turn : {J : Type 0} (tostop : Bool) (old rest : List (Runner J)) (runner : Runner J) (s : Said) → old ≡ runner ∷ rest → s.0 ≡ runner.id → TakesItsTurn tostop (ids_of old) s (turned (stays tostop s.1) s.0.0 (ids_of rest))
 takes_turn {J} tostop old rest runner s was number =
     let P : List (Runner J) → Type 0 = λ l. TakesItsTurn tostop (ids_of l) s (turned (stays tostop s.1) s.0.0 (ids_of rest)) in
     subst P (sym was) (ap (λ (i : JobId). i.0) number, ap (λ (i : JobId). turned (stays tostop s.1) i.0 (ids_of rest)) number)
 
 -- one step more, in turn
-pub in_turn : {J : Type 0} (steps : J → Reaction → J → Type 0) (tostop : Bool) (ids : List ℕ) (said : List Said) (old new : List (Runner J)) (id : JobId) (reaction : Reaction) (refused : Bool) → StepInTurn tostop ids said (ids_of old) → AdvancesQueue steps tostop old id reaction refused new → (left : List ℕ) × StepInTurn tostop ids (said ++ (id, reaction) ∷ []) left × (refused ≡ false → left ≡ ids_of new)
+pub in_turn : {J : Type 0} (steps : J → Reaction → J → Type 0) (tostop : Bool) (ids : List ℕ) (said : List Said) (old new : List (Runner J)) (id : JobId) (reaction : Reaction) (refused : Bool) → StepInTurn tostop ids said (ids_of old) → AdvancesQueue steps tostop old id reaction refused new → (left : List ℕ) × StepInTurn tostop ids (said ++ (id, reaction) ∷ []) left × (refused ≡ false → left ≡ ids_of new) × (refused ≡ true → left ≡ [] → ⊥)
 in_turn steps tostop ids said old new id reaction refused before a =
     let s : Said = (id, reaction) in
     let left = turned (stays tostop reaction) id.0 (ids_of a.rest) in (
       left,
       FoldsTo-push (TakesItsTurn tostop) ids said (ids_of old) s left before (takes_turn tostop old a.rest a.runner s a.was a.number),
       stands_ids (stays tostop reaction) refused a.rest new (record { id = id; job = a.job }) a.left,
+      stands_some (stays tostop reaction) refused a.rest new (record { id = id; job = a.job }) (ids_of a.rest) a.left,
     )
 
 pub said_step : (ss : List Said) (s : Said) (v : View) → v ≡ sender Back (map (mail Back) (map step_said ss ++ step_said s ∷ [])) → v ≡ sender Back (map (mail Back) (map step_said (ss ++ s ∷ [])))
 said_step ss s v e = e ∙ ap (λ (ms : List Message). sender Back (map (mail Back) ms)) (sym (map-append step_said ss (s ∷ [])))
 
-pub closes_left : {J : Type 0} (began : ℕ → J → Type 0) (steps : J → Reaction → J → Type 0) (tostop : Bool) (ids : List ℕ) (ss : List Said) (queue : List (Runner J)) (v : View) → Running began steps tostop ids ss queue → (left : List ℕ) → StepInTurn tostop ids ss left → v ≡ sender Back (map (mail Back) (map step_said ss ++ Left ∷ [])) → AreSteps {J = J} began steps (record { ids = ids; tostop = tostop }) v
-closes_left began steps tostop ids ss queue v r left turn e = (ss, Left ∷ [], inl refl, e, r.by, r.each, r.leave, left, turn)
+pub closes_left : {J : Type 0} (began : ℕ → J → Type 0) (steps : J → Reaction → J → Type 0) (tostop : Bool) (ids : List ℕ) (ss : List Said) (queue : List (Runner J)) (stopped : Bool) (v : View) → Running began steps tostop ids ss queue → (left : List ℕ) → StepInTurn tostop ids ss left → (left ≡ []) ⊎ (stopped ≡ true) → v ≡ sender Back (map (mail Back) (map step_said ss ++ Left ∷ [])) → AreSteps {J = J} began steps (record { ids = ids; tostop = tostop }) stopped v
+closes_left began steps tostop ids ss queue stopped v r left turn why e = (ss, Left ∷ [], inl refl, e, r.by, r.each, r.leave, left, turn, inr why)
 
-pub closes_refused : {J : Type 0} (began : ℕ → J → Type 0) (steps : J → Reaction → J → Type 0) (tostop : Bool) (ids : List ℕ) (ss : List Said) (queue : List (Runner J)) (v : View) → Running began steps tostop ids ss queue → (left : List ℕ) → StepInTurn tostop ids ss left → v ≡ sender Back (map (mail Back) ((map step_said ss ++ Refused ∷ []) ++ Left ∷ [])) → AreSteps {J = J} began steps (record { ids = ids; tostop = tostop }) v
-closes_refused began steps tostop ids ss queue v r left turn e =
-    (ss, Refused ∷ Left ∷ [], inr refl, e ∙ ap (λ (ms : List Message). sender Back (map (mail Back) ms)) (append_assoc (map step_said ss) (Refused ∷ []) (Left ∷ [])), r.by, r.each, r.leave, left, turn)
+pub closes_refused : {J : Type 0} (began : ℕ → J → Type 0) (steps : J → Reaction → J → Type 0) (tostop : Bool) (ids : List ℕ) (ss : List Said) (queue : List (Runner J)) (stopped : Bool) (v : View) → Running began steps tostop ids ss queue → (left : List ℕ) → StepInTurn tostop ids ss left → (left ≡ [] → ⊥) → v ≡ sender Back (map (mail Back) ((map step_said ss ++ Refused ∷ []) ++ Left ∷ [])) → AreSteps {J = J} began steps (record { ids = ids; tostop = tostop }) stopped v
+closes_refused began steps tostop ids ss queue stopped v r left turn some e =
+    (ss, Refused ∷ Left ∷ [], inr refl, e ∙ ap (λ (ms : List Message). sender Back (map (mail Back) ms)) (append_assoc (map step_said ss) (Refused ∷ []) (Left ∷ [])), r.by, r.each, r.leave, left, turn, inl (refl, some))
 
 -- a job that runs on stands last, if memory for that was found
 pub kept_on : {J : Type 0} (on found refused : Bool) (xs new : List (Runner J)) (r : Runner J) → on ≡ true → refused ≡ not found → new ≡ (if found then xs ++ r ∷ [] else xs) → StandsNext on refused xs r new

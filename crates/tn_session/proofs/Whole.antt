@@ -13,13 +13,15 @@ use Rattle.tn_session.proofs.Going.{appends_more, false_true, from_to}
 use Rattle.tn_session.proofs.Lefts.{none_over}
 use Rattle.tn_session.proofs.Mailbox.{all_woven}
 use Rattle.tn_session.proofs.Sent.{NoLeft, Sent, no_left-append, sent_by, reader_sent}
+use Rattle.tn_session.proofs.Stopped.{was_left, stopped_told}
 use Rattle.tn_session.specs.Facts.{JobActs, SessionJobs, SessionResult, SessionViews}
 use Rattle.tn_session.specs.Joining.{handler, AreSettled}
-use Rattle.tn_session.specs.Mailbox.{from, sender, union, nobody, everyone, with_handled, mail, Total}
+use Rattle.tn_session.specs.Mailbox.{Interleaves, from, four, sender, union, nobody, everyone, with_handled, mail, Total}
 use Rattle.tn_queue.specs.Queue.{putter, taker, joined_hands, both_hands, no_hand, LeftOver}
 use Rattle.tn_session.specs.Reader.{ReaderSends}
 use Rattle.tn_session.specs.Session.{IsOpening, IsRun, report_of}
 use Rattle.tn_session.specs.Stepping.{BackJobs, AreSteps, step_said}
+use Rattle.tn_session.specs.Stops.{StopHand, IsTold, term_stops}
 use Rattle.tn_session.specs.Talk.{IsJob, IsTalk, Closes, turns_said}
 use Rattle.tn_session.specs.Turning.{Holds, queue_of}
 use Rattle.tn_session.specs.Turns.{HandlesAll, Writes, max_writes}
@@ -44,15 +46,15 @@ all_joined v n d e p q r h a b c ev en ed ee ep eq er =
 both_joined : (v w u : EntryHand) (p t : List (Option Entry)) → v ≡ putter p → w ≡ taker t → u ≡ joined_hands v w → u ≡ record { put = Some p; taken = Some t }
 both_joined v w u p t ev ew eu = eu ∙ (λ i. joined_hands (ev i) (ew i))
 
-pub settles : (pass net desk back : View) (hand took : EntryHand) (p₁ p₂ p₃ p₄ n' p₅ d' p₆ b' t' : View) (j k l m : EntryHand)
+pub settles : (pass net desk back : View) (hand took : EntryHand) (p₁ p₂ p₃ p₄ n' p₅ d' p₆ b' t' : View) (j k l m : EntryHand) (told told' : StopHand)
     → p₁ ≡ union pass net → p₂ ≡ union p₁ desk → p₃ ≡ union p₂ back → p₄ ≡ p₃ → (items : List Mail) × Total p₃ items
     → j ≡ joined_hands hand took → k ≡ j → (items : List (Option Entry)) × LeftOver j items
     → n' ≡ record nobody { net = p₄.net } → p₅ ≡ record p₄ { net = None }
     → d' ≡ record nobody { desk = p₅.desk } → p₆ ≡ record p₅ { desk = None }
     → b' ≡ record nobody { back = p₆.back } → t' ≡ record p₆ { back = None }
-    → l ≡ record k { taken = None } → m ≡ record no_hand { taken = k.taken }
-    → AreSettled (record { net = net; desk = desk; back = back; term = pass; put = hand; took = took }) (record { net = n'; desk = d'; back = b'; term = t'; put = l; took = m })
-settles pass net desk back hand took p₁ p₂ p₃ p₄ n' p₅ d' p₆ b' t' j k l m e₁ e₂ e₃ e₄ held ej ek rest en e₅ ed e₆ eb et el em h a b c x t epass enet edesk eback ehand etook =
+    → l ≡ record k { taken = None } → m ≡ record no_hand { taken = k.taken } → told' ≡ told
+    → AreSettled (record { net = net; desk = desk; back = back; term = pass; put = hand; took = took; told = told }) (record { net = n'; desk = d'; back = b'; term = t'; put = l; took = m; told = told' })
+settles pass net desk back hand took p₁ p₂ p₃ p₄ n' p₅ d' p₆ b' t' j k l m told told' e₁ e₂ e₃ e₄ held ej ek rest en e₅ ed e₆ eb et el em es h a b c x t epass enet edesk eback ehand etook =
     let whole = all_joined pass net desk back p₁ p₂ p₃ h a b c epass enet edesk eback e₁ e₂ e₃ in
     let same = e₄ ∙ whole in
     let fifth : p₅ ≡ record { handled = Some h; net = None; desk = Some b; back = Some c; keys = Some [] } = e₅ ∙ ap (λ (v : View). record v { net = None }) same in
@@ -67,6 +69,7 @@ settles pass net desk back hand took p₁ p₂ p₃ p₄ n' p₅ d' p₆ b' t' j
       em ∙ ap (λ (v : EntryHand). record no_hand { taken = v.taken }) kept,
       all_woven p₃ h a b c [] whole held,
       (rest.0, rest.1 x t (ap (λ (v : EntryHand). v.put) both) (ap (λ (v : EntryHand). v.taken) both)),
+      es,
     )
 
 turns_stay : (id : JobId) (turns : List (Entry × Reaction)) → NoLeft (turns_said id turns)
@@ -97,8 +100,8 @@ desk_sent id fresh reacts v w talked = closed talked.0 talked.5
         y)
         c
 
-pub back_sent : {J : Type 0} (began : ℕ → J → Type 0) (steps : J → Reaction → J → Type 0) (jobs : BackJobs) (v : View) → AreSteps {J = J} began steps jobs v → Sent Back v
-back_sent began steps ids v s =
+pub back_sent : {J : Type 0} (began : ℕ → J → Type 0) (steps : J → Reaction → J → Type 0) (jobs : BackJobs) (stopped : Bool) (v : View) → AreSteps {J = J} began steps jobs stopped v → Sent Back v
+back_sent began steps ids stopped v s =
     let said = map step_said s.0 in
     let stay = steps_stay s.0 in
     let P : List Message → Type 0 = λ ms. v ≡ sender Back (map (mail Back) (said ++ ms)) in
@@ -128,19 +131,19 @@ same_history true canon editing jobs = refl
 same_history false canon editing jobs = refl
 
 -- all of a session that ran
-pub scheduled : {J : Type 0} (facts : JobActs J) (jobs : SessionJobs J) (words : List ℕ) (reader : KnownReader) (x y z : KnownWriter) (term mid last : Term) (pass₀ : View) (hand₀ : EntryHand) (ended : SessionViews) (result : SessionResult)
-    → pass₀ ≡ handler [] → hand₀ ≡ putter [] → IsOpening term words (from_to x y) mid → HandlesAll mid pass₀ ended.term hand₀ ended.put (from_to y z) last
-    → ReaderSends Net false reader ended.net → IsTalk {J = J} jobs.first (IsJob jobs.job) facts.reacts ended.desk ended.took → AreSteps {J = J} (Holds jobs.queue) facts.steps (queue_of jobs.tostop jobs.queue) ended.back
+pub scheduled : {J : Type 0} (facts : JobActs J) (jobs : SessionJobs J) (stopped : Bool) (words : List ℕ) (reader : KnownReader) (x y z : KnownWriter) (term mid last : Term) (pass₀ : View) (hand₀ : EntryHand) (ended : SessionViews) (result : SessionResult)
+    → pass₀ ≡ handler [] → hand₀ ≡ putter [] → IsOpening term words (from_to x y) mid → HandlesAll mid pass₀ ended.term hand₀ ended.put (from_to y z) ended.told last
+    → ReaderSends Net false reader ended.net → IsTalk {J = J} jobs.first (IsJob jobs.job) facts.reacts ended.desk ended.took → AreSteps {J = J} (Holds jobs.queue) facts.steps (queue_of jobs.tostop jobs.queue) stopped ended.back → (stopped ≡ true → ended.told ≡ putter [] → ⊥)
     → AreSettled ended result.views → result.report ≡ report_of last.progress
     → IsRun {J = J} facts jobs term words reader (from_to x z) result
-scheduled {J} facts jobs words reader x y z term mid last pass₀ hand₀ ended result ep eh o acted sn talked stepped settled er settings table at ew =
+scheduled {J} facts jobs stopped words reader x y z term mid last pass₀ hand₀ ended result ep eh o acted sn talked stepped never settled er settings table at ew =
     let canon = settings.canon in
     let editing = settings.editing in
     let begin = run_after_opening o.written (start canon editing table) in
     let g = acted.goes.leads begin (o.leads (start canon editing table) at) in
     let ns = reader_sent Net false reader ended.net sn in
     let ds = desk_sent jobs.first (IsJob jobs.job) facts.reacts ended.desk ended.took talked in
-    let bs = back_sent (Holds jobs.queue) facts.steps (queue_of jobs.tostop jobs.queue) ended.back stepped in
+    let bs = back_sent (Holds jobs.queue) facts.steps (queue_of jobs.tostop jobs.queue) stopped ended.back stepped in
     let puts : g.0.puts ≡ acted.puts = g.3 ∙ ap (λ (ps : List (Option Entry)). ps ++ acted.puts) (no_puts o.written canon editing table) in
     let view : ended.term ≡ handler acted.handled = acted.view ∙ ap (λ (v : View). with_handled v acted.handled) ep in
     let all = settled acted.handled ns.mails ds.sent.mails bs.mails acted.puts ds.taken view ns.is ds.sent.is bs.is (acted.hand [] eh) ds.took in
@@ -148,7 +151,11 @@ scheduled {J} facts jobs words reader x y z term mid last pass₀ hand₀ ended 
     let sends : spells (items_said g.0.history) ≡ words ++ (acted.goes.bytes ++ g.4) = g.5 ∙ ap (λ (bytes : List ℕ). bytes ++ (acted.goes.bytes ++ g.4)) (ap (λ h. spells (items_said h)) (same_history o.written canon editing table) ∙ sym ew) in
     let w = wrote_all o.written words acted.goes.bytes g.4 (spells (items_said g.0.history)) x.bytes y.bytes z.bytes (all_whole acted.goes.marked) o.wrote acted.goes.wrote (λ e. acted.goes.idle (o.over e)) sends g.6 in
     let N : View → Type 0 = λ v. ReaderSends Net false reader v in
-    let B : View → Type 0 = λ v. AreSteps {J = J} (Holds jobs.queue) facts.steps (queue_of jobs.tostop jobs.queue) v in
+    let B : View → Type 0 = λ v. AreSteps {J = J} (Holds jobs.queue) facts.steps (queue_of jobs.tostop jobs.queue) stopped v in
+    let woven : Interleaves acted.handled (four ns.mails ds.sent.mails bs.mails []) = λ r. ap (from r) (sym (append-nil acted.handled) ∙ ap (λ (l : List Mail). acted.handled ++ l) (sym none)) ∙ all.6.1 r in
+    let stands = acted.stands begin (o.leads (start canon editing table) at) in
+    let left = stands.gone (was_left Back acted.handled bs.mails (woven Back) bs.one) in
+    let T : Bool → StopHand → Type 0 = λ b v. IsTold b v in
     record {
       from_net = ns.mails;
       from_desk = ds.sent.mails;
@@ -158,7 +165,7 @@ scheduled {J} facts jobs words reader x y z term mid last pass₀ hand₀ ended 
       desk_is = all.1;
       back_is = all.2;
       term_is = ap (λ (v : View). v.handled) all.3;
-      woven = λ r. ap (from r) (sym (append-nil acted.handled) ∙ ap (λ (l : List Mail). acted.handled ++ l) (sym none)) ∙ all.6.1 r;
+      woven = woven;
       read = subst N (ns.is ∙ sym all.0) sn;
       wrote_opening = o.written;
       marked = acted.goes.marked;
@@ -176,7 +183,11 @@ scheduled {J} facts jobs words reader x y z term mid last pass₀ hand₀ ended 
       took_is = all.5;
       took_first = (all.7.0, all.7.1 ∙ sym puts);
       talked = subst (λ (u : View × EntryHand). IsTalk {J = J} jobs.first (IsJob jobs.job) facts.reacts u.0 u.1) (λ i. ((ds.sent.is ∙ sym all.1) i, (ds.took ∙ sym all.5) i)) talked;
+      stopped = stopped;
       stepped = subst B (bs.is ∙ sym all.2) stepped;
+      back_left = left.0;
+      told = subst (λ (v : StopHand). T (term_stops left.0.by_then.progress) v) (sym all.8) (subst (λ (b : Bool). T b ended.told) left.1 acted.word);
+      stopped_for = λ on. sym left.1 ∙ stopped_told acted.told stopped ended.told acted.word never on;
       report_is = er ∙ ap report_of g.2.progress;
     }
 

@@ -21,7 +21,7 @@ use Rattle.tn_session.specs.Facts.{ClientResult, Window}
 use Rattle.tn_session.specs.Mailbox.{Interleaves, four, sender}
 use Rattle.tn_session.specs.Reader.{ReaderSends}
 use Rattle.tn_session.specs.Reading.{max_reads, pieces_in}
-use Rattle.tn_session.specs.Stops.{StopsWithin, LeadsToEnd}
+use Rattle.tn_session.specs.Stops.{IsTold, LeavesAt, core_stops}
 use Rattle.tn_session.specs.Transcripts.{Exchange, ReadsPrefix, Transcribes, all_read, all_wrote, came_by}
 use Rattle.tn_session.specs.Turns.{Tells, max_writes}
 use Rattle.tn_session.specs.declared.channels.View.{View}
@@ -88,14 +88,16 @@ pub record RunningClient (window : Window) (keys net : KnownReader) (writer scre
   pub stopped : Bool
   pub typed : ReaderSends Keys stopped keys result.keys
   pub read : ReaderSends Net false net result.net
-  -- where the keys' thread left after a piece, it was told to: of what was handled a front, in which it had not left,
-  -- leads to where the run is over, or nothing more comes from the network
-  pub stopped_for : stopped ≡ true → StopsWithin (LeadsToEnd (start window.width window.height window.limit)) handled
   -- the run of the messages with their marks
   pub marked : List (Told × Mark)
   pub messages : map (λ m. m.0) marked ≡ all_told handled
   pub run : Run
   pub runs : Runs (start window.width window.height window.limit) marked run
+  -- where the keys' thread left, it was told to stop if by then nothing had any effect any more, or nothing more came
+  -- from the network, and else not; and only then it left after a piece
+  pub keys_left : LeavesAt Keys all_told (Runs (start window.width window.height window.limit)) handled marked
+  pub told : IsTold (core_stops keys_left.by_then.progress) result.told
+  pub stopped_for : stopped ≡ true → core_stops keys_left.by_then.progress ≡ true
   -- what was typed, and the bytes from the network whose items came, are the first of what these messages bring
   pub in_order : TakesInOrder (all_told handled) run
   -- what was written of what it says up to the Left of Keys

@@ -1,5 +1,5 @@
 -- The messages that the core of a client's session handled, and what was written and shown.
-use Rattle.std.specs.Prelude.{◌≡◌, ℕ, ◌≤◌, true, false, List, map}
+use Rattle.std.specs.Prelude.{◌≡◌, ℕ, ◌≤◌, Bool, true, false, List, map}
 use Rattle.std.specs.Io.KnownBytes.{Appends}
 use Rattle.tn_client_core.specs.Marks.{Runs, no_write_failed, no_show_failed, all_by, all_written, all_whole}
 use Rattle.tn_client_core.specs.Reaching.{LeadsTo, IsTurn, SendsPrefix, ShowsPrefix}
@@ -10,6 +10,7 @@ use Rattle.tn_client_core.specs.declared.messages.Origin.{Origin}
 use Rattle.tn_client_core.specs.declared.messages.Origin.TheVariants as origin
 use Rattle.tn_client_core.specs.declared.messages.Told.{Told}
 use Rattle.tn_session.specs.Mailbox.{with_handled}
+use Rattle.tn_session.specs.Stops.{StopHand, IsTold, StandsTold, core_stops}
 use Rattle.tn_session.specs.Turns.{Tells, lefts_of}
 use Rattle.tn_session.specs.declared.channels.View.{View}
 use Rattle.tn_session.specs.declared.mail.Mail.{Mail}
@@ -58,9 +59,16 @@ pub record ToldAll (old : Core) (messages : List Told) (writer screen : KnownWri
   pub over : all_whole marked ≡ false → new.progress.over ≡ true
   pub stays : old.progress.over ≡ true → new.progress.over ≡ true
 
--- what the core did: of the views before and after, of the writer to the network and of the screen
-pub record CoreHandles (old : Core) (v w : View) (writer screen : KnownWriting) (new : Core) : Type 0 where
+-- what the core did: of the views before and after, of the writer to the network and of the screen, and of the
+-- word to stop
+pub record CoreHandles (old : Core) (v w : View) (writer screen : KnownWriting) (stop : StopHand) (new : Core)
+    : Type 0 where
   pub handled : List Mail
   pub view : w ≡ with_handled v handled
   pub lefts : 2 ≤ lefts_of handled
   pub goes : ToldAll old (all_told handled) writer screen new
+  pub told : Bool
+  pub word : IsTold told stop
+  pub stands : (c : Run) → LeadsTo c old
+      → StandsTold Keys all_told (Runs c) (λ r. core_stops r.progress) handled goes.marked
+      (core_stops new.progress) told

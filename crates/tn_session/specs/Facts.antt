@@ -12,6 +12,7 @@ use Rattle.tn_session.specs.EntryChannel.{EntryHand}
 use Rattle.tn_session.specs.declared.parties.ClientPorts.{ClientPorts}
 use Rattle.tn_session.specs.declared.parties.Ports.{Ports}
 use Rattle.tn_session.specs.declared.parties.Report.{Report}
+use Rattle.tn_session.specs.Stops.{StopHand}
 
 -- of a type of jobs: how an entry and a step change one
 pub record JobActs (J : Type 0) : Type 1 where
@@ -43,7 +44,8 @@ pub record TermSettings : Type 0 where
   pub canon : Canon
   pub editing : Editing
 
--- of the passes of a session: what each thread sent, what the terminal handled and put, and what was taken
+-- of the passes of a session: what each thread sent, what the terminal handled and put, what was taken, and whether
+-- the thread of the background jobs was told to stop
 pub record SessionViews : Type 0 where
   pub net : View
   pub desk : View
@@ -51,6 +53,7 @@ pub record SessionViews : Type 0 where
   pub term : View
   pub put : EntryHand
   pub took : EntryHand
+  pub told : StopHand
 
 abbrev pub views_of : Ports → SessionViews
 views_of ports =
@@ -61,6 +64,7 @@ views_of ports =
       term = view ports.term;
       put = view ports.put;
       took = view ports.took;
+      told = view ports.told;
     }
 
 -- the report of a session, and the views of its passes
@@ -77,13 +81,21 @@ pub record Window : Type 0 where
   pub height : ℕ
   pub limit : ℕ
 
--- the report of a client's session, and what its threads sent and its core handled
+-- the report of a client's session, what its threads sent and its core handled, and whether the thread that reads the
+-- keys was told to stop
 pub record ClientResult : Type 0 where
   pub report : Report
   pub keys : View
   pub net : View
   pub core : View
+  pub told : StopHand
 
 abbrev pub client_result : Report → ClientPorts → ClientResult
 client_result report ports =
-    record { report = report; keys = view ports.keys; net = view ports.net; core = view ports.core }
+    record {
+      report = report;
+      keys = view ports.keys;
+      net = view ports.net;
+      core = view ports.core;
+      told = view ports.told;
+    }

@@ -43,7 +43,7 @@ pub record IsReady (c : Channels) : Type 0 where
   pub credits : IsSeatAt (sends_on c.ends.give) c.credits.pass
 
 -- whatever the lists are: they are those of the new passes too, what was handled begins an interleaving of
--- what was sent, and what was taken begins what was put
+-- what was sent, and what was taken begins what was put; the word to stop stays as it was
 abbrev pub AreSettled : SessionViews → SessionViews → Type 0
 AreSettled old new =
     (h a b c : List Mail) (p t : List (Option Entry)) → old.term ≡ handler h → old.net ≡ sender Net a
@@ -51,4 +51,4 @@ AreSettled old new =
     → old.put ≡ putter p → old.took ≡ taker t
     → (new.net ≡ sender Net a) × (new.desk ≡ sender Desk b) × (new.back ≡ sender Back c)
     × (new.term ≡ handler h) × (new.put ≡ putter p) × (new.took ≡ taker t)
-    × ((items : List Mail) × Interleaves (h ++ items) (four a b c [])) × IsPrefixOf t p
+    × ((items : List Mail) × Interleaves (h ++ items) (four a b c [])) × IsPrefixOf t p × (new.told ≡ old.told)

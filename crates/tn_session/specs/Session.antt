@@ -18,6 +18,7 @@ use Rattle.tn_session.specs.Makers.{AreAll}
 use Rattle.tn_session.specs.Reader.{ReaderSends}
 use Rattle.tn_session.specs.Reading.{max_reads, pieces_in}
 use Rattle.tn_session.specs.Stepping.{AreSteps}
+use Rattle.tn_session.specs.Stops.{IsTold, LeavesAt, term_stops}
 use Rattle.tn_session.specs.Talk.{IsJob, IsTalk}
 use Rattle.tn_session.specs.Transcripts.{Exchange, ReadsPrefix, Transcribes, all_read, all_wrote, came_by}
 use Rattle.tn_session.specs.Turning.{Holds, IsQueue, ids_of, jobs_of, queue_of}
@@ -108,7 +109,14 @@ pub record Schedule {J : Type 0} (acts : JobActs J) (jobs : SessionJobs J) (sett
   pub took_is : result.views.took ≡ taker taken
   pub took_first : IsPrefixOf taken run.puts
   pub talked : IsTalk jobs.first (IsJob jobs.job) acts.reacts result.views.desk result.views.took
-  pub stepped : AreSteps (Holds jobs.queue) acts.steps (queue_of jobs.tostop jobs.queue) result.views.back
+  pub stopped : Bool
+  pub stepped : AreSteps (Holds jobs.queue) acts.steps (queue_of jobs.tostop jobs.queue) stopped result.views.back
+  -- where Back left, it was told to stop if by then nothing had any effect any more, or nothing more came from the
+  -- network, and else not; and only then it stopped
+  pub back_left : LeavesAt Back messages_of
+      (Runs (run_after_opening wrote_opening (start settings.canon settings.editing table))) handled marked
+  pub told : IsTold (term_stops back_left.by_then.progress) result.views.told
+  pub stopped_for : stopped ≡ true → term_stops back_left.by_then.progress ≡ true
   -- six: the report
   pub report_is : result.report ≡ report_of run.progress
 

@@ -1,5 +1,5 @@
 -- What the thread of the background jobs sends.
-use Rattle.std.specs.Prelude.{◌≡◌, ℕ, ◌==◌, Bool, true, false, Option, Some, None, List, [], ◌∷◌, ◌++◌, ◌⊎◌, map, if◌then◌else◌}
+use Rattle.std.specs.Prelude.{◌≡◌, ◌≢◌, ℕ, ◌==◌, Bool, true, false, Option, Some, None, List, [], ◌∷◌, ◌++◌, ◌⊎◌, map, if◌then◌else◌}
 use Rattle.std.specs.List.{FoldsTo}
 use Rattle.tn_jobs.specs.Judging.{judged}
 use Rattle.tn_jobs.specs.declared.held_jobs.JobId.{JobId}
@@ -79,12 +79,18 @@ TakesItsTurn tostop (id ∷ ids) s new = (s.0.0 ≡ id) × (new ≡ turned (stay
 abbrev pub StepInTurn : Bool → List ℕ → List (JobId × Reaction) → List ℕ → Type 0
 StepInTurn tostop ids said left = FoldsTo (TakesItsTurn tostop) ids said left
 
+-- why it left: no job runs any more, it was told to stop, or memory ran out while one ran
+abbrev pub LeavesFor : Bool → List Message → List ℕ → Type 0
+LeavesFor stopped close left =
+    ((close ≡ Refused ∷ Left ∷ []) × (left ≢ [])) ⊎ ((left ≡ []) ⊎ (stopped ≡ true))
+
 -- of these jobs: each step is one of theirs, those of each go through its states, no job makes one after it
--- was judged out of the background, they step in turn, and then comes the close
-abbrev pub AreSteps : {J : Type 0} → (ℕ → J → Type 0) → (J → Reaction → J → Type 0) → BackJobs → View → Type 0
-AreSteps {J} began steps jobs v =
+-- was judged out of the background, they step in turn, and then comes the close, for its cause
+abbrev pub AreSteps : {J : Type 0} → (ℕ → J → Type 0) → (J → Reaction → J → Type 0) → BackJobs → Bool → View
+    → Type 0
+AreSteps {J} began steps jobs stopped v =
     (said : List (JobId × Reaction)) × (close : List Message) × IsClose close
     × (v ≡ sender Back (map (mail Back) (map step_said said ++ close)))
     × AreBy jobs.ids said × ((id : ℕ) → IsIn id jobs.ids → Steps {J = J} began steps said id)
     × ((id : ℕ) → IsIn id jobs.ids → LeavesLast jobs.tostop (reactions_of id said))
-    × (left : List ℕ) × StepInTurn jobs.tostop jobs.ids said left
+    × (left : List ℕ) × StepInTurn jobs.tostop jobs.ids said left × LeavesFor stopped close left

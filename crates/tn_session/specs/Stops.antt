@@ -1,27 +1,20 @@
--- Why the thread that reads the keys stops: it was told, after a message by which the session was over, or
--- nothing more comes from the network.
-use Rattle.std.specs.Prelude.{◌≡◌, ◌⊎◌, Bool, true, false, ◌||◌, ◌&&◌, Option, Some, None, List, [], ◌∷◌, ◌++◌, map, ⊤}
+-- Why a thread stops that has more to do: it was told. It is told after the first message by which nothing has
+-- any effect any more, or nothing more comes from the network, unless it has left by then.
+use Rattle.std.specs.Prelude.{◌≡◌, Bool, true, false, ◌||◌, ◌&&◌, Option, Some, None, List, [], ◌∷◌, ◌++◌, map, ⊤}
 use Rattle.crossbeam_channel.specs.Claims.{view, IsSeatAt}
 use Rattle.crossbeam_channel.specs.Ends.{sends_on, receives_on}
-use Rattle.tn_client_core.specs.Marks.{Runs}
-use Rattle.tn_client_core.specs.Reaching.{LeadsTo}
-use Rattle.tn_client_core.specs.Run.{Run}
-use Rattle.tn_client_core.specs.declared.machine.Core.{Core}
-use Rattle.tn_client_core.specs.declared.messages.Mark.{Mark}
-use Rattle.tn_client_core.specs.declared.messages.Told.{Told}
-use Rattle.tn_client_core.specs.declared.progress.Progress.{Progress}
+use Rattle.tn_client_core.specs.declared.progress.Progress.{Progress as CoreProgress}
 use Rattle.tn_messages.specs.declared.messages.Message.{Message}
 use Rattle.tn_messages.specs.declared.messages.Message.TheVariants.{Left}
-use Rattle.tn_queue.specs.Queue.{putter, taker, put_more}
+use Rattle.tn_queue.specs.Queue.{putter, taker}
 use Rattle.tn_queue.specs.declared.Hand.{Hand}
-use Rattle.tn_session.specs.CoreTurns.{all_told}
-use Rattle.tn_session.specs.Mailbox.{same, with_handled}
-use Rattle.tn_session.specs.declared.channels.View.{View}
+use Rattle.tn_session.specs.Mailbox.{same, mail}
 use Rattle.tn_session.specs.declared.mail.Mail.{Mail}
-use Rattle.tn_session.specs.declared.mail.Sender.TheVariants.{Keys}
+use Rattle.tn_session.specs.declared.mail.Sender.{Sender}
 use Rattle.tn_session.specs.declared.stops.Stop.{Stop}
 use Rattle.tn_session.specs.declared.stops.StopSeat.{StopSeat}
 use Rattle.tn_session.specs.declared.stops.StopTeller.{StopTeller}
+use Rattle.tn_term.specs.declared.progress.Progress.{Progress as TermProgress}
 
 abbrev pub StopHand : Type 0
 StopHand = Hand Stop
@@ -55,51 +48,48 @@ StopsStay (Some old) (Some new) =
     (new.from ≡ old.from) × IsSeatAt (receives_on new.from) new.pass × ((l : List Stop) × (view new.pass ≡ taker l))
 StopsStay _ _ = ⊥
 
--- it was told only where that is due
-abbrev pub MayTell : Bool → StopHand → StopHand → Type 0
-MayTell is_due v w = (w ≡ v) ⊎ ((is_due ≡ true) × ((x : Stop) × (w ≡ put_more v x)))
+-- the word was put once, or not at all
+abbrev pub IsTold : Bool → StopHand → Type 0
+IsTold true v = (word : Stop) × (v ≡ putter (word ∷ []))
+IsTold false v = v ≡ putter []
 
--- the keys' thread tells that it has left
 abbrev pub is_left : Message → Bool
 is_left Left = true
 is_left _ = false
 
-abbrev pub leaves_keys : Mail → Bool
-leaves_keys mail = same mail.from Keys && is_left mail.message
+-- this thread tells that it has left
+abbrev pub leaves : Sender → Mail → Bool
+leaves who x = same x.from who && is_left x.message
 
-abbrev pub keys_left : List Mail → Bool
-keys_left [] = false
-keys_left (x ∷ xs) = leaves_keys x || keys_left xs
+abbrev pub has_left : Sender → List Mail → Bool
+has_left who [] = false
+has_left who (x ∷ xs) = leaves who x || has_left who xs
 
--- nothing has any effect any more, or nothing more comes from the network
-abbrev pub is_over : Progress → Bool
-is_over p = p.over || p.at_end
+-- a thread is to stop: nothing has any effect any more, or nothing more comes from the network
+abbrev pub core_stops : CoreProgress → Bool
+core_stops p = p.over || p.at_end
 
--- Of what was handled a front, in which the keys' thread has not left, leads so far.
-pub record StopsWithin (leads : List Told → Type 0) (handled : List Mail) : Type 0 where
-  pub front : List Mail
-  pub back : List Mail
-  pub whole : handled ≡ front ++ back
-  pub here : keys_left front ≡ false
-  pub so_far : leads (all_told front)
+abbrev pub term_stops : TermProgress → Bool
+term_stops p = p.over || p.at_end
 
--- these messages lead a run to where it is over
-abbrev pub LeadsToEnd : Run → List Told → Type 0
-LeadsToEnd c all =
-    (marked : List (Told × Mark)) × (map (λ m. m.0) marked ≡ all)
-    × ((mid : Run) × Runs c marked mid × (is_over mid.progress ≡ true))
+-- Where this thread left: the messages that were handled before that, with their marks, lead so far.
+pub record LeavesAt {Said Mark Run : Type 0} (who : Sender) (said : List Mail → List Said)
+    (runs : List (Said × Mark) → Run → Type 0) (handled : List Mail) (marked : List (Said × Mark)) : Type 0 where
+  pub before : List Mail
+  pub after : List Mail
+  pub whole : handled ≡ before ++ mail who Left ∷ after
+  pub here : has_left who before ≡ false
+  pub first : List (Said × Mark)
+  pub later : List (Said × Mark)
+  pub marks : marked ≡ first ++ later
+  pub messages : map (λ m. m.0) first ≡ said before
+  pub by_then : Run
+  pub leads : runs first by_then
 
--- and so wherever the core may have been
-abbrev pub EndsFrom : Core → List Told → Type 0
-EndsFrom old all = (c : Run) → LeadsTo c old → LeadsToEnd c all
-
--- so far it was told nothing, or a front of what was handled leads to where it may be told
-abbrev pub StandsTold : Core → List Mail → StopHand → Type 0
-StandsTold old handled v =
-    (l : List Stop) × (v ≡ putter l) × ((l ≡ []) ⊎ StopsWithin (EndsFrom old) handled)
-
--- what the core told the keys' thread while it handled these mails
-abbrev pub TellsStop : Core → View → View → StopHand → StopHand → Type 0
-TellsStop old v w before after =
-    (handled : List Mail) → w ≡ with_handled v handled → before ≡ putter []
-    → (after ≡ putter []) ⊎ StopsWithin (EndsFrom old) handled
+-- As long as this thread has not left, it was told where the session stands so; and then, where it stood so.
+pub record StandsTold {Said Mark Run : Type 0} (who : Sender) (said : List Mail → List Said)
+    (runs : List (Said × Mark) → Run → Type 0) (stops : Run → Bool) (handled : List Mail)
+    (marked : List (Said × Mark)) (now told : Bool) : Type 0 where
+  pub here : has_left who handled ≡ false → told ≡ now
+  pub gone : has_left who handled ≡ true
+      → (at : LeavesAt who said runs handled marked) × (told ≡ stops at.by_then)

@@ -6,9 +6,11 @@ use Rattle.tn_nvt.specs.Spelling.{spells}
 use Rattle.tn_server.specs.Replies.{items_said}
 use Rattle.tn_session.specs.Mailbox.{with_handled}
 use Rattle.tn_queue.specs.Queue.{putter}
+use Rattle.tn_session.specs.Stops.{StopHand, IsTold, StandsTold, term_stops}
 use Rattle.tn_session.specs.declared.channels.View.{View}
 use Rattle.tn_session.specs.EntryChannel.{EntryHand}
 use Rattle.tn_session.specs.declared.mail.Mail.{Mail}
+use Rattle.tn_session.specs.declared.mail.Sender.TheVariants.{Back}
 use Rattle.tn_streams.specs.Known.{KnownWriting}
 use Rattle.tn_streams.specs.Telling.{Calls, AccountsFor}
 use Rattle.tn_term.specs.Marks.{Runs, all_whole, no_write_failed, no_writes_failed}
@@ -83,12 +85,17 @@ abbrev pub StaysInReach : Term → Ended → Type 0
 StaysInReach old ended =
     (c : Run) → LeadsTo c old → ended ≡ too_far_ahead → c.progress.ended ≡ too_far_ahead
 
--- what the terminal did: of the views and the writer before and after
+-- what the terminal did: of the views and the writer before and after, and of the word to stop
 pub record HandlesAll (old : Term) (v w : View) (before_hand after_hand : EntryHand) (writer : KnownWriting)
-    (new : Term) : Type 0 where
+    (stop : StopHand) (new : Term) : Type 0 where
   pub handled : List Mail
   pub puts : List (Option Entry)
   pub view : w ≡ with_handled v handled
   pub hand : (l : List (Option Entry)) → before_hand ≡ putter l → after_hand ≡ putter (l ++ puts)
   pub lefts : 3 ≤ lefts_of handled
   pub goes : GoesOn old (messages_of handled) writer puts new
+  pub told : Bool
+  pub word : IsTold told stop
+  pub stands : (c : Run) → LeadsTo c old
+      → StandsTold Back messages_of (Runs c) (λ r. term_stops r.progress) handled goes.marked
+      (term_stops new.progress) told

@@ -5,6 +5,7 @@ ghost use Rattle.crossbeam_channel.specs.Claims.{view, IsSeatAt};
 ghost use Rattle.crossbeam_channel.specs.Ends.{sends_on};
 ghost use Rattle.tn_session.specs.Mailbox.{sender};
 ghost use Rattle.tn_session.specs.Stepping.{AreSteps, is_background, leaves_in_background};
+ghost use Rattle.tn_session.specs.Stops.{StopsStay, has_stopped};
 ghost use Rattle.tn_jobs.specs.Judging.{judged};
 ghost use Rattle.tn_jobs.specs.declared.verdicts.JobState.TheVariants as state;
 ghost use Rattle.tn_session.specs.Turning.{Holds, IsQueue, queue_of, TakesTurn};
@@ -14,11 +15,10 @@ use crate::channels::{MailPass, MailSeat};
 use crate::mail::Sender;
 use crate::parties::{Gate, Place};
 use crate::sending::say;
-use crate::threads::Watch;
+use crate::stops::{StopSeat, is_stopped};
 use std::alloc::Global;
 use std::collections::VecDeque;
 use std::sync::Wait;
-use std::sync::atomic::Ordering;
 use tn_jobs::{After, Job, JobId, JobState, Reaction, judge};
 use tn_messages::Message;
 
@@ -89,26 +89,30 @@ fn advance<J: Job>(queue: &mut VecDeque<Runner<J>>, alloc: Global, tostop: bool)
 }
 
 // tools/progress: proctype Back
-/// Runs the jobs in turn, until none of them runs or the flag is set.
+/// Runs the jobs in turn, until none of them runs or it is told to stop.
 pub(crate) fn run_back<R: Wait, J: Job, G: Gate>(
     rt: &R,
     alloc: Global,
     seat: MailSeat,
     mut queue: VecDeque<Runner<J>>,
     tostop: bool,
-    watch: &Watch<G>,
+    gate: &G,
+    stops: &mut Option<StopSeat>,
 ) -> Option<MailPass>
     requires mailbox { IsSeatAt (sends_on seat.to) seat.pass × (view seat.pass ≡ sender Back []) }
     requires jobs { IsQueue J.fresh queue.items }
+    requires stops { StopsStay stops.old stops.old }
     ensures seat { IfSome result (λ p. IsSeatAt (sends_on seat.to) p) }
-    ensures stepped { IfSome result (λ p. AreSteps (Holds queue.items) J.steps (queue_of tostop queue.items) (view p)) }
+    ensures stepped { IfSome result (λ p. AreSteps (Holds queue.items) J.steps (queue_of tostop queue.items)
+        (has_stopped stops.new) (view p)) }
+    ensures stays { StopsStay stops.old stops.new }
 {
     let MailSeat { to, mut pass } = seat;
     for _ in rt.forever() {
-        if watch.stop.load(Ordering::SeqCst) {
+        if is_stopped(rt, stops) {
             return say(rt, &to, pass, Sender::Back, Message::Left);
         }
-        watch.gate.at(Place::BackStep);
+        gate.at(Place::BackStep);
         match advance(&mut queue, alloc, tostop) {
             Turn::Idle => return say(rt, &to, pass, Sender::Back, Message::Left),
             Turn::Refused => {

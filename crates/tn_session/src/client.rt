@@ -14,13 +14,13 @@ ghost use Rattle.tn_streams.specs.Sending.{IsFinished};
 use crate::channels::{
     AllRoles, CutKeys, CutNet, Knows, MailPass, MailReceiver, MailSeat, MailSender, Union, View,
 };
-use crate::client_loop::{Watched, run_core};
+use crate::client_loop::run_core;
 use crate::mail::{Mail, Sender};
 use crate::net::ReaderPart;
 use crate::parties::{ClientPorts, Gate, Place, Report};
 use crate::session::MAILS;
-use crate::stops::{StopSeat, make_stops};
-use crate::threads::{ClientReturned, ClientStarted, ReaderLeft, start_reader};
+use crate::stops::{StopPass, StopSeat, Watched, make_stops};
+use crate::threads::{ClientReturned, ClientStarted, ThreadLeft, start_reader};
 use crossbeam_channel::bounded_with;
 use std::alloc::{AllocError, Global};
 use std::sync::{Arc, Wait};
@@ -107,11 +107,18 @@ struct Readers<N, K> {
 }
 
 // Joins the passes, so that their lists are compared, and splits them again.
-fn settle(to: &MailSender, mut pass: MailPass, net: MailPass, keys: MailPass) -> ClientPorts
+fn settle(
+    to: &MailSender,
+    mut pass: MailPass,
+    net: MailPass,
+    keys: MailPass,
+    told: StopPass,
+) -> ClientPorts
     requires { IsSeatAt (sends_on to.now) pass × IsSeatAt (sends_on to.now) net ×
         IsSeatAt (sends_on to.now) keys }
-    ensures { AreTwoSettled (view pass) (view net) (view keys) (view result.net) (view result.keys)
+    ensures settled { AreTwoSettled (view pass) (view net) (view keys) (view result.net) (view result.keys)
         (view result.core) }
+    ensures told { result.told ≡ told }
 {
     to.absorb::<Union>(&mut pass, net);
     to.absorb::<Union>(&mut pass, keys);
@@ -122,6 +129,7 @@ fn settle(to: &MailSender, mut pass: MailPass, net: MailPass, keys: MailPass) ->
         keys,
         net,
         core: pass,
+        told,
     }
 }
 
@@ -192,9 +200,9 @@ where
         return Err(SessionFault::Channel);
     };
     let ClientReturned { net, keys } = returned;
-    let ReaderLeft { pass: keys, stops } = keys;
-    watched.stops.settle(stops);
-    let ports = settle(&ends.to, pass, net, keys);
+    let ThreadLeft { pass: keys, stops } = keys;
+    let told = watched.stops.settle(stops);
+    let ports = settle(&ends.to, pass, net, keys, told);
     Ok((report(core.progress()), ports))
 }
 

@@ -1,13 +1,13 @@
 //! The core of a client's session: mails are handled until both senders have left.
 
-ghost use Rattle.std.specs.Prelude.{◌≡◌, ◌&&◌, ◌||◌, not, true, List, Some, [], IfSome};
+ghost use Rattle.std.specs.Prelude.{◌≡◌, ◌&&◌, ◌||◌, not, true, Some, [], IfSome};
 ghost use Rattle.crossbeam_channel.specs.Claims.{view, IsSeatAt};
 ghost use Rattle.crossbeam_channel.specs.Ends.{receives_on, sends_on};
 ghost use Rattle.tn_client_core.specs.Marks.{is_whole};
 ghost use Rattle.tn_queue.specs.Queue.{putter};
 ghost use Rattle.tn_session.specs.CoreTurns.{TurnsTold, CoreHandles, origin_of, told_of};
-ghost use Rattle.tn_session.specs.Stops.{TellsStop, is_over, leaves_keys};
-ghost use Rattle.tn_session.specs.declared.stops.Stop.{Stop as StopT};
+ghost use Rattle.tn_session.specs.Stops.{core_stops, leaves as leaves_of};
+ghost use Rattle.tn_session.specs.declared.mail.Sender.TheVariants.{Keys};
 ghost use Rattle.tn_streams.specs.Known.{known_writing};
 ghost use Rattle.tn_streams.specs.Sending.{StaysOpen, IsFinished};
 
@@ -15,11 +15,11 @@ use crate::channels::{Handles, MailPass, MailReceiver};
 use crate::closing::finish_once;
 use crate::mail::{Mail, Sender};
 use crate::parties::Gate;
-use crate::stops::StopTeller;
+use crate::stops::Watched;
 use crate::term::{finish_unless, leaves};
 use crate::writing::write_out;
 use std::alloc::Global;
-use std::sync::{Arc, Wait};
+use std::sync::Wait;
 use tn_client_core::{Core, Mark, Origin, Progress, Told};
 use tn_messages::Message;
 use tn_streams::{Drain, Finish};
@@ -57,14 +57,15 @@ fn is_done(written: bool, shown: bool, mark: Mark) -> bool
 }
 
 // Handles one message: what it appends is written and shown, and where a write fails nothing has any
-// effect from there on.
-fn turn<W: Finish, S: Drain>(
+// effect from there on. The gate hears of the terms first, so that it never knows less than the user sees.
+fn turn<W: Finish, S: Drain, G: Gate>(
     core: &mut Core,
     told: Told,
     out: &mut Vec<u8>,
     text: &mut Vec<u8>,
     writer: &mut W,
     screen: &mut S,
+    gate: &G,
 )
     requires out { out.old.items ≡ [] }
     requires text { text.old.items ≡ [] }
@@ -78,6 +79,7 @@ fn turn<W: Finish, S: Drain>(
     ensures closed { core.old.progress.closed ≡ true → core.new.progress.closed ≡ true }
 {
     let mark = core.handle(told, out, text);
+    gate.agreed(core.terms());
     let written = write_out(writer, out);
     let shown = write_out(screen, text);
     out.clear();
@@ -88,9 +90,9 @@ fn turn<W: Finish, S: Drain>(
     core.write_failed();
 }
 
-// Keys leaves where no more comes from the network or nothing has any effect any more.
-fn is_over(progress: Progress) -> bool
-    ensures { result ≡ is_over progress }
+// Keys is to stop where no more comes from the network or nothing has any effect any more.
+fn stops(progress: Progress) -> bool
+    ensures { result ≡ core_stops progress }
 {
     progress.over || progress.at_end
 }
@@ -104,7 +106,7 @@ fn closes(progress: Progress) -> bool
 
 // Whether Keys has left, after this mail.
 fn has_left(before: bool, mail: &Mail) -> bool
-    ensures { result ≡ (before || leaves_keys mail.now) }
+    ensures { result ≡ (before || leaves_of Keys mail.now) }
 {
     match (mail.from, &mail.message) {
         (Sender::Keys, Message::Left) => true,
@@ -114,20 +116,13 @@ fn has_left(before: bool, mail: &Mail) -> bool
 
 // Whether Keys is to be told to stop: not once it has left.
 fn is_due(progress: Progress, keys_left: bool) -> bool
-    ensures { result ≡ (is_over progress && not keys_left) }
+    ensures { result ≡ (core_stops progress && not keys_left) }
 {
-    is_over(progress) && !keys_left
-}
-
-/// Who watches the core, and how it tells Keys to stop.
-#[derive(Drop)]
-pub(crate) struct Watched<G> {
-    pub(crate) gate: Arc<G, Global>,
-    pub(crate) stops: StopTeller,
+    stops(progress) && !keys_left
 }
 
 // tools/progress: proctype Core
-/// Handles the mails until both senders have left. `None` where the other end of the mailbox is gone. It
+/// Handles the mails until both senders have left. `None` where the other end of a channel is gone. It
 /// takes eight, since the core, the writer and the screen are lent each by itself.
 pub(crate) fn run_core<R: Wait, W: Finish, S: Drain, G: Gate>(
     rt: &R,
@@ -145,19 +140,16 @@ pub(crate) fn run_core<R: Wait, W: Finish, S: Drain, G: Gate>(
     ensures mailbox { IfSome result (λ p. IsSeatAt (receives_on from.now) p) }
     ensures acted { IfSome result (λ p.
         CoreHandles core.old (view pass) (view p) (known_writing W.contents W.told writer.old writer.new)
-        (known_writing S.contents S.told screen.old screen.new) core.new) }
+        (known_writing S.contents S.told screen.old screen.new) (view watched.new.stops.pass) core.new) }
     ensures finished { IfSome result (λ p. IsFinished (W.sending writer.old) (W.sending writer.new)) }
     ensures stops { IfSome result (λ p. (watched.new.stops.to ≡ watched.old.stops.to) ×
-        IsSeatAt (sends_on watched.new.stops.to) watched.new.stops.pass ×
-        ((l : List StopT) × (view watched.new.stops.pass ≡ putter l))) }
-    ensures stopped { IfSome result (λ p. TellsStop core.old (view pass) (view p)
-        (view watched.old.stops.pass) (view watched.new.stops.pass)) }
+        IsSeatAt (sends_on watched.new.stops.to) watched.new.stops.pass) }
 {
     let mut out = Vec::new(alloc);
     let mut text = Vec::new(alloc);
     let mut lefts = 0u64;
     let mut closed = false;
-    let mut told = false;
+    let mut told = watched.stops.tell(rt, stops(core.progress()), false)?;
     let mut keys_left = false;
     for _ in rt.forever() {
         if lefts >= SENDERS {
@@ -169,12 +161,19 @@ pub(crate) fn run_core<R: Wait, W: Finish, S: Drain, G: Gate>(
         };
         let left = leaves(&mail.message);
         keys_left = has_left(keys_left, &mail);
-        turn(core, told_of(mail), &mut out, &mut text, writer, screen);
+        turn(
+            core,
+            told_of(mail),
+            &mut out,
+            &mut text,
+            writer,
+            screen,
+            &*watched.gate,
+        );
         closed = finish_once(writer, closes(core.progress()), closed);
         told = watched
             .stops
-            .tell(rt, is_due(core.progress(), keys_left), told);
-        watched.gate.agreed(core.terms());
+            .tell(rt, is_due(core.progress(), keys_left), told)?;
         lefts += left;
     }
     unreachable!()

@@ -1,32 +1,42 @@
 //! The passes of a session are joined, compared, and split again.
 
+ghost use Rattle.std.specs.Prelude.{◌≡◌, ◌≢◌, List, [], true, IfSome};
 ghost use Rattle.crossbeam_channel.specs.Claims.{view, IsSeatAt};
 ghost use Rattle.crossbeam_channel.specs.Ends.{sends_on};
 ghost use Rattle.tn_session.specs.Facts.{views_of};
+ghost use Rattle.tn_queue.specs.Queue.{putter};
 ghost use Rattle.tn_session.specs.Joining.{AreSettled};
+ghost use Rattle.tn_session.specs.Stops.{has_stopped};
+ghost use Rattle.tn_session.specs.declared.stops.Stop.{Stop as StopT};
 
 use crate::channels::{CutBack, CutDesk, CutNet, Knows, Union};
 use crate::entries::{CutTaker, JoinHands, Takes};
 use crate::parties::Ports;
+use crate::stops::StopTeller;
 use crate::term::{Ends, Passes};
-use crate::threads::Returned;
+use crate::threads::{Returned, ThreadLeft};
 
 /// Joins the passes, so that their lists are compared, and splits them again.
-pub(crate) fn settle(ends: &Ends, passes: Passes, returned: Returned) -> Ports
+pub(crate) fn settle(ends: &Ends, passes: Passes, returned: Returned, teller: StopTeller) -> Ports
     requires mailbox { IsSeatAt (sends_on ends.now.to) passes.mails ×
         IsSeatAt (sends_on ends.now.to) returned.net × IsSeatAt (sends_on ends.now.to) returned.desk ×
-        IsSeatAt (sends_on ends.now.to) returned.back }
+        IsSeatAt (sends_on ends.now.to) returned.back.pass }
     requires entries { IsSeatAt (sends_on ends.now.put) passes.hand ×
         IsSeatAt (sends_on ends.now.put) returned.took }
-    ensures { AreSettled (record {
+    requires teller { IsSeatAt (sends_on teller.to) teller.pass }
+    requires told { (l : List StopT) × (view teller.pass ≡ putter l) }
+    requires stops { IfSome returned.back.stops (λ s. IsSeatAt (sends_on teller.to) s.pass) }
+    ensures settled { AreSettled (record {
       net = view returned.net;
       desk = view returned.desk;
-      back = view returned.back;
+      back = view returned.back.pass;
       term = view passes.mails;
       put = view passes.hand;
       took = view returned.took;
+      told = view teller.pass;
     })
         (views_of result) }
+    ensures stopped { has_stopped returned.back.stops ≡ true → view teller.pass ≢ putter [] }
 {
     let Passes {
         mut mails,
@@ -37,8 +47,9 @@ pub(crate) fn settle(ends: &Ends, passes: Passes, returned: Returned) -> Ports
         net,
         desk,
         took,
-        back,
+        back: ThreadLeft { pass: back, stops },
     } = returned;
+    let told = teller.settle(stops);
     ends.to.absorb::<Union>(&mut mails, net);
     ends.to.absorb::<Union>(&mut mails, desk);
     ends.to.absorb::<Union>(&mut mails, back);
@@ -56,5 +67,6 @@ pub(crate) fn settle(ends: &Ends, passes: Passes, returned: Returned) -> Ports
         term: mails,
         put: hand,
         took,
+        told,
     }
 }

@@ -5,6 +5,7 @@ ghost use Rattle.tn_session.specs.Makers.{MakesJob};
 
 use crate::channels::MailPass;
 use crate::entries::EntryPass;
+use crate::stops::StopPass;
 use std::alloc::{AllocError, Global};
 use tn_client_core::Terms;
 use tn_jobs::{Job, JobId};
@@ -76,7 +77,8 @@ pub struct Report {
     pub stops: u64,
 }
 
-/// The passes of the channels, in which contracts see what was sent and handled.
+/// The passes of the channels, in which contracts see what was sent and handled, and whether the thread of the
+/// background jobs was told to stop.
 #[derive(Drop)]
 pub struct Ports {
     pub net: MailPass,
@@ -85,12 +87,15 @@ pub struct Ports {
     pub term: MailPass,
     pub put: EntryPass,
     pub took: EntryPass,
+    pub told: StopPass,
 }
 
-/// The passes of a client session's mailbox, in which contracts see what was sent and handled.
+/// The passes of a client session's channels, in which contracts see what was sent and handled, and whether the
+/// thread that reads the keys was told to stop.
 #[derive(Drop)]
 pub struct ClientPorts {
     pub keys: MailPass,
     pub net: MailPass,
     pub core: MailPass,
+    pub told: StopPass,
 }

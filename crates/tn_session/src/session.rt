@@ -1,6 +1,6 @@
 //! A running session, from its first job to its report.
 
-ghost use Rattle.std.specs.Prelude.{◌≡◌, ◌≢◌, [], ◌∷◌, None, Some, IfOk, IfErr, IsErrOf};
+ghost use Rattle.std.specs.Prelude.{◌≡◌, ◌≢◌, [], ◌∷◌, None, Some, IfOk, IfErr, IfSome, IsErrOf};
 ghost use Rattle.crossbeam_channel.specs.Claims.{view, IsSeatAt};
 ghost use Rattle.crossbeam_channel.specs.Ends.{sends_on, receives_on};
 ghost use Rattle.tn_session.specs.Facts.{job_acts, job_facts, session_result};
@@ -8,6 +8,7 @@ ghost use Rattle.tn_session.specs.Joining.{IsReady, handler};
 ghost use Rattle.tn_session.specs.Makers.{AreAll, GivesJobs, IsMakerFault, begins};
 ghost use Rattle.tn_queue.specs.Queue.{putter};
 ghost use Rattle.tn_session.specs.Session.{IsBegun, IsOpening, IsRun, IsRefusal, IsOfThreads, RunsOn, RunningSession, report_of};
+ghost use Rattle.tn_session.specs.Stops.{AreNewStops};
 ghost use Rattle.tn_session.specs.Turning.{IsQueue, ids_of, jobs_of};
 ghost use Rattle.tn_session.specs.Turns.{StaysInReach};
 ghost use Rattle.tn_streams.specs.Known.{known_reader, known_writing};
@@ -23,9 +24,9 @@ use crate::mail::{Mail, Sender};
 use crate::making::{Made, make_jobs};
 use crate::net::ReaderPart;
 use crate::parties::{Gate, Maker, Place, Ports, Report};
-use crate::sharing::{Shared, share};
+use crate::stops::{StopSeat, Watched, make_stops};
 use crate::term::{Ends, Passes, run_term};
-use crate::threads::{Started, Watch, start_back, start_desk, start_reader};
+use crate::threads::{Started, start_back, start_desk, start_reader};
 use crate::writing::write_out;
 use crossbeam_channel::bounded_with;
 use std::alloc::{AllocError, Global};
@@ -201,14 +202,14 @@ fn run_beside<R, Rd, W, J, G>(
     term: &mut Term,
     out: &mut Vec<u8>,
     writer: &mut W,
-    watch: &Watch<G>,
+    mut watched: Watched<G>,
 ) -> Result<(Report, Ports), SessionFault>
 where
     R: Threads + Wait,
     Rd: Source,
     W: Finish,
     J: Job,
-    G: Gate,
+    G: Gate + Drop,
     requires mailbox { (receives_on ends.from ≡ sends_on ends.to) ×
         IsSeatAt (sends_on ends.to) passes.mails × (view passes.mails ≡ handler []) }
     requires entries { IsSeatAt (sends_on ends.put) passes.hand × (view passes.hand ≡ putter []) }
@@ -219,6 +220,9 @@ where
         (receives_on started.desk.promise.from.value ≡ sends_on ends.put) }
     requires back { sends_on started.back.promise.to.value ≡ sends_on ends.to }
     requires out { out.old.items ≡ [] }
+    requires stops { IfSome started.back.promise.stops.value (λ seat. AreNewStops watched.stops seat) }
+    requires teller { IsSeatAt (sends_on watched.stops.to) watched.stops.pass ×
+        (view watched.stops.pass ≡ putter []) }
     ensures fault { IfErr result (λ fault. fault ≡ SessionFault.Channel) }
     ensures ran { IfOk result (λ r.
         RunsOn (job_acts J.reacts J.steps)
@@ -233,7 +237,7 @@ where
     ensures in_reach { IfOk result (λ r. StaysInReach term.old r.0.ended) }
     ensures finished { IfOk result (λ r. IsFinished (W.sending writer.old) (W.sending writer.new)) }
 {
-    let Some(passes) = run_term(rt, &ends, passes, term, out, writer, watch) else {
+    let Some(passes) = run_term(rt, &ends, passes, term, out, writer, &mut watched) else {
         writer.finish();
         drop(ends);
         started.join(rt);
@@ -242,7 +246,7 @@ where
     let Some(returned) = started.join(rt) else {
         return Err(SessionFault::Channel);
     };
-    let ports = settle(&ends, passes, returned);
+    let ports = settle(&ends, passes, returned, watched.stops);
     Ok((report(term.progress()), ports))
 }
 
@@ -263,6 +267,7 @@ where
     J: Job + Send + 'static,
     G: Gate + Drop + Send + Sync + 'static,
     requires ready { IsReady outfit.channels }
+    requires stops { AreNewStops outfit.watched.stops outfit.stops }
     requires fresh { J.fresh begun.posts.job × IsQueue J.fresh begun.posts.queue.items }
     requires out { begun.out.items ≡ [] }
     ensures fault { IfErr result IsOfThreads }
@@ -294,15 +299,10 @@ where
         queue,
         tostop,
     } = begun.posts;
-    let Shared {
-        net: net_gate,
-        told,
-        own,
-    } = outfit.shared;
     let part = ReaderPart {
         who: Sender::Net,
         place: Place::NetPiece,
-        gate: net_gate,
+        gate: outfit.net_gate,
     };
     let Some(net) = start_reader(rt, alloc, net, reader, part, Some(credits), None) else {
         writer.finish();
@@ -314,7 +314,15 @@ where
         net.join(&rt);
         return Err(SessionFault::Start);
     };
-    let Some(back) = start_back(rt, alloc, back, queue, tostop, told) else {
+    let Some(back) = start_back(
+        rt,
+        alloc,
+        back,
+        queue,
+        tostop,
+        outfit.back_gate,
+        outfit.stops,
+    ) else {
         writer.finish();
         drop(ends);
         net.join(&rt);
@@ -330,7 +338,7 @@ where
         &mut begun.term,
         &mut begun.out,
         writer,
-        &own,
+        outfit.watched,
     )
 }
 
@@ -338,20 +346,32 @@ where
 #[derive(Drop)]
 struct Outfit<G> {
     channels: Channels,
+    stops: StopSeat,
+    net_gate: Arc<G, Global>,
     desk_gate: Arc<G, Global>,
-    shared: Shared<G>,
+    back_gate: Arc<G, Global>,
+    watched: Watched<G>,
 }
 
 fn equip<G: Gate + Drop>(alloc: Global, gate: Arc<G, Global>) -> Result<Outfit<G>, AllocError>
-    ensures { IfOk result (λ outfit. IsReady outfit.channels) }
+    ensures channels { IfOk result (λ outfit. IsReady outfit.channels) }
+    ensures stops { IfOk result (λ outfit. AreNewStops outfit.watched.stops outfit.stops) }
 {
     let channels = make_channels(alloc)?;
+    let (teller, stops) = make_stops(alloc)?;
+    let net_gate = Arc::try_clone(&gate)?;
     let desk_gate = Arc::try_clone(&gate)?;
-    let shared = share(alloc, gate)?;
+    let back_gate = Arc::try_clone(&gate)?;
     Ok(Outfit {
         channels,
+        stops,
+        net_gate,
         desk_gate,
-        shared,
+        back_gate,
+        watched: Watched {
+            gate,
+            stops: teller,
+        },
     })
 }
 

@@ -1,15 +1,16 @@
-//! The thread that reads the keys is told once to stop after its next piece.
+//! A thread is told once to stop: the one that reads the keys after its next piece, and the one of the
+//! background jobs before its next step.
 
-ghost use Rattle.std.specs.Prelude.{◌≡◌, ◌≢◌, List, [], true, IfOk, IfSome};
+ghost use Rattle.std.specs.Prelude.{◌≡◌, ◌≢◌, ◌||◌, List, [], true, IfOk, IfSome};
 ghost use Rattle.crossbeam_channel.specs.Claims.{view, IsSeatAt};
 ghost use Rattle.crossbeam_channel.specs.Ends.{sends_on, receives_on};
 ghost use Rattle.tn_queue.specs.Queue.{putter, taker};
-ghost use Rattle.tn_session.specs.Stops.{AreNewStops, MayTell, StopsStay, TakesStop, has_stopped};
+ghost use Rattle.tn_session.specs.Stops.{AreNewStops, IsTold, StopsStay, TakesStop, has_stopped};
 ghost use Rattle.tn_session.specs.declared.stops.Stop.{Stop as StopT};
 
 use crossbeam_channel::bounded_with;
 use std::alloc::{AllocError, Global};
-use std::sync::Wait;
+use std::sync::{Arc, Wait};
 use tn_queue::{
     CutTaker, Hand, InTurn, JoinHands, Puts, QueuePass, QueueReceiver, QueueSender, Takes,
 };
@@ -18,18 +19,27 @@ use tn_queue::{
 #[derive(Drop)]
 pub struct Stop;
 
+pub type StopPass = QueuePass<Stop>;
+
 /// The seat of the one that is told.
 #[derive(Drop)]
 pub(crate) struct StopSeat {
     pub(crate) from: QueueReceiver<Stop>,
-    pub(crate) pass: QueuePass<Stop>,
+    pub(crate) pass: StopPass,
 }
 
 /// The seat of the one that tells it.
 #[derive(Drop)]
 pub(crate) struct StopTeller {
     pub(crate) to: QueueSender<Stop>,
-    pub(crate) pass: QueuePass<Stop>,
+    pub(crate) pass: StopPass,
+}
+
+/// Who watches the thread that handles the messages, and how it tells another to stop.
+#[derive(Drop)]
+pub(crate) struct Watched<G> {
+    pub(crate) gate: Arc<G, Global>,
+    pub(crate) stops: StopTeller,
 }
 
 /// Makes both seats. Nobody has been told.
@@ -57,7 +67,7 @@ impl StopSeat {
     }
 }
 
-/// Whether a thread is to read on no more: never where it has no seat.
+/// Whether a thread is to go on no more: never where it has no seat.
 pub(crate) fn is_stopped<R: Wait>(rt: &R, stops: &mut Option<StopSeat>) -> bool
     requires seat { StopsStay stops.old stops.old }
     ensures stays { StopsStay stops.old stops.new }
@@ -70,34 +80,43 @@ pub(crate) fn is_stopped<R: Wait>(rt: &R, stops: &mut Option<StopSeat>) -> bool
 }
 
 impl StopTeller {
-    /// Tells it where it is due and was not told before. Answers whether it was told, now or before. It
-    /// waits for nobody: one whom nobody hears was not told.
-    pub(crate) fn tell<R: Wait>(&mut self, rt: &R, is_due: bool, told: bool) -> bool
+    /// Tells it where it is due and was not told before. Answers whether it was told, now or before; `None`
+    /// where nobody hears it. The channel has room for the one word.
+    pub(crate) fn tell<R: Wait>(&mut self, rt: &R, is_due: bool, told: bool) -> Option<bool>
         requires seat { IsSeatAt (sends_on self.old.to) self.old.pass }
-        requires role { (l : List StopT) × (view self.old.pass ≡ putter l) }
+        requires word { IsTold told (view self.old.pass) }
         ensures seat { IsSeatAt (sends_on self.new.to) self.new.pass }
         ensures to { self.new.to ≡ self.old.to }
-        ensures told { MayTell is_due (view self.old.pass) (view self.new.pass) }
+        ensures told { IfSome result (λ now. now ≡ (told || is_due)) }
+        ensures word { IfSome result (λ now. IsTold now (view self.new.pass)) }
     {
-        if told || !is_due {
-            return told;
+        if told {
+            return Some(true);
         }
-        self.to
-            .try_send_as::<Puts, R>(rt, &mut self.pass, Stop)
-            .is_ok()
+        if !is_due {
+            return Some(false);
+        }
+        match self.to.send_as::<Puts, R>(rt, &mut self.pass, Stop) {
+            Ok(()) => Some(true),
+            Err(_) => None,
+        }
     }
 
-    /// Joins both passes, so that what was taken is compared with what was put.
-    pub(crate) fn settle(mut self, stops: Option<StopSeat>)
+    /// Joins both passes, so that what was taken is compared with what was put, and splits them again.
+    pub(crate) fn settle(self, stops: Option<StopSeat>) -> StopPass
         requires teller { IsSeatAt (sends_on self.to) self.pass }
         requires told { (l : List StopT) × (view self.pass ≡ putter l) }
         requires seat { IfSome stops (λ s. IsSeatAt (sends_on self.to) s.pass) }
-        ensures { has_stopped stops ≡ true → view self.pass ≢ putter [] }
+        ensures same { view result ≡ view self.pass }
+        ensures told { has_stopped stops ≡ true → view self.pass ≢ putter [] }
     {
+        let StopTeller { to, pass: mut put } = self;
         let Some(StopSeat { from: _, pass }) = stops else {
-            return;
+            return put;
         };
-        self.to.absorb::<JoinHands>(&mut self.pass, pass);
-        self.to.learn_as::<Takes>(&mut self.pass);
+        to.absorb::<JoinHands>(&mut put, pass);
+        to.learn_as::<Takes>(&mut put);
+        to.another::<CutTaker>(&mut put);
+        put
     }
 }

@@ -1,6 +1,6 @@
 //! The thread of the terminal: mails are handled until all senders have left.
 
-ghost use Rattle.std.specs.Prelude.{◌≡◌, ◌≤◌, ◌||◌, not, ◌++◌, ◌∷◌, List, Option, Some, [], true, false, IfOk, IfSome};
+ghost use Rattle.std.specs.Prelude.{◌≡◌, ◌≤◌, ◌&&◌, ◌||◌, not, ◌++◌, ◌∷◌, List, Option, Some, [], true, false, IfOk, IfSome};
 ghost use Rattle.std.specs.Io.KnownBytes.{Keeps};
 ghost use Rattle.crossbeam_channel.specs.Claims.{view, IsSeatAt};
 ghost use Rattle.crossbeam_channel.specs.Ends.{sends_on, receives_on};
@@ -8,19 +8,21 @@ ghost use Rattle.tn_discipline.specs.declared.reads.Entry.{Entry as EntryT};
 ghost use Rattle.tn_session.specs.Closing.{Closes};
 ghost use Rattle.tn_session.specs.Credits.{GivesCredits};
 ghost use Rattle.tn_queue.specs.Queue.{putter};
+ghost use Rattle.tn_session.specs.Stops.{term_stops, leaves as leaves_of};
 ghost use Rattle.tn_session.specs.Turns.{HandlesAll, StaysInReach, TurnsMessage, left_one};
+ghost use Rattle.tn_session.specs.declared.mail.Sender.TheVariants.{Back};
 ghost use Rattle.tn_streams.specs.Known.{known_writing};
 ghost use Rattle.tn_streams.specs.Sending.{StaysOpen, IsFinished};
 ghost use Rattle.tn_term.specs.Marks.{is_whole};
 ghost use Rattle.tn_term.specs.Run.{puts_of};
 
 use crate::channels::{Handles, MailPass, MailReceiver, MailSender};
-use crate::closing::{Standing, close};
+use crate::closing::finish_once;
 use crate::credit::{CreditPass, CreditSender, give_credit, is_piece};
 use crate::entries::{EntryPass, EntrySender, Puts};
-use crate::mail::Mail;
+use crate::mail::{Mail, Sender};
 use crate::parties::{Gate, Place};
-use crate::threads::Watch;
+use crate::stops::Watched;
 use crate::writing::write_out;
 use std::sync::Wait;
 use tn_discipline::Entry;
@@ -164,14 +166,28 @@ fn turn<R: Wait, W: Finish>(
     put_if(rt, entries, hand, last)
 }
 
-// The background jobs stop where no more comes or nothing has any effect any more, and then this end is done.
-fn standing_of(progress: Progress) -> Standing
-    ensures closes { result.closes ≡ progress.over }
+// The background jobs are to stop where no more comes or nothing has any effect any more.
+fn stops(progress: Progress) -> bool
+    ensures { result ≡ term_stops progress }
 {
-    Standing {
-        stops: progress.over || progress.at_end,
-        closes: progress.over,
+    progress.over || progress.at_end
+}
+
+// Whether Back has left, after this mail.
+fn has_left(before: bool, mail: &Mail) -> bool
+    ensures { result ≡ (before || leaves_of Back mail.now) }
+{
+    match (mail.from, &mail.message) {
+        (Sender::Back, Message::Left) => true,
+        _ => before,
     }
+}
+
+// Whether Back is to be told to stop: not once it has left.
+fn is_told(progress: Progress, back_left: bool) -> bool
+    ensures { result ≡ (term_stops progress && not back_left) }
+{
+    stops(progress) && !back_left
 }
 
 /// Tells the writer that no more comes, unless it was told.
@@ -196,7 +212,7 @@ pub(crate) fn run_term<R: Wait, W: Finish, G: Gate>(
     term: &mut Term,
     out: &mut Vec<u8>,
     writer: &mut W,
-    watch: &Watch<G>,
+    watched: &mut Watched<G>,
 ) -> Option<Passes>
     requires mailbox { IsSeatAt (receives_on ends.now.from) passes.mails ×
         ((view passes.mails).handled ≡ Some []) }
@@ -204,14 +220,18 @@ pub(crate) fn run_term<R: Wait, W: Finish, G: Gate>(
         (view passes.hand ≡ putter l) }
     requires credits { IsSeatAt (sends_on ends.now.give) passes.give }
     requires out { out.old.items ≡ [] }
+    requires stops { IsSeatAt (sends_on watched.old.stops.to) watched.old.stops.pass ×
+        (view watched.old.stops.pass ≡ putter []) }
     ensures mailbox { IfSome result (λ p. IsSeatAt (receives_on ends.now.from) p.mails) }
     ensures entries { IfSome result (λ p. IsSeatAt (sends_on ends.now.put) p.hand) }
     ensures acted { IfSome result (λ p.
         HandlesAll term.old (view passes.mails) (view p.mails) (view passes.hand) (view p.hand)
-        (known_writing W.contents W.told writer.old writer.new) term.new) }
+        (known_writing W.contents W.told writer.old writer.new) (view watched.new.stops.pass) term.new) }
     ensures credits { IfSome result (λ p. GivesCredits (view passes.mails) (view p.mails) (view passes.give) (view p.give)) }
     ensures in_reach { IfSome result (λ p. StaysInReach term.old term.new.progress.ended) }
     ensures finished { IfSome result (λ p. IsFinished (W.sending writer.old) (W.sending writer.new)) }
+    ensures stops { IfSome result (λ p. (watched.new.stops.to ≡ watched.old.stops.to) ×
+        IsSeatAt (sends_on watched.new.stops.to) watched.new.stops.pass) }
 {
     let Passes {
         mut mails,
@@ -219,7 +239,9 @@ pub(crate) fn run_term<R: Wait, W: Finish, G: Gate>(
         mut give,
     } = passes;
     let mut lefts = 0u64;
-    let mut closed = close(writer, &*watch.stop, standing_of(term.progress()), false);
+    let mut back_left = false;
+    let mut closed = finish_once(writer, term.progress().over, false);
+    let mut told = watched.stops.tell(rt, stops(term.progress()), false)?;
     let mut owed = give_credit(rt, &ends.give, &mut give, true, term);
     for _ in rt.forever() {
         if lefts >= SENDERS {
@@ -229,6 +251,7 @@ pub(crate) fn run_term<R: Wait, W: Finish, G: Gate>(
         let Ok(mail) = ends.from.recv_as::<Handles, R>(rt, &mut mails) else {
             return None;
         };
+        back_left = has_left(back_left, &mail);
         let Mail { from: _, message } = mail;
         if !term.welcomes(&message) {
             return None;
@@ -238,9 +261,12 @@ pub(crate) fn run_term<R: Wait, W: Finish, G: Gate>(
         let piece = is_piece(&message);
         let before = term.progress().entries;
         hand = turn(rt, &ends.put, hand, term, message, out, writer)?;
-        tell_took(&*watch.gate, before, term.progress().entries);
-        tell_said(&*watch.gate, job);
-        closed = close(writer, &*watch.stop, standing_of(term.progress()), closed);
+        tell_took(&*watched.gate, before, term.progress().entries);
+        tell_said(&*watched.gate, job);
+        closed = finish_once(writer, term.progress().over, closed);
+        told = watched
+            .stops
+            .tell(rt, is_told(term.progress(), back_left), told)?;
         owed = give_credit(rt, &ends.give, &mut give, is_due(owed, piece), term);
         lefts += left;
     }

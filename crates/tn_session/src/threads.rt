@@ -1,6 +1,6 @@
 //! The threads of a session are started, each with a promise of what it gives back, and joined.
 
-ghost use Rattle.std.specs.Prelude.{◌≡◌, [], false, None, IfSome};
+ghost use Rattle.std.specs.Prelude.{◌≡◌, [], false, None, Some, IfSome};
 ghost use Rattle.crossbeam_channel.specs.Claims.{view, IsSeatAt};
 ghost use Rattle.crossbeam_channel.specs.Ends.{sends_on, receives_on};
 ghost use Rattle.tn_session.specs.Credits.{IsSeated};
@@ -27,16 +27,15 @@ use std::alloc::Global;
 use std::collections::VecDeque;
 use std::marker::PhantomData;
 use std::snapshot::Snapshot;
-use std::sync::atomic::AtomicBool;
 use std::sync::{Arc, Wait};
 use std::thread;
 use std::thread::{Promise, PromisedHandle, Threads};
 use tn_jobs::{Job, JobId};
 use tn_streams::Source;
 
-/// What a thread that reads gives back: its pass, and the seat where it may have been told to stop.
+/// What a thread gives back that may be told to stop: its pass, and the seat where it may have been told.
 #[derive(Drop)]
-pub(crate) struct ReaderLeft {
+pub(crate) struct ThreadLeft {
     pub(crate) pass: MailPass,
     pub(crate) stops: Option<StopSeat>,
 }
@@ -50,7 +49,7 @@ pub(crate) struct ReaderSays<Rd> {
     stops: Snapshot<Option<StopSeat>>,
 }
 
-impl<Rd: Source> Promise<Option<ReaderLeft>> for ReaderSays<Rd> {
+impl<Rd: Source> Promise<Option<ThreadLeft>> for ReaderSays<Rd> {
     ghost use Rattle.std.specs.Prelude.{IfSome};
     ghost use Rattle.crossbeam_channel.specs.Claims.{view, IsSeatAt};
     ghost use Rattle.crossbeam_channel.specs.Ends.{sends_on};
@@ -91,26 +90,23 @@ pub(crate) struct BackSays<J> {
     to: Snapshot<MailSender>,
     queue: Snapshot<VecDeque<Runner<J>>>,
     tostop: bool,
+    stops: Snapshot<Option<StopSeat>>,
     of: PhantomData<J>,
 }
 
-impl<J: Job> Promise<Option<MailPass>> for BackSays<J> {
+impl<J: Job> Promise<Option<ThreadLeft>> for BackSays<J> {
     ghost use Rattle.std.specs.Prelude.{IfSome};
     ghost use Rattle.crossbeam_channel.specs.Claims.{view, IsSeatAt};
     ghost use Rattle.crossbeam_channel.specs.Ends.{sends_on};
     ghost use Rattle.tn_session.specs.Stepping.{AreSteps};
+    ghost use Rattle.tn_session.specs.Stops.{StopsStay, has_stopped};
     ghost use Rattle.tn_session.specs.Turning.{Holds, queue_of};
 
     ghost kept_by = { λ p r.
-        IfSome r (λ pass. IsSeatAt (sends_on p.to.value) pass ×
-        AreSteps (Holds p.queue.value.items) J.steps (queue_of p.tostop p.queue.value.items) (view pass)) };
-}
-
-/// The gate, and the flag that tells to stop.
-#[derive(Drop)]
-pub(crate) struct Watch<G> {
-    pub(crate) gate: Arc<G, Global>,
-    pub(crate) stop: Arc<AtomicBool, Global>,
+        IfSome r (λ left. IsSeatAt (sends_on p.to.value) left.pass ×
+        AreSteps (Holds p.queue.value.items) J.steps (queue_of p.tostop p.queue.value.items)
+        (has_stopped left.stops) (view left.pass) ×
+        StopsStay p.stops.value left.stops) };
 }
 
 /// Starts a thread that reads, for this part, with the seat where it takes credits if it needs any, and the one
@@ -127,7 +123,7 @@ pub(crate) fn start_reader<
     part: ReaderPart<G>,
     credits: Option<CreditSeat>,
     stops: Option<StopSeat>,
-) -> Option<PromisedHandle<Option<ReaderLeft>, ReaderSays<Rd>>>
+) -> Option<PromisedHandle<Option<ThreadLeft>, ReaderSays<Rd>>>
     requires mailbox { IsSeatAt (sends_on seat.to) seat.pass × (view seat.pass ≡ sender part.who []) }
     requires credits { IsSeated credits }
     requires stops { StopsStay stops stops }
@@ -140,7 +136,7 @@ pub(crate) fn start_reader<
         who: part.who,
         stops: Snapshot::of(&stops),
     };
-    let work = move || -> Option<ReaderLeft>
+    let work = move || -> Option<ThreadLeft>
         requires { IsSeatAt (sends_on seat.to) seat.pass × (view seat.pass ≡ sender part.who []) ×
             IsSeated credits × StopsStay stops stops }
         ensures { IfSome result (λ left. IsSeatAt (sends_on seat.to) left.pass ×
@@ -150,7 +146,7 @@ pub(crate) fn start_reader<
         let mut credits = credits;
         let mut stops = stops;
         match run_reader(&rt, alloc, seat, reader, &part, &mut credits, &mut stops) {
-            Some(pass) => Some(ReaderLeft { pass, stops }),
+            Some(pass) => Some(ThreadLeft { pass, stops }),
             None => None,
         }
     };
@@ -201,7 +197,8 @@ pub(crate) fn start_desk<
     }
 }
 
-/// Starts the thread of the background jobs. `None` where it can't be started.
+/// Starts the thread of the background jobs, with the seat where it is told to stop. `None` where it can't be
+/// started. It takes eight, as what it is given goes together nowhere else.
 pub(crate) fn start_back<
     R: Threads + Wait + Copy + Send + 'static,
     J: Job + Send + 'static,
@@ -212,25 +209,37 @@ pub(crate) fn start_back<
     seat: MailSeat,
     queue: VecDeque<Runner<J>>,
     tostop: bool,
-    watch: Watch<G>,
-) -> Option<PromisedHandle<Option<MailPass>, BackSays<J>>>
+    gate: Arc<G, Global>,
+    stops: StopSeat,
+) -> Option<PromisedHandle<Option<ThreadLeft>, BackSays<J>>>
     requires mailbox { IsSeatAt (sends_on seat.to) seat.pass × (view seat.pass ≡ sender Back []) }
     requires jobs { IsQueue J.fresh queue.items }
+    requires stops { StopsStay (Some stops) (Some stops) }
     ensures { IfSome result (λ h. (sends_on h.promise.to.value ≡ sends_on seat.to) ×
-        (h.promise.queue.value ≡ queue) × (h.promise.tostop ≡ tostop)) }
+        (h.promise.queue.value ≡ queue) × (h.promise.tostop ≡ tostop) ×
+        (h.promise.stops.value ≡ Some stops)) }
 {
+    let stops = Some(stops);
     let promise = BackSays {
         to: Snapshot::of(&seat.to),
         queue: Snapshot::of(&queue),
         tostop,
+        stops: Snapshot::of(&stops),
         of: PhantomData,
     };
-    let work = move || -> Option<MailPass>
+    let work = move || -> Option<ThreadLeft>
         requires { IsSeatAt (sends_on seat.to) seat.pass × (view seat.pass ≡ sender Back []) ×
-            IsQueue J.fresh queue.items }
-        ensures { IfSome result (λ p. IsSeatAt (sends_on seat.to) p ×
-            AreSteps (Holds queue.items) J.steps (queue_of tostop queue.items) (view p)) }
-    { run_back(&rt, alloc, seat, queue, tostop, &watch) };
+            IsQueue J.fresh queue.items × StopsStay stops stops }
+        ensures { IfSome result (λ left. IsSeatAt (sends_on seat.to) left.pass ×
+            AreSteps (Holds queue.items) J.steps (queue_of tostop queue.items) (has_stopped left.stops)
+            (view left.pass) × StopsStay stops left.stops) }
+    {
+        let mut stops = stops;
+        match run_back(&rt, alloc, seat, queue, tostop, &*gate, &mut stops) {
+            Some(pass) => Some(ThreadLeft { pass, stops }),
+            None => None,
+        }
+    };
     match thread::spawn_with(&rt, promise, work) {
         Ok(handle) => Some(handle),
         Err(_) => None,
@@ -239,9 +248,9 @@ pub(crate) fn start_back<
 
 /// The threads of a session that were started.
 pub(crate) struct Started<Rd: Source, J: Job> {
-    pub(crate) net: PromisedHandle<Option<ReaderLeft>, ReaderSays<Rd>>,
+    pub(crate) net: PromisedHandle<Option<ThreadLeft>, ReaderSays<Rd>>,
     pub(crate) desk: PromisedHandle<Option<(MailPass, EntryPass)>, DeskSays<J>>,
-    pub(crate) back: PromisedHandle<Option<MailPass>, BackSays<J>>,
+    pub(crate) back: PromisedHandle<Option<ThreadLeft>, BackSays<J>>,
 }
 
 /// What the threads of a session give back.
@@ -250,7 +259,7 @@ pub(crate) struct Returned {
     pub(crate) net: MailPass,
     pub(crate) desk: MailPass,
     pub(crate) took: EntryPass,
-    pub(crate) back: MailPass,
+    pub(crate) back: ThreadLeft,
 }
 
 impl<Rd: Source, J: Job> Started<Rd, J> {
@@ -262,15 +271,17 @@ impl<Rd: Source, J: Job> Started<Rd, J> {
         ensures desk { IfSome result (λ r. IsSeatAt (sends_on self.desk.promise.to.value) r.desk ×
             IsSeatAt (receives_on self.desk.promise.from.value) r.took ×
             IsTalk self.desk.promise.id (IsJob self.desk.promise.job.value) J.reacts (view r.desk) (view r.took)) }
-        ensures back { IfSome result (λ r. IsSeatAt (sends_on self.back.promise.to.value) r.back ×
+        ensures back { IfSome result (λ r. IsSeatAt (sends_on self.back.promise.to.value) r.back.pass ×
             AreSteps (Holds self.back.promise.queue.value.items) J.steps
-            (queue_of self.back.promise.tostop self.back.promise.queue.value.items) (view r.back)) }
+            (queue_of self.back.promise.tostop self.back.promise.queue.value.items) (has_stopped r.back.stops)
+            (view r.back.pass)) }
+        ensures stays { IfSome result (λ r. StopsStay self.back.promise.stops.value r.back.stops) }
     {
         let Started { net, desk, back } = self;
         let net = net.join(rt);
         let desk = desk.join(rt);
         let back = back.join(rt);
-        let ReaderLeft {
+        let ThreadLeft {
             pass: net,
             stops: _,
         } = net?;
@@ -287,15 +298,15 @@ impl<Rd: Source, J: Job> Started<Rd, J> {
 
 /// The threads of a client's session that were started.
 pub(crate) struct ClientStarted<N: Source, K: Source> {
-    pub(crate) net: PromisedHandle<Option<ReaderLeft>, ReaderSays<N>>,
-    pub(crate) keys: PromisedHandle<Option<ReaderLeft>, ReaderSays<K>>,
+    pub(crate) net: PromisedHandle<Option<ThreadLeft>, ReaderSays<N>>,
+    pub(crate) keys: PromisedHandle<Option<ThreadLeft>, ReaderSays<K>>,
 }
 
 /// What the threads of a client's session give back.
 #[derive(Drop)]
 pub(crate) struct ClientReturned {
     pub(crate) net: MailPass,
-    pub(crate) keys: ReaderLeft,
+    pub(crate) keys: ThreadLeft,
 }
 
 impl<N: Source, K: Source> ClientStarted<N, K> {
@@ -312,7 +323,7 @@ impl<N: Source, K: Source> ClientStarted<N, K> {
         let ClientStarted { net, keys } = self;
         let net = net.join(rt);
         let keys = keys.join(rt);
-        let ReaderLeft {
+        let ThreadLeft {
             pass: net,
             stops: _,
         } = net?;

@@ -6,6 +6,7 @@ use Rattle.tn_jobs.specs.declared.reactions.Reaction.{Reaction}
 use Rattle.tn_session.specs.declared.mail.Sender.TheVariants.{Back}
 use Rattle.tn_session.specs.Mailbox.{sender, mail}
 use Rattle.tn_session.specs.Stepping.{StepInTurn, step_said}
+use Rattle.tn_session.specs.Stops.{StopsStay}
 use Rattle.tn_session.specs.Turning.{Holds, Running, ids_of}
 use Rattle.tn_session.proofs.back.run_back.Given as goal
 
@@ -13,3 +14,4 @@ abbrev pub invariant-loop : goal.invariant-loop
 invariant-loop g l =
     IsSeatAt (sends_on l.to) l.pass
     × ((said : List (JobId × Reaction)) × (view l.pass ≡ sender Back (map (mail Back) (map step_said said))) × Running (Holds l.fn.queue.items) g.J.Job.steps l.fn.tostop (ids_of l.fn.queue.items) said l.queue.items × StepInTurn l.fn.tostop (ids_of l.fn.queue.items) said (ids_of l.queue.items))
+    × StopsStay l.fn.stops l.stops

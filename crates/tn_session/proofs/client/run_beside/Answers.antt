@@ -1,7 +1,8 @@
-use Rattle.std.proofs.Common.{false, ap, subst, ◌∙◌}
+use Rattle.std.proofs.Common.{false, ap, subst, sym, ◌∙◌}
 use Rattle.crossbeam_channel.specs.Claims.{view}
 use Rattle.tn_session.proofs.ClientWhole.{client_ran}
-use Rattle.tn_session.proofs.Stopped.{was_told, seat_at}
+use Rattle.tn_session.proofs.Stopped.{told_words, seat_at}
+use Rattle.tn_session.specs.CoreTurns.{CoreHandles}
 use Rattle.tn_session.specs.Reader.{ReaderSends}
 use Rattle.tn_session.specs.Stops.{has_stopped}
 use Rattle.tn_session.specs.Client.{client_report}
@@ -20,18 +21,19 @@ returns-clause-ran g c =
     let net_reader = known_reader g.N.Source.remaining g.N.Source.foretold g.N.Source.sizes started.net.promise.reader.value in
     let writer = known_writing g.W.Drain.contents g.W.Drain.told c.args.writer.now c.run_core.new.writer in
     let screen = known_writing g.S.Drain.contents g.S.Drain.told c.args.screen.now c.run_core.new.screen in
+    let same = ap (λ p. view p) c.settle-ports.ensures.told ∙ c.settle-told.ensures.same in
     client_ran c.args.core.now c.run_core.new.core (has_stopped returned.keys.stops) keys_reader net_reader writer screen (view c.args.pass) (view ended.pass) (view returned.net) (view returned.keys.pass) (client_result c.report.result ports)
-    c.requires.mailbox.2 ended.ensures.acted
+    c.requires.mailbox.2 (subst (λ v. CoreHandles c.args.core.now (view c.args.pass) (view ended.pass) writer screen v c.run_core.new.core) (sym same) ended.ensures.acted)
     (subst (λ s. ReaderSends s false net_reader (view returned.net)) c.requires.net.1 (join.ensures.net.1 c.requires.net.2))
     (subst (λ s. ReaderSends s (has_stopped returned.keys.stops) keys_reader (view returned.keys.pass)) c.requires.keys.1 join.ensures.keys.1)
-    (was_told c.args.core.now (view c.args.pass) (view ended.pass) (view c.args.watched.stops.pass) (view c.run_core.new.watched.stops.pass) ended.ensures.acted.handled (has_stopped returned.keys.stops) ended.ensures.stopped ended.ensures.acted.view c.requires.teller.1 c.settle.ensures)
-    c.settle-ports.ensures (c.report.ensures ∙ ap client_report c.progress.ensures)
+    (λ on none. c.settle-told.ensures.told on (sym same ∙ none))
+    c.settle-ports.ensures.settled (c.report.ensures ∙ ap client_report c.progress.ensures)
 
-pub settle-requires : goal.settle-requires
-settle-requires g c =
+pub settle-told-requires : goal.settle-told-requires
+settle-told-requires g c =
     let ended = c.in-Some.ensures.stops in
     record {
       teller = ended.1;
-      told = ended.2;
+      told = told_words c.in-Some.ensures.acted.told (view c.run_core.new.watched.stops.pass) c.in-Some.ensures.acted.word;
       seat = seat_at c.args.started.keys.promise.stops.value c.in-Some-join.returned.keys.stops c.args.watched.stops c.run_core.new.watched.stops c.in-Some-join.ensures.stays c.requires.stops ended.0;
     }

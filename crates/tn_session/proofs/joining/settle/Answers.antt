@@ -12,7 +12,7 @@ pub absorb-requires-2-clause-rule : goal.absorb-requires-2-clause-rule
 absorb-requires-2-clause-rule c = joins c.absorb.new.pass.id (view c.absorb.new.pass) c.args.returned.desk.id (view c.args.returned.desk)
 
 pub absorb-requires-3-clause-rule : goal.absorb-requires-3-clause-rule
-absorb-requires-3-clause-rule c = joins c.absorb-2.new.pass.id (view c.absorb-2.new.pass) c.args.returned.back.id (view c.args.returned.back)
+absorb-requires-3-clause-rule c = joins c.absorb-2.new.pass.id (view c.absorb-2.new.pass) c.args.returned.back.pass.id (view c.args.returned.back.pass)
 
 pub learn_as-requires-clause-rule : goal.learn_as-requires-clause-rule
 learn_as-requires-clause-rule c = totals c.absorb-3.new.pass.id (view c.absorb-3.new.pass)
@@ -35,11 +35,11 @@ another-back-requires-clause-rule c = cut Back c.another-desk.new.pass.id (view 
 pub another-took-requires-clause-rule : goal.another-took-requires-clause-rule
 another-took-requires-clause-rule c = channel.cut_taker c.learn_as-2.new.pass.id (view c.learn_as-2.new.pass)
 
-pub returns : goal.returns
-returns c =
-    settles (view c.args.passes.mails) (view c.args.returned.net) (view c.args.returned.desk) (view c.args.returned.back) (view c.args.passes.hand) (view c.args.returned.took)
+pub returns-clause-settled : goal.returns-clause-settled
+returns-clause-settled c =
+    settles (view c.args.passes.mails) (view c.args.returned.net) (view c.args.returned.desk) (view c.args.returned.back.pass) (view c.args.passes.hand) (view c.args.returned.took)
     (view c.absorb.new.pass) (view c.absorb-2.new.pass) (view c.absorb-3.new.pass) (view c.learn_as.new.pass) (view c.another-net.result) (view c.another-net.new.pass) (view c.another-desk.result) (view c.another-desk.new.pass) (view c.another-back.result) (view c.another-back.new.pass)
-    (view c.absorb-4.new.pass) (view c.learn_as-2.new.pass) (view c.another-took.new.pass) (view c.another-took.result)
+    (view c.absorb-4.new.pass) (view c.learn_as-2.new.pass) (view c.another-took.new.pass) (view c.another-took.result) (view c.args.teller.pass) (view c.settle-told.result)
     c.absorb.ensures.rule c.absorb-2.ensures.rule c.absorb-3.ensures.rule c.learn_as.ensures.channel.2 c.learn_as.ensures.rule
     c.absorb-4.ensures.rule c.learn_as-2.ensures.channel.2 c.learn_as-2.ensures.rule
-    c.another-net.ensures.rule.1 c.another-net.ensures.rule.0 c.another-desk.ensures.rule.1 c.another-desk.ensures.rule.0 c.another-back.ensures.rule.1 c.another-back.ensures.rule.0 c.another-took.ensures.rule.0 c.another-took.ensures.rule.1
+    c.another-net.ensures.rule.1 c.another-net.ensures.rule.0 c.another-desk.ensures.rule.1 c.another-desk.ensures.rule.0 c.another-back.ensures.rule.1 c.another-back.ensures.rule.0 c.another-took.ensures.rule.0 c.another-took.ensures.rule.1 c.settle-told.ensures.same

@@ -3,7 +3,9 @@ use Rattle.crossbeam_channel.specs.Claims.{view}
 use Rattle.tn_session.proofs.Whole.{scheduled}
 use Rattle.tn_session.specs.Reader.{ReaderSends}
 use Rattle.tn_session.specs.Facts.{job_acts, session_result}
+use Rattle.tn_session.proofs.Stopped.{told_words, seat_at}
 use Rattle.tn_session.specs.Session.{report_of}
+use Rattle.tn_session.specs.Stops.{has_stopped}
 use Rattle.tn_streams.specs.Known.{known_reader, known_writer}
 use Rattle.tn_session.specs.declared.parties.Report.{Report}
 use Rattle.tn_term.specs.declared.progress.Progress.{Progress}
@@ -19,13 +21,19 @@ returns-clause-ran g c began words first opened settings table at ew =
     let ended = c.in-Some in
     let reader = known_reader g.Rd.Source.remaining g.Rd.Source.foretold g.Rd.Source.sizes started.net.promise.reader.value in
     let writer = known_writer g.W.Drain.contents g.W.Drain.told in
-    scheduled (job_acts g.J.Job.reacts g.J.Job.steps) (record { first = started.desk.promise.id; job = started.desk.promise.job.value; queue = back.queue.value.items; tostop = back.tostop }) words reader first (writer c.args.writer.now) (writer c.run_term.new.writer) began c.args.term.now c.run_term.new.term (view c.args.passes.mails) (view c.args.passes.hand)
-    (record { net = view returned.net; desk = view returned.desk; back = view returned.back; term = view ended.passes.mails; put = view ended.passes.hand; took = view returned.took })
+    scheduled (job_acts g.J.Job.reacts g.J.Job.steps) (record { first = started.desk.promise.id; job = started.desk.promise.job.value; queue = back.queue.value.items; tostop = back.tostop }) (has_stopped returned.back.stops) words reader first (writer c.args.writer.now) (writer c.run_term.new.writer) began c.args.term.now c.run_term.new.term (view c.args.passes.mails) (view c.args.passes.hand)
+    (record { net = view returned.net; desk = view returned.desk; back = view returned.back.pass; term = view ended.passes.mails; put = view ended.passes.hand; took = view returned.took; told = view c.run_term.new.watched.stops.pass })
     (session_result c.report.result ports)
     c.requires.mailbox.2 c.requires.entries.1 opened ended.ensures.acted
-    (subst (λ s. ReaderSends s false reader (view returned.net)) c.requires.net.1 (join.ensures.net.1 c.requires.net.2)) join.ensures.desk.2 join.ensures.back.1
-    c.settle-ports.ensures (c.report.ensures ∙ ap report_of c.progress.ensures)
+    (subst (λ s. ReaderSends s false reader (view returned.net)) c.requires.net.1 (join.ensures.net.1 c.requires.net.2)) join.ensures.desk.2 join.ensures.back.1 c.settle-ports.ensures.stopped
+    c.settle-ports.ensures.settled (c.report.ensures ∙ ap report_of c.progress.ensures)
     settings table at ew
 
 pub returns-clause-in_reach : goal.returns-clause-in_reach
 returns-clause-in_reach g c d at e = c.in-Some.ensures.in_reach d at (ap (λ (p : Progress). p.ended) (sym c.progress.ensures) ∙ ap (λ (r : Report). r.ended) (sym c.report.ensures) ∙ e)
+
+pub settle-ports-requires-clause-told : goal.settle-ports-requires-clause-told
+settle-ports-requires-clause-told g c = told_words c.in-Some.ensures.acted.told (view c.run_term.new.watched.stops.pass) c.in-Some.ensures.acted.word
+
+pub settle-ports-requires-clause-stops : goal.settle-ports-requires-clause-stops
+settle-ports-requires-clause-stops g c = seat_at c.args.started.back.promise.stops.value c.in-Some-join.returned.back.stops c.args.watched.stops c.run_term.new.watched.stops c.in-Some-join.ensures.stays c.requires.stops c.in-Some.ensures.stops.0

@@ -1,15 +1,22 @@
-use Rattle.std.proofs.Common.{false, ap, refl, sym, ◌∙◌, [], ◌∷◌, ◌++◌, Option, List, arith, append-nil, length}
+use Rattle.std.proofs.Common.{false, not, ◌&&◌, ap, refl, sym, ◌∙◌, subst, [], ◌∷◌, ◌++◌, Option, List, arith, append-nil, length}
 use Rattle.crossbeam_channel.specs.Claims.{view}
 use Rattle.tn_queue.specs.Queue.{putter}
+use Rattle.tn_messages.specs.declared.messages.Message.{Message}
 use Rattle.tn_session.specs.declared.mail.Mail.{Mail}
+use Rattle.tn_session.specs.declared.mail.Sender.TheVariants.{Back}
+use Rattle.tn_term.specs.Marks.{Runs}
+use Rattle.tn_term.specs.declared.messages.Mark.{Mark}
 use Rattle.tn_term.specs.Run.{puts_of}
 use Rattle.tn_term.specs.declared.progress.Progress.{Progress}
 use Rattle.tn_session.proofs.Mailbox.{handles, totals, handled_more}
 use Rattle.tn_session.proofs.Credits.{among-push, counts_on}
 use Rattle.tn_session.specs.Credits.{pieces_among}
 use Rattle.tn_session.proofs.Finishing.{open_none, stands_next, stands_last}
-use Rattle.tn_session.proofs.Going.{false_true, going_next, going_none, going_kept, lefts_of-push, left_small, puts_two}
+use Rattle.tn_session.proofs.Going.{false_true, going_next, going_none, going_kept, lefts_of-push, left_small, puts_two, term_told}
 use Rattle.tn_session.proofs.Reach.{reach_start, reach_next}
+use Rattle.tn_session.proofs.Stopped.{left_next, stands_first}
+use Rattle.tn_session.specs.Stops.{StandsTold, term_stops}
+use Rattle.tn_session.specs.Turns.{messages_of}
 use Rattle.tn_streams.specs.Known.{known_writer}
 use Rattle.tn_session.proofs.term.run_term.Goals as goal
 
@@ -27,13 +34,18 @@ loop-init g c = (
     λ k e. e ∙ ap putter (sym (append-nil k)),
     refl,
     omega (arith, c.give_credit-owed.ensures.counted),
-    going_kept c.args.term.now _ [] (known_writer g.W.Drain.contents g.W.Drain.told c.args.writer.now) (known_writer g.W.Drain.contents g.W.Drain.told c.args.writer.now) (known_writer g.W.Drain.contents g.W.Drain.told c.close-closed.new.writer) [] c.close-closed.ensures.contents c.close-closed.ensures.told (going_none c.args.term.now (known_writer g.W.Drain.contents g.W.Drain.told c.args.writer.now)),
+    (going_kept c.args.term.now _ [] (known_writer g.W.Drain.contents g.W.Drain.told c.args.writer.now) (known_writer g.W.Drain.contents g.W.Drain.told c.args.writer.now) (known_writer g.W.Drain.contents g.W.Drain.told c.finish_once-closed.new.writer) [] c.finish_once-closed.ensures.contents c.finish_once-closed.ensures.told (going_none c.args.term.now (known_writer g.W.Drain.contents g.W.Drain.told c.args.writer.now))).0,
+    refl,
+    λ run at. stands_first Back messages_of (Runs run) (λ r. term_stops r.progress) _ c.in_ok-told.told (term_stops c.args.term.now.progress) (c.in_ok-told.ensures.told ∙ c.stops.ensures ∙ ap term_stops c.progress-2.ensures),
   ),
   c.requires.out,
   omega arith,
   c.give_credit-owed.ensures.seat,
   reach_start c.args.term.now,
-  stands_next c.standing_of.result.closes false c.close-closed.result false c.args.term.now.progress.over _ _ _ _ (open_none _) (open_none _) (λ e. refl) (λ e. absurd (false_true e)) (c.standing_of.ensures.closes ∙ ap (λ (p : Progress). p.over) c.progress.ensures) c.close-closed.ensures.closes,
+  stands_next c.progress.result.over false c.finish_once-closed.result false c.args.term.now.progress.over _ _ _ _ (open_none _) (open_none _) (λ e. refl) (λ e. absurd (false_true e)) (ap (λ (p : Progress). p.over) c.progress.ensures) c.finish_once-closed.ensures.closes,
+  c.tell.ensures.seat,
+  c.tell.ensures.to,
+  c.in_ok-told.ensures.word,
 )
 
 pub turn-requires-clause-role : goal.turn-requires-clause-role
@@ -48,7 +60,9 @@ loop-preserved g c =
     let t = c.in_ok-hand.ensures.turned in
     let writer = known_writer g.W.Drain.contents g.W.Drain.told in
     let small = left_small x.message in
-    let more = c.if-lefts-ge-SENDERS.false in (
+    let more = c.if-lefts-ge-SENDERS.false in
+    let left = left_next Back i.0 x c.loop.back_left c.has_left-back_left.result i.7 c.has_left-back_left.ensures in
+    let goes = going_next c.args.term.now c.loop.term c.turn.new.term i.0 x (writer c.args.writer.now) (writer c.loop.writer) (writer c.turn.new.writer) (writer c.finish_once-closed-in-loop.new.writer) i.1 (view c.loop.hand) (view c.in_ok-hand.hand) c.finish_once-closed-in-loop.ensures.contents c.finish_once-closed-in-loop.ensures.told i.6 t in (
       c.in-Ok.ensures.channel.0,
       c.in_ok-hand.ensures.seat,
       (
@@ -58,13 +72,18 @@ loop-preserved g c =
         puts_two (view c.args.passes.hand) (view c.loop.hand) (view c.in_ok-hand.hand) i.1 (puts_of t.put ++ puts_of t.last) i.3 t.puts,
         omega (arith, lefts_of-push i.0 x, c.leaves-left.ensures, i.4),
         (let n = counts_on (length (view c.args.passes.give).given) (length (view c.loop.give).given) (length (view c.give_credit-owed-in-loop.new.pass).given) (pieces_among i.0) _ c.loop.owed c.is_piece-piece.result c.is_due.result c.give_credit-owed-in-loop.result i.5 c.is_piece-piece.ensures c.is_due.ensures c.give_credit-owed-in-loop.ensures.counted in let p = among-push i.0 x in omega (arith, n, p)),
-        going_next c.args.term.now c.loop.term c.turn.new.term i.0 x (writer c.args.writer.now) (writer c.loop.writer) (writer c.turn.new.writer) (writer c.close-closed-in-loop.new.writer) i.1 (view c.loop.hand) (view c.in_ok-hand.hand) c.close-closed-in-loop.ensures.contents c.close-closed-in-loop.ensures.told i.6 t,
+        goes.0,
+        left,
+        term_told c.args.term.now c.loop.term c.turn.new.term i.0 x _ _ _ i.1 _ (view c.loop.hand) (view c.in_ok-hand.hand) c.loop.told c.is_told.result c.in_ok-told-2.told c.has_left-back_left.result i.6 t goes.0 goes.1 left (c.is_told.ensures ∙ ap (λ (p : Progress). term_stops p && not c.has_left-back_left.result) c.progress-in-loop-3.ensures) c.in_ok-told-2.ensures.told i.8,
       ),
       c.turn.ensures.out,
       omega (arith, small, more, c.leaves-left.ensures),
       c.give_credit-owed-in-loop.ensures.seat,
       reach_next c.args.term.now c.loop.term c.turn.new.term _ x.message _ _ i.1 _ _ i.6 t (λ d at. c.welcomes.ensures.welcome d at c.if-not-welcomes.false) c.loop.invariant.6,
-      stands_next c.standing_of-in-loop.result.closes c.loop.closed c.close-closed-in-loop.result c.loop.term.progress.over c.turn.new.term.progress.over _ _ _ _ c.loop.invariant.7 c.turn.ensures.going c.turn.ensures.silent t.turn.stays (c.standing_of-in-loop.ensures.closes ∙ ap (λ (p : Progress). p.over) c.progress-in-loop-2.ensures) c.close-closed-in-loop.ensures.closes,
+      stands_next c.progress-in-loop-2.result.over c.loop.closed c.finish_once-closed-in-loop.result c.loop.term.progress.over c.turn.new.term.progress.over _ _ _ _ c.loop.invariant.7 c.turn.ensures.going c.turn.ensures.silent t.turn.stays (ap (λ (p : Progress). p.over) c.progress-in-loop-2.ensures) c.finish_once-closed-in-loop.ensures.closes,
+      c.tell-in-loop.ensures.seat,
+      c.tell-in-loop.ensures.to ∙ c.loop.invariant.9,
+      c.in_ok-told-2.ensures.word,
     )
 
 pub returns-then-lefts-ge-SENDERS-clause-acted : goal.returns-then-lefts-ge-SENDERS-clause-acted
@@ -72,13 +91,17 @@ returns-then-lefts-ge-SENDERS-clause-acted g c =
     let i = c.loop.invariant.2 in
     let writer = known_writer g.W.Drain.contents g.W.Drain.told in
     let enough = c.if-lefts-ge-SENDERS.true in
+    let kept = going_kept c.args.term.now c.loop.term _ (writer c.args.writer.now) (writer c.loop.writer) (writer c.finish_unless.new.writer) i.1 c.finish_unless.ensures.contents c.finish_unless.ensures.told i.6 in
     record {
       handled = i.0;
       puts = i.1;
       view = i.2;
       hand = i.3;
       lefts = omega (arith, enough, i.4);
-      goes = going_kept c.args.term.now c.loop.term _ (writer c.args.writer.now) (writer c.loop.writer) (writer c.finish_unless.new.writer) i.1 c.finish_unless.ensures.contents c.finish_unless.ensures.told i.6;
+      goes = kept.0;
+      told = c.loop.told;
+      word = c.loop.invariant.10;
+      stands = λ run at. subst (λ (ms : List (Message × Mark)). StandsTold Back messages_of (Runs run) (λ r. term_stops r.progress) i.0 ms (term_stops c.loop.term.progress) c.loop.told) (sym kept.1) (i.8 run at);
     }
 
 pub returns-then-lefts-ge-SENDERS-clause-finished : goal.returns-then-lefts-ge-SENDERS-clause-finished
@@ -88,3 +111,6 @@ pub returns-then-lefts-ge-SENDERS-clause-credits : goal.returns-then-lefts-ge-SE
 returns-then-lefts-ge-SENDERS-clause-credits g c =
     let i = c.loop.invariant.2 in
     (i.0, i.2, omega (arith, i.5))
+
+pub returns-then-lefts-ge-SENDERS-clause-stops : goal.returns-then-lefts-ge-SENDERS-clause-stops
+returns-then-lefts-ge-SENDERS-clause-stops g c = (c.loop.invariant.9, c.loop.invariant.8)

@@ -5,9 +5,14 @@ use Rattle.tn_discipline.specs.declared.reads.Entry.{Entry}
 use Rattle.tn_session.specs.Credits.{owed_one, pieces_among}
 use Rattle.tn_session.specs.Mailbox.{with_handled}
 use Rattle.tn_queue.specs.Queue.{putter}
+use Rattle.tn_session.specs.Stops.{IsTold, StandsTold, has_left, term_stops}
 use Rattle.tn_session.specs.Turns.{GoesOn, StaysInReach, lefts_of, messages_of}
 use Rattle.tn_session.specs.declared.mail.Mail.{Mail}
+use Rattle.tn_session.specs.declared.mail.Sender.TheVariants.{Back}
 use Rattle.tn_streams.specs.Known.{known_writing}
+use Rattle.tn_term.specs.Marks.{Runs}
+use Rattle.tn_term.specs.Reaching.{LeadsTo}
+use Rattle.tn_term.specs.Run.{Run}
 use Rattle.tn_session.proofs.Finishing.{StandsAt}
 use Rattle.tn_session.proofs.term.run_term.Given as goal
 
@@ -19,7 +24,12 @@ invariant-loop g l =
     × ((k : List (Option Entry)) → view l.fn.passes.hand ≡ putter k → view l.hand ≡ putter (k ++ puts))
     × (l.lefts ≡ lefts_of handled)
     × (length (view l.give).given + owed_one l.owed ≤ length (view l.fn.passes.give).given + 1 + pieces_among handled)
-    × GoesOn l.fn.term (messages_of handled) (known_writing g.W.Drain.contents g.W.Drain.told l.fn.writer l.writer) puts l.term)
+    × (goes : GoesOn l.fn.term (messages_of handled) (known_writing g.W.Drain.contents g.W.Drain.told l.fn.writer l.writer) puts l.term)
+    × (l.back_left ≡ has_left Back handled)
+    × ((c : Run) → LeadsTo c l.fn.term → StandsTold Back messages_of (Runs c) (λ r. term_stops r.progress) handled goes.marked (term_stops l.term.progress) l.told))
     × (l.out.items ≡ []) × (l.lefts ≤ 3)
     × IsSeatAt (sends_on l.ends.give) l.give × StaysInReach l.fn.term l.term.progress.ended
     × StandsAt l.closed l.term.progress.over (g.W.Drain.sending l.fn.writer) (g.W.Drain.sending l.writer)
+    × IsSeatAt (sends_on l.watched.stops.to) l.watched.stops.pass
+    × (l.watched.stops.to ≡ l.fn.watched.stops.to)
+    × IsTold l.told (view l.watched.stops.pass)
