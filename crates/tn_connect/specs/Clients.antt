@@ -1,5 +1,5 @@
 -- Which session a client runs over a connection.
-use Rattle.std.specs.Prelude.{ℕ, Option, Some, None, List, [], Result, Ok, Err, IsOk}
+use Rattle.std.specs.Prelude.{◌≡◌, ℕ, Option, Some, None, List, [], Result, Ok, Err, IsOk}
 use Rattle.std.specs.declared.io.Error.{Error}
 use Rattle.std.specs.declared.net.tcp.TcpStream.{TcpStream}
 use Rattle.crossbeam_channel.specs.Claims.{view}
@@ -42,14 +42,18 @@ abbrev pub RunsClient : Window → KnownReader → Option (List ℕ) → Option 
 RunsClient window keys seen now connected =
     RunsWriting window keys seen now (put_bytes (view connected.queue)) connected.report connected.ports
 
--- where a session ran, or was to, there was a connection
-abbrev pub NeedsConnection : {A : Type 0} → Result A ConnectFault → Result TcpStream Error → Type 0
-NeedsConnection (Ok connected) reached = IsOk reached
-NeedsConnection (Err Session) reached = IsOk reached
-NeedsConnection (Err Network) reached = Unit {0}
-NeedsConnection (Err Memory) reached = Unit {0}
+-- the connection that a session ran over
+abbrev pub connection_of : Connected → TcpStream
+connection_of connected = connected.connection.value
 
--- it was asked for a connection, and this came of it
-abbrev pub ConnectsBy : {A : Type 0} → (Result TcpStream Error → Type 0) → Result A ConnectFault → Type 0
-ConnectsBy reaches result =
-    (reached : Result TcpStream Error) × reaches reached × NeedsConnection result reached
+-- a session ran over the connection that there is; where one was to run, there was a connection
+abbrev pub NeedsConnection : {A : Type 0} → (A → TcpStream) → Result A ConnectFault → Result TcpStream Error → Type 0
+NeedsConnection over (Ok ran) reached = reached ≡ Ok (over ran)
+NeedsConnection over (Err Session) reached = IsOk reached
+NeedsConnection over (Err Network) reached = Unit {0}
+NeedsConnection over (Err Memory) reached = Unit {0}
+
+-- it was asked for a connection, and this came of it, over that connection
+abbrev pub ConnectsBy : {A : Type 0} → (A → TcpStream) → (Result TcpStream Error → Type 0) → Result A ConnectFault → Type 0
+ConnectsBy over reaches result =
+    (reached : Result TcpStream Error) × reaches reached × NeedsConnection over result reached

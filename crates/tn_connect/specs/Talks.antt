@@ -1,5 +1,6 @@
 -- Which talk a client has with a service that takes lines.
 use Rattle.std.specs.Prelude.{◌≡◌, ℕ, Bool, true, false, Option, Some, List, [], length}
+use Rattle.std.specs.declared.net.tcp.TcpStream.{TcpStream}
 use Rattle.tn_connect.specs.declared.settings.Origin.{Origin}
 use Rattle.tn_connect.specs.declared.settings.Origin.TheVariants.{Reader, Input, Terminal}
 use Rattle.tn_connect.specs.declared.settings.Plain.{Plain}
@@ -42,3 +43,7 @@ pub record RunsTalk (plain : Plain) (bytes seen now : Option (List ℕ)) (report
       (streams bytes service (Some []) seen warned)
       (streams keys_left service_left (Some (logged report.told)) now warned_at_last)
   pub count : report.unsent ≡ length unsent
+
+-- the connection that a talk was held over
+abbrev pub talked_over : TalkReport → TcpStream
+talked_over report = report.connection.value

@@ -1,5 +1,7 @@
 //! A client's session over a connection that ended without a fault.
 
+use std::net::TcpStream;
+use std::snapshot::Snapshot;
 use tn_session::{ClientPorts, Report};
 use tn_sockets::{PiecePass, WriteLog};
 
@@ -16,4 +18,6 @@ pub struct Connected {
     pub log: WriteLog,
     /// Whether it took all. Where the user left before, it may have taken less.
     pub all_sent: bool,
+    /// The connection that it ran over, for contracts.
+    pub connection: Snapshot<TcpStream>,
 }

@@ -3,7 +3,7 @@
 ghost use Rattle.std.specs.Prelude.{◌≡◌, ◌≢◌, [], Err, IfErr, IfOk, IsOk, Ok, OnErr, Some, false, true};
 ghost use Rattle.crossbeam_channel.specs.Claims.{view};
 ghost use Rattle.crossbeam_channel.specs.Ends.{sends_on};
-ghost use Rattle.tn_connect.specs.Clients.{ConnectsBy, RunsClient, RunsWriting, foreseen, window_of};
+ghost use Rattle.tn_connect.specs.Clients.{ConnectsBy, RunsClient, RunsWriting, connection_of, foreseen, window_of};
 ghost use Rattle.tn_connect.specs.Faults.{IsOfNetwork};
 ghost use Rattle.tn_connect.specs.Sent.{TookWhatWasWritten};
 ghost use Rattle.tn_messages.specs.Ending.{EndsWhole};
@@ -28,6 +28,7 @@ use std::io;
 use std::io::{Read, Write};
 use std::marker::Brand;
 use std::net::TcpStream;
+use std::snapshot::Snapshot;
 use std::sync::Arc;
 use std::sync::atomic::AtomicBool;
 use std::time::Duration;
@@ -241,7 +242,7 @@ pub fn connect<H: Host + Network, K: Read + Drop + Send + 'static, S: Write, E: 
     ensures whole { IfOk result (λ connected. EndsWhole connected.report.ended) }
     ensures unshown { OnErr result (result ≢ Err ConnectFault.Session →
         S.contents screen.new ≡ S.contents screen.old) }
-    ensures reached { ConnectsBy (Reaches (H.finds rt host.now connecting.port) (H.dials rt)) result }
+    ensures reached { ConnectsBy connection_of (Reaches (H.finds rt host.now connecting.port) (H.dials rt)) result }
 {
     let Notes {
         trace,
@@ -285,7 +286,9 @@ fn connect_over<H: Host, K: Read + Drop + Send + 'static, S: Write, E: Drain>(
     ensures whole { IfOk result (λ connected. EndsWhole connected.report.ended) }
     ensures unshown { OnErr result (result ≢ Err ConnectFault.Session →
         S.contents screen.new ≡ S.contents screen.old) }
+    ensures connection { IfOk result (λ connected. connection_of connected ≡ stream) }
 {
+    let connection = Snapshot::of(&stream);
     let Notes {
         trace,
         sizes,
@@ -323,7 +326,7 @@ fn connect_over<H: Host, K: Read + Drop + Send + 'static, S: Write, E: Drain>(
     }
     let is_left = link.is_left();
     // A screen that takes no more has ended the connection, and sending fails then.
-    let ended = result_of(talked, is_left || link.is_dark());
+    let ended = result_of(talked, connection, is_left || link.is_dark());
     news.close(host, is_left, ended.is_ok());
     ended
 }
@@ -341,10 +344,15 @@ fn note_talked(causes: &mut Vec<u8>, talked: &Talked, link: &Link) {
 }
 
 // The result of a session that is over. Where its sending failed it is a fault, unless its user has left.
-fn result_of(talked: Talked, is_left: bool) -> Result<Connected, ConnectFault>
+fn result_of(
+    talked: Talked,
+    connection: Snapshot<TcpStream>,
+    is_left: bool,
+) -> Result<Connected, ConnectFault>
     ensures ran { IfOk result (λ r. (talked.ended ≡ Ok (r.report, r.ports)) × (r.queue ≡ talked.queue)) }
     ensures log { IfOk result (λ r. (r.log ≡ talked.log) × (r.all_sent ≡ true → talked.sent ≡ Ok Whole)) }
     ensures whole { IfOk result (λ r. EndsWhole r.report.ended) }
+    ensures connection { IfOk result (λ r. r.connection ≡ connection) }
     ensures sent { IfOk result (λ _. is_left ≡ false → IsOk talked.sent) }
     ensures fault { IfErr result (λ fault. fault ≡ ConnectFault.Session) }
 {
@@ -366,6 +374,7 @@ fn result_of(talked: Talked, is_left: bool) -> Result<Connected, ConnectFault>
         queue,
         log,
         all_sent,
+        connection,
     })
 }
 

@@ -2,7 +2,7 @@
 
 ghost use Rattle.std.specs.Prelude.{◌≡◌, [], IfOk, Ok};
 ghost use Rattle.tn_connect.specs.Clients.{ConnectsBy};
-ghost use Rattle.tn_connect.specs.Talks.{RunsTalk, is_terminal, kind_of};
+ghost use Rattle.tn_connect.specs.Talks.{RunsTalk, is_terminal, kind_of, talked_over};
 ghost use Rattle.tn_lines.specs.Kinds.{LeadsTo};
 ghost use Rattle.tn_network.specs.Asked.{Reaches};
 
@@ -14,6 +14,7 @@ use std::alloc::{AllocError, Global};
 use std::io::{Read, Write};
 use std::net::TcpStream;
 use std::os::fd::AsRawFd;
+use std::snapshot::Snapshot;
 use std::sync::Wait;
 use tn_discipline::Settings;
 use tn_lines::{AnyLines, FileLines, KeyLines};
@@ -34,6 +35,8 @@ pub struct TalkReport {
     pub told: WriteLog,
     /// How many bytes more it was to be told.
     pub unsent: usize,
+    /// The connection that it was held over, for contracts.
+    pub connection: Snapshot<TcpStream>,
 }
 
 fn lines_of(alloc: Global, plain: Plain) -> Result<AnyLines, AllocError>
@@ -54,13 +57,15 @@ fn talk<H: Wait, A: Await, K: Source + Drop, N: Source + Drop, W: Finish + Drop,
     rt: &H,
     alloc: Global,
     plain: Plain,
+    connection: Snapshot<TcpStream>,
     ready: &mut A,
     mut keys: K,
     mut service: N,
     writer: W,
     screen: &mut S,
 ) -> Result<TalkReport, TalkFault>
-    ensures { IfOk result (RunsTalk plain (K.remaining keys) (S.contents screen.old) (S.contents screen.new)) }
+    ensures talked { IfOk result (RunsTalk plain (K.remaining keys) (S.contents screen.old) (S.contents screen.new)) }
+    ensures connection { IfOk result (λ report. report.connection ≡ connection) }
 {
     let at_terminal = is_terminal(plain.origin);
     let mut talk = Talk::new(alloc, lines_of(alloc, plain)?, at_terminal);
@@ -75,6 +80,7 @@ fn talk<H: Wait, A: Await, K: Source + Drop, N: Source + Drop, W: Finish + Drop,
         heard,
         told,
         unsent,
+        connection,
     })
 }
 
@@ -98,7 +104,7 @@ pub fn connect_plain<H: Host + Network, K: Read + Drop, S: Write, E: Drain>(
     notes: Notes<'_, E>,
 ) -> Result<TalkReport, ConnectFault>
     ensures talked { IfOk result (RunsTalk plain (K.remaining keys) (S.contents screen.old) (S.contents screen.new)) }
-    ensures reached { ConnectsBy (Reaches (H.finds rt host.now plain.port) (H.dials rt)) result }
+    ensures reached { ConnectsBy talked_over (Reaches (H.finds rt host.now plain.port) (H.dials rt)) result }
 {
     let Notes {
         stands,
@@ -127,14 +133,16 @@ fn talk_over<H: Host, K: Read + Drop, S: Write, E: Drain>(
     screen: &mut S,
     errors: &mut E,
 ) -> Result<Result<TalkReport, TalkFault>, ConnectFault>
-    ensures { IfOk result (λ talked. IfOk talked
+    ensures talked { IfOk result (λ talked. IfOk talked
         (RunsTalk plain (K.remaining keys) (S.contents screen.old) (S.contents screen.new))) }
+    ensures connection { IfOk result (λ talked. IfOk talked (λ report. talked_over report ≡ stream)) }
 {
+    let over = Snapshot::of(&stream);
     let (service, connection) = Connection::split(stream)?;
     service.set_nonblocking(true)?;
     let mut ready = Polling::new(rt, &plain, service.as_raw_fd(), errors);
     let talked = talk(
-        &rt, alloc, plain, &mut ready, keys, service, connection, screen,
+        &rt, alloc, plain, over, &mut ready, keys, service, connection, screen,
     );
     Ok(talked)
 }

@@ -4,8 +4,8 @@ use Rattle.std.specs.Io.KnownBytes.{Appends}
 use Rattle.tn_cli.specs.Ends.{EndsDecode, EndsLocal, EndsReplay, EndsWorld}
 use Rattle.tn_cli.specs.declared.fault.CliFault.{CliFault}
 use Rattle.tn_cli.specs.declared.fault.CliFault.TheVariants as fault
-use Rattle.tn_connect.specs.Clients.{ConnectsBy, RunsClient, foreseen}
-use Rattle.tn_connect.specs.Talks.{RunsTalk}
+use Rattle.tn_connect.specs.Clients.{ConnectsBy, RunsClient, connection_of, foreseen}
+use Rattle.tn_connect.specs.Talks.{RunsTalk, talked_over}
 use Rattle.tn_connect.specs.declared.connected.Connected.{Connected}
 use Rattle.tn_connect.specs.declared.fault.ConnectFault.{ConnectFault}
 use Rattle.tn_connect.specs.declared.fault.ConnectFault.TheVariants as connect
@@ -46,7 +46,7 @@ pub record EndsConnecting (network : Asking) (connecting : Connecting) (ended : 
   pub telnet : connecting.plain ≡ None
   pub ran : IfOk ended (RunsClient (window_as connecting) input old new)
   pub whole : IfOk ended (λ r. EndsWhole r.report.ended)
-  pub reached : ConnectsBy (Reaches (network.finds (string_bytes connecting.host) connecting.port) network.dials) ended
+  pub reached : ConnectsBy connection_of (Reaches (network.finds (string_bytes connecting.host) connecting.port) network.dials) ended
   pub unwritten : OnErr ended (ended ≢ Err connect.Session → new ≡ old)
 
 -- What came of a talk with a service that takes lines.
@@ -55,7 +55,7 @@ pub record EndsTalking (network : Asking) (connecting : Connecting) (ended : Res
   pub line_end : LineEnd
   pub plain : connecting.plain ≡ Some line_end
   pub ran : IfOk ended (RunsTalk (plain_as connecting line_end origin) bytes old new)
-  pub reached : ConnectsBy (Reaches (network.finds (string_bytes connecting.host) connecting.port) network.dials) ended
+  pub reached : ConnectsBy talked_over (Reaches (network.finds (string_bytes connecting.host) connecting.port) network.dials) ended
 
 -- What came of writing the help.
 pub record EndsHelp (ended : Result ⊤ CliFault) (old new : Option (List ℕ)) : Type 0 where

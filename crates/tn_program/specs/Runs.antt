@@ -5,8 +5,8 @@ use Rattle.tn_cli.specs.Decode.{Decodes}
 use Rattle.tn_cli.specs.Playing.{PlaysScript}
 use Rattle.tn_cli.specs.Replay.{Replays}
 use Rattle.tn_cli.specs.Typing.{PrintsKeys}
-use Rattle.tn_connect.specs.Clients.{ConnectsBy, RunsClient, foreseen}
-use Rattle.tn_connect.specs.Talks.{RunsTalk}
+use Rattle.tn_connect.specs.Clients.{ConnectsBy, RunsClient, connection_of, foreseen}
+use Rattle.tn_connect.specs.Talks.{RunsTalk, talked_over}
 use Rattle.tn_connect.specs.declared.talks.TalkReport.{TalkReport}
 use Rattle.tn_connect.specs.declared.connected.Connected.{Connected}
 use Rattle.tn_connect.specs.declared.fault.ConnectFault.{ConnectFault}
@@ -46,10 +46,10 @@ RunsAsked network (Serve serving) origin bytes old new = (served : Served) × Se
 RunsAsked network (Connect connecting) origin bytes old new =
     ((connected : Connected) × (connecting.plain ≡ None)
     × RunsClient (window_as connecting) (foreseen origin bytes) old new connected × EndsWhole connected.report.ended
-    × ConnectsBy (Reaches (network.finds (string_bytes connecting.host) connecting.port) network.dials) (ran connected))
+    × ConnectsBy connection_of (Reaches (network.finds (string_bytes connecting.host) connecting.port) network.dials) (ran connected))
     ⊎ ((line_end : LineEnd) × (report : TalkReport) × (connecting.plain ≡ Some line_end)
     × RunsTalk (plain_as connecting line_end origin) bytes old new report
-    × ConnectsBy (Reaches (network.finds (string_bytes connecting.host) connecting.port) network.dials) (talked report))
+    × ConnectsBy talked_over (Reaches (network.finds (string_bytes connecting.host) connecting.port) network.dials) (talked report))
 
 -- the run that the words ask for, or some text where they ask for help, or the version
 abbrev pub DoesAsAsked : Asking → List (List ℕ) → Origin → Option (List ℕ) → Option (List ℕ) → Option (List ℕ) → Type 0
