@@ -1,5 +1,5 @@
--- What a service says, as a terminal is to write it: a new line is a line feed, which a service may end by a carriage
--- return and a line feed.
+-- What a service says, as a terminal is to write it: a new line is a line feed, which a service may end by
+-- a carriage return and a line feed.
 use Rattle.std.specs.Prelude.{ℕ, ◌==◌, ◌&&◌, Bool, true, false, List, [], ◌∷◌, ◌++◌, if◌then◌else◌}
 
 -- a carriage return, 13, that a line feed, 10, follows is left out; another one stays
@@ -26,8 +26,8 @@ abbrev pub waiting : Bool → List ℕ
 waiting true = 13 ∷ []
 waiting false = []
 
--- What is shown of what reads gave one after another, of which an interrupted one gave nothing. What came before and
--- behind that is shown by itself: a carriage return does not wait any longer.
+-- What is shown of what reads gave one after another, of which an interrupted one gave nothing. What came
+-- before and behind that is shown by itself: a carriage return does not wait any longer.
 unfoldable pub shown_of : List ℕ → List (List ℕ) → List ℕ
 shown_of front [] = new_lines front
 shown_of front ([] ∷ reads) = new_lines front ++ shown_of [] reads

@@ -59,9 +59,11 @@ EndsAtLast [] = ⊥
 EndsAtLast (r ∷ []) = r.after ≡ Done
 EndsAtLast (r ∷ next ∷ reactions) = (r.after ≡ Stay) × EndsAtLast (next ∷ reactions)
 
--- What was shown is what the reader gave, in order, with a line feed for each new line, but for a carriage return
--- that waits; and all of it once the job has ended, unless a read is to fail. Each step made one read.
-pub record ShowsAll (waited : Bool) (reactions : List Reaction) (waits : Bool) (first last : KnownReader) : Type 0 where
+-- What was shown is what the reader gave, in order, with a line feed for each new line, but for a carriage
+-- return that waits; and all of it once the job has ended, unless a read is to fail. Each step made one
+-- read.
+pub record ShowsAll (waited : Bool) (reactions : List Reaction) (waits : Bool)
+    (first last : KnownReader) : Type 0 where
   pub reads : List (List ℕ)
   pub each : length reads ≡ length reactions
   pub came : Consumes first.bytes last.bytes (concat reads)

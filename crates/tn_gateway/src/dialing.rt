@@ -173,8 +173,9 @@ impl<H: Copy + Network + Wait> Maker for Joiner<H> {
     }
 }
 
-/// What the service says. Its end hangs up, and where the session is over, it ends. Behind a carriage return a read
-/// is interrupted where nothing comes soon, so that one by itself does not wait for what comes next.
+/// What the service says. Its end hangs up, and where the session is over, it ends. Behind a carriage
+/// return a read is interrupted where nothing comes soon, so that one by itself does not wait for what
+/// comes next.
 #[derive(Drop)]
 pub struct Heard<H, S> {
     rt: H,
@@ -260,8 +261,8 @@ impl<H: Copy + Wait, S: Drop + Read + Pacing> Read for Heard<H, S> {
     }
 }
 
-/// What the service is told. Where the session is over, or the service has said all, one that takes nothing is given
-/// up in time.
+/// What the service is told. Where the session is over, or the service has said all, one that takes nothing
+/// is given up in time.
 #[derive(Drop)]
 pub struct Told<H, S> {
     rt: H,
@@ -270,9 +271,8 @@ pub struct Told<H, S> {
     said_all: Arc<AtomicBool, Global>,
 }
 
-// tools/progress: d_gateway.pml, ANSWERS
-// Writes as much as the stream takes at once, until the session is over, or the service has said all, and it takes
-// nothing in time.
+// tools/progress: d_gateway.pml, ANSWERS Writes as much as the stream takes at once, until the session is
+// over, or the service has said all, and it takes nothing in time.
 fn tell<H: Wait, S: Write>(
     rt: &H,
     stream: &mut S,
@@ -321,8 +321,8 @@ impl<H: Copy + Wait, S: Drop + Write + Closing> Finish for Told<H, S> {
     }
 }
 
-// Whether the service is to be told no more than it takes: nothing more comes from the user, or the service has
-// said all, which ends the session.
+// Whether the service is to be told no more than it takes: nothing more comes from the user, or the service
+// has said all, which ends the session.
 fn is_to_end(hook: &Hook, said_all: &AtomicBool) -> bool {
     hook.is_over() || said_all.load(Ordering::SeqCst)
 }

@@ -24,8 +24,8 @@ pub fn lines_go_in_order<R: Source, W: Finish>()
         → SendsTalk W.contents W.told first (map (λ turn. turn.0) turns) last }
 {}
 
-/// The user is shown what the reader gives, in order, with a line feed for each CR LF, and nothing else; all of it
-/// once the job has ended by the reader's end.
+/// The user is shown what the reader gives, in order, with a line feed for each CR LF, and nothing else;
+/// all of it once the job has ended by the reader's end.
 pub fn all_is_shown<R: Source, W: Finish>()
     ensures { (first : Showing R) (reactions : List Reaction) (last : Gateway R W)
         → FoldsTo (Steps R.remaining R.foretold R.sizes) (side.Shows first) reactions last

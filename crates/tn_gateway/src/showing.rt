@@ -14,8 +14,8 @@ use tn_streams::{Source, is_interrupted};
 /// slowly.
 const PIECE_BYTES: usize = 1_024;
 
-/// Shows what the service says. A carriage return waits for the next byte, for an interruption or for the end: only
-/// then it is known whether it is one by itself.
+/// Shows what the service says. A carriage return waits for the next byte, for an interruption or for the
+/// end: only then it is known whether it is one by itself.
 #[derive(Drop)]
 pub struct Showing<R> {
     pub(crate) reader: R,
@@ -24,8 +24,8 @@ pub struct Showing<R> {
 }
 
 impl<R: Source> Showing<R> {
-    /// Waits for what the service says next. Its end ends the job, and so does a read that fails. Memory for what is
-    /// shown is there before the read.
+    /// Waits for what the service says next. Its end ends the job, and so does a read that fails. Memory
+    /// for what is shown is there before the read.
     pub(crate) fn step(&mut self, alloc: Global) -> Result<Reaction, AllocError>
         ensures { IfOk result (λ reaction. Shows self.old.waits reaction.text reaction.after self.new.waits
             (known_reader R.remaining R.foretold R.sizes self.old.reader)
@@ -78,12 +78,13 @@ impl<R: Source> Showing<R> {
     }
 }
 
-// Appends what is shown of a byte and of the carriage return that waited before it, if one did. Returns whether one
-// waits now.
+// Appends what is shown of a byte and of the carriage return that waited before it, if one did. Returns
+// whether one waits now.
 fn settle_byte(waited: bool, byte: u8, text: &mut Vec<u8>) -> bool
     requires { vec_len text.old + length (waiting waited) + 1 ≤ vec_capacity text.old }
     ensures items { text.new.items ≡ text.old.items ++ settled (waiting waited ++ byte ∷ []) }
-    ensures len { vec_len text.new + length (waiting result) ≤ vec_len text.old + length (waiting waited) + 1 }
+    ensures len { vec_len text.new + length (waiting result)
+        ≤ vec_len text.old + length (waiting waited) + 1 }
     ensures capacity { vec_capacity text.new ≡ vec_capacity text.old }
     ensures waits { result ≡ ends_by_return (byte ∷ []) }
 {
@@ -109,8 +110,8 @@ fn settle_byte(waited: bool, byte: u8, text: &mut Vec<u8>) -> bool
     }
 }
 
-// Appends what is shown of these bytes and of the carriage return that waited before them, to a text that has room.
-// Returns whether one waits now.
+// Appends what is shown of these bytes and of the carriage return that waited before them, to a text that
+// has room. Returns whether one waits now.
 fn settle(waited: bool, bytes: &[u8], text: Vec<u8>) -> (Vec<u8>, bool)
     requires { vec_len text + 1 + length bytes.now ≤ vec_capacity text }
     ensures items { result.0.items ≡ text.items ++ settled (waiting waited ++ bytes.now) }

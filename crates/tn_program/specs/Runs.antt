@@ -40,7 +40,8 @@ RunsAsked network Local origin bytes old new = IfSome bytes (λ keys. PrintsKeys
 RunsAsked network Replay origin bytes old new = IfSome bytes (λ stream. Replays stream old new)
 RunsAsked network Decode origin bytes old new = IfSome bytes (λ stream. Decodes stream old new)
 RunsAsked network World origin bytes old new = IfSome bytes (λ script. PlaysScript script old new)
-RunsAsked network (Serve serving) origin bytes old new = (served : Served) × ServesAll (count_as serving.count) served
+RunsAsked network (Serve serving) origin bytes old new = (served : Served)
+    × ServesAll (count_as serving.count) served
     × Listens (network.listens (string_bytes serving.host) serving.port) network.shares network.accepts
     (λ (served : Served). served.accepted) (ok served) × (new ≡ old)
 RunsAsked network (Connect connecting) origin bytes old new =

@@ -94,11 +94,7 @@ pub(crate) fn connecting_of(asked: &tn_words::Connecting, origin: Origin) -> Con
 }
 
 // How it was asked to talk to a service that takes lines.
-pub(crate) fn plain_of(
-    asked: &tn_words::Connecting,
-    line_end: LineEnd,
-    origin: Origin,
-) -> Plain
+pub(crate) fn plain_of(asked: &tn_words::Connecting, line_end: LineEnd, origin: Origin) -> Plain
     ensures { result ≡ plain_as asked.now line_end origin }
 {
     let port = asked.port;

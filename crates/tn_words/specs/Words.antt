@@ -66,8 +66,8 @@ MayHaveAddress rows (Some address) = HasAddress rows address
 abbrev pub is_flagged : Text → List Row → Bool
 is_flagged name rows = option_map_or (λ text. bytes_eq text (codes "true")) (first_of name rows) false
 
--- after how many connections a server ends: as many as `--count` says, or one; with `--forever`, after none, and
--- then no number is accepted
+-- after how many connections a server ends: as many as `--count` says, or one; with `--forever`, after
+-- none, and then no number is accepted
 abbrev pub chosen_count : Bool → Option ℕ → Option (Option ℕ)
 chosen_count false None = Some (Some 1)
 chosen_count false (Some count) = Some (Some count)
@@ -80,8 +80,8 @@ pub record AsksCount (rows : List Row) (asked : Option ℕ) : Type 0 where
   pub by_option : MayHaveNumber rows (codes "count") 1 1000000 given
   pub chosen : chosen_count (is_flagged (codes "forever") rows) given ≡ Some asked
 
--- the line end that `--crlf` and `--cr` choose for the service that `--to` names; no other choice of them is accepted,
--- and none where no service is named
+-- the line end that `--crlf` and `--cr` choose for the service that `--to` names; no other choice of them
+-- is accepted, and none where no service is named
 abbrev pub service_line_end : Bool → Bool → Bool → Option LineEnd
 service_line_end named false false = Some Lf
 service_line_end true true false = Some CrLf
@@ -90,7 +90,8 @@ service_line_end named crlf cr = None
 
 abbrev pub service_line_end_in : List Row → Option LineEnd
 service_line_end_in rows =
-    service_line_end (is_given (codes "to") rows) (is_flagged (codes "crlf") rows) (is_flagged (codes "cr") rows)
+    service_line_end (is_given (codes "to") rows) (is_flagged (codes "crlf") rows)
+    (is_flagged (codes "cr") rows)
 
 pub record AsksServe (rows : List Row) (asked : Serving) : Type 0 where
   pub host : HasText rows (codes "host") (string_bytes asked.host)

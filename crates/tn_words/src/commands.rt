@@ -260,7 +260,8 @@ fn serve_command<'a>(alloc: Global) -> Result<Command<'a>, AllocError>
 fn with_server_options<'a>(alloc: Global, command: Command<'a>) -> Result<Command<'a>, AllocError>
     requires { (out-Command command).has_globals ≡ false }
     ensures app { IfOk result (λ new. app_of new ≡ with_rule (with_rule (with_rule (with_rule (with_rule
-        (app_of command.entry) host_rule) port_rule) (with_default (whole_rule (codes "limit") 1 64) (codes "8")))
+        (app_of command.entry) host_rule) port_rule)
+        (with_default (whole_rule (codes "limit") 1 64) (codes "8")))
         (whole_rule (codes "count") 1 1000000)) (flag_rule (codes "forever"))) }
     ensures local { IfOk result (λ new. (out-Command new).has_globals ≡ false) }
 {

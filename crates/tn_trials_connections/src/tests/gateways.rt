@@ -34,8 +34,8 @@ where
     Ok((server, client))
 }
 
-// What a line service gets in one connection, to which it says farewell once nothing more comes. It ends what it
-// says as it ends what it is told, by CR LF, which is one new line at the user.
+// What a line service gets in one connection, to which it says farewell once nothing more comes. It ends
+// what it says as it ends what it is told, by CR LF, which is one new line at the user.
 fn listen(alloc: Global, listener: &TcpListener) -> Option<Vec<u8>> {
     let (mut stream, _) = listener.accept().ok()?;
     let mut got = Vec::new(alloc);
