@@ -30,10 +30,10 @@ bool way_open = true, way_ended;
 #ifdef FIX_SEES_PEER
 #define GIVEN_UP (IS_OVER_HOOK || hung_up || fin[C2S] || deaf[S2C])	/* the look asks the client's socket too */
 #else
-#ifdef FIX_TOLD_HUNG_UP
-#define GIVEN_UP (IS_OVER_HOOK || hung_up)
-#else
+#ifdef MUT_TOLD_STAYS
 #define GIVEN_UP IS_OVER_HOOK
+#else
+#define GIVEN_UP (IS_OVER_HOOK || hung_up)
 #endif
 #endif
 #endif
