@@ -56,6 +56,14 @@ fn is_done(written: bool, shown: bool, mark: Mark) -> bool
     }
 }
 
+// Tells the gate what the core has agreed on, and that nothing has any effect any more.
+fn tell<G: Gate>(gate: &G, core: &Core) {
+    gate.agreed(core.terms());
+    if core.progress().over {
+        gate.over();
+    }
+}
+
 // Handles one message: what it appends is written and shown, and where a write fails nothing has any
 // effect from there on. The gate hears of the terms first, so that it never knows less than the user sees.
 fn turn<W: Finish, S: Drain, G: Gate>(
@@ -79,7 +87,7 @@ fn turn<W: Finish, S: Drain, G: Gate>(
     ensures closed { core.old.progress.closed ≡ true → core.new.progress.closed ≡ true }
 {
     let mark = core.handle(told, out, text);
-    gate.agreed(core.terms());
+    tell(gate, core);
     let written = write_out(writer, out);
     let shown = write_out(screen, text);
     out.clear();

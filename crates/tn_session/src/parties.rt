@@ -54,6 +54,9 @@ pub trait Gate {
 
     /// A client's core has handled a message, and these are its terms now.
     fn agreed(&self, _terms: Terms) {}
+
+    /// Nothing has any effect on a client's core any more: who waits for its user need not wait on.
+    fn over(&self) {}
 }
 
 /// A gate that does nothing: nobody watches the threads.
