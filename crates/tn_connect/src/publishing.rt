@@ -30,4 +30,9 @@ impl Gate for Publisher {
         self.link.note_echo(terms.echoed);
         self.link.note_held(terms.held);
     }
+
+    // The thread of the keys waits for its user no longer.
+    fn over(&self) {
+        self.link.close();
+    }
 }

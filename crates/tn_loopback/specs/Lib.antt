@@ -1,5 +1,6 @@
 pub mod Ends
 pub mod Faults
+pub mod Causes
 pub mod Services
 pub mod Servers
 pub mod Turns

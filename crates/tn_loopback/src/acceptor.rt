@@ -4,7 +4,6 @@ ghost use Rattle.std.specs.Prelude.{◌≡◌, Ok, IfOk, IfSome};
 ghost use Rattle.tn_network.specs.Asked.{AcceptsAll};
 
 use crate::events::Event;
-use crate::notes::note_refused_accept;
 use crossbeam_channel::Sender;
 use std::alloc::Global;
 use std::io::ErrorKind;
@@ -83,21 +82,21 @@ impl<H: Host + Network> Acceptor<H> {
     }
 
     // The connection of this number. One that its peer closed before it was accepted is skipped. Where the
-    // machine has no descriptor or no memory for one, that is noted once and tried again after a pause.
+    // machine has no descriptor or no memory for one, that is told once and tried again after a pause.
     fn accept(&self, number: u32) -> io::Result<(TcpStream, SocketAddr)>
         ensures { IfOk result (λ came. H.accepts self.now.rt self.now.listener number (Ok came)) }
     {
-        let mut noted = false;
+        let mut told = false;
         for _ in self.rt.forever() {
             match self.rt.accept(&self.listener, number) {
                 Ok(accepted) => return Ok(accepted),
                 Err(error) if is_passing(error.kind()) => {},
                 Err(error) if is_broken(&error) => return Err(error),
                 Err(error) => {
-                    if self.verbose && !noted {
-                        note_refused_accept(&self.rt, &error);
+                    if self.verbose && !told {
+                        let _ = self.events.send(&self.rt, Event::Starved(error));
                     }
-                    noted = true;
+                    told = true;
                     thread::sleep(&self.rt, Duration::from_millis(PAUSE));
                 },
             }

@@ -1,5 +1,6 @@
 //! What the threads of a server tell the one that starts and joins its sessions.
 
+use std::io;
 use std::net::{SocketAddr, TcpStream};
 
 /// What happened at a server.
@@ -7,6 +8,8 @@ use std::net::{SocketAddr, TcpStream};
 pub(crate) enum Event {
     /// A connection was accepted, from this address where it is known.
     Came(TcpStream, SocketAddr),
+    /// The machine can give no connection now, for this reason.
+    Starved(io::Error),
     /// No connection can be accepted any more.
     Broke,
     /// The session with this number has ended, and its thread is about to.

@@ -1,7 +1,8 @@
 //! A server's sessions over connections, in threads of their own: each gets the jobs that a `Service` makes.
 //!
 //! ```
-//! serve(rt, alloc, "127.0.0.1", 2323, serving, service, &mut errors)?;
+//! let at = At { host: "127.0.0.1", port: 2323 };
+//! serve(rt, alloc, at, serving, service, &mut errors, &mut causes)?;
 //! ```
 //!
 //! Nothing is proved about what a connection carries: the sessions are proved for whatever their readers
@@ -13,6 +14,7 @@ pub use call::Call;
 pub use conversed::Conversed;
 pub use fault::ServeFault;
 pub use finished::Finished;
+pub use listening::At;
 pub use served::Served;
 pub use service::Service;
 pub use serving::{serve, serve_on};
@@ -24,10 +26,12 @@ pub use turns::Turn;
 mod acceptor;
 mod asked;
 mod call;
+mod caller;
 mod conversed;
 mod events;
 mod fault;
 mod finished;
+mod listening;
 mod notes;
 mod running;
 mod served;
@@ -35,4 +39,6 @@ mod service;
 mod serving;
 mod session;
 mod settings;
+mod times;
+mod traffic;
 mod turns;

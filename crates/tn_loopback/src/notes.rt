@@ -1,32 +1,138 @@
-//! What a server notes, at level info. A note that cannot be made or written is dropped.
+//! What a server notes: one line an event, which begins with the time. A note that cannot be made or written
+//! is dropped.
 
+use crate::caller::Caller;
 use crate::finished::Finished;
-use log::{Log, info};
+use crate::times::stamp;
+use crate::traffic::Passed;
+use std::alloc::Global;
 use std::io;
+use std::io::Write;
 use std::net::SocketAddr;
-use tn_session::Ended;
+use std::time::Clock;
+use tn_session::{Ended, Report, SessionFault};
 
-pub(crate) fn note_listening<L: Log>(rt: &L, address: &SocketAddr) {
-    info!(rt; "listening on {}", address);
+pub(crate) fn note_listening<C: Clock, E: Write>(
+    clock: &C,
+    alloc: Global,
+    address: &SocketAddr,
+    errors: &mut E,
+) {
+    let mut line = stamp(clock, alloc);
+    let _ = writeln!(line, "listening on {}", address);
+    let _ = errors.write_all(&line);
 }
 
-pub(crate) fn note_peer<L: Log>(rt: &L, number: usize, peer: &SocketAddr) {
-    info!(rt; "session {} is from {}", number, peer);
+pub(crate) fn note_began<C: Clock, E: Write>(
+    clock: &C,
+    alloc: Global,
+    caller: &Caller,
+    errors: &mut E,
+) {
+    let mut line = stamp(clock, alloc);
+    let _ = whose(&mut line, caller);
+    let _ = writeln!(line, " began");
+    let _ = errors.write_all(&line);
 }
 
-pub(crate) fn note_end<L: Log>(rt: &L, number: usize, finished: &Finished) {
+/// A connection got no session, since as many as allowed were running.
+pub(crate) fn note_full<C: Clock, E: Write>(
+    clock: &C,
+    alloc: Global,
+    serial: u32,
+    peer: &SocketAddr,
+    errors: &mut E,
+) {
+    let mut line = stamp(clock, alloc);
+    let _ = writeln!(line, "no session (serial {}) from {}: full", serial, peer);
+    let _ = errors.write_all(&line);
+}
+
+/// The machine could give no connection, and is asked again.
+pub(crate) fn note_refused_accept<C: Clock, E: Write>(
+    clock: &C,
+    alloc: Global,
+    error: &io::Error,
+    errors: &mut E,
+) {
+    let mut line = stamp(clock, alloc);
+    let _ = writeln!(line, "no connection can be accepted now: {}", error);
+    let _ = errors.write_all(&line);
+}
+
+/// A session has ended so, and this passed over its connection.
+pub(crate) fn note_end<C: Clock, E: Write>(
+    clock: &C,
+    alloc: Global,
+    caller: &Caller,
+    passed: Passed,
+    finished: &Finished,
+    errors: &mut E,
+) {
+    let mut line = stamp(clock, alloc);
+    let _ = whose(&mut line, caller);
+    let _ = write!(line, " ended: ");
+    let _ = cause(&mut line, passed, finished);
+    let lasted = caller.lasted(clock);
+    let _ = write!(
+        line,
+        ", {}.{} s, in ",
+        lasted.as_secs(),
+        lasted.subsec_millis() / 100
+    );
+    let _ = grouped(&mut line, alloc, passed.came);
+    let _ = write!(line, " bytes, out ");
+    let _ = grouped(&mut line, alloc, passed.went);
+    let _ = write!(line, " bytes, ");
+    let _ = grouped(&mut line, alloc, entries_of(finished));
+    let _ = writeln!(line, " entries");
+    let _ = errors.write_all(&line);
+}
+
+fn whose(line: &mut Vec<u8>, caller: &Caller) -> io::Result<()> {
+    write!(
+        line,
+        "session {} (serial {}) from {}",
+        caller.number, caller.serial, caller.peer
+    )
+}
+
+fn cause(line: &mut Vec<u8>, passed: Passed, finished: &Finished) -> io::Result<()> {
     match &finished.report {
-        Err(fault) => info!(rt; "session {} ended: {}", number, fault),
+        Err(fault) => fault_cause(line, passed, *fault),
         Ok(report) => match report.ended {
-            Ended::HangUp if finished.idle => info!(rt; "session {} ended: idle", number),
-            Ended::HangUp => info!(rt; "session {} ended: hang-up", number),
-            Ended::Done => info!(rt; "session {} ended: done", number),
-            Ended::Fault(fault) => info!(rt; "session {} ended: {}", number, fault),
+            Ended::HangUp if finished.idle => write!(line, "idle"),
+            Ended::HangUp => write!(line, "hang-up"),
+            Ended::Done => write!(line, "done"),
+            Ended::Fault(fault) => fault_cause(line, passed, fault),
         },
     }
 }
 
-/// The machine could give no connection, and is asked again.
-pub(crate) fn note_refused_accept<L: Log>(rt: &L, error: &io::Error) {
-    info!(rt; "no connection can be accepted now: {}", error);
+// Where the connection broke, the system says why.
+fn fault_cause(line: &mut Vec<u8>, passed: Passed, fault: SessionFault) -> io::Result<()> {
+    match (fault, passed.broke) {
+        (SessionFault::Read | SessionFault::Write, Some(kind)) => write!(line, "{}", kind),
+        _ => write!(line, "{}", fault),
+    }
+}
+
+fn entries_of(finished: &Finished) -> u64 {
+    match &finished.report {
+        Ok(report) => report.entries,
+        Err(_) => 0,
+    }
+}
+
+// A number with a comma before each three of its digits but the first.
+fn grouped(line: &mut Vec<u8>, alloc: Global, number: u64) -> io::Result<()> {
+    let digits = number.to_string(alloc)?;
+    let digits = digits.as_bytes();
+    for (place, digit) in digits.iter().enumerate() {
+        if place > 0 && (digits.len() - place) % 3 == 0 {
+            line.push(b',')?;
+        }
+        line.push(*digit)?;
+    }
+    Ok(())
 }

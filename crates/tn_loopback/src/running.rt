@@ -6,27 +6,58 @@ ghost use Rattle.tn_loopback.specs.Turns.{IsOneMore, live_of};
 ghost use Rattle.tn_roster.specs.Held.{held_count};
 
 use crate::asked::Asked;
+use crate::caller::Caller;
 use crate::conversed::Ran;
 use crate::finished::Finished;
 use crate::served::Served;
 use crate::session::SessionSays;
+use crate::traffic::{Passed, Traffic};
 use std::alloc::Global;
 use std::io::Write;
 use std::marker::PhantomData;
 use std::net::TcpStream;
+use std::sync::Arc;
 use std::thread::{PromisedHandle, Threads};
 use tn_jobs::Job;
 use tn_roster::Roster;
 use tn_session::Maker;
 
-// A started session, and its number. Its thread promises what it gives back, under the options that were asked for.
+// A started session. Its thread promises what it gives back, under the options that were asked for.
 #[derive(Drop)]
 pub(crate) struct Started<M: Maker, O: Asked<M>> {
-    number: usize,
+    caller: Caller,
+    traffic: Arc<Traffic, Global>,
     session: PromisedHandle<Ran, SessionSays<M>>,
     under: PhantomData<O>,
     ghost asked: { session.promise.options ≡ O.options },
     ghost made: { ∥ O.made session.promise.jobs.value ∥₁ },
+}
+
+impl<M: Maker, O: Asked<M>> Started<M, O> {
+    pub(crate) fn new(
+        caller: Caller,
+        traffic: Arc<Traffic, Global>,
+        session: PromisedHandle<Ran, SessionSays<M>>,
+    ) -> Started<M, O>
+        requires asked { session.promise.options ≡ O.options }
+        requires made { O.made session.promise.jobs.value }
+        ensures caller { result.caller ≡ caller }
+    {
+        Started {
+            caller,
+            traffic,
+            session,
+            under: PhantomData,
+        }
+    }
+}
+
+/// A session that was joined.
+#[derive(Drop)]
+pub(crate) struct Left {
+    pub(crate) caller: Caller,
+    pub(crate) finished: Finished,
+    pub(crate) passed: Passed,
 }
 
 /// The sessions that are started and not yet joined, and counts of how the other connections ended.
@@ -78,62 +109,62 @@ impl<J: Job, M: Maker<Job = J>, O: Asked<M>> Running<J, M, O> {
         ensures { IfSome result (λ place. place < vec_len self.now.started) }
     {
         for (place, started) in self.started.iter().enumerate() {
-            if started.number == number {
+            if started.caller.number == number {
                 return Some(place);
             }
         }
         None
     }
 
-    /// Joins the session at this place, and counts how it ended. Returns that, and its number.
-    pub(crate) fn join_at<R: Threads>(&mut self, rt: &R, place: usize) -> (usize, Finished)
+    /// Joins the session at this place, and counts how it ended.
+    pub(crate) fn join_at<R: Threads>(&mut self, rt: &R, place: usize) -> Left
         requires { place < vec_len self.old.started }
         ensures accepted { self.new.accepted ≡ self.old.accepted }
         ensures joined { vec_len self.new.started + 1 ≡ vec_len self.old.started }
         ensures ended { HasEnded
-            (server_of (facts_of J.fresh M.gives J.reacts J.steps) M.left O.options O.made O.turned) result.1 }
+            (server_of (facts_of J.fresh M.gives J.reacts J.steps) M.left O.options O.made O.turned) result.finished }
         ensures one { self.new.whole + self.new.faulted ≡ self.old.whole + self.old.faulted + 1 }
-        ensures closed { IsOneMore result.0
-            (live_of (vec_items self.new.started) (λ s. s.number))
-            (live_of (vec_items self.old.started) (λ s. s.number)) }
+        ensures closed { IsOneMore result.caller.number
+            (live_of (vec_items self.new.started) (λ s. s.caller.number))
+            (live_of (vec_items self.old.started) (λ s. s.caller.number)) }
         ensures each { StillCounts
             (server_of (facts_of J.fresh M.gives J.reacts J.steps) M.left O.options O.made O.turned)
             self.old.whole self.old.faulted self.old.refused self.new.whole self.new.faulted self.new.refused }
     {
         let Started {
-            number,
+            caller,
+            traffic,
             session,
             ..
         } = self.started.swap_remove(place);
         let ran = session.join(rt);
         let finished = ran.finished();
+        let passed = traffic.passed();
         if finished.is_whole() {
             self.whole += 1;
         } else {
             self.faulted += 1;
         }
-        (number, finished)
+        Left {
+            caller,
+            finished,
+            passed,
+        }
     }
 
     /// Counts an accepted connection, and keeps its session, which was started.
-    pub(crate) fn keep(&mut self, number: usize, session: PromisedHandle<Ran, SessionSays<M>>)
-        requires asked { session.promise.options ≡ O.options }
-        requires made { O.made session.promise.jobs.value }
+    pub(crate) fn keep(&mut self, session: Started<M, O>)
         requires room { vec_len self.old.started < vec_capacity self.old.started }
         requires more { self.old.accepted < 2 ^ 32 - 1 }
         ensures accepted { self.new.accepted ≡ self.old.accepted + 1 }
         ensures one { vec_len self.new.started ≡ vec_len self.old.started + 1 }
-        ensures opened { IsOneMore number
-            (live_of (vec_items self.old.started) (λ s. s.number))
-            (live_of (vec_items self.new.started) (λ s. s.number)) }
+        ensures opened { IsOneMore session.caller.number
+            (live_of (vec_items self.old.started) (λ s. s.caller.number))
+            (live_of (vec_items self.new.started) (λ s. s.caller.number)) }
         ensures counts { (self.new.whole ≡ self.old.whole) × (self.new.faulted ≡ self.old.faulted)
             × (self.new.refused ≡ self.old.refused) }
     {
-        self.started.push_reserved(Started {
-            number,
-            session,
-            under: PhantomData,
-        });
+        self.started.push_reserved(session);
         self.accepted += 1;
     }
 
@@ -180,13 +211,6 @@ impl<J: Job, M: Maker<Job = J>, O: Asked<M>> Running<J, M, O> {
             faulted: self.faulted,
             refused: self.refused,
         }
-    }
-}
-
-/// Reports a session that ended in a fault.
-pub(crate) fn tell_if_faulted<E: Write>(finished: &Finished, errors: &mut E) {
-    if !finished.is_whole() {
-        tell_fault(errors);
     }
 }
 

@@ -1,6 +1,7 @@
 //! Each connection has a session in threads of its own.
 
 ghost use Rattle.std.specs.Prelude.{◌≡◌, ◌<◌, ◌≤◌, ◌+◌, ◌^◌, ◌-◌, true, IfOk, IfSome, IfNone, IsErrOf, vec_items, vec_len};
+ghost use Rattle.tn_loopback.specs.Causes.{IsCaused};
 ghost use Rattle.tn_loopback.specs.Counted.{CountsSessions, HasEnded, StillCounts, facts_of, server_of};
 ghost use Rattle.tn_loopback.specs.Ends.{ServesAll};
 ghost use Rattle.tn_loopback.specs.Services.{MakesOnly, StillMakes, TurnsAway, WasTurnedAway};
@@ -11,15 +12,19 @@ ghost use Rattle.tn_roster.specs.Held.{IsLimit, held_count};
 use crate::acceptor::Acceptor;
 use crate::asked::Asked;
 use crate::call::Call;
+use crate::caller::Caller;
 use crate::conversed::Ran;
 use crate::events::Event;
 use crate::fault::ServeFault;
-use crate::notes::{note_end, note_listening, note_peer};
-use crate::running::{Running, tell_fault, tell_if_faulted};
+use crate::finished::Finished;
+use crate::listening::{At, listen_at};
+use crate::notes::{note_began, note_end, note_full, note_listening, note_refused_accept};
+use crate::running::{Running, Started, tell_fault};
 use crate::served::Served;
 use crate::service::Service;
-use crate::session::{Session, SessionSays};
+use crate::session::Session;
 use crate::settings::Serving;
+use crate::traffic::{Passed, Traffic};
 use crossbeam_channel::{Receiver, Sender};
 use std::alloc::Global;
 use std::collections::VecDeque;
@@ -27,9 +32,9 @@ use std::io::Write;
 use std::marker::Brand;
 use std::net::{SocketAddr, TcpListener, TcpStream};
 use std::sync::Arc;
-use std::thread::PromisedHandle;
+use std::time::Instant;
 use tn_network::Network;
-use tn_roster::{Roster, note};
+use tn_roster::Roster;
 use tn_sockets::{Hook, Host, Standing};
 
 /// How many events wait at most for the loop.
@@ -42,16 +47,17 @@ const KEPT_OPEN: usize = 16;
 /// Serves an address, or a name that has one, until so many connections were accepted and all their
 /// sessions have ended. Each connection has a session in threads of its own, with the jobs that the service
 /// makes for it, as long as there are no more of them than the limit; one more is told `full` and closed.
-/// One that ends in a fault is reported in one line on `errors`, and changes nothing else. Each is a call of
+/// One that ends in a fault is reported in two lines on `errors`, the second a note of how it ended, and
+/// changes nothing else. Where it cannot listen, `causes` gets a line. Each session is a call of
 /// `serve_connection`; the clauses below count them, and say what the network was asked for.
 pub fn serve<H, V, E>(
     rt: H,
     alloc: Global,
-    host: &str,
-    port: u16,
+    at: At<'_>,
     serving: Serving,
     service: V,
     errors: &mut E,
+    causes: &mut Vec<u8>,
 ) -> Result<Served, ServeFault>
 where
     H: Host + Network,
@@ -64,11 +70,13 @@ where
     ensures heard { IfOk result (λ served. HearsAll V.turns (HasEnded (server_of
         (facts_of V.Job.fresh V.Jobs.gives V.Job.reacts V.Job.steps) V.Jobs.left serving.options
         (V.makes service) (WasTurnedAway (H.dismisses rt)))) service (served.whole + served.faulted)) }
-    ensures listened { Listens (H.listens rt host.now port) (H.shares rt) (H.accepts rt)
+    ensures listened { Listens (H.listens rt at.entry.host.now at.entry.port) (H.shares rt) (H.accepts rt)
         (λ (served : Served). served.accepted) result }
+    ensures caused { IsCaused (H.listens rt at.entry.host.now at.entry.port)
+        causes.old.items causes.new.items result }
     ensures limit { IsErrOf result ServeFault.Limit → ¬ IsLimit serving.sessions }
 {
-    let listener = rt.listen(host, port)?;
+    let listener = listen_at(&rt, at, causes)?;
     serve_on(rt, alloc, &listener, serving, service, errors)
 }
 
@@ -122,7 +130,7 @@ fn serve_as<H: Host + Network, V: Service + Drop, E: Write, O: Asked<V::Jobs>>(
     let roster = Roster::new(alloc, usize::from(serving.sessions))?;
     let (sender, receiver) = crossbeam_channel::bounded(alloc, EVENTS)?;
     if let (true, Ok(address)) = (serving.verbose, listener.local_addr()) {
-        note_listening(&rt, &address);
+        note_listening(&rt, alloc, &address, errors);
     }
     let acceptor = Acceptor {
         rt,
@@ -157,6 +165,17 @@ fn serve_as<H: Host + Network, V: Service + Drop, E: Write, O: Asked<V::Jobs>>(
     Ok(served)
 }
 
+/// What a session that is to start needs beside its jobs.
+#[derive(Drop)]
+struct Prepared {
+    events: Sender<Event, Global>,
+    standing: Arc<Standing, Global>,
+    hook: Hook,
+    traffic: Arc<Traffic, Global>,
+    /// The same, for the note of its end.
+    noted: Arc<Traffic, Global>,
+}
+
 /// A server that is open: which sessions run, by number, and how those before them ended.
 #[derive(Drop)]
 struct Open<H, V: Service, O: Asked<V::Jobs>> {
@@ -185,9 +204,9 @@ impl<H: Host + Network, V: Service, O: Asked<V::Jobs>> Open<H, V, O> {
         ensures heard { StillHears V.turns (HasEnded (server_of
             (facts_of V.Job.fresh V.Jobs.gives V.Job.reacts V.Job.steps) V.Jobs.left O.options O.made O.turned))
             (self.old.running.whole + self.old.running.faulted) self.old.service
-            (live_of (vec_items self.old.running.started) (λ s. s.number))
+            (live_of (vec_items self.old.running.started) (λ s. s.caller.number))
             (self.new.running.whole + self.new.running.faulted) self.new.service
-            (live_of (vec_items self.new.running.started) (λ s. s.number)) }
+            (live_of (vec_items self.new.running.started) (λ s. s.caller.number)) }
     {
         let rt = self.rt;
         for _ in rt.forever() {
@@ -218,15 +237,18 @@ impl<H: Host + Network, V: Service, O: Asked<V::Jobs>> Open<H, V, O> {
         ensures heard { StillHears V.turns (HasEnded (server_of
             (facts_of V.Job.fresh V.Jobs.gives V.Job.reacts V.Job.steps) V.Jobs.left O.options O.made O.turned))
             (self.old.running.whole + self.old.running.faulted) self.old.service
-            (live_of (vec_items self.old.running.started) (λ s. s.number))
+            (live_of (vec_items self.old.running.started) (λ s. s.caller.number))
             (self.new.running.whole + self.new.running.faulted) self.new.service
-            (live_of (vec_items self.new.running.started) (λ s. s.number)) }
+            (live_of (vec_items self.new.running.started) (λ s. s.caller.number)) }
         ensures makes { StillMakes V.makes self.old.service self.new.service }
         ensures rt { self.new.rt ≡ self.old.rt }
     {
         match event {
             Event::Came(stream, peer) => return self.admit(stream, &peer, errors),
             Event::Ended(number) => return self.end(number, errors),
+            Event::Starved(error) => return note_refused_accept(
+                &self.rt, self.alloc, &error, errors,
+            ),
             Event::Broke => {},
         }
         self.is_broken = true;
@@ -243,26 +265,38 @@ impl<H: Host + Network, V: Service, O: Asked<V::Jobs>> Open<H, V, O> {
         ensures heard { StillHears V.turns (HasEnded (server_of
             (facts_of V.Job.fresh V.Jobs.gives V.Job.reacts V.Job.steps) V.Jobs.left O.options O.made O.turned))
             (self.old.running.whole + self.old.running.faulted) self.old.service
-            (live_of (vec_items self.old.running.started) (λ s. s.number))
+            (live_of (vec_items self.old.running.started) (λ s. s.caller.number))
             (self.new.running.whole + self.new.running.faulted) self.new.service
-            (live_of (vec_items self.new.running.started) (λ s. s.number)) }
+            (live_of (vec_items self.new.running.started) (λ s. s.caller.number)) }
         ensures makes { StillMakes V.makes self.old.service self.new.service }
         ensures rt { self.new.rt ≡ self.old.rt }
     {
         if self.running.accepted >= self.serving.count {
             return;
         }
+        let serial = self.running.accepted + 1;
         let entered = self.roster.enter();
-        if self.serving.verbose {
-            note(&self.rt, &entered);
-        }
         let Ok(number) = entered else {
+            self.tell_full(serial, peer, errors);
             return self.turn_away(stream);
         };
+        let caller = Caller {
+            number,
+            serial,
+            peer: *peer,
+            since: Instant::now(&self.rt).ok(),
+        };
         if self.serving.verbose {
-            note_peer(&self.rt, number, peer);
+            note_began(&self.rt, self.alloc, &caller, errors);
         }
-        self.take_in(stream, number, peer, errors);
+        self.take_in(stream, caller, errors);
+    }
+
+    // Notes that there was no room for a connection, where that is wanted.
+    fn tell_full<E: Write>(&self, serial: u32, peer: &SocketAddr, errors: &mut E) {
+        if self.serving.verbose {
+            note_full(&self.rt, self.alloc, serial, peer, errors);
+        }
     }
 
     // Tells a connection that there is no room for it.
@@ -286,13 +320,7 @@ impl<H: Host + Network, V: Service, O: Asked<V::Jobs>> Open<H, V, O> {
     }
 
     // Starts the session with this number, which is held for it.
-    fn take_in<E: Write>(
-        &mut self,
-        stream: TcpStream,
-        number: usize,
-        peer: &SocketAddr,
-        errors: &mut E,
-    )
+    fn take_in<E: Write>(&mut self, stream: TcpStream, caller: Caller, errors: &mut E)
         requires makes { MakesOnly V.makes self.old.service O.made }
         requires held { vec_len self.old.running.started < held_count self.old.roster }
         requires more { self.old.running.accepted < 2 ^ 32 - 1 }
@@ -303,23 +331,23 @@ impl<H: Host + Network, V: Service, O: Asked<V::Jobs>> Open<H, V, O> {
         ensures heard { StillHears V.turns (HasEnded (server_of
             (facts_of V.Job.fresh V.Jobs.gives V.Job.reacts V.Job.steps) V.Jobs.left O.options O.made O.turned))
             (self.old.running.whole + self.old.running.faulted) self.old.service
-            (live_of (vec_items self.old.running.started) (λ s. s.number))
+            (live_of (vec_items self.old.running.started) (λ s. s.caller.number))
             (self.new.running.whole + self.new.running.faulted) self.new.service
-            (live_of (vec_items self.new.running.started) (λ s. s.number)) }
+            (live_of (vec_items self.new.running.started) (λ s. s.caller.number)) }
         ensures makes { StillMakes V.makes self.old.service self.new.service }
         ensures rt { self.new.rt ≡ self.old.rt }
     {
         if !self.running.has_room() {
-            return self.give_up(number, errors);
+            return self.give_up(&caller, errors);
         }
-        let Some(session) = self.start(stream, number, *peer) else {
-            return self.give_up(number, errors);
+        let Some(session) = self.start(stream, caller) else {
+            return self.give_up(&caller, errors);
         };
-        self.running.keep(number, session);
+        self.running.keep(session);
     }
 
     // The session with this number could not be started, and its number is free.
-    fn give_up<E: Write>(&mut self, number: usize, errors: &mut E)
+    fn give_up<E: Write>(&mut self, caller: &Caller, errors: &mut E)
         requires held { vec_len self.old.running.started < held_count self.old.roster }
         requires more { self.old.running.accepted < 2 ^ 32 - 1 }
         ensures each { StillCounts (server_of
@@ -332,35 +360,41 @@ impl<H: Host + Network, V: Service, O: Asked<V::Jobs>> Open<H, V, O> {
         ensures service { self.new.service ≡ self.old.service }
         ensures rt { self.new.rt ≡ self.old.rt }
     {
-        self.roster.leave(number);
+        self.roster.leave(caller.number);
         self.running.fail();
-        tell_fault(errors);
+        self.tell_end(
+            caller,
+            &Ran::unstarted().finished(),
+            Passed::nothing(),
+            errors,
+        );
     }
 
     // Runs a session in a thread of its own, where one can be had.
-    fn start(
-        &mut self,
-        stream: TcpStream,
-        number: usize,
-        peer: SocketAddr,
-    ) -> Option<PromisedHandle<Ran, SessionSays<V::Jobs>>>
+    fn start(&mut self, stream: TcpStream, caller: Caller) -> Option<Started<V::Jobs, O>>
         requires makes { MakesOnly V.makes self.old.service O.made }
-        ensures asked { IfSome result (λ handle. handle.promise.options ≡ O.options) }
-        ensures made { IfSome result (λ handle. O.made handle.promise.jobs.value) }
         ensures running { self.new.running ≡ self.old.running }
         ensures roster { self.new.roster ≡ self.old.roster }
         ensures makes { StillMakes V.makes self.old.service self.new.service }
-        ensures jobs { IfSome result (λ _. HearsOfJobs V.turns (HasEnded (server_of
+        ensures jobs { IfSome result (λ started. HearsOfJobs V.turns (HasEnded (server_of
             (facts_of V.Job.fresh V.Jobs.gives V.Job.reacts V.Job.steps) V.Jobs.left O.options O.made O.turned))
-            number self.old.service self.new.service) }
+            started.caller.number self.old.service self.new.service) }
         ensures none { IfNone result (HearsOfNone V.turns (HasEnded (server_of
             (facts_of V.Job.fresh V.Jobs.gives V.Job.reacts V.Job.steps) V.Jobs.left O.options O.made O.turned))
             self.old.service self.new.service) }
         ensures rt { self.new.rt ≡ self.old.rt }
     {
-        let Some((events, standing, hook)) = self.prepared() else {
+        let Some(prepared) = self.prepared() else {
             return None;
         };
+        let Prepared {
+            events,
+            standing,
+            hook,
+            traffic,
+            noted,
+        } = prepared;
+        let Caller { number, peer, .. } = caller;
         let call = Call { number, peer, hook };
         let Ok(jobs) = self.service.session(self.alloc, call) else {
             return None;
@@ -372,20 +406,29 @@ impl<H: Host + Network, V: Service, O: Asked<V::Jobs>> Open<H, V, O> {
             options: self.serving.options,
             jobs,
             standing,
+            traffic,
         };
-        if let Some(started) = session.start(number, events) {
-            return Some(started);
+        if let Some(session) = session.start(number, events) {
+            return Some(Started::new(caller, noted, session));
         }
         self.service.ended(number, &Ran::unstarted().finished());
         None
     }
 
     // What a session that is to start needs beside its jobs.
-    fn prepared(&self) -> Option<(Sender<Event, Global>, Arc<Standing, Global>, Hook)> {
+    fn prepared(&self) -> Option<Prepared> {
         let events = self.events.clone().ok()?;
         let standing = Standing::new(self.alloc).ok()?;
         let hook = Hook::new(&standing).ok()?;
-        Some((events, standing, hook))
+        let traffic = Traffic::new(self.alloc).ok()?;
+        let noted = Arc::try_clone(&traffic).ok()?;
+        Some(Prepared {
+            events,
+            standing,
+            hook,
+            traffic,
+            noted,
+        })
     }
 
     // The session with this number has ended.
@@ -397,9 +440,9 @@ impl<H: Host + Network, V: Service, O: Asked<V::Jobs>> Open<H, V, O> {
         ensures heard { StillHears V.turns (HasEnded (server_of
             (facts_of V.Job.fresh V.Jobs.gives V.Job.reacts V.Job.steps) V.Jobs.left O.options O.made O.turned))
             (self.old.running.whole + self.old.running.faulted) self.old.service
-            (live_of (vec_items self.old.running.started) (λ s. s.number))
+            (live_of (vec_items self.old.running.started) (λ s. s.caller.number))
             (self.new.running.whole + self.new.running.faulted) self.new.service
-            (live_of (vec_items self.new.running.started) (λ s. s.number)) }
+            (live_of (vec_items self.new.running.started) (λ s. s.caller.number)) }
         ensures makes { StillMakes V.makes self.old.service self.new.service }
         ensures rt { self.new.rt ≡ self.old.rt }
     {
@@ -419,21 +462,35 @@ impl<H: Host + Network, V: Service, O: Asked<V::Jobs>> Open<H, V, O> {
         ensures heard { StillHears V.turns (HasEnded (server_of
             (facts_of V.Job.fresh V.Jobs.gives V.Job.reacts V.Job.steps) V.Jobs.left O.options O.made O.turned))
             (self.old.running.whole + self.old.running.faulted) self.old.service
-            (live_of (vec_items self.old.running.started) (λ s. s.number))
+            (live_of (vec_items self.old.running.started) (λ s. s.caller.number))
             (self.new.running.whole + self.new.running.faulted) self.new.service
-            (live_of (vec_items self.new.running.started) (λ s. s.number)) }
+            (live_of (vec_items self.new.running.started) (λ s. s.caller.number)) }
         ensures fewer { vec_len self.new.running.started + 1 ≡ vec_len self.old.running.started }
         ensures accepted { self.new.running.accepted ≡ self.old.running.accepted }
         ensures makes { StillMakes V.makes self.old.service self.new.service }
         ensures rt { self.new.rt ≡ self.old.rt }
     {
-        let (number, finished) = self.running.join_at(&self.rt, place);
-        self.service.ended(number, &finished);
-        self.roster.leave(number);
-        if self.serving.verbose {
-            note_end(&self.rt, number, &finished);
+        let left = self.running.join_at(&self.rt, place);
+        self.service.ended(left.caller.number, &left.finished);
+        self.roster.leave(left.caller.number);
+        self.tell_end(&left.caller, &left.finished, left.passed, errors);
+    }
+
+    // Reports a session that ended in a fault, and notes its end, as that of any other where that is wanted.
+    fn tell_end<E: Write>(
+        &self,
+        caller: &Caller,
+        finished: &Finished,
+        passed: Passed,
+        errors: &mut E,
+    ) {
+        let is_whole = finished.is_whole();
+        if !is_whole {
+            tell_fault(errors);
         }
-        tell_if_faulted(&finished, errors);
+        if self.serving.verbose || !is_whole {
+            note_end(&self.rt, self.alloc, caller, passed, finished, errors);
+        }
     }
 
     // Joins all sessions that still run.
@@ -445,9 +502,9 @@ impl<H: Host + Network, V: Service, O: Asked<V::Jobs>> Open<H, V, O> {
         ensures heard { StillHears V.turns (HasEnded (server_of
             (facts_of V.Job.fresh V.Jobs.gives V.Job.reacts V.Job.steps) V.Jobs.left O.options O.made O.turned))
             (self.old.running.whole + self.old.running.faulted) self.old.service
-            (live_of (vec_items self.old.running.started) (λ s. s.number))
+            (live_of (vec_items self.old.running.started) (λ s. s.caller.number))
             (self.new.running.whole + self.new.running.faulted) self.new.service
-            (live_of (vec_items self.new.running.started) (λ s. s.number)) }
+            (live_of (vec_items self.new.running.started) (λ s. s.caller.number)) }
         ensures none { vec_len self.new.running.started ≡ 0 }
         ensures accepted { self.new.running.accepted ≡ self.old.running.accepted }
     {

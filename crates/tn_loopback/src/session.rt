@@ -11,6 +11,7 @@ ghost use Rattle.tn_term.specs.Welcoming.{too_far_ahead};
 use crate::conversed::{Conversed, Ran};
 use crate::events::Event;
 use crate::settings::SessionOptions;
+use crate::traffic::{Counted, CountedWrites, Traffic};
 use crossbeam_channel::Sender;
 use std::alloc::Global;
 use std::io::Read;
@@ -32,6 +33,7 @@ pub(crate) struct Session<H, M> {
     pub(crate) options: SessionOptions,
     pub(crate) jobs: M,
     pub(crate) standing: Arc<Standing, Global>,
+    pub(crate) traffic: Arc<Traffic, Global>,
 }
 
 impl<H, M> Session<H, M>
@@ -127,8 +129,12 @@ where
             options,
             jobs,
             standing,
+            traffic,
         } = self;
         let (Ok(theirs), Ok(ours)) = (Arc::try_clone(&standing), Arc::try_clone(&standing)) else {
+            return Err(SessionFault::Memory);
+        };
+        let Ok(went) = Arc::try_clone(&traffic) else {
             return Err(SessionFault::Memory);
         };
         let Ok((stream, writer)) = Connection::split(stream) else {
@@ -137,11 +143,18 @@ where
         let Ok(reader) = Attended::new(rt, stream, theirs, options.idle) else {
             return Err(SessionFault::Start);
         };
-        let mut writer = Logged::new(writer.with_standing(ours));
+        let reader = Counted {
+            side: reader,
+            traffic,
+        };
+        let mut writer = Logged::new(CountedWrites {
+            side: writer.with_standing(ours),
+            traffic: went,
+        });
         let (report, ports) = talk(rt, alloc, reader, &mut writer, options, jobs)?;
         let (writer, log) = writer.into_parts();
         if standing.is_hung_up() {
-            linger(rt, writer.into_stream(), standing);
+            linger(rt, writer.side.into_stream(), standing);
         }
         Ok(Conversed { report, ports, log })
     }
@@ -151,8 +164,8 @@ where
 fn talk<H, M>(
     rt: H,
     alloc: Global,
-    reader: Attended<H, TcpStream>,
-    writer: &mut Logged<Connection<TcpStream>>,
+    reader: Counted<Attended<H, TcpStream>>,
+    writer: &mut Logged<CountedWrites<Connection<TcpStream>>>,
     options: SessionOptions,
     jobs: M,
 ) -> Result<(Report, Ports), SessionFault>
@@ -205,7 +218,7 @@ where
         (job_facts (begins M.Job.fresh M.gives jobs) M.Job.reacts M.Job.steps) (M.left jobs) options) }
     ensures in_reach { IfOk result (λ conversed. conversed.report.ended ≢ too_far_ahead) }
 {
-    let Ok(standing) = Standing::new(alloc) else {
+    let (Ok(standing), Ok(traffic)) = (Standing::new(alloc), Traffic::new(alloc)) else {
         return Err(SessionFault::Memory);
     };
     let session = Session {
@@ -215,6 +228,7 @@ where
         options,
         jobs,
         standing,
+        traffic,
     };
     session.run().ended
 }

@@ -96,12 +96,19 @@ UnlessTelling (outcome.Version ended) same = same
 UnlessTelling (outcome.Usage detail) same = same
 UnlessTelling outcome.Memory same = same
 
--- a connection notes causes
+-- out of what the network refused there may be a cause
+abbrev pub UnlessNetwork : {A : Type 0} → Result A ServeFault → Type 0 → Type 0
+UnlessNetwork (Ok done) same = same
+UnlessNetwork (Err serve.Limit) same = same
+UnlessNetwork (Err serve.Network) same = Unit {0}
+UnlessNetwork (Err serve.Memory) same = Unit {0}
+
+-- a connection notes causes, and so does a server that cannot listen
 abbrev pub UnlessConnected : Outcome → Type 0 → Type 0
 UnlessConnected (outcome.Connected ended) same = Unit {0}
 UnlessConnected (outcome.Talked ended) same = Unit {0}
 UnlessConnected outcome.Untraced same = Unit {0}
-UnlessConnected (outcome.Served ended) same = same
+UnlessConnected (outcome.Served ended) same = UnlessNetwork ended same
 UnlessConnected (outcome.Local ended) same = same
 UnlessConnected (outcome.Replay ended) same = same
 UnlessConnected (outcome.Decode ended) same = same

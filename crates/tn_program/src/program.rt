@@ -214,7 +214,10 @@ fn run_asked<
         Asked::Replay => Outcome::Replay(run_replay(alloc, &mut seat, writer)),
         Asked::Decode => Outcome::Decode(run_decode(alloc, &mut seat, writer)),
         Asked::World => Outcome::World(run_world(alloc, &mut seat, writer)),
-        Asked::Serve(asked) => Outcome::Served(serve_asked(rt, alloc, &asked, &mut Lines(errors))),
+        Asked::Serve(asked) => {
+            let served = serve_asked(rt, alloc, &asked, &mut Lines(errors), causes);
+            Outcome::Served(served)
+        },
         Asked::Connect(asked) => run_connecting(rt, alloc, asked, seat, writer, errors, causes),
     }
 }

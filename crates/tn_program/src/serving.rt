@@ -1,6 +1,7 @@
 //! `tn serve`: its own job, or a line service that each session is joined to.
 
 ghost use Rattle.std.specs.Prelude.{◌≡◌, None, IfOk, IfSome, IsErrOf, string_bytes};
+ghost use Rattle.tn_loopback.specs.Causes.{IsCaused};
 ghost use Rattle.tn_loopback.specs.Counted.{CountsSessions, facts_of, server_of};
 ghost use Rattle.tn_loopback.specs.Ends.{ServesAll};
 ghost use Rattle.tn_loopback.specs.Services.{WasTurnedAway};
@@ -15,16 +16,17 @@ use std::net::TcpStream;
 use tn_answerer::{Answerer, Answerers};
 use tn_gateway::{Gateway, Heard, Joiner, LineEnd, Told};
 use tn_jobs::Job;
-use tn_loopback::{Call, Finished, Host, ServeFault, Served, Service, serve};
+use tn_loopback::{At, Call, Finished, Host, ServeFault, Served, Service, serve};
 use tn_network::Network;
 use tn_session::Maker;
 
-/// Serves as was asked for.
+/// Serves as was asked for. Where it cannot listen, `causes` gets a line.
 pub(crate) fn serve_asked<H, E>(
     rt: H,
     alloc: Global,
     asked: &tn_words::Serving,
     errors: &mut E,
+    causes: &mut Vec<u8>,
 ) -> Result<Served, ServeFault>
 where
     H: Host + Network,
@@ -32,6 +34,8 @@ where
     ensures all { IfOk result (ServesAll (count_as asked.now.count)) }
     ensures listened { UnlessMemory result (Listens (H.listens rt (string_bytes asked.now.host) asked.now.port)
         (H.shares rt) (H.accepts rt) (λ (served : Served). served.accepted) result) }
+    ensures caused { IsCaused (H.listens rt (string_bytes asked.now.host) asked.now.port)
+        causes.old.items causes.new.items result }
 
     // its own job, as often as was asked for
     ensures answers { asked.now.to ≡ None → IfOk result (λ served. CountsSessions (server_of (facts_of
@@ -50,9 +54,12 @@ where
     ensures limit { IsErrOf result ServeFault.Limit → ¬ IsLimit asked.now.sessions }
 {
     let serving = serving_of(asked);
-    let (host, port) = (asked.host.as_str(), asked.port);
+    let at = At {
+        host: asked.host.as_str(),
+        port: asked.port,
+    };
     let Some(to) = &asked.to else {
-        return serve(rt, alloc, host, port, serving, answering_of(asked), errors);
+        return serve(rt, alloc, at, serving, answering_of(asked), errors, causes);
     };
     let service = Joining {
         rt,
@@ -60,7 +67,7 @@ where
         port: to.port,
         line_end: asked.line_end,
     };
-    serve(rt, alloc, host, port, serving, service, errors)
+    serve(rt, alloc, at, serving, service, errors, causes)
 }
 
 /// Joins each session to the line service at this host and port.

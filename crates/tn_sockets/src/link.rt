@@ -137,7 +137,7 @@ impl Link {
         self.broken.load(Ordering::SeqCst)
     }
 
-    pub(crate) fn close(&self) {
+    pub fn close(&self) {
         self.closed.store(true, Ordering::SeqCst);
     }
 

@@ -23,7 +23,7 @@ returns-clause-heard g c =
     let served = c.served-served.result in
     let same : served.whole + served.faulted ≡ joined.running.whole + joined.running.faulted = grind (arith, c.served-served.ensures.counts) in
     subst (λ (n : ℕ). HearsAll g.V.Service.turns (HasEnded server) c.args.service n) (sym same)
-    (hears_all g.V.Service.turns (HasEnded server) (vec_items started.started) (vec_items joined.running.started) (λ s. s.number)
+    (hears_all g.V.Service.turns (HasEnded server) (vec_items started.started) (vec_items joined.running.started) (λ s. s.caller.number)
     (started.whole + started.faulted) (joined.running.whole + joined.running.faulted) c.args.service joined.service
     (grind (arith, c.new-2.ensures.counts)) (sym started.started.ok.0 ∙ c.new-2.ensures.none) (sym joined.running.started.ok.0 ∙ c.join_all.ensures.none)
     (λ first h. c.join_all.ensures.heard first (c.serve_all.ensures.heard first h)))

@@ -1,4 +1,8 @@
+use Rattle.tn_program.proofs.Causes.{uncaused}
 use Rattle.tn_program.proofs.program.run_asked.Goals as goal
 
 pub returns-in-Connect-clause-comes : goal.returns-in-Connect-clause-comes
 returns-in-Connect-clause-comes g c = rw c.in-Connect.is c.run_connecting.ensures.comes
+
+pub returns-in-Serve-clause-uncaused : goal.returns-in-Serve-clause-uncaused
+returns-in-Serve-clause-uncaused g c = uncaused _ _ _ _ c.serve_asked-served.ensures.caused

@@ -1,4 +1,4 @@
-use Rattle.std.proofs.Common.{◌∙◌, refl}
+use Rattle.std.proofs.Common.{inl, refl, ◌∙◌}
 use Rattle.tn_program.proofs.Asked.{answers, joins, unless}
 use Rattle.tn_program.proofs.serving.serve_asked.Goals as goal
 
@@ -12,3 +12,6 @@ returns-in_err-from_str-clause-listened g c = unless _ _ c.from_residual.ensures
 pub returns-clause-joins : goal.returns-clause-joins
 returns-clause-joins g c =
     rw c.in-Some.is (joins _ _ _ _ c.args.rt c.in-Some.to.port _ _ _ _ _ _ c.serving_of-serving.ensures.options (c.in_ok-from_str.ensures.ok ∙ c.as_str.ensures.value) refl c.serve-2.ensures.each)
+
+pub returns-in_err-from_str-clause-caused : goal.returns-in_err-from_str-clause-caused
+returns-in_err-from_str-clause-caused g c = inl refl

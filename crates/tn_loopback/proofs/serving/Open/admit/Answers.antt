@@ -8,6 +8,6 @@ returns-in_default-clause-heard g c =
     let server = server_of (facts_of g.V.Job.Job.fresh g.V.Jobs.Maker.gives g.V.Job.Job.reacts g.V.Job.Job.steps) g.V.Jobs.Maker.left g.O.Asked.options g.O.Asked.made g.O.Asked.turned in
     let old = c.args.self.now in
     let new = c.turn_away.new.self in
-    none_counted g.V.Service.turns (HasEnded server) (vec_items old.running.started) (vec_items new.running.started) (λ s. s.number)
+    none_counted g.V.Service.turns (HasEnded server) (vec_items old.running.started) (vec_items new.running.started) (λ s. s.caller.number)
     (old.running.whole + old.running.faulted) (new.running.whole + new.running.faulted) old.service new.service
     (ap vec_items c.turn_away.ensures.started) (grind (arith, c.turn_away.ensures.counts)) c.turn_away.ensures.service

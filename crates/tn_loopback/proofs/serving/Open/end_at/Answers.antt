@@ -8,8 +8,8 @@ pub returns-clause-heard : goal.returns-clause-heard
 returns-clause-heard g c first h =
     let server = server_of (facts_of g.V.Job.Job.fresh g.V.Jobs.Maker.gives g.V.Job.Job.reacts g.V.Job.Job.steps) g.V.Jobs.Maker.left g.O.Asked.options g.O.Asked.made g.O.Asked.turned in
     let old = c.args.self.now in
-    let joined = c.join_at-number.new.self in
-    let live = live_of (vec_items old.running.started) (λ s. s.number) in
-    let live' = live_of (vec_items joined.started) (λ s. s.number) in
-    subst (λ (k : ℕ). Hears g.V.Service.turns (HasEnded server) first k c.ended.new.self live') (sym c.join_at-number.ensures.one)
-    (session_ended g.V.Service.turns (HasEnded server) c.join_at-number.result.0 c.join_at-number.result.1 old.service c.ended.new.self c.ended.ensures.turns c.join_at-number.ensures.ended (old.running.whole + old.running.faulted) live live' c.join_at-number.ensures.closed first h)
+    let joined = c.join_at-left.new.self in
+    let live = live_of (vec_items old.running.started) (λ s. s.caller.number) in
+    let live' = live_of (vec_items joined.started) (λ s. s.caller.number) in
+    subst (λ (k : ℕ). Hears g.V.Service.turns (HasEnded server) first k c.ended.new.self live') (sym c.join_at-left.ensures.one)
+    (session_ended g.V.Service.turns (HasEnded server) c.join_at-left.result.caller.number c.join_at-left.result.finished old.service c.ended.new.self c.ended.ensures.turns c.join_at-left.ensures.ended (old.running.whole + old.running.faulted) live live' c.join_at-left.ensures.closed first h)

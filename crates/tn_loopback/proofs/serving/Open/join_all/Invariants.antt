@@ -9,8 +9,8 @@ invariant-loop-self g l =
     (l.self.running.accepted ≡ l.initial.self.running.accepted)
     × StillCounts server l.initial.self.running.whole l.initial.self.running.faulted l.initial.self.running.refused l.self.running.whole l.self.running.faulted l.self.running.refused
     × StillHears g.V.Service.turns (HasEnded server) (l.initial.self.running.whole + l.initial.self.running.faulted) l.initial.self.service
-    (live_of (vec_items l.initial.self.running.started) (λ s. s.number))
-    (l.self.running.whole + l.self.running.faulted) l.self.service (live_of (vec_items l.self.running.started) (λ s. s.number))
+    (live_of (vec_items l.initial.self.running.started) (λ s. s.caller.number))
+    (l.self.running.whole + l.self.running.faulted) l.self.service (live_of (vec_items l.self.running.started) (λ s. s.caller.number))
 
 abbrev pub decreases-loop-self : goal.decreases-loop-self
 decreases-loop-self g l = vec_len l.self.running.started

@@ -1,6 +1,7 @@
-use Rattle.std.proofs.Common.{inr, ◌∙◌}
+use Rattle.std.proofs.Common.{ℕ, ap, inr, subst, sym, ◌∙◌}
 use Rattle.tn_loopback.proofs.Hearing.{jobs_made, jobs_refused, made_and_ended, not_asked, session_ended}
 use Rattle.tn_loopback.specs.Counted.{HasEnded, facts_of, server_of}
+use Rattle.tn_loopback.specs.Turns.{HearsOfJobs}
 use Rattle.tn_loopback.proofs.serving.Open.start.Goals as goal
 
 pub returns-in_default-clause-none : goal.returns-in_default-clause-none
@@ -11,16 +12,17 @@ returns-in_default-clause-none g c =
 pub returns-in_default-session-clause-none : goal.returns-in_default-session-clause-none
 returns-in_default-session-clause-none g c =
     let server = server_of (facts_of g.V.Job.Job.fresh g.V.Jobs.Maker.gives g.V.Job.Job.reacts g.V.Job.Job.steps) g.V.Jobs.Maker.left g.O.Asked.options g.O.Asked.made g.O.Asked.turned in
-    jobs_refused g.V.Service.turns (HasEnded server) c.args.number c.args.self.now.service c.session.new.self c.in_default-session.ensures.turns
+    jobs_refused g.V.Service.turns (HasEnded server) c.args.caller.number c.args.self.now.service c.session.new.self c.in_default-session.ensures.turns
 
 pub returns-in-Some-start-clause-jobs : goal.returns-in-Some-start-clause-jobs
 returns-in-Some-start-clause-jobs g c =
     let server = server_of (facts_of g.V.Job.Job.fresh g.V.Jobs.Maker.gives g.V.Job.Job.reacts g.V.Job.Job.steps) g.V.Jobs.Maker.left g.O.Asked.options g.O.Asked.made g.O.Asked.turned in
-    jobs_made g.V.Service.turns (HasEnded server) c.args.number c.args.self.now.service c.session.new.self c.in-Ok.ensures.turns
+    subst (λ (n : ℕ). HearsOfJobs g.V.Service.turns (HasEnded server) n c.args.self.now.service c.session.new.self) (sym (ap (λ k. k.number) c.new.ensures.caller))
+    (jobs_made g.V.Service.turns (HasEnded server) c.args.caller.number c.args.self.now.service c.session.new.self c.in-Ok.ensures.turns)
 
 pub returns-clause-none : goal.returns-clause-none
 returns-clause-none g c =
     let server = server_of (facts_of g.V.Job.Job.fresh g.V.Jobs.Maker.gives g.V.Job.Job.reacts g.V.Job.Job.steps) g.V.Jobs.Maker.left g.O.Asked.options g.O.Asked.made g.O.Asked.turned in
-    made_and_ended g.V.Service.turns (HasEnded server) c.args.number c.args.self.now.service c.session.new.self c.ended.new.self
-    (jobs_made g.V.Service.turns (HasEnded server) c.args.number c.args.self.now.service c.session.new.self c.in-Ok.ensures.turns)
-    (session_ended g.V.Service.turns (HasEnded server) c.args.number c.finished.result c.session.new.self c.ended.new.self c.ended.ensures.turns (inr (c.finished.ensures ∙ c.unstarted.ensures)))
+    made_and_ended g.V.Service.turns (HasEnded server) c.args.caller.number c.args.self.now.service c.session.new.self c.ended.new.self
+    (jobs_made g.V.Service.turns (HasEnded server) c.args.caller.number c.args.self.now.service c.session.new.self c.in-Ok.ensures.turns)
+    (session_ended g.V.Service.turns (HasEnded server) c.args.caller.number c.finished.result c.session.new.self c.ended.new.self c.ended.ensures.turns (inr (c.finished.ensures ∙ c.unstarted.ensures)))

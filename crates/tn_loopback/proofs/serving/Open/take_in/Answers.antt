@@ -9,7 +9,7 @@ returns-then-not-has_room-clause-heard g c =
     let server = server_of (facts_of g.V.Job.Job.fresh g.V.Jobs.Maker.gives g.V.Job.Job.reacts g.V.Job.Job.steps) g.V.Jobs.Maker.left g.O.Asked.options g.O.Asked.made g.O.Asked.turned in
     let old = c.args.self.now in
     let new = c.give_up.new.self in
-    one_counted g.V.Service.turns (HasEnded server) (vec_items old.running.started) (vec_items new.running.started) (λ s. s.number)
+    one_counted g.V.Service.turns (HasEnded server) (vec_items old.running.started) (vec_items new.running.started) (λ s. s.caller.number)
     (old.running.whole + old.running.faulted) (new.running.whole + new.running.faulted) old.service new.service
     (ap vec_items c.give_up.ensures.started ∙ c.has_room.ensures.same)
     (grind (arith, c.give_up.ensures.one, c.has_room.ensures.counts))
@@ -21,7 +21,7 @@ returns-in_default-clause-heard g c =
     let old = c.args.self.now in
     let new = c.give_up-in_default.new.self in
     let counts = ap (λ r. r.whole + r.faulted) c.start.ensures.running in
-    one_counted g.V.Service.turns (HasEnded server) (vec_items old.running.started) (vec_items new.running.started) (λ s. s.number)
+    one_counted g.V.Service.turns (HasEnded server) (vec_items old.running.started) (vec_items new.running.started) (λ s. s.caller.number)
     (old.running.whole + old.running.faulted) (new.running.whole + new.running.faulted) old.service new.service
     (ap vec_items (c.give_up-in_default.ensures.started ∙ ap (λ r. r.started) c.start.ensures.running) ∙ c.has_room.ensures.same)
     (grind (arith, c.give_up-in_default.ensures.one, counts, c.has_room.ensures.counts))
@@ -34,7 +34,7 @@ returns-clause-heard g c =
     let started = c.start.new.self in
     let new = c.keep.new.self in
     let counts = ap (λ r. r.whole + r.faulted) c.start.ensures.running in
-    one_started g.V.Service.turns (HasEnded server) (vec_items old.running.started) (vec_items started.running.started) (vec_items new.started) (λ s. s.number) c.args.number
+    one_started g.V.Service.turns (HasEnded server) (vec_items old.running.started) (vec_items started.running.started) (vec_items new.started) (λ s. s.caller.number) c.in-Some.session.caller.number
     (old.running.whole + old.running.faulted) (new.whole + new.faulted) old.service started.service
     (ap (λ r. vec_items r.started) c.start.ensures.running ∙ c.has_room.ensures.same)
     (grind (arith, c.keep.ensures.counts, counts, c.has_room.ensures.counts))

@@ -1,0 +1,115 @@
+//! What passes over a connection, as a note tells it.
+
+use std::alloc::{AllocError, Global};
+use std::io;
+use std::io::{ErrorKind, Read};
+use std::sync::Arc;
+use std::sync::atomic::{AtomicI32, AtomicU64, Ordering};
+use tn_streams::{Drain, Finish};
+
+/// What has passed over a connection so far.
+#[derive(Drop)]
+pub(crate) struct Traffic {
+    came: AtomicU64,
+    went: AtomicU64,
+    /// The system's number of the error that broke it, or 0.
+    broke: AtomicI32,
+}
+
+/// How much passed over a connection, and what broke it.
+#[derive(Clone, Copy)]
+pub(crate) struct Passed {
+    pub(crate) came: u64,
+    pub(crate) went: u64,
+    pub(crate) broke: Option<ErrorKind>,
+}
+
+impl Traffic {
+    /// Nothing has passed yet.
+    pub(crate) fn new(alloc: Global) -> Result<Arc<Traffic, Global>, AllocError> {
+        let traffic = Traffic {
+            came: AtomicU64::new(0),
+            went: AtomicU64::new(0),
+            broke: AtomicI32::new(0),
+        };
+        Ok(Arc::new(alloc, traffic)?)
+    }
+
+    pub(crate) fn passed(&self) -> Passed {
+        let code = self.broke.load(Ordering::SeqCst);
+        Passed {
+            came: self.came.load(Ordering::SeqCst),
+            went: self.went.load(Ordering::SeqCst),
+            broke: if code == 0 {
+                None
+            } else {
+                Some(io::Error::from_raw_os_error(code).kind())
+            },
+        }
+    }
+
+    // One that is only interrupted is asked again.
+    fn fail(&self, error: &io::Error) {
+        if error.kind() != ErrorKind::Interrupted {
+            self.broke
+                .store(error.raw_os_error().unwrap_or(0), Ordering::SeqCst);
+        }
+    }
+}
+
+impl Passed {
+    /// Nothing has passed.
+    pub(crate) fn nothing() -> Passed {
+        Passed {
+            came: 0,
+            went: 0,
+            broke: None,
+        }
+    }
+}
+
+/// The reading side of a connection, of which each byte is counted.
+#[derive(Drop)]
+pub(crate) struct Counted<R> {
+    pub(crate) side: R,
+    pub(crate) traffic: Arc<Traffic, Global>,
+}
+
+impl<R: Read> Read for Counted<R> {
+    fn read(&mut self, buf: &mut [u8]) -> io::Result<usize> {
+        let read = self.side.read(buf);
+        match &read {
+            Ok(count) => {
+                let _ = self.traffic.came.fetch_add(*count as u64, Ordering::SeqCst);
+            },
+            Err(error) => self.traffic.fail(error),
+        }
+        read
+    }
+}
+
+/// The writing side of a connection, of which each byte is counted.
+#[derive(Drop)]
+pub(crate) struct CountedWrites<W> {
+    pub(crate) side: W,
+    pub(crate) traffic: Arc<Traffic, Global>,
+}
+
+impl<W: Finish> Drain for CountedWrites<W> {
+    fn write_some(&mut self, buf: &[u8]) -> io::Result<usize> {
+        let wrote = self.side.write_some(buf);
+        match &wrote {
+            Ok(count) => {
+                let _ = self.traffic.went.fetch_add(*count as u64, Ordering::SeqCst);
+            },
+            Err(error) => self.traffic.fail(error),
+        }
+        wrote
+    }
+}
+
+impl<W: Finish> Finish for CountedWrites<W> {
+    fn finish(&mut self) {
+        self.side.finish();
+    }
+}
