@@ -137,6 +137,7 @@ impl Link {
         self.broken.load(Ordering::SeqCst)
     }
 
+    /// Nothing more comes from the other end, or it is no longer waited for.
     pub fn close(&self) {
         self.closed.store(true, Ordering::SeqCst);
     }
