@@ -25,7 +25,7 @@ def main():
 
         def watch():
             for line in server.stderr:
-                if "session 0 ended" in line:
+                if "session 0 " in line and " ended: " in line:
                     ended.set()
 
         threading.Thread(target=watch, daemon=True).start()
