@@ -330,6 +330,13 @@ proctype Core() {
 			:: !c_over && m == Refused -> c_over = true
 			:: else
 			fi;
+			/* Publisher::over: Keys waits for the user no longer */
+			if
+#ifndef MUT_WAITS_FOR_USER
+			:: c_over -> link_closed = true
+#endif
+			:: else
+			fi;
 			from = 0; n = 0; u = 0; req = 0; m = 0; ok = true; shown = true;
 			if
 			:: out == 0 && outu == 0 -> goto shows

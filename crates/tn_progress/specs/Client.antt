@@ -73,7 +73,7 @@ pub record State : Type 0 where
   pub ends : ℕ
   -- the end was put
   pub is_put : Bool
-  -- nothing more comes from the network: the thread of the keys sees it, too
+  -- nothing more comes from the network, or nothing has any effect any more: the thread of the keys sees it
   pub closed : Bool
   pub at_end : Bool
   -- nothing has any effect any more

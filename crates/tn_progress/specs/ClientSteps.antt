@@ -39,7 +39,7 @@ then_at false = showing
 abbrev pub handled : Bool → Bool → Kind → State → State
 handled writes refused kind s =
     let t = comes_of kind (record s { box = taken kind s.box; lefts = s.lefts + one (is_left kind); core = then_at writes }) in
-    record t { over = t.over || refused }
+    record t { over = t.over || refused; closed = t.closed || (t.over || refused) }
 
 -- Behind what is shown, Keys is told to stop where nothing has any effect any more or nothing more comes; and the end is
 -- put where no more is to be sent.
