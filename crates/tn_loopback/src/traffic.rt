@@ -76,6 +76,8 @@ pub(crate) struct Counted<R> {
 }
 
 impl<R: Read> Read for Counted<R> {
+    ghost remaining = { λ counted. R.Read.remaining counted.side };
+
     fn read(&mut self, buf: &mut [u8]) -> io::Result<usize> {
         let read = self.side.read(buf);
         match &read {
@@ -96,6 +98,12 @@ pub(crate) struct CountedWrites<W> {
 }
 
 impl<W: Finish> Drain for CountedWrites<W> {
+    ghost contents = { λ counted. W.Drain.contents counted.side };
+
+    ghost told = { λ counted. W.Drain.told counted.side };
+
+    ghost sending = { λ counted. W.Drain.sending counted.side };
+
     fn write_some(&mut self, buf: &[u8]) -> io::Result<usize> {
         let wrote = self.side.write_some(buf);
         match &wrote {
