@@ -72,7 +72,14 @@ inline say(b, who, m, n, u, a, ok) {
 	fi
 }
 #else
+/* NEVER_FULL: a mailbox of AHEAD + 6 places has room for whoever comes */
+#ifdef NEVER_FULL
+#define HAS_ROOM(b) assert(nfull(box[b]))
+#else
+#define HAS_ROOM(b) skip
+#endif
 inline say(b, who, m, n, u, a, ok) {
+	HAS_ROOM(b);
 	if
 	:: atomic { box_up[b] && nfull(box[b]) -> box[b]!who,m,n,u,a; ok = true }
 	:: atomic { !box_up[b] -> ok = false }

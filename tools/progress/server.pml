@@ -13,6 +13,9 @@
 #ifndef JOBS
 #define JOBS 1		/* jobs in the background */
 #endif
+#ifndef AHEAD
+#define AHEAD 1		/* how many steps of background jobs may be said that Term has not taken: STEPS_AHEAD, 32 */
+#endif
 #define ROOM (L + P + 1)	/* how many entries may wait at all: 1,024 */
 
 #define NOTHING 9	/* nothing is put */
@@ -22,6 +25,7 @@
 #define STOP 2
 
 chan credit = [1] of { bit };
+byte step_credits = AHEAD;	/* credits for steps that Back has, or that wait for it */
 bool give_up_ = false;		/* the end that gives credits is gone */
 chan ent = [E] of { byte };	/* 0 is the end of the entries */
 bool ent_up = true;		/* the end that puts entries is there */
@@ -220,17 +224,22 @@ proctype Back() {
 	byte left = JOBS, text = 0, last = 0, after = 0;
 	bool ok, refused;
 	do
-	:: stop -> goto leaves
-	:: atomic { !stop && left == 0 -> goto leaves }
-	:: atomic { !stop && left > 0 -> text = 0; after = STAY; refused = false;
-			MAKES_STEP(text, last, after, refused) };
+	::	if						/* StepCredits::take */
+		:: atomic { step_credits > 0 -> step_credits-- }
+		:: atomic { step_credits == 0 && give_up_ -> goto out }
+		fi;
+		if
+		:: stop -> goto leaves
+		:: atomic { !stop && left == 0 -> goto leaves }
+		:: atomic { !stop && left > 0 -> text = 0; after = STAY; refused = false;
+				MAKES_STEP(text, last, after, refused) }
+		fi;
 		if
 		:: refused -> goto gives_up
 		:: atomic { !refused -> say(SRV, BACK, Said, text, last, after, ok); text = 0; last = 0;
 				if
 				:: !ok -> goto out
 				:: ok && after != STAY -> left--
-				:: ok && after == STAY && MAY_FAIL -> FAIL; goto gives_up	/* no memory to keep it */
 				:: ok && after == STAY
 				fi;
 				after = 0 }
@@ -281,6 +290,15 @@ inline write_out(n, u, ok) {
 #define GIVES (owed && len(waitq) <= L && !t_over)
 #else
 #define GIVES (owed && IS_WELCOMING)
+#endif
+#endif
+#ifdef MUT_NO_STEP_CREDIT
+#define GIVES_STEP false
+#else
+#ifdef MUT_STEP_CREDIT_ALWAYS
+#define GIVES_STEP (m == Said)
+#else
+#define GIVES_STEP (from == BACK && m == Said)
 #endif
 #endif
 inline close_and_give() {
@@ -354,6 +372,11 @@ proctype Term() {
 	:: lefts < 3 ->
 		atomic {
 			box[SRV]?from,m,n,u,a;
+			/* CreditGiver::give_for: a credit for one more step; never waits */
+			if
+			:: GIVES_STEP -> assert(step_credits < AHEAD); step_credits++
+			:: else
+			fi;
 			piece = (m == Piece); left = (m == Left);
 			/* Term::welcomes: a piece comes only where it is welcome */
 			assert(!piece || IS_WELCOMING);

@@ -1,6 +1,6 @@
 //! What a session runs: jobs that read the terminal's entries and write to its screen.
 
-ghost use Rattle.std.specs.Prelude.{IfOk};
+ghost use Rattle.std.specs.Prelude.{Option, Some, None, IfOk, IfErr};
 
 use crate::verdicts::After;
 use std::alloc::{AllocError, Global};
@@ -27,11 +27,16 @@ pub trait Job: Drop {
     /// From the first state to the last, this is a step of its own.
     ghost steps: { Self → Reaction → Self → Type 0 };
 
+    /// Memory may run out for it at this entry, or at a step of its own. Nothing is said of it where a job names none.
+    ghost refuses: { Self → Option Entry → Type 0 } = { λ _ _. Unit {0} };
+
     /// Answers an entry that was read for it.
     fn entry(&mut self, alloc: Global, entry: Entry) -> Result<Reaction, AllocError>
-        ensures { IfOk result (λ reaction. reacts self.old entry reaction self.new) };
+        ensures answers { IfOk result (λ reaction. reacts self.old entry reaction self.new) }
+        ensures refused { IfErr result (λ _. refuses self.old (Some entry)) };
 
     /// Makes a step without reading.
     fn step(&mut self, alloc: Global) -> Result<Reaction, AllocError>
-        ensures { IfOk result (λ reaction. steps self.old reaction self.new) };
+        ensures stepped { IfOk result (λ reaction. steps self.old reaction self.new) }
+        ensures refused { IfErr result (λ _. refuses self.old None) };
 }

@@ -310,7 +310,7 @@ module _ (editing : Editing) where
     took_first = ([], append-nil taken ∙ sym puts_are);
     talked = ((Text (97 ∷ 10 ∷ []), calm) ∷ [], tt, tt, refl, (tt, tt, refl), inl (refl, refl));
     stopped = false;
-    stepped = ([], Left ∷ [], inl refl, refl, tt, λ id i. absurd i, λ id i. absurd i, [], refl, inr (inl refl));
+    stepped = ([], Left ∷ [], refl, tt, λ id i. absurd i, λ id i. absurd i, [], refl, refl);
     back_left = back_left;
     told = back_told;
     stopped_for = λ on. back_stops;

@@ -21,6 +21,7 @@ canon =
 -- jobs of which nothing is known
 abbrev pub any_jobs : JobFacts (Unit {0})
 any_jobs = job_facts (λ job. Unit {0}) (λ old entry reaction new. Unit {0}) (λ old reaction new. Unit {0})
+    (λ job entry. Unit {0})
 
 -- Two sessions, of which a socket carries the line: it is typed, and taken, and both run to the end.
 pub record SessionsCarryALine (editing : Editing) : Type 0 where

@@ -14,7 +14,7 @@ use tn_session::Maker;
 /// sessions ran to the end.
 pub fn what_you_type_is_what_the_job_reads<M: Maker>()
     ensures { (maker : M) →
-        Headline (job_facts (begins M.Job.fresh M.gives maker) M.Job.reacts M.Job.steps) }
+        Headline (job_facts (begins M.Job.fresh M.gives maker) M.Job.reacts M.Job.steps M.Job.refuses) }
 {}
 
 /// What that asks of two sessions can be met, and both can run to the end: a line is typed at the client, and

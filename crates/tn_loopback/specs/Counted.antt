@@ -19,8 +19,8 @@ no_options = record { line_limit = standard_limit; editing = Remote; idle = 0 }
 
 -- of makers of such jobs: what is known of the jobs of each
 abbrev pub facts_of : {M J : Type 0} → (J → Type 0) → (M → J → M → Type 0) → (J → Entry → Reaction → J → Type 0)
-    → (J → Reaction → J → Type 0) → M → JobFacts J
-facts_of fresh gives reacts steps jobs = job_facts (begins fresh gives jobs) reacts steps
+    → (J → Reaction → J → Type 0) → (J → Option Entry → Type 0) → M → JobFacts J
+facts_of fresh gives reacts steps refuses jobs = job_facts (begins fresh gives jobs) reacts steps refuses
 
 -- What is known of a server: of the jobs that a maker gives and how many are to come, the options of its sessions,
 -- which makers its service gives them, and what a connection that gets no session was told.

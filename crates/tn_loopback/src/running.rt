@@ -122,13 +122,13 @@ impl<J: Job, M: Maker<Job = J>, O: Asked<M>> Running<J, M, O> {
         ensures accepted { self.new.accepted ≡ self.old.accepted }
         ensures joined { vec_len self.new.started + 1 ≡ vec_len self.old.started }
         ensures ended { HasEnded
-            (server_of (facts_of J.fresh M.gives J.reacts J.steps) M.left O.options O.made O.turned) result.finished }
+            (server_of (facts_of J.fresh M.gives J.reacts J.steps J.refuses) M.left O.options O.made O.turned) result.finished }
         ensures one { self.new.whole + self.new.faulted ≡ self.old.whole + self.old.faulted + 1 }
         ensures closed { IsOneMore result.caller.number
             (live_of (vec_items self.new.started) (λ s. s.caller.number))
             (live_of (vec_items self.old.started) (λ s. s.caller.number)) }
         ensures each { StillCounts
-            (server_of (facts_of J.fresh M.gives J.reacts J.steps) M.left O.options O.made O.turned)
+            (server_of (facts_of J.fresh M.gives J.reacts J.steps J.refuses) M.left O.options O.made O.turned)
             self.old.whole self.old.faulted self.old.refused self.new.whole self.new.faulted self.new.refused }
     {
         let Started {
@@ -175,7 +175,7 @@ impl<J: Job, M: Maker<Job = J>, O: Asked<M>> Running<J, M, O> {
         ensures same { self.new.started ≡ self.old.started }
         ensures one { self.new.whole + self.new.faulted ≡ self.old.whole + self.old.faulted + 1 }
         ensures each { StillCounts
-            (server_of (facts_of J.fresh M.gives J.reacts J.steps) M.left O.options O.made O.turned)
+            (server_of (facts_of J.fresh M.gives J.reacts J.steps J.refuses) M.left O.options O.made O.turned)
             self.old.whole self.old.faulted self.old.refused self.new.whole self.new.faulted self.new.refused }
     {
         self.faulted += 1;
@@ -191,7 +191,7 @@ impl<J: Job, M: Maker<Job = J>, O: Asked<M>> Running<J, M, O> {
         ensures same { self.new.started ≡ self.old.started }
         ensures counts { (self.new.whole ≡ self.old.whole) × (self.new.faulted ≡ self.old.faulted) }
         ensures each { StillCounts
-            (server_of (facts_of J.fresh M.gives J.reacts J.steps) M.left O.options O.made O.turned)
+            (server_of (facts_of J.fresh M.gives J.reacts J.steps J.refuses) M.left O.options O.made O.turned)
             self.old.whole self.old.faulted self.old.refused self.new.whole self.new.faulted self.new.refused }
     {
         self.refused += 1;

@@ -65,10 +65,10 @@ where
     E: Write,
     ensures all { IfOk result (ServesAll serving.count) }
     ensures each { IfOk result (λ served. CountsSessions (server_of
-        (facts_of V.Job.fresh V.Jobs.gives V.Job.reacts V.Job.steps) V.Jobs.left serving.options
+        (facts_of V.Job.fresh V.Jobs.gives V.Job.reacts V.Job.steps V.Job.refuses) V.Jobs.left serving.options
         (V.makes service) (WasTurnedAway (H.dismisses rt))) served.whole served.faulted served.refused) }
     ensures heard { IfOk result (λ served. HearsAll V.turns (HasEnded (server_of
-        (facts_of V.Job.fresh V.Jobs.gives V.Job.reacts V.Job.steps) V.Jobs.left serving.options
+        (facts_of V.Job.fresh V.Jobs.gives V.Job.reacts V.Job.steps V.Job.refuses) V.Jobs.left serving.options
         (V.makes service) (WasTurnedAway (H.dismisses rt)))) service (served.whole + served.faulted)) }
     ensures listened { Listens (H.listens rt at.entry.host.now at.entry.port) (H.shares rt) (H.accepts rt)
         (λ (served : Served). served.accepted) result }
@@ -91,10 +91,10 @@ pub fn serve_on<H: Host + Network, V: Service + Drop, E: Write>(
 ) -> Result<Served, ServeFault>
     ensures all { IfOk result (ServesAll serving.count) }
     ensures each { IfOk result (λ served. CountsSessions (server_of
-        (facts_of V.Job.fresh V.Jobs.gives V.Job.reacts V.Job.steps) V.Jobs.left serving.options
+        (facts_of V.Job.fresh V.Jobs.gives V.Job.reacts V.Job.steps V.Job.refuses) V.Jobs.left serving.options
         (V.makes service) (WasTurnedAway (H.dismisses rt))) served.whole served.faulted served.refused) }
     ensures heard { IfOk result (λ served. HearsAll V.turns (HasEnded (server_of
-        (facts_of V.Job.fresh V.Jobs.gives V.Job.reacts V.Job.steps) V.Jobs.left serving.options
+        (facts_of V.Job.fresh V.Jobs.gives V.Job.reacts V.Job.steps V.Job.refuses) V.Jobs.left serving.options
         (V.makes service) (WasTurnedAway (H.dismisses rt)))) service (served.whole + served.faulted)) }
     ensures accepted { IfOk result (λ served. Accepts (H.shares rt listener.now) (H.accepts rt) served.accepted) }
     ensures limit { IsErrOf result ServeFault.Limit → ¬ IsLimit serving.sessions }
@@ -117,10 +117,10 @@ fn serve_as<H: Host + Network, V: Service + Drop, E: Write, O: Asked<V::Jobs>>(
     requires turns { TurnsAway (H.dismisses rt) O.turned }
     ensures all { IfOk result (ServesAll serving.count) }
     ensures each { IfOk result (λ served. CountsSessions (server_of
-        (facts_of V.Job.fresh V.Jobs.gives V.Job.reacts V.Job.steps) V.Jobs.left O.options O.made O.turned)
+        (facts_of V.Job.fresh V.Jobs.gives V.Job.reacts V.Job.steps V.Job.refuses) V.Jobs.left O.options O.made O.turned)
         served.whole served.faulted served.refused) }
     ensures heard { IfOk result (λ served. HearsAll V.turns (HasEnded (server_of
-        (facts_of V.Job.fresh V.Jobs.gives V.Job.reacts V.Job.steps) V.Jobs.left O.options O.made O.turned))
+        (facts_of V.Job.fresh V.Jobs.gives V.Job.reacts V.Job.steps V.Job.refuses) V.Jobs.left O.options O.made O.turned))
         service (served.whole + served.faulted)) }
     ensures accepted { IfOk result (λ served. Accepts (H.shares rt listener.now) (H.accepts rt) served.accepted) }
     ensures limit { IsErrOf result ServeFault.Limit → ¬ IsLimit serving.sessions }
@@ -198,11 +198,11 @@ impl<H: Host + Network, V: Service, O: Asked<V::Jobs>> Open<H, V, O> {
         requires makes { MakesOnly V.makes self.old.service O.made }
         requires turns { TurnsAway (H.dismisses self.old.rt) O.turned }
         ensures each { StillCounts (server_of
-            (facts_of V.Job.fresh V.Jobs.gives V.Job.reacts V.Job.steps) V.Jobs.left O.options O.made O.turned)
+            (facts_of V.Job.fresh V.Jobs.gives V.Job.reacts V.Job.steps V.Job.refuses) V.Jobs.left O.options O.made O.turned)
             self.old.running.whole self.old.running.faulted self.old.running.refused
             self.new.running.whole self.new.running.faulted self.new.running.refused }
         ensures heard { StillHears V.turns (HasEnded (server_of
-            (facts_of V.Job.fresh V.Jobs.gives V.Job.reacts V.Job.steps) V.Jobs.left O.options O.made O.turned))
+            (facts_of V.Job.fresh V.Jobs.gives V.Job.reacts V.Job.steps V.Job.refuses) V.Jobs.left O.options O.made O.turned))
             (self.old.running.whole + self.old.running.faulted) self.old.service
             (live_of (vec_items self.old.running.started) (λ s. s.caller.number))
             (self.new.running.whole + self.new.running.faulted) self.new.service
@@ -231,11 +231,11 @@ impl<H: Host + Network, V: Service, O: Asked<V::Jobs>> Open<H, V, O> {
         requires makes { MakesOnly V.makes self.old.service O.made }
         requires turns { TurnsAway (H.dismisses self.old.rt) O.turned }
         ensures each { StillCounts (server_of
-            (facts_of V.Job.fresh V.Jobs.gives V.Job.reacts V.Job.steps) V.Jobs.left O.options O.made O.turned)
+            (facts_of V.Job.fresh V.Jobs.gives V.Job.reacts V.Job.steps V.Job.refuses) V.Jobs.left O.options O.made O.turned)
             self.old.running.whole self.old.running.faulted self.old.running.refused
             self.new.running.whole self.new.running.faulted self.new.running.refused }
         ensures heard { StillHears V.turns (HasEnded (server_of
-            (facts_of V.Job.fresh V.Jobs.gives V.Job.reacts V.Job.steps) V.Jobs.left O.options O.made O.turned))
+            (facts_of V.Job.fresh V.Jobs.gives V.Job.reacts V.Job.steps V.Job.refuses) V.Jobs.left O.options O.made O.turned))
             (self.old.running.whole + self.old.running.faulted) self.old.service
             (live_of (vec_items self.old.running.started) (λ s. s.caller.number))
             (self.new.running.whole + self.new.running.faulted) self.new.service
@@ -259,11 +259,11 @@ impl<H: Host + Network, V: Service, O: Asked<V::Jobs>> Open<H, V, O> {
         requires makes { MakesOnly V.makes self.old.service O.made }
         requires turns { TurnsAway (H.dismisses self.old.rt) O.turned }
         ensures each { StillCounts (server_of
-            (facts_of V.Job.fresh V.Jobs.gives V.Job.reacts V.Job.steps) V.Jobs.left O.options O.made O.turned)
+            (facts_of V.Job.fresh V.Jobs.gives V.Job.reacts V.Job.steps V.Job.refuses) V.Jobs.left O.options O.made O.turned)
             self.old.running.whole self.old.running.faulted self.old.running.refused
             self.new.running.whole self.new.running.faulted self.new.running.refused }
         ensures heard { StillHears V.turns (HasEnded (server_of
-            (facts_of V.Job.fresh V.Jobs.gives V.Job.reacts V.Job.steps) V.Jobs.left O.options O.made O.turned))
+            (facts_of V.Job.fresh V.Jobs.gives V.Job.reacts V.Job.steps V.Job.refuses) V.Jobs.left O.options O.made O.turned))
             (self.old.running.whole + self.old.running.faulted) self.old.service
             (live_of (vec_items self.old.running.started) (λ s. s.caller.number))
             (self.new.running.whole + self.new.running.faulted) self.new.service
@@ -305,7 +305,7 @@ impl<H: Host + Network, V: Service, O: Asked<V::Jobs>> Open<H, V, O> {
         requires full { held_count self.old.roster ≡ self.old.roster.limit }
         requires more { self.old.running.accepted < 2 ^ 32 - 1 }
         ensures each { StillCounts (server_of
-            (facts_of V.Job.fresh V.Jobs.gives V.Job.reacts V.Job.steps) V.Jobs.left O.options O.made O.turned)
+            (facts_of V.Job.fresh V.Jobs.gives V.Job.reacts V.Job.steps V.Job.refuses) V.Jobs.left O.options O.made O.turned)
             self.old.running.whole self.old.running.faulted self.old.running.refused
             self.new.running.whole self.new.running.faulted self.new.running.refused }
         ensures started { self.new.running.started ≡ self.old.running.started }
@@ -325,11 +325,11 @@ impl<H: Host + Network, V: Service, O: Asked<V::Jobs>> Open<H, V, O> {
         requires held { vec_len self.old.running.started < held_count self.old.roster }
         requires more { self.old.running.accepted < 2 ^ 32 - 1 }
         ensures each { StillCounts (server_of
-            (facts_of V.Job.fresh V.Jobs.gives V.Job.reacts V.Job.steps) V.Jobs.left O.options O.made O.turned)
+            (facts_of V.Job.fresh V.Jobs.gives V.Job.reacts V.Job.steps V.Job.refuses) V.Jobs.left O.options O.made O.turned)
             self.old.running.whole self.old.running.faulted self.old.running.refused
             self.new.running.whole self.new.running.faulted self.new.running.refused }
         ensures heard { StillHears V.turns (HasEnded (server_of
-            (facts_of V.Job.fresh V.Jobs.gives V.Job.reacts V.Job.steps) V.Jobs.left O.options O.made O.turned))
+            (facts_of V.Job.fresh V.Jobs.gives V.Job.reacts V.Job.steps V.Job.refuses) V.Jobs.left O.options O.made O.turned))
             (self.old.running.whole + self.old.running.faulted) self.old.service
             (live_of (vec_items self.old.running.started) (λ s. s.caller.number))
             (self.new.running.whole + self.new.running.faulted) self.new.service
@@ -351,7 +351,7 @@ impl<H: Host + Network, V: Service, O: Asked<V::Jobs>> Open<H, V, O> {
         requires held { vec_len self.old.running.started < held_count self.old.roster }
         requires more { self.old.running.accepted < 2 ^ 32 - 1 }
         ensures each { StillCounts (server_of
-            (facts_of V.Job.fresh V.Jobs.gives V.Job.reacts V.Job.steps) V.Jobs.left O.options O.made O.turned)
+            (facts_of V.Job.fresh V.Jobs.gives V.Job.reacts V.Job.steps V.Job.refuses) V.Jobs.left O.options O.made O.turned)
             self.old.running.whole self.old.running.faulted self.old.running.refused
             self.new.running.whole self.new.running.faulted self.new.running.refused }
         ensures started { self.new.running.started ≡ self.old.running.started }
@@ -377,10 +377,10 @@ impl<H: Host + Network, V: Service, O: Asked<V::Jobs>> Open<H, V, O> {
         ensures roster { self.new.roster ≡ self.old.roster }
         ensures makes { StillMakes V.makes self.old.service self.new.service }
         ensures jobs { IfSome result (λ started. HearsOfJobs V.turns (HasEnded (server_of
-            (facts_of V.Job.fresh V.Jobs.gives V.Job.reacts V.Job.steps) V.Jobs.left O.options O.made O.turned))
+            (facts_of V.Job.fresh V.Jobs.gives V.Job.reacts V.Job.steps V.Job.refuses) V.Jobs.left O.options O.made O.turned))
             started.caller.number self.old.service self.new.service) }
         ensures none { IfNone result (HearsOfNone V.turns (HasEnded (server_of
-            (facts_of V.Job.fresh V.Jobs.gives V.Job.reacts V.Job.steps) V.Jobs.left O.options O.made O.turned))
+            (facts_of V.Job.fresh V.Jobs.gives V.Job.reacts V.Job.steps V.Job.refuses) V.Jobs.left O.options O.made O.turned))
             self.old.service self.new.service) }
         ensures rt { self.new.rt ≡ self.old.rt }
     {
@@ -434,11 +434,11 @@ impl<H: Host + Network, V: Service, O: Asked<V::Jobs>> Open<H, V, O> {
     // The session with this number has ended.
     fn end<E: Write>(&mut self, number: usize, errors: &mut E)
         ensures each { StillCounts (server_of
-            (facts_of V.Job.fresh V.Jobs.gives V.Job.reacts V.Job.steps) V.Jobs.left O.options O.made O.turned)
+            (facts_of V.Job.fresh V.Jobs.gives V.Job.reacts V.Job.steps V.Job.refuses) V.Jobs.left O.options O.made O.turned)
             self.old.running.whole self.old.running.faulted self.old.running.refused
             self.new.running.whole self.new.running.faulted self.new.running.refused }
         ensures heard { StillHears V.turns (HasEnded (server_of
-            (facts_of V.Job.fresh V.Jobs.gives V.Job.reacts V.Job.steps) V.Jobs.left O.options O.made O.turned))
+            (facts_of V.Job.fresh V.Jobs.gives V.Job.reacts V.Job.steps V.Job.refuses) V.Jobs.left O.options O.made O.turned))
             (self.old.running.whole + self.old.running.faulted) self.old.service
             (live_of (vec_items self.old.running.started) (λ s. s.caller.number))
             (self.new.running.whole + self.new.running.faulted) self.new.service
@@ -456,11 +456,11 @@ impl<H: Host + Network, V: Service, O: Asked<V::Jobs>> Open<H, V, O> {
     fn end_at<E: Write>(&mut self, place: usize, errors: &mut E)
         requires { place < vec_len self.old.running.started }
         ensures each { StillCounts (server_of
-            (facts_of V.Job.fresh V.Jobs.gives V.Job.reacts V.Job.steps) V.Jobs.left O.options O.made O.turned)
+            (facts_of V.Job.fresh V.Jobs.gives V.Job.reacts V.Job.steps V.Job.refuses) V.Jobs.left O.options O.made O.turned)
             self.old.running.whole self.old.running.faulted self.old.running.refused
             self.new.running.whole self.new.running.faulted self.new.running.refused }
         ensures heard { StillHears V.turns (HasEnded (server_of
-            (facts_of V.Job.fresh V.Jobs.gives V.Job.reacts V.Job.steps) V.Jobs.left O.options O.made O.turned))
+            (facts_of V.Job.fresh V.Jobs.gives V.Job.reacts V.Job.steps V.Job.refuses) V.Jobs.left O.options O.made O.turned))
             (self.old.running.whole + self.old.running.faulted) self.old.service
             (live_of (vec_items self.old.running.started) (λ s. s.caller.number))
             (self.new.running.whole + self.new.running.faulted) self.new.service
@@ -496,11 +496,11 @@ impl<H: Host + Network, V: Service, O: Asked<V::Jobs>> Open<H, V, O> {
     // Joins all sessions that still run.
     fn join_all<E: Write>(&mut self, errors: &mut E)
         ensures each { StillCounts (server_of
-            (facts_of V.Job.fresh V.Jobs.gives V.Job.reacts V.Job.steps) V.Jobs.left O.options O.made O.turned)
+            (facts_of V.Job.fresh V.Jobs.gives V.Job.reacts V.Job.steps V.Job.refuses) V.Jobs.left O.options O.made O.turned)
             self.old.running.whole self.old.running.faulted self.old.running.refused
             self.new.running.whole self.new.running.faulted self.new.running.refused }
         ensures heard { StillHears V.turns (HasEnded (server_of
-            (facts_of V.Job.fresh V.Jobs.gives V.Job.reacts V.Job.steps) V.Jobs.left O.options O.made O.turned))
+            (facts_of V.Job.fresh V.Jobs.gives V.Job.reacts V.Job.steps V.Job.refuses) V.Jobs.left O.options O.made O.turned))
             (self.old.running.whole + self.old.running.faulted) self.old.service
             (live_of (vec_items self.old.running.started) (λ s. s.caller.number))
             (self.new.running.whole + self.new.running.faulted) self.new.service

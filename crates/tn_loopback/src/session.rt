@@ -58,7 +58,7 @@ where
             options: self.options,
         };
         let work = move || -> Ran
-            ensures { IsPromised (job_facts (begins M.Job.fresh M.gives self.jobs) M.Job.reacts M.Job.steps)
+            ensures { IsPromised (job_facts (begins M.Job.fresh M.gives self.jobs) M.Job.reacts M.Job.steps M.Job.refuses)
                 (M.left self.jobs) self.options result }
         {
             let ran = self.run();
@@ -85,7 +85,7 @@ impl<M: Maker> Promise<Ran> for SessionSays<M> {
     ghost use Rattle.tn_session.specs.Makers.{begins};
 
     ghost kept_by = { λ p ran.
-        IsPromised (job_facts (begins M.Job.fresh M.gives p.jobs.value) M.Job.reacts M.Job.steps)
+        IsPromised (job_facts (begins M.Job.fresh M.gives p.jobs.value) M.Job.reacts M.Job.steps M.Job.refuses)
         (M.left p.jobs.value) p.options ran };
 }
 
@@ -98,7 +98,7 @@ where
     fn run(self) -> Ran
         ensures fault { IfErr result.ended IsRefusal }
         ensures ran { IfOk result.ended (RunsServer
-            (job_facts (begins M.Job.fresh M.gives self.jobs) M.Job.reacts M.Job.steps)
+            (job_facts (begins M.Job.fresh M.gives self.jobs) M.Job.reacts M.Job.steps M.Job.refuses)
             (M.left self.jobs) self.options) }
         ensures in_reach { IfOk result.ended (λ conversed. conversed.report.ended ≢ too_far_ahead) }
     {
@@ -118,7 +118,7 @@ where
     fn converse(self) -> Result<Conversed, SessionFault>
         ensures fault { IfErr result IsRefusal }
         ensures ran { IfOk result (RunsServer
-            (job_facts (begins M.Job.fresh M.gives self.jobs) M.Job.reacts M.Job.steps)
+            (job_facts (begins M.Job.fresh M.gives self.jobs) M.Job.reacts M.Job.steps M.Job.refuses)
             (M.left self.jobs) self.options) }
         ensures in_reach { IfOk result (λ conversed. conversed.report.ended ≢ too_far_ahead) }
     {
@@ -176,7 +176,7 @@ where
     requires new { logged writer.old.log ≡ [] }
     ensures fault { IfErr result IsRefusal }
     ensures ran { IfOk result (λ r. RunsServer
-        (job_facts (begins M.Job.fresh M.gives jobs) M.Job.reacts M.Job.steps)
+        (job_facts (begins M.Job.fresh M.gives jobs) M.Job.reacts M.Job.steps M.Job.refuses)
         (M.left jobs) options (record { report = r.0; ports = r.1; log = writer.new.log })) }
     ensures in_reach { IfOk result (λ r. r.0.ended ≢ too_far_ahead) }
 {
@@ -215,7 +215,7 @@ where
     M::Job: Send + 'static,
     ensures fault { IfErr result IsRefusal }
     ensures ran { IfOk result (RunsServer
-        (job_facts (begins M.Job.fresh M.gives jobs) M.Job.reacts M.Job.steps) (M.left jobs) options) }
+        (job_facts (begins M.Job.fresh M.gives jobs) M.Job.reacts M.Job.steps M.Job.refuses) (M.left jobs) options) }
     ensures in_reach { IfOk result (λ conversed. conversed.report.ended ≢ too_far_ahead) }
 {
     let (Ok(standing), Ok(traffic)) = (Standing::new(alloc), Traffic::new(alloc)) else {

@@ -40,7 +40,7 @@ where
     // its own job, as often as was asked for
     ensures answers { asked.now.to ≡ None → IfOk result (λ served. CountsSessions (server_of (facts_of
         ⟦<Answerer as Job>⟧.fresh ⟦<Answerers as Maker>⟧.gives ⟦<Answerer as Job>⟧.reacts
-        ⟦<Answerer as Job>⟧.steps) ⟦<Answerers as Maker>⟧.left (options_as asked.now)
+        ⟦<Answerer as Job>⟧.steps ⟦<Answerer as Job>⟧.refuses) ⟦<Answerers as Maker>⟧.left (options_as asked.now)
         (AnswersAsAsked asked.now.ticks) (WasTurnedAway (H.dismisses rt)))
         served.whole served.faulted served.refused) }
 
@@ -48,7 +48,8 @@ where
     ensures joins { IfSome asked.now.to (λ to. IfOk result (λ served. CountsSessions (server_of (facts_of
         ⟦<Gateway<Heard<H, TcpStream>, Told<H, TcpStream>> as Job>⟧.fresh ⟦<Joiner<H> as Maker>⟧.gives
         ⟦<Gateway<Heard<H, TcpStream>, Told<H, TcpStream>> as Job>⟧.reacts
-        ⟦<Gateway<Heard<H, TcpStream>, Told<H, TcpStream>> as Job>⟧.steps) ⟦<Joiner<H> as Maker>⟧.left
+        ⟦<Gateway<Heard<H, TcpStream>, Told<H, TcpStream>> as Job>⟧.steps
+        ⟦<Gateway<Heard<H, TcpStream>, Told<H, TcpStream>> as Job>⟧.refuses) ⟦<Joiner<H> as Maker>⟧.left
         (options_as asked.now) (JoinsAsAsked rt (string_bytes to.host) to.port asked.now.line_end)
         (WasTurnedAway (H.dismisses rt))) served.whole served.faulted served.refused)) }
     ensures limit { IsErrOf result ServeFault.Limit → ¬ IsLimit asked.now.sessions }

@@ -1,6 +1,6 @@
 -- What holds of each state that a server's session can reach.
 use Rattle.std.proofs.Common.{◌≡◌, ℕ, zero, suc, ◌+◌, ◌*◌, ◌≤◌}
-use Rattle.tn_progress.specs.Server.{one, End, nothing_comes, no_memory, Net, handing, net_leaves, net_gone, is_done, is_refused, Cause, stops, none_comes, Desk, waiting, desk_leaves, desk_gone, Back, back_gone, Term, writing, joining, ended, State, Sizes, waiting_mails}
+use Rattle.tn_progress.specs.Server.{one, End, nothing_comes, no_memory, Net, handing, net_leaves, net_gone, is_done, is_refused, Cause, stops, none_comes, Desk, asking, waiting, desk_leaves, desk_gone, Back, back_waits, back_leaves, back_gone, Term, writing, joining, ended, State, Sizes, waiting_mails}
 
 abbrev pub is_handing : Net → ℕ
 is_handing handing = 1
@@ -50,6 +50,12 @@ desk_by f (desk_leaves c) = f c
 desk_by f (desk_gone c) = f c
 desk_by f _ = 0
 
+-- what it asked for has come
+abbrev pub has_answer : Desk → ℕ
+has_answer asking = 0
+has_answer waiting = 0
+has_answer _ = 1
+
 abbrev pub desk_left_in : Desk → ℕ
 desk_left_in (desk_gone c) = 1
 desk_left_in _ = 0
@@ -57,6 +63,16 @@ desk_left_in _ = 0
 abbrev pub back_left_in : Back → ℕ
 back_left_in back_gone = 1
 back_left_in _ = 0
+
+-- it has a credit to step, or had one as it stopped
+abbrev pub has_step_credit : Back → ℕ
+has_step_credit back_waits = 0
+has_step_credit _ = 1
+
+abbrev pub is_leaving : Back → ℕ
+is_leaving back_leaves = 1
+is_leaving back_gone = 1
+is_leaving _ = 0
 
 abbrev pub is_writing : Term → ℕ
 is_writing (writing p last) = 1
@@ -85,6 +101,10 @@ pub record Holds (sizes : Sizes) (s : State) : Type 0 where
   pub fits : waiting_mails s.box ≤ sizes.mails
   pub one_credit : s.credits + one s.owed + is_handing s.net + s.box.pieces + of_piece s.term ≡ 1
   pub one_request : s.box.takes + one s.asks + s.entries + s.ends + last_of s.term ≡ is_waiting s.desk
+  pub one_credit_each : s.step_credits + s.box.steps + has_step_credit s.back ≡ sizes.ahead
+  pub one_answer : s.box.said + one s.asks + s.entries + s.ends + last_of s.term + has_answer s.desk ≤ 1
+  pub tells_done : s.box.done ≤ desk_by done_by s.desk
+  pub tells_refusals : s.box.refusals ≤ has_failed s.net + desk_by refused_by s.desk + is_leaving s.back
   pub asks_first : one s.asks * s.waits ≡ 0
   pub asks_while : one s.asks + one s.over ≤ 1
   pub asks_before : one s.asks + one s.at_end ≤ 1

@@ -1,8 +1,8 @@
 -- Each step of a server's session keeps what holds.
 use Rattle.std.proofs.Common.{arith, ◌≡◌, ℕ, zero, suc, ◌+◌, ◌<◌, ◌≤◌, Bool, true, false, ◌||◌, refl, sym, subst}
 use Rattle.tn_progress.proofs.Invariant.{Holds, many}
-use Rattle.tn_progress.specs.Server.{one, nothing_comes, no_memory, Net, reading, holding, handing, net_tells, net_leaves, is_done, is_refused, Desk, asking, waiting, answering, desk_says, desk_tells, desk_leaves, Back, stepping, back_says, back_tells, back_leaves, Term, receiving, writing, joining, Kind, piece, ending, take, said, done, refusal, left, State, Sizes, start, count_of}
-use Rattle.tn_progress.specs.ServerSteps.{Choice, gives, refused_first, refused_last, Own, takes_credit, hands_piece, tells_end, net_left, asks_entry, takes_entry, takes_end, says_answer, tells_stop, desk_left, says_step, is_stopped, tells_refusal, back_left, handles, writes_nothing, joins, finishes, Outer, brings, is_read_out, answers, takes_no_more, steps, refuses, has_no_job, writes, MayGo, gone_on, MayBeLet, let_on, handled, written, is_few, broken, paid, Reached, at_start, goes_on, let_go}
+use Rattle.tn_progress.specs.Server.{one, nothing_comes, no_memory, Net, reading, holding, handing, net_tells, net_leaves, is_done, is_refused, Desk, asking, waiting, answering, desk_says, desk_tells, desk_leaves, Back, back_waits, stepping, back_says, back_tells, back_leaves, Term, receiving, writing, joining, Kind, piece, ending, take, said, step, done, refusal, left, State, Sizes, start, count_of}
+use Rattle.tn_progress.specs.ServerSteps.{Choice, gives, refused_first, refused_last, Own, takes_credit, hands_piece, tells_end, net_left, asks_entry, takes_entry, takes_end, says_answer, tells_stop, desk_left, takes_step_credit, says_step, is_stopped, tells_refusal, back_left, handles, writes_nothing, joins, finishes, Outer, brings, is_read_out, answers, takes_no_more, steps, refuses, has_no_job, writes, MayGo, gone_on, MayBeLet, let_on, waits_behind, handled, written, is_few, broken, paid, Reached, at_start, goes_on, let_go}
 
 at_net : (sizes : Sizes) (s : State) (n : Net) → s.net ≡ n → Holds sizes s → Holds sizes (record s { net = n })
 at_net sizes s n e h = subst (λ (m : Net). Holds sizes (record s { net = m })) e h
@@ -19,44 +19,48 @@ at_term sizes s t e h = subst (λ (m : Term). Holds sizes (record s { term = m }
 -- a message is handled
 by_message : (sizes : Sizes) (choice : Choice) (kind : Kind) (s : State) (over asks at_end : Bool) (waits : ℕ)
     → Holds sizes (record s { term = receiving; over = over; asks = asks; at_end = at_end; waits = waits })
-    → 0 < count_of kind s.box
+    → 0 < count_of kind s.box → waits_behind kind s.box ≡ 0
     → Holds sizes (handled choice kind (record s { term = receiving; over = over; asks = asks; at_end = at_end; waits = waits }))
-by_message sizes choice piece s true asks at_end waits h some = grind arith
-by_message sizes choice ending s true asks at_end waits h some = grind arith
-by_message sizes choice take s true asks at_end waits h some = grind arith
-by_message sizes choice said s true asks at_end waits h some = grind arith
-by_message sizes choice done s true asks at_end waits h some = grind arith
-by_message sizes choice refusal s true asks at_end waits h some = grind arith
-by_message sizes choice left s true asks at_end waits h some = grind arith
-by_message sizes (gives zero) piece s false true at_end waits h some = grind arith
-by_message sizes (gives (suc more)) piece s false true at_end waits h some = grind arith
-by_message sizes (gives zero) piece s false false at_end waits h some = grind arith
-by_message sizes (gives (suc more)) piece s false false at_end waits h some = grind arith
-by_message sizes refused_first piece s false asks at_end waits h some = grind arith
-by_message sizes refused_last piece s false true at_end waits h some = grind arith
-by_message sizes refused_last piece s false false at_end waits h some = grind arith
-by_message sizes (gives more) take s false asks true zero h some = grind arith
-by_message sizes (gives more) take s false asks false zero h some = grind arith
-by_message sizes (gives more) take s false asks at_end (suc waits) h some = grind arith
-by_message sizes refused_last take s false asks true zero h some = grind arith
-by_message sizes refused_last take s false asks false zero h some = grind arith
-by_message sizes refused_last take s false asks at_end (suc waits) h some = grind arith
-by_message sizes refused_first take s false asks at_end waits h some = grind arith
-by_message sizes (gives more) ending s false asks at_end waits h some = grind arith
-by_message sizes refused_first ending s false asks at_end waits h some = grind arith
-by_message sizes refused_last ending s false asks at_end waits h some = grind arith
-by_message sizes (gives more) said s false asks at_end waits h some = grind arith
-by_message sizes refused_first said s false asks at_end waits h some = grind arith
-by_message sizes refused_last said s false asks at_end waits h some = grind arith
-by_message sizes (gives more) done s false asks at_end waits h some = grind arith
-by_message sizes refused_first done s false asks at_end waits h some = grind arith
-by_message sizes refused_last done s false asks at_end waits h some = grind arith
-by_message sizes (gives more) refusal s false asks at_end waits h some = grind arith
-by_message sizes refused_first refusal s false asks at_end waits h some = grind arith
-by_message sizes refused_last refusal s false asks at_end waits h some = grind arith
-by_message sizes (gives more) left s false asks at_end waits h some = grind arith
-by_message sizes refused_first left s false asks at_end waits h some = grind arith
-by_message sizes refused_last left s false asks at_end waits h some = grind arith
+by_message sizes choice piece s true asks at_end waits h some none = grind arith
+by_message sizes choice ending s true asks at_end waits h some none = grind arith
+by_message sizes choice take s true asks at_end waits h some none = grind arith
+by_message sizes choice said s true asks at_end waits h some none = grind arith
+by_message sizes choice step s true asks at_end waits h some none = grind arith
+by_message sizes choice done s true asks at_end waits h some none = grind arith
+by_message sizes choice refusal s true asks at_end waits h some none = grind arith
+by_message sizes choice left s true asks at_end waits h some none = grind arith
+by_message sizes (gives zero) piece s false true at_end waits h some none = grind arith
+by_message sizes (gives (suc more)) piece s false true at_end waits h some none = grind arith
+by_message sizes (gives zero) piece s false false at_end waits h some none = grind arith
+by_message sizes (gives (suc more)) piece s false false at_end waits h some none = grind arith
+by_message sizes refused_first piece s false asks at_end waits h some none = grind arith
+by_message sizes refused_last piece s false true at_end waits h some none = grind arith
+by_message sizes refused_last piece s false false at_end waits h some none = grind arith
+by_message sizes (gives more) take s false asks true zero h some none = grind arith
+by_message sizes (gives more) take s false asks false zero h some none = grind arith
+by_message sizes (gives more) take s false asks at_end (suc waits) h some none = grind arith
+by_message sizes refused_last take s false asks true zero h some none = grind arith
+by_message sizes refused_last take s false asks false zero h some none = grind arith
+by_message sizes refused_last take s false asks at_end (suc waits) h some none = grind arith
+by_message sizes refused_first take s false asks at_end waits h some none = grind arith
+by_message sizes (gives more) ending s false asks at_end waits h some none = grind arith
+by_message sizes refused_first ending s false asks at_end waits h some none = grind arith
+by_message sizes refused_last ending s false asks at_end waits h some none = grind arith
+by_message sizes (gives more) said s false asks at_end waits h some none = grind arith
+by_message sizes (gives more) step s false asks at_end waits h some none = grind arith
+by_message sizes refused_first said s false asks at_end waits h some none = grind arith
+by_message sizes refused_first step s false asks at_end waits h some none = grind arith
+by_message sizes refused_last said s false asks at_end waits h some none = grind arith
+by_message sizes refused_last step s false asks at_end waits h some none = grind arith
+by_message sizes (gives more) done s false asks at_end waits h some none = grind arith
+by_message sizes refused_first done s false asks at_end waits h some none = grind arith
+by_message sizes refused_last done s false asks at_end waits h some none = grind arith
+by_message sizes (gives more) refusal s false asks at_end waits h some none = grind arith
+by_message sizes refused_first refusal s false asks at_end waits h some none = grind arith
+by_message sizes refused_last refusal s false asks at_end waits h some none = grind arith
+by_message sizes (gives more) left s false asks at_end waits h some none = grind arith
+by_message sizes refused_first left s false asks at_end waits h some none = grind arith
+by_message sizes refused_last left s false asks at_end waits h some none = grind arith
 
 -- where not few wait, many do
 not_few : (waits most : ℕ) → is_few waits most ≡ false → many waits most ≡ 1
@@ -121,12 +125,13 @@ keeps_own sizes says_answer s h (at, some) = let i = at_desk sizes s desk_says a
 keeps_own sizes (tells_stop is_done) s h (at, some) = let i = at_desk sizes s (desk_tells is_done) at h in grind arith
 keeps_own sizes (tells_stop is_refused) s h (at, some) = let i = at_desk sizes s (desk_tells is_refused) at h in grind arith
 keeps_own sizes (desk_left c) s h (at, some) = let i = at_desk sizes s (desk_leaves c) at h in grind arith
+keeps_own sizes takes_step_credit s h (at, some) = let i = at_back sizes s back_waits at h in grind arith
 keeps_own sizes says_step s h (at, some) = let i = at_back sizes s back_says at h in grind arith
 keeps_own sizes is_stopped s h (at, some) = let i = at_back sizes s stepping at h in grind arith
 keeps_own sizes tells_refusal s h (at, some) = let i = at_back sizes s back_tells at h in grind arith
 keeps_own sizes back_left s h (at, some) = let i = at_back sizes s back_leaves at h in grind arith
-keeps_own sizes (handles choice kind) s h (at, _, some) =
-    by_message sizes choice kind s s.over s.asks s.at_end s.waits (at_term sizes s receiving at h) some
+keeps_own sizes (handles choice kind) s h (at, _, some, none) =
+    by_message sizes choice kind s s.over s.asks s.at_end s.waits (at_term sizes s receiving at h) some none
 keeps_own sizes (writes_nothing p last) s h (at, over) = after_write sizes s false p last h at
 keeps_own sizes joins s h (at, all) = let i = at_term sizes s receiving at h in grind arith
 keeps_own sizes finishes s h (at, _, _, _) = let i = at_term sizes s joining at h in grind arith
@@ -136,13 +141,14 @@ pub keeps_let : (sizes : Sizes) (outer : Outer) (s : State) → Holds sizes s �
 keeps_let sizes brings s h at = let i = at_net sizes s reading at h in grind arith
 keeps_let sizes (is_read_out e) s h at = let i = at_net sizes s reading at h in grind arith
 keeps_let sizes answers s h at = let i = at_desk sizes s answering at h in grind arith
-keeps_let sizes (takes_no_more c) s h at = let i = at_desk sizes s answering at h in grind arith
+keeps_let sizes (takes_no_more is_done) s h at = let i = at_desk sizes s answering at h in grind arith
+keeps_let sizes (takes_no_more is_refused) s h at = let i = at_desk sizes s answering at h in grind arith
 keeps_let sizes steps s h at = let i = at_back sizes s stepping at h in grind arith
 keeps_let sizes refuses s h at = let i = at_back sizes s stepping at h in grind arith
 keeps_let sizes has_no_job s h at = let i = at_back sizes s stepping at h in grind arith
 keeps_let sizes (writes failed p last) s h at = after_write sizes s failed p last h at
 
-at_first : (sizes : Sizes) → Holds sizes start
+at_first : (sizes : Sizes) → Holds sizes (start sizes)
 at_first sizes = grind arith
 
 -- and so it holds of each state that is reached

@@ -2,8 +2,8 @@
 use Rattle.std.proofs.Common.{arith, ℕ, zero, suc, ◌+◌, ◌*◌, ◌<◌, ◌≤◌, Bool, true, false, ◌||◌, sym, ap, subst}
 use Rattle.tn_progress.proofs.Invariant.{is_waiting, last_of}
 use Rattle.tn_progress.proofs.Keeps.{holds}
-use Rattle.tn_progress.specs.Server.{one, nothing_comes, no_memory, Net, reading, holding, handing, net_tells, net_leaves, net_gone, is_done, is_refused, Desk, asking, waiting, answering, desk_says, desk_tells, desk_leaves, desk_gone, Back, stepping, back_says, back_tells, back_leaves, back_gone, Term, receiving, writing, joining, ended, Kind, piece, ending, take, said, done, refusal, left, State, Sizes, waiting_mails, count_of}
-use Rattle.tn_progress.specs.ServerSteps.{Choice, gives, refused_first, refused_last, Own, takes_credit, hands_piece, tells_end, net_left, asks_entry, takes_entry, takes_end, says_answer, tells_stop, desk_left, says_step, is_stopped, tells_refusal, back_left, handles, writes_nothing, joins, finishes, MayGo, gone_on, ComesToRest, handled, written, broken, paid, is_few, Reached, Alone, no_step, one_more}
+use Rattle.tn_progress.specs.Server.{one, nothing_comes, no_memory, Net, reading, holding, handing, net_tells, net_leaves, net_gone, is_done, is_refused, Desk, asking, waiting, answering, desk_says, desk_tells, desk_leaves, desk_gone, Back, back_waits, stepping, back_says, back_tells, back_leaves, back_gone, Term, receiving, writing, joining, ended, Kind, piece, ending, take, said, step, done, refusal, left, State, Sizes, waiting_mails, count_of}
+use Rattle.tn_progress.specs.ServerSteps.{Choice, gives, refused_first, refused_last, Own, takes_credit, hands_piece, tells_end, net_left, asks_entry, takes_entry, takes_end, says_answer, tells_stop, desk_left, takes_step_credit, says_step, is_stopped, tells_refusal, back_left, handles, writes_nothing, joins, finishes, MayGo, gone_on, ComesToRest, handled, written, broken, paid, is_few, Reached, Alone, no_step, one_more}
 
 abbrev pub net_size : Net → ℕ
 net_size reading = 0
@@ -23,8 +23,9 @@ desk_size (desk_leaves c) = 5
 desk_size (desk_gone c) = 0
 
 abbrev pub back_size : Back → ℕ
+back_size back_waits = 7
 back_size stepping = 6
-back_size back_says = 11
+back_size back_says = 12
 back_size back_tells = 10
 back_size back_leaves = 5
 back_size back_gone = 0
@@ -47,6 +48,7 @@ by_message choice piece s true asks at_end waits some = grind arith
 by_message choice ending s true asks at_end waits some = grind arith
 by_message choice take s true asks at_end waits some = grind arith
 by_message choice said s true asks at_end waits some = grind arith
+by_message choice step s true asks at_end waits some = grind arith
 by_message choice done s true asks at_end waits some = grind arith
 by_message choice refusal s true asks at_end waits some = grind arith
 by_message choice left s true asks at_end waits some = grind arith
@@ -78,11 +80,17 @@ by_message refused_first ending s false false at_end waits some = grind arith
 by_message refused_last ending s false true at_end waits some = grind arith
 by_message refused_last ending s false false at_end waits some = grind arith
 by_message (gives more) said s false true at_end waits some = grind arith
+by_message (gives more) step s false true at_end waits some = grind arith
 by_message (gives more) said s false false at_end waits some = grind arith
+by_message (gives more) step s false false at_end waits some = grind arith
 by_message refused_first said s false true at_end waits some = grind arith
+by_message refused_first step s false true at_end waits some = grind arith
 by_message refused_first said s false false at_end waits some = grind arith
+by_message refused_first step s false false at_end waits some = grind arith
 by_message refused_last said s false true at_end waits some = grind arith
+by_message refused_last step s false true at_end waits some = grind arith
 by_message refused_last said s false false at_end waits some = grind arith
+by_message refused_last step s false false at_end waits some = grind arith
 by_message (gives more) done s false true at_end waits some = grind arith
 by_message (gives more) done s false false at_end waits some = grind arith
 by_message refused_first done s false true at_end waits some = grind arith
@@ -132,11 +140,12 @@ smaller sizes says_answer s (at, some) = let a = ap desk_size at in grind arith
 smaller sizes (tells_stop is_done) s (at, some) = let a = ap desk_size at in grind arith
 smaller sizes (tells_stop is_refused) s (at, some) = let a = ap desk_size at in grind arith
 smaller sizes (desk_left c) s (at, some) = let a = ap desk_size at in grind arith
+smaller sizes takes_step_credit s (at, some) = let a = ap back_size at in grind arith
 smaller sizes says_step s (at, some) = let a = ap back_size at in grind arith
 smaller sizes is_stopped s (at, some) = let a = ap back_size at in grind arith
 smaller sizes tells_refusal s (at, some) = let a = ap back_size at in grind arith
 smaller sizes back_left s (at, some) = let a = ap back_size at in grind arith
-smaller sizes (handles choice kind) s (at, _, some) =
+smaller sizes (handles choice kind) s (at, _, some, _) =
     subst (λ (t : Term). size (handled choice kind (record s { term = t })) < size (record s { term = t })) (sym at)
     (by_message choice kind s s.over s.asks s.at_end s.waits some)
 smaller sizes (writes_nothing p last) s (at, over) =
@@ -162,7 +171,8 @@ most_desk (desk_tells c) = omega arith
 most_desk (desk_leaves c) = omega arith
 most_desk (desk_gone c) = omega arith
 
-most_back : (b : Back) → back_size b ≤ 11
+most_back : (b : Back) → back_size b ≤ 12
+most_back back_waits = omega arith
 most_back stepping = omega arith
 most_back back_says = omega arith
 most_back back_tells = omega arith
@@ -175,7 +185,7 @@ most_term (writing p last) = omega arith
 most_term joining = omega arith
 most_term ended = omega arith
 
-most_size : (sizes : Sizes) (s : State) → Reached sizes s → size s ≤ 41 + 4 * sizes.mails
+most_size : (sizes : Sizes) (s : State) → Reached sizes s → size s ≤ 42 + 4 * sizes.mails
 most_size sizes s r =
     let h = holds sizes s r in
     let f = h.fits in

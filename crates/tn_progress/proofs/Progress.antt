@@ -1,9 +1,9 @@
 -- A server's session goes on by itself, or waits for the network, for its foreground job or for a write.
-use Rattle.std.proofs.Common.{arith, ◌≡◌, ◌≢◌, ℕ, zero, suc, ◌<◌, ◌≤◌, Bool, true, false, ◌⊎◌, inl, inr, refl, ap, subst}
-use Rattle.tn_progress.proofs.Invariant.{Holds, net_left_in, desk_left_in, back_left_in, is_waiting}
+use Rattle.std.proofs.Common.{arith, ◌≡◌, ◌≢◌, ℕ, zero, suc, ◌+◌, ◌<◌, ◌≤◌, Bool, true, false, ◌⊎◌, inl, inr, refl, ap, subst}
+use Rattle.tn_progress.proofs.Invariant.{Holds, net_left_in, desk_left_in, back_left_in, is_waiting, has_step_credit, has_ended, has_failed, done_by, refused_by, desk_by, has_answer, is_leaving, is_handing}
 use Rattle.tn_progress.proofs.Keeps.{holds}
-use Rattle.tn_progress.specs.Server.{one, End, nothing_comes, no_memory, Net, reading, holding, handing, net_tells, net_leaves, net_gone, is_done, is_refused, Cause, stops, none_comes, Desk, asking, waiting, answering, desk_says, desk_tells, desk_leaves, desk_gone, Back, stepping, back_says, back_tells, back_leaves, back_gone, Term, receiving, writing, joining, ended, Kind, piece, ending, take, said, done, refusal, left, Box, State, Sizes, HasRoom, waiting_mails, count_of}
-use Rattle.tn_progress.specs.ServerSteps.{gives, Own, takes_credit, hands_piece, tells_end, net_left, asks_entry, takes_entry, takes_end, says_answer, tells_stop, desk_left, says_step, is_stopped, tells_refusal, back_left, handles, joins, finishes, MayGo, gone_on, Goes, WaitsFor, for_network, for_job, for_write, brings, answers, writes, let_on, IsLet, NeverGetsStuck, PutsNeverWait}
+use Rattle.tn_progress.specs.Server.{one, End, nothing_comes, no_memory, Net, reading, holding, handing, net_tells, net_leaves, net_gone, is_done, is_refused, Cause, stops, none_comes, Desk, asking, waiting, answering, desk_says, desk_tells, desk_leaves, desk_gone, Back, back_waits, stepping, back_says, back_tells, back_leaves, back_gone, Term, receiving, writing, joining, ended, Kind, piece, ending, take, said, step, done, refusal, left, Box, State, Sizes, HasRoom, waiting_mails, count_of}
+use Rattle.tn_progress.specs.ServerSteps.{gives, Own, takes_credit, hands_piece, tells_end, net_left, asks_entry, takes_entry, takes_end, says_answer, tells_stop, desk_left, takes_step_credit, says_step, is_stopped, tells_refusal, back_left, handles, joins, finishes, MayGo, gone_on, Goes, WaitsFor, for_network, for_job, for_write, brings, answers, writes, let_on, IsLet, waits_behind, NeverGetsStuck, PutsNeverWait, FewMailsWait}
 
 abbrev DoesNotGetStuck : Sizes → State → Type 0
 DoesNotGetStuck sizes s = ((t : State) × Goes sizes s t) ⊎ (WaitsFor s × ((t : State) × IsLet sizes s t))
@@ -11,19 +11,20 @@ DoesNotGetStuck sizes s = ((t : State) × Goes sizes s t) ⊎ (WaitsFor s × ((t
 goes_by : (sizes : Sizes) (s : State) (own : Own) → MayGo sizes own s → DoesNotGetStuck sizes s
 goes_by sizes s own may = inl (gone_on sizes own s, (own, may, refl))
 
--- a message waits, or there is room
-mail_or_room : (box : Box) → ((kind : Kind) × (0 < count_of kind box)) ⊎ (waiting_mails box ≡ 0)
-mail_or_room box = by box.pieces box.endings box.takes box.said box.done box.refusals box.left refl refl refl refl refl refl refl
+-- a message waits that may be taken, or there is room
+mail_or_room : (box : Box) → ((kind : Kind) × (0 < count_of kind box) × (waits_behind kind box ≡ 0)) ⊎ (waiting_mails box ≡ 0)
+mail_or_room box = by box.pieces box.endings box.said box.takes box.steps box.done box.refusals box.left refl refl refl refl refl refl refl refl
   where
-    by : (a b c d e f g : ℕ) → box.pieces ≡ a → box.endings ≡ b → box.takes ≡ c → box.said ≡ d → box.done ≡ e → box.refusals ≡ f → box.left ≡ g → ((kind : Kind) × (0 < count_of kind box)) ⊎ (waiting_mails box ≡ 0)
-    by (suc a) b c d e f g p q r s t u v = inl (piece, omega arith)
-    by zero (suc b) c d e f g p q r s t u v = inl (ending, omega arith)
-    by zero zero (suc c) d e f g p q r s t u v = inl (take, omega arith)
-    by zero zero zero (suc d) e f g p q r s t u v = inl (said, omega arith)
-    by zero zero zero zero (suc e) f g p q r s t u v = inl (done, omega arith)
-    by zero zero zero zero zero (suc f) g p q r s t u v = inl (refusal, omega arith)
-    by zero zero zero zero zero zero (suc g) p q r s t u v = inl (left, omega arith)
-    by zero zero zero zero zero zero zero p q r s t u v = inr (omega arith)
+    by : (a b c d e f g k : ℕ) → box.pieces ≡ a → box.endings ≡ b → box.said ≡ c → box.takes ≡ d → box.steps ≡ e → box.done ≡ f → box.refusals ≡ g → box.left ≡ k → ((kind : Kind) × (0 < count_of kind box) × (waits_behind kind box ≡ 0)) ⊎ (waiting_mails box ≡ 0)
+    by (suc a) b c d e f g k p q r s t u v w = inl (piece, omega arith, refl)
+    by zero (suc b) c d e f g k p q r s t u v w = inl (ending, omega arith, refl)
+    by zero zero (suc c) d e f g k p q r s t u v w = inl (said, omega arith, refl)
+    by zero zero zero (suc d) e f g k p q r s t u v w = inl (take, omega arith, r)
+    by zero zero zero zero (suc e) f g k p q r s t u v w = inl (step, omega arith, refl)
+    by zero zero zero zero zero (suc f) g k p q r s t u v w = inl (done, omega arith, refl)
+    by zero zero zero zero zero zero (suc g) k p q r s t u v w = inl (refusal, omega arith, refl)
+    by zero zero zero zero zero zero zero (suc k) p q r s t u v w = inl (left, omega arith, refl)
+    by zero zero zero zero zero zero zero zero p q r s t u v w = inr (omega arith)
 
 -- What is known of a state in which Term waits for a message and none is there, with its threads at these places.
 record Idle (sizes : Sizes) (s : State) (n : Net) (d : Desk) (b : Back) (asks : Bool) (waits : ℕ) : Type 0 where
@@ -72,14 +73,15 @@ module _ (sizes : Sizes) (s : State) (room : HasRoom sizes s) where
   by_desk (desk_gone c) entries ends at e f w g = g c refl
 
   -- Back's turn
-  by_back : (b : Back) (stop : Bool) → s.back ≡ b → s.stop ≡ stop
+  by_back : (b : Back) (stop : Bool) → s.back ≡ b → s.stop ≡ stop → 0 < s.step_credits + has_step_credit b
       → (b ≡ stepping → stop ≡ false → DoesNotGetStuck sizes s) → (b ≡ back_gone → DoesNotGetStuck sizes s) → DoesNotGetStuck sizes s
-  by_back stepping true at e w g = goes_by sizes s is_stopped (at, e)
-  by_back stepping false at e w g = w refl refl
-  by_back back_says stop at e w g = goes_by sizes s says_step (at, room)
-  by_back back_tells stop at e w g = goes_by sizes s tells_refusal (at, room)
-  by_back back_leaves stop at e w g = goes_by sizes s back_left (at, room)
-  by_back back_gone stop at e w g = g refl
+  by_back back_waits stop at e l w g = goes_by sizes s takes_step_credit (at, omega arith)
+  by_back stepping true at e l w g = goes_by sizes s is_stopped (at, e)
+  by_back stepping false at e l w g = w refl refl
+  by_back back_says stop at e l w g = goes_by sizes s says_step (at, room)
+  by_back back_tells stop at e l w g = goes_by sizes s tells_refusal (at, room)
+  by_back back_leaves stop at e l w g = goes_by sizes s back_left (at, room)
+  by_back back_gone stop at e l w g = g refl
 
 -- what is known with its threads at these places
 idle : (sizes : Sizes) (s : State) (n : Net) (d : Desk) (b : Back) → Holds sizes s → s.term ≡ receiving → waiting_mails s.box ≡ 0 → s.lefts ≢ 3
@@ -96,7 +98,7 @@ idle sizes s n d b h at none not_all en ed eb = record {
 
 -- Term waits for a message, and none is there
 module _ (sizes : Sizes) (s : State) (h : Holds sizes s) (at : s.term ≡ receiving) (none : waiting_mails s.box ≡ 0)
-    (not_all : s.lefts ≢ 3) (room : HasRoom sizes s) where
+    (not_all : s.lefts ≢ 3) (room : HasRoom sizes s) (goes : 0 < sizes.ahead) where
   holding_on : s.net ≡ holding → s.credits ≡ 0 → DoesNotGetStuck sizes s
   holding_on en c =
       by_desk sizes s room s.desk s.entries s.ends refl refl refl
@@ -107,7 +109,7 @@ module _ (sizes : Sizes) (s : State) (h : Holds sizes s) (at : s.term ≡ receiv
   gone_on_by e en =
       by_desk sizes s room s.desk s.entries s.ends refl refl refl
       (λ ed f g. absurd (gone_waiting sizes s e s.back s.asks s.waits (idle sizes s (net_gone e) waiting s.back h at none not_all en ed refl) (f, g)))
-      (λ x ed. by_back sizes s room s.back s.stop refl refl
+      (λ x ed. by_back sizes s room s.back s.stop refl refl (let l = h.one_credit_each in omega arith)
       (λ eb f. absurd (not_stopped sizes s e (desk_gone x) stepping s.asks s.waits (idle sizes s (net_gone e) (desk_gone x) stepping h at none not_all en ed eb) f))
       (λ eb. absurd (all_gone sizes s e x s.asks s.waits (idle sizes s (net_gone e) (desk_gone x) back_gone h at none not_all en ed eb))))
 
@@ -140,6 +142,7 @@ desk_gone_of (desk_leaves c) f = cc
 
 back_gone_of : (b : Back) → back_left_in b ≡ 1 → b ≡ back_gone
 back_gone_of back_gone f = refl
+back_gone_of back_waits f = cc
 back_gone_of stepping f = cc
 back_gone_of back_says f = cc
 back_gone_of back_tells f = cc
@@ -164,6 +167,7 @@ at_most_desk (desk_leaves c) = omega arith
 
 at_most_back : (b : Back) → back_left_in b ≤ 1
 at_most_back back_gone = omega arith
+at_most_back back_waits = omega arith
 at_most_back stepping = omega arith
 at_most_back back_says = omega arith
 at_most_back back_tells = omega arith
@@ -180,26 +184,26 @@ finishing sizes s h at =
     goes_by sizes s finishes (at, net_gone_of s.net (omega arith), desk_gone_of s.desk (omega arith), back_gone_of s.back (omega arith))
 
 -- Term waits for a message, and not all have left
-waiting_on : (sizes : Sizes) (s : State) → 0 < sizes.mails → Holds sizes s → s.term ≡ receiving → s.lefts ≢ 3
-    → ((kind : Kind) × (0 < count_of kind s.box)) ⊎ (waiting_mails s.box ≡ 0) → DoesNotGetStuck sizes s
-waiting_on sizes s some h at not_all (inl (kind, there)) = goes_by sizes s (handles (gives 0) kind) (at, not_all, there)
-waiting_on sizes s some h at not_all (inr none) = by_net sizes s h at none not_all (omega arith) s.net s.credits refl refl
+waiting_on : (sizes : Sizes) (s : State) → 0 < sizes.mails → 0 < sizes.ahead → Holds sizes s → s.term ≡ receiving → s.lefts ≢ 3
+    → ((kind : Kind) × (0 < count_of kind s.box) × (waits_behind kind s.box ≡ 0)) ⊎ (waiting_mails s.box ≡ 0) → DoesNotGetStuck sizes s
+waiting_on sizes s some credit h at not_all (inl (kind, there, first)) = goes_by sizes s (handles (gives 0) kind) (at, not_all, there, first)
+waiting_on sizes s some credit h at not_all (inr none) = by_net sizes s h at none not_all (omega arith) credit s.net s.credits refl refl
 
-by_lefts : (sizes : Sizes) (s : State) (lefts : ℕ) → 0 < sizes.mails → Holds sizes s → s.term ≡ receiving → s.lefts ≡ lefts → DoesNotGetStuck sizes s
-by_lefts sizes s zero some h at e = waiting_on sizes s some h at (λ f. omega arith) (mail_or_room s.box)
-by_lefts sizes s (suc zero) some h at e = waiting_on sizes s some h at (λ f. omega arith) (mail_or_room s.box)
-by_lefts sizes s (suc (suc zero)) some h at e = waiting_on sizes s some h at (λ f. omega arith) (mail_or_room s.box)
-by_lefts sizes s (suc (suc (suc zero))) some h at e = goes_by sizes s joins (at, e)
-by_lefts sizes s (suc (suc (suc (suc more)))) some h at e = waiting_on sizes s some h at (λ f. omega arith) (mail_or_room s.box)
+by_lefts : (sizes : Sizes) (s : State) (lefts : ℕ) → 0 < sizes.mails → 0 < sizes.ahead → Holds sizes s → s.term ≡ receiving → s.lefts ≡ lefts → DoesNotGetStuck sizes s
+by_lefts sizes s zero some credit h at e = waiting_on sizes s some credit h at (λ f. omega arith) (mail_or_room s.box)
+by_lefts sizes s (suc zero) some credit h at e = waiting_on sizes s some credit h at (λ f. omega arith) (mail_or_room s.box)
+by_lefts sizes s (suc (suc zero)) some credit h at e = waiting_on sizes s some credit h at (λ f. omega arith) (mail_or_room s.box)
+by_lefts sizes s (suc (suc (suc zero))) some credit h at e = goes_by sizes s joins (at, e)
+by_lefts sizes s (suc (suc (suc (suc more)))) some credit h at e = waiting_on sizes s some credit h at (λ f. omega arith) (mail_or_room s.box)
 
-by_term : (sizes : Sizes) (s : State) (t : Term) → 0 < sizes.mails → Holds sizes s → s.term ≡ t → s.term ≢ ended → DoesNotGetStuck sizes s
-by_term sizes s receiving some h at on = by_lefts sizes s s.lefts some h at refl
-by_term sizes s (writing p last) some h at on = inr (for_write p last at, (let_on sizes (writes false p last) s, (writes false p last, at, refl)))
-by_term sizes s joining some h at on = finishing sizes s h at
-by_term sizes s ended some h at on = absurd (on at)
+by_term : (sizes : Sizes) (s : State) (t : Term) → 0 < sizes.mails → 0 < sizes.ahead → Holds sizes s → s.term ≡ t → s.term ≢ ended → DoesNotGetStuck sizes s
+by_term sizes s receiving some credit h at on = by_lefts sizes s s.lefts some credit h at refl
+by_term sizes s (writing p last) some credit h at on = inr (for_write p last at, (let_on sizes (writes false p last) s, (writes false p last, at, refl)))
+by_term sizes s joining some credit h at on = finishing sizes s h at
+by_term sizes s ended some credit h at on = absurd (on at)
 
 pub never_gets_stuck : NeverGetsStuck
-never_gets_stuck sizes s some r on = by_term sizes s s.term some (holds sizes s r) refl on
+never_gets_stuck sizes s some credit r on = by_term sizes s s.term some credit (holds sizes s r) refl on
 
 at_most_waiting : (d : Desk) → is_waiting d ≤ 1
 at_most_waiting waiting = omega arith
@@ -217,3 +221,51 @@ puts_never_wait sizes s r =
     let q = h.one_request in
     let c = h.one_credit in
     (omega arith, omega arith)
+
+-- how many messages of each thread wait at most
+most_of_net : (n : Net) → has_ended n + has_failed n + net_left_in n ≤ 2
+most_of_net reading = omega arith
+most_of_net holding = omega arith
+most_of_net handing = omega arith
+most_of_net (net_tells e) = omega arith
+most_of_net (net_leaves nothing_comes) = omega arith
+most_of_net (net_leaves no_memory) = omega arith
+most_of_net (net_gone nothing_comes) = omega arith
+most_of_net (net_gone no_memory) = omega arith
+
+most_of_desk : (d : Desk) → is_waiting d + desk_by done_by d + desk_by refused_by d + desk_left_in d ≤ 1 + has_answer d
+most_of_desk asking = omega arith
+most_of_desk waiting = omega arith
+most_of_desk answering = omega arith
+most_of_desk desk_says = omega arith
+most_of_desk (desk_tells c) = omega arith
+most_of_desk (desk_leaves none_comes) = omega arith
+most_of_desk (desk_leaves (stops is_done)) = omega arith
+most_of_desk (desk_leaves (stops is_refused)) = omega arith
+most_of_desk (desk_gone none_comes) = omega arith
+most_of_desk (desk_gone (stops is_done)) = omega arith
+most_of_desk (desk_gone (stops is_refused)) = omega arith
+
+most_of_back : (b : Back) → is_leaving b + back_left_in b ≤ 1 + has_step_credit b
+most_of_back back_waits = omega arith
+most_of_back stepping = omega arith
+most_of_back back_says = omega arith
+most_of_back back_tells = omega arith
+most_of_back back_leaves = omega arith
+most_of_back back_gone = omega arith
+
+pub few_mails_wait : FewMailsWait
+few_mails_wait sizes s r =
+    let h = holds sizes s r in
+    let n = most_of_net s.net in
+    let d = most_of_desk s.desk in
+    let b = most_of_back s.back in
+    let c = h.one_credit in
+    let q = h.one_request in
+    let l = h.one_credit_each in
+    let a = h.one_answer in
+    let e = h.ends_once in
+    let f = h.tells_refusals in
+    let g = h.tells_done in
+    let v = h.leaves in
+    omega arith

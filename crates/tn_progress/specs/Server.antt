@@ -2,7 +2,8 @@
 -- what each may do next. A step is one access to what they share. `tools/progress/server.pml` is the same for Spin; a
 -- comment above each loop of `tn_session` names its thread: Net, Desk, Back, Term.
 --
--- Of a channel only numbers are known here, so that what waits in it may be taken in any order.
+-- Of a channel only numbers are known here, so that what waits in it may be taken in any order, but for one thing: the
+-- foreground job's request is taken after what it said before.
 use Rattle.std.specs.Prelude.{ℕ, ◌+◌, ◌-◌, ◌<◌, Bool, true, false}
 
 -- how many there are of something that is there or not
@@ -43,8 +44,10 @@ pub data Desk : Type 0 where
   desk_leaves : Cause → Desk
   desk_gone : Cause → Desk
 
--- Back runs the jobs in the background, a step of each in turn.
+-- Back runs the jobs in the background, a step of each in turn. For each it takes a credit, which Term gives back
+-- as it takes what the step said: so only so many of these wait for Term.
 pub data Back : Type 0 where
+  back_waits : Back
   stepping : Back
   back_says : Back
   back_tells : Back
@@ -59,13 +62,14 @@ pub data Term : Type 0 where
   joining : Term
   ended : Term
 
--- What is told to Term: a piece; that the network ended; that the foreground job takes an entry; what a job says; that
--- the foreground job is done; that a call was refused; that a thread has left.
+-- What is told to Term: a piece; that the network ended; that the foreground job takes an entry; what that job says; what
+-- a step of a job in the background says; that the foreground job is done; that a call was refused; that a thread has left.
 pub data Kind : Type 0 where
   piece : Kind
   ending : Kind
   take : Kind
   said : Kind
+  step : Kind
   done : Kind
   refusal : Kind
   left : Kind
@@ -76,6 +80,7 @@ pub record Box : Type 0 where
   pub endings : ℕ
   pub takes : ℕ
   pub said : ℕ
+  pub steps : ℕ
   pub done : ℕ
   pub refusals : ℕ
   pub left : ℕ
@@ -91,6 +96,8 @@ pub record State : Type 0 where
   pub ends : ℕ
   -- what the channel to Net holds
   pub credits : ℕ
+  -- what the channel to Back holds
+  pub step_credits : ℕ
   -- a credit is owed to Net, until few enough entries wait
   pub owed : Bool
   -- the foreground job asks for an entry
@@ -106,26 +113,29 @@ pub record State : Type 0 where
   -- how many threads have told that they left
   pub lefts : ℕ
 
--- how many messages a mailbox holds, and how many entries may wait before one more piece is welcome
+-- how many messages a mailbox holds, how many steps Back may be ahead of Term, and how many entries may wait before one
+-- more piece is welcome
 pub record Sizes : Type 0 where
   pub mails : ℕ
+  pub ahead : ℕ
   pub before_piece : ℕ
 
 abbrev pub none_waits : Box
 none_waits =
-    record { pieces = 0; endings = 0; takes = 0; said = 0; done = 0; refusals = 0; left = 0 }
+    record { pieces = 0; endings = 0; takes = 0; said = 0; steps = 0; done = 0; refusals = 0; left = 0 }
 
--- the first state: Term has written its first words, and gives the first credit
-abbrev pub start : State
-start = record {
+-- the first state: Term has written its first words, and gives the first credit and those for steps
+abbrev pub start : Sizes → State
+start sizes = record {
   net = reading;
   desk = asking;
-  back = stepping;
+  back = back_waits;
   term = receiving;
   box = none_waits;
   entries = 0;
   ends = 0;
   credits = 1;
+  step_credits = sizes.ahead;
   owed = false;
   asks = false;
   at_end = false;
@@ -137,7 +147,7 @@ start = record {
 
 abbrev pub waiting_mails : Box → ℕ
 waiting_mails box =
-    box.pieces + box.endings + box.takes + box.said + box.done + box.refusals + box.left
+    box.pieces + box.endings + box.takes + box.said + box.steps + box.done + box.refusals + box.left
 
 -- there is room for one more message
 abbrev pub HasRoom : Sizes → State → Type 0
@@ -149,6 +159,7 @@ count_of piece box = box.pieces
 count_of ending box = box.endings
 count_of take box = box.takes
 count_of said box = box.said
+count_of step box = box.steps
 count_of done box = box.done
 count_of refusal box = box.refusals
 count_of left box = box.left
@@ -159,6 +170,7 @@ put piece box = record box { pieces = box.pieces + 1 }
 put ending box = record box { endings = box.endings + 1 }
 put take box = record box { takes = box.takes + 1 }
 put said box = record box { said = box.said + 1 }
+put step box = record box { steps = box.steps + 1 }
 put done box = record box { done = box.done + 1 }
 put refusal box = record box { refusals = box.refusals + 1 }
 put left box = record box { left = box.left + 1 }
@@ -169,6 +181,7 @@ taken piece box = record box { pieces = box.pieces - 1 }
 taken ending box = record box { endings = box.endings - 1 }
 taken take box = record box { takes = box.takes - 1 }
 taken said box = record box { said = box.said - 1 }
+taken step box = record box { steps = box.steps - 1 }
 taken done box = record box { done = box.done - 1 }
 taken refusal box = record box { refusals = box.refusals - 1 }
 taken left box = record box { left = box.left - 1 }

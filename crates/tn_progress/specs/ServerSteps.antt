@@ -1,6 +1,6 @@
 -- What the threads of a server's session may do next.
 use Rattle.std.specs.Prelude.{◌≡◌, ◌≢◌, ℕ, zero, suc, ◌+◌, ◌-◌, ◌*◌, ◌<◌, ◌≤◌, Bool, true, false, ◌||◌, ◌⊎◌}
-use Rattle.tn_progress.specs.Server.{one, End, reading, holding, handing, net_tells, net_leaves, net_gone, Stop, Cause, stops, none_comes, asking, waiting, answering, desk_says, desk_tells, desk_leaves, desk_gone, stepping, back_says, back_tells, back_leaves, back_gone, Term, receiving, writing, joining, ended, Kind, piece, ending, take, said, done, refusal, left, State, Sizes, start, HasRoom, count_of, put, taken, told_of_end, told_of_stop}
+use Rattle.tn_progress.specs.Server.{one, End, reading, holding, handing, net_tells, net_leaves, net_gone, Stop, Cause, stops, none_comes, asking, waiting, answering, desk_says, desk_tells, desk_leaves, desk_gone, back_waits, stepping, back_says, back_tells, back_leaves, back_gone, Term, receiving, writing, joining, ended, Kind, piece, ending, take, said, step, done, refusal, left, Box, State, Sizes, start, HasRoom, waiting_mails, count_of, put, taken, told_of_end, told_of_stop}
 
 -- TERM HANDLES A MESSAGE
 
@@ -19,10 +19,15 @@ abbrev pub is_left : Kind → Bool
 is_left left = true
 is_left _ = false
 
--- the message is taken, and a write follows
+abbrev pub is_step : Kind → Bool
+is_step step = true
+is_step _ = false
+
+-- the message is taken, where a step said it with the credit for one more, and a write follows
 abbrev pub received : Kind → State → State
 received kind s = record s {
   box = taken kind s.box;
+  step_credits = s.step_credits + one (is_step kind);
   term = writing (is_piece kind) false;
   lefts = s.lefts + one (is_left kind);
 }
@@ -58,6 +63,7 @@ comes_of take more s = asked s.waits s.at_end s
 comes_of done more s = halted s
 comes_of refusal more s = halted s
 comes_of said more s = s
+comes_of step more s = s
 comes_of left more s = s
 
 abbrev pub asks_anew : Kind → State → State
@@ -118,6 +124,7 @@ pub data Own : Type 0 where
   says_answer : Own
   tells_stop : Stop → Own
   desk_left : Cause → Own
+  takes_step_credit : Own
   says_step : Own
   is_stopped : Own
   tells_refusal : Own
@@ -139,6 +146,11 @@ pub data Outer : Type 0 where
   has_no_job : Outer
   writes : Bool → Bool → Bool → Outer
 
+-- what the foreground job said before it asks is taken before that
+abbrev pub waits_behind : Kind → Box → ℕ
+waits_behind take box = box.said
+waits_behind _ box = 0
+
 -- when it may
 abbrev pub MayGo : Sizes → Own → State → Type 0
 MayGo sizes takes_credit s = (s.net ≡ holding) × (0 < s.credits)
@@ -151,11 +163,12 @@ MayGo sizes takes_end s = (s.desk ≡ waiting) × (0 < s.ends)
 MayGo sizes says_answer s = (s.desk ≡ desk_says) × HasRoom sizes s
 MayGo sizes (tells_stop c) s = (s.desk ≡ desk_tells c) × HasRoom sizes s
 MayGo sizes (desk_left c) s = (s.desk ≡ desk_leaves c) × HasRoom sizes s
+MayGo sizes takes_step_credit s = (s.back ≡ back_waits) × (0 < s.step_credits)
 MayGo sizes says_step s = (s.back ≡ back_says) × HasRoom sizes s
 MayGo sizes is_stopped s = (s.back ≡ stepping) × (s.stop ≡ true)
 MayGo sizes tells_refusal s = (s.back ≡ back_tells) × HasRoom sizes s
 MayGo sizes back_left s = (s.back ≡ back_leaves) × HasRoom sizes s
-MayGo sizes (handles choice kind) s = (s.term ≡ receiving) × (s.lefts ≢ 3) × (0 < count_of kind s.box)
+MayGo sizes (handles choice kind) s = (s.term ≡ receiving) × (s.lefts ≢ 3) × (0 < count_of kind s.box) × (waits_behind kind s.box ≡ 0)
 MayGo sizes (writes_nothing p last) s = (s.term ≡ writing p last) × (s.over ≡ true)
 MayGo sizes joins s = (s.term ≡ receiving) × (s.lefts ≡ 3)
 MayGo sizes finishes s =
@@ -173,7 +186,8 @@ gone_on sizes takes_end s = record s { desk = desk_leaves none_comes; ends = s.e
 gone_on sizes says_answer s = record s { desk = asking; box = put said s.box }
 gone_on sizes (tells_stop c) s = record s { desk = desk_leaves (stops c); box = put (told_of_stop c) s.box }
 gone_on sizes (desk_left c) s = record s { desk = desk_gone c; box = put left s.box }
-gone_on sizes says_step s = record s { back = stepping; box = put said s.box }
+gone_on sizes takes_step_credit s = record s { back = stepping; step_credits = s.step_credits - 1 }
+gone_on sizes says_step s = record s { back = back_waits; box = put step s.box }
 gone_on sizes is_stopped s = record s { back = back_leaves }
 gone_on sizes tells_refusal s = record s { back = back_leaves; box = put refusal s.box }
 gone_on sizes back_left s = record s { back = back_gone; box = put left s.box }
@@ -211,7 +225,7 @@ IsLet sizes s t = (outer : Outer) × MayBeLet outer s × (t ≡ let_on sizes out
 
 -- where steps lead
 pub data Reached (sizes : Sizes) : State → Type 0 where
-  at_start : (s : State) → s ≡ start → Reached sizes s
+  at_start : (s : State) → s ≡ start sizes → Reached sizes s
   goes_on : (s t : State) → Reached sizes s → Goes sizes s t → Reached sizes t
   let_go : (s t : State) → Reached sizes s → IsLet sizes s t → Reached sizes t
 
@@ -227,12 +241,17 @@ pub data WaitsFor (s : State) : Type 0 where
 -- once it is let. A job in the background is never waited for.
 abbrev pub NeverGetsStuck : Type 0
 NeverGetsStuck =
-    (sizes : Sizes) (s : State) → 0 < sizes.mails → Reached sizes s → s.term ≢ ended
+    (sizes : Sizes) (s : State) → 0 < sizes.mails → 0 < sizes.ahead → Reached sizes s → s.term ≢ ended
     → ((t : State) × Goes sizes s t) ⊎ (WaitsFor s × ((t : State) × IsLet sizes s t))
 
 -- No put of an entry, and no credit, ever waits: a place is free in either channel, however small it is.
 abbrev pub PutsNeverWait : Type 0
 PutsNeverWait = (sizes : Sizes) (s : State) → Reached sizes s → (s.entries + s.ends ≤ 1) × (s.credits ≤ 1)
+
+-- However fast the jobs in the background are, no more than so many messages wait for Term. So a key that comes is passed
+-- by no more; and where the mailbox has more places, no thread ever waits for one.
+abbrev pub FewMailsWait : Type 0
+FewMailsWait = (sizes : Sizes) (s : State) → Reached sizes s → waiting_mails s.box ≤ sizes.ahead + 6
 
 -- so many steps, each a thread's own, lead there
 pub data Alone (sizes : Sizes) : ℕ → State → State → Type 0 where
@@ -242,4 +261,4 @@ pub data Alone (sizes : Sizes) : ℕ → State → State → Type 0 where
 -- Where nobody outside does anything the threads come to rest, after so many steps at most.
 abbrev pub ComesToRest : Type 0
 ComesToRest =
-    (sizes : Sizes) (n : ℕ) (s t : State) → Reached sizes s → Alone sizes n s t → n ≤ 41 + 4 * sizes.mails
+    (sizes : Sizes) (n : ℕ) (s t : State) → Reached sizes s → Alone sizes n s t → n ≤ 42 + 4 * sizes.mails

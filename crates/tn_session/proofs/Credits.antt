@@ -4,14 +4,18 @@ use Rattle.std.proofs.lemmas.List.{map-append}
 use Rattle.crossbeam_channel.specs.Fifo.{Pushes, Pops, Forks, Learns}
 use Rattle.tn_messages.specs.declared.messages.Message.{Message}
 use Rattle.tn_messages.specs.declared.messages.Message.TheVariants.{Piece, HangUp, ReadFailed, Take, Said, Refused, Left, Resized}
-use Rattle.tn_session.specs.Credits.{AnyTally, none_taken, one_given, one_taken, owed_one, HaveTaken, piece_one, pieces_among}
+use Rattle.tn_session.specs.Credits.{AnyTally, HaveUsed, none_taken, one_given, one_taken, owed_one, HaveTaken, piece_one, pieces_among, step_one, steps_among}
 use Rattle.tn_session.specs.Mailbox.{mail, sender}
 use Rattle.tn_session.specs.Reader.{sends}
+use Rattle.tn_session.specs.Stepping.{step_said}
 use Rattle.tn_session.specs.Reading.{IsEnding, Telling, piece_told, size_told, told_messages, pieces_in}
 use Rattle.tn_session.specs.declared.channels.View.{View}
 use Rattle.tn_session.specs.declared.credit.Credit.{Credit}
 use Rattle.tn_session.specs.declared.credit.CreditSeat.{CreditSeat}
+use Rattle.tn_session.specs.declared.credit.StepCredits.{StepCredits}
 use Rattle.tn_session.specs.declared.credit.Tally.{Tally}
+use Rattle.tn_jobs.specs.declared.held_jobs.JobId.{JobId}
+use Rattle.tn_jobs.specs.declared.reactions.Reaction.{Reaction}
 use Rattle.tn_session.specs.declared.mail.Mail.{Mail}
 use Rattle.tn_session.specs.declared.mail.Sender.{Sender}
 use Rattle.tn_session.specs.declared.mail.Sender.TheVariants.{Net, Desk, Back, Keys}
@@ -115,3 +119,34 @@ paid_stops who told p v w u a b d taken one_more old one two mails e =
     let whole = said who (told_messages all) Left w u (said_piece who told p v w old one) two in
     let count : pieces_among mails ≡ length (pieces_in told) + 1 = counted who all (Left ∷ []) u mails whole refl e ∙ ap length (pieces-push told p) ∙ length-append (pieces_in told) (p ∷ []) in
     as_many (pieces_among mails) (length (pieces_in told) + 1) a d count (taken_more (length (pieces_in told)) a b d taken one_more)
+
+-- CREDITS FOR STEPS
+
+pub used_none : (c : StepCredits) → HaveUsed 0 c c
+used_none c = omega arith
+
+pub used_more : (n : ℕ) (a b d : StepCredits) → HaveUsed n a b → HaveUsed 1 b d → HaveUsed (n + 1) a d
+used_more n a b d p q = omega (arith, p, q)
+
+-- one was used for nothing
+pub used_still : (n : ℕ) (a b d : StepCredits) → HaveUsed n a b → HaveUsed 1 b d → HaveUsed n a d
+used_still n a b d p q = omega (arith, p, q)
+
+pub steps-push : (xs : List Mail) (x : Mail) → steps_among (xs ++ x ∷ []) ≡ steps_among xs + step_one x.from x.message
+steps-push [] x = omega arith
+steps-push (y ∷ ys) x = let ih = steps-push ys x in omega (arith, ih)
+
+steps-append : (xs ys : List Mail) → steps_among (xs ++ ys) ≡ steps_among xs + steps_among ys
+steps-append [] ys = omega arith
+steps-append (x ∷ xs) ys = omega (arith, steps-append xs ys)
+
+count_steps : (ss : List (JobId × Reaction)) → steps_among (map (mail Back) (map step_said ss)) ≡ length ss
+count_steps [] = refl
+count_steps (s ∷ ss) = omega (arith, count_steps ss)
+
+-- it used one for each step that it said
+pub used_for : (ss : List (JobId × Reaction)) (close : List Message) (v : View) (a b : StepCredits) → HaveUsed (length ss) a b → v ≡ sender Back (map (mail Back) (map step_said ss ++ close)) → steps_among (map (mail Back) close) ≡ 0 → (mails : List Mail) → v ≡ sender Back mails → HaveUsed (steps_among mails) a b
+used_for ss close v a b used is none mails e =
+    let all = map (mail Back) (map step_said ss) ++ map (mail Back) close in
+    let same : mails ≡ all = sender_is Back mails all (sym e ∙ is ∙ ap (sender Back) (map-append (mail Back) (map step_said ss) close)) in
+    omega (arith, used, ap steps_among same, steps-append (map (mail Back) (map step_said ss)) (map (mail Back) close), count_steps ss, none)

@@ -13,12 +13,15 @@ use Rattle.tn_session.proofs.Causes.{from_hit, from_miss, HasFailure, has_failur
 use Rattle.tn_session.proofs.Lefts.{same_self}
 use Rattle.tn_session.proofs.Mailbox.{sender_share}
 use Rattle.tn_session.proofs.Readers.{closes_ending}
-use Rattle.tn_session.specs.Facts.{JobActs, SessionJobs, SessionResult, TermSettings}
+use Rattle.tn_session.specs.Acts.{JobActs}
+use Rattle.tn_session.specs.Facts.{SessionJobs, SessionResult, TermSettings}
 use Rattle.tn_session.specs.Mailbox.{same, from, sender, mail}
 use Rattle.tn_queue.specs.Queue.{taker}
 use Rattle.tn_session.specs.Reading.{IsEnding, IsReadCause, max_reads, Telling, piece_told, size_told, told_messages, pieces_in}
 use Rattle.tn_session.specs.Session.{Schedule, HearsReader, TakesEntries}
-use Rattle.tn_session.specs.Stepping.{IsClose, step_said}
+use Rattle.tn_session.specs.Stepping.{step_said}
+use Rattle.tn_session.specs.Turning.{Holds}
+use Rattle.tn_session.proofs.Turning.{IsClose, is_close}
 use Rattle.tn_session.specs.Talk.{Closes, turns_said, entries_of, ends_done}
 use Rattle.tn_session.specs.Transcripts.{bytes_sent, came_by}
 use Rattle.tn_session.specs.Turns.{messages_of, max_writes}
@@ -194,8 +197,8 @@ not_done id (t ∷ []) more e k = k.1.0 e refl
 not_done id (t ∷ u ∷ us) more e k = not_done id (u ∷ us) more e k.1.1
 
 -- and the desk left because the end came
-at_end_of : (id : JobId) (turns : List (Entry × Reaction)) (v : View) (w : EntryHand) → Closes id turns v w → ((ms : List Message) → v ≡ sender Desk (map (mail Desk) ms) → AllKeepOn id.0 ms) → w ≡ taker (entries_of turns ++ None ∷ [])
-at_end_of id turns v w c keeps =
+at_end_of : (id : JobId) (refuses : Entry → Type 0) (turns : List (Entry × Reaction)) (v : View) (w : EntryHand) → Closes id refuses turns v w → ((ms : List Message) → v ≡ sender Desk (map (mail Desk) ms) → AllKeepOn id.0 ms) → w ≡ taker (entries_of turns ++ None ∷ [])
+at_end_of id refuses turns v w c keeps =
     ⊎_elim
     (λ x. x.1)
     (λ y. ⊎_elim
@@ -253,13 +256,13 @@ module _ {J : Type 0} {facts : JobActs J} {jobs : SessionJobs J} {settings : Ter
   messages = map (λ m. m.0) s.marked
 
   none_of_desk : NoneOfNet (messages_of (from Desk s.handled))
-  none_of_desk = closed s.talked.0 s.talked.5
+  none_of_desk = closed (λ e. facts.refuses s.talked.2 (Some e)) s.talked.0 s.talked.5
     where
       none_by : (ms : List Message) → NoneOfNet ms → result.views.desk ≡ sender Desk (map (mail Desk) ms) → NoneOfNet (messages_of (from Desk s.handled))
       none_by ms n is = subst NoneOfNet (sym (messages_from Desk result.views.desk s.from_desk s.handled ms s.desk_is is (s.woven Desk))) n
 
-      closed : (turns : List (Entry × Reaction)) → Closes jobs.first turns result.views.desk result.views.took → NoneOfNet (messages_of (from Desk s.handled))
-      closed turns c =
+      closed : (refuses : Entry → Type 0) (turns : List (Entry × Reaction)) → Closes jobs.first refuses turns result.views.desk result.views.took → NoneOfNet (messages_of (from Desk s.handled))
+      closed refuses turns c =
           ⊎_elim
           (λ x. none_by _ (none-append (turns_said jobs.first turns) (Take ∷ Left ∷ []) (none_of_turns jobs.first turns) (refl, (refl, tt))) x.0)
           (λ y. ⊎_elim
@@ -272,8 +275,8 @@ module _ {J : Type 0} {facts : JobActs J} {jobs : SessionJobs J} {settings : Ter
   none_of_back =
       let said = map step_said s.stepped.0 in
       let close = s.stepped.1 in
-      subst NoneOfNet (sym (messages_from Back result.views.back s.from_back s.handled (said ++ close) s.back_is s.stepped.3 (s.woven Back)))
-      (none-append said close (none_of_steps s.stepped.0) (none_of_close close s.stepped.2))
+      subst NoneOfNet (sym (messages_from Back result.views.back s.from_back s.handled (said ++ close) s.back_is s.stepped.2 (s.woven Back)))
+      (none-append said close (none_of_steps s.stepped.0) (none_of_close close (is_close (Holds jobs.queue) facts s.stopped s.stepped.0 close s.stepped.6 s.stepped.8)))
     where
       none_of_close : (close : List Message) → IsClose close → NoneOfNet close
       none_of_close close c = ⊎_elim (λ e. subst NoneOfNet (sym e) (refl, tt)) (λ e. subst NoneOfNet (sym e) (refl, (refl, tt))) c
@@ -327,7 +330,7 @@ module _ {J : Type 0} {facts : JobActs J} {jobs : SessionJobs J} {settings : Ter
   took_all u =
       let keeps = keep_from jobs.first.0 Desk s.handled (subst (AllKeepOn jobs.first.0) s.messages u.kept_on) in
       let turns = s.talked.0 in
-      let is : result.views.took ≡ taker (entries_of turns ++ None ∷ []) = at_end_of jobs.first turns result.views.desk result.views.took s.talked.5 (λ ms e. subst (AllKeepOn jobs.first.0) (messages_from Desk result.views.desk s.from_desk s.handled ms s.desk_is e (s.woven Desk)) keeps) in
+      let is : result.views.took ≡ taker (entries_of turns ++ None ∷ []) = at_end_of jobs.first (λ e. facts.refuses s.talked.2 (Some e)) turns result.views.desk result.views.took s.talked.5 (λ ms e. subst (AllKeepOn jobs.first.0) (messages_from Desk result.views.desk s.from_desk s.handled ms s.desk_is e (s.woven Desk)) keeps) in
       let given_entries = map (λ t. t.0) turns in
       let took_is : s.taken ≡ map (λ e. Some e) given_entries ++ None ∷ [] =
       some_is s.taken _ (ap (λ (h : EntryHand). h.taken) (sym s.took_is ∙ is)) ∙ ap (λ (es : List (Option Entry)). es ++ None ∷ []) (entries_given turns) in

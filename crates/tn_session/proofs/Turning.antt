@@ -1,22 +1,22 @@
 -- One more step of a background job.
-use Rattle.std.proofs.Common.{◌≡◌, ℕ, ◌==◌, Bool, true, false, not, List, [], ◌∷◌, ◌++◌, ◌⊎◌, ⊎_elim, inl, inr, map, drop, length, length-drop, arith, ◌<◌, Result, Ok, Err, append_assoc, refl, sym, ap, ◌∙◌, subst, if◌then◌else◌, eq-eqb, eqb-true}
+use Rattle.std.proofs.Common.{◌≡◌, ℕ, ◌==◌, Bool, true, false, not, List, [], ◌∷◌, ◌++◌, ◌⊎◌, ⊎_elim, inl, inr, map, drop, length, length-drop, arith, ◌<◌, None, append_assoc, refl, sym, ap, ◌∙◌, subst, if◌then◌else◌, eq-eqb, eqb-true}
 use Rattle.std.proofs.lemmas.Fn.{FoldsTo-push}
 use Rattle.std.proofs.lemmas.List.{map-append}
 use Rattle.std.specs.List.{FoldsTo}
-use Rattle.std.specs.Result.{is_ok, is_err}
 use Rattle.tn_jobs.specs.Judging.{judged}
 use Rattle.tn_jobs.specs.declared.held_jobs.JobId.{JobId}
 use Rattle.tn_jobs.specs.declared.verdicts.JobState.TheVariants as job
 use Rattle.tn_session.specs.declared.back.Runner.{Runner}
 use Rattle.tn_jobs.specs.declared.reactions.Reaction.{Reaction}
-use Rattle.tn_session.specs.Stepping.{IsIn, AreBy, Steps, AreSteps, LeavesLast, StepInTurn, TakesItsTurn, reactions_of, step_said, turned, leaves_in_background, stays}
+use Rattle.tn_session.specs.Acts.{JobActs}
+use Rattle.tn_session.specs.Stepping.{IsIn, AreBy, Steps, AreSteps, LeavesFor, LeavesLast, StepInTurn, TakesItsTurn, reactions_of, step_said, turned, leaves_in_background, stays}
 use Rattle.tn_session.specs.Mailbox.{sender, mail}
 use Rattle.tn_session.specs.declared.channels.View.{View}
 use Rattle.tn_session.specs.declared.mail.Sender.TheVariants.{Back}
 use Rattle.tn_term.specs.Run.{has_text}
 use Rattle.tn_messages.specs.declared.messages.Message.{Message}
 use Rattle.tn_messages.specs.declared.messages.Message.TheVariants.{Refused, Left}
-use Rattle.tn_session.specs.Turning.{ids_of, AreApart, EachBegan, Holds, Chain, EachRuns, AllStay, EachStays, Running, StandsNext, AdvancesQueue}
+use Rattle.tn_session.specs.Turning.{ids_of, AreApart, EachBegan, Holds, Chain, EachRuns, AllStay, EachStays, Running, standing, AdvancesQueue}
 
 abbrev Said : Type 0
 Said = JobId × Reaction
@@ -128,13 +128,12 @@ module _ {J : Type 0} (began : ℕ → J → Type 0) (steps : J → Reaction →
   none_left (r ∷ rs) = (tt, none_left rs)
 
   -- the job stands in the queue no more, or last
-  gone_or_last : (on refused : Bool) (rest new : List (Runner J)) (r : Runner J) → StandsNext on refused rest r new → (new ≡ rest) ⊎ ((on ≡ true) × (new ≡ rest ++ r ∷ []))
-  gone_or_last true false rest new r e = inr (refl, e)
-  gone_or_last true true rest new r e = inl e
-  gone_or_last false refused rest new r e = inl e.1
+  gone_or_last : (on : Bool) (rest new : List (Runner J)) (r : Runner J) → new ≡ standing on rest r → (new ≡ rest) ⊎ ((on ≡ true) × (new ≡ rest ++ r ∷ []))
+  gone_or_last true rest new r e = inr (refl, e)
+  gone_or_last false rest new r e = inl e
 
-  pub advanced : (said : List Said) (old new : List (Runner J)) (id : JobId) (reaction : Reaction) (refused : Bool) → Running began steps tostop ids said old → AdvancesQueue steps tostop old id reaction refused new → Running began steps tostop ids (said ++ (id, reaction) ∷ []) new
-  advanced said old new id reaction refused run a =
+  pub advanced : (said : List Said) (old new : List (Runner J)) (id : JobId) (reaction : Reaction) → Running began steps tostop ids said old → AdvancesQueue steps tostop old id reaction new → Running began steps tostop ids (said ++ (id, reaction) ∷ []) new
+  advanced said old new id reaction run a =
       let s : Said = (id, reaction) in
       let P : List (Runner J) → Type 0 = λ l. EachRuns began steps ids said l × AreApart (ids_of l) × EachStays tostop said l in
       let here = subst P a.was (run.runs, run.apart, run.stay) in
@@ -147,7 +146,7 @@ module _ {J : Type 0} (began : ℕ → J → Type 0) (steps : J → Reaction →
       let W : List Reaction → Type 0 = λ xs. AllStay tostop xs in
       let stands = λ (keeps : stays tostop reaction ≡ true). subst W (sym (same-push said s id.0 (eq-eqb id.0 id.0 refl))) (all-push tostop (reactions_of id.0 said) reaction mine.3 keeps) in
       let R : List (Runner J) → Type 0 = λ l. EachRuns began steps ids (said ++ s ∷ []) l × AreApart (ids_of l) × EachStays tostop (said ++ s ∷ []) l in
-      let after = ⊎_elim (λ gone. subst R (sym gone) (rest, here.1.1, on)) (λ stood. subst R (sym stood.1) (runs-push (said ++ s ∷ []) a.rest last mine.0 next rest, apart-push a.rest last mine.2 here.1.1, stay-push (said ++ s ∷ []) a.rest last (stands stood.0) on)) (gone_or_last (stays tostop reaction) refused a.rest new last a.left) in
+      let after = ⊎_elim (λ gone. subst R (sym gone) (rest, here.1.1, on)) (λ stood. subst R (sym stood.1) (runs-push (said ++ s ∷ []) a.rest last mine.0 next rest, apart-push a.rest last mine.2 here.1.1, stay-push (said ++ s ∷ []) a.rest last (stands stood.0) on)) (gone_or_last (stays tostop reaction) a.rest new last a.left) in
       record {
         by = by-push said s mine.0 run.by;
         leave = λ other i. leave_of said s mine.3 other (run.leave other i) (other == id.0) refl;
@@ -177,32 +176,9 @@ ids-push : {J : Type 0} (queue : List (Runner J)) (r : Runner J) → ids_of (que
 ids-push [] r = refl
 ids-push (x ∷ queue) r = ap (λ (l : List ℕ). x.id.0 ∷ l) (ids-push queue r)
 
-stands_ids : {J : Type 0} (on refused : Bool) (rest new : List (Runner J)) (r : Runner J) → StandsNext on refused rest r new → refused ≡ false → turned on r.id.0 (ids_of rest) ≡ ids_of new
-stands_ids true false rest new r e f = sym (ap (λ l. ids_of l) e ∙ ids-push rest r)
-stands_ids true true rest new r e f = absurd (never f)
-  where
-    never : true ≡ false → ⊥
-    never g = cc
-stands_ids false refused rest new r e f = sym (ap (λ l. ids_of l) e.1)
-
-no_push : (ids : List ℕ) (id : ℕ) → ids ++ id ∷ [] ≡ [] → ⊥
-no_push [] id e = cc
-no_push (x ∷ ids) id e = cc
-
--- where there was no memory for it, the job still runs
-stands_some : {J : Type 0} (on refused : Bool) (rest new : List (Runner J)) (r : Runner J) (ids : List ℕ) → StandsNext on refused rest r new → refused ≡ true → turned on r.id.0 ids ≡ [] → ⊥
-stands_some true refused rest new r ids e f none = no_push ids r.id.0 none
-stands_some false refused rest new r ids e f none = never (sym f ∙ e.0)
-  where
-    never : true ≡ false → ⊥
-    never g = cc
-
--- where one is first, some are in the queue
-pub some_first : {J : Type 0} (queue rest : List (Runner J)) (r : Runner J) → queue ≡ r ∷ rest → ids_of queue ≡ [] → ⊥
-some_first {J} queue rest r e none = by (sym (ap (λ l. ids_of l) e) ∙ none)
-  where
-    by : r.id.0 ∷ ids_of rest ≡ [] → ⊥
-    by f = cc
+stands_ids : {J : Type 0} (on : Bool) (rest new : List (Runner J)) (r : Runner J) → new ≡ standing on rest r → turned on r.id.0 (ids_of rest) ≡ ids_of new
+stands_ids true rest new r e = sym (ap (λ l. ids_of l) e ∙ ids-push rest r)
+stands_ids false rest new r e = sym (ap (λ l. ids_of l) e)
 
 takes_turn : {J : Type 0} (tostop : Bool) (old rest : List (Runner J)) (runner : Runner J) (s : Said) → old ≡ runner ∷ rest → s.0 ≡ runner.id → TakesItsTurn tostop (ids_of old) s (turned (stays tostop s.1) s.0.0 (ids_of rest))
 takes_turn {J} tostop old rest runner s was number =
@@ -210,36 +186,65 @@ takes_turn {J} tostop old rest runner s was number =
     subst P (sym was) (ap (λ (i : JobId). i.0) number, ap (λ (i : JobId). turned (stays tostop s.1) i.0 (ids_of rest)) number)
 
 -- one step more, in turn
-pub in_turn : {J : Type 0} (steps : J → Reaction → J → Type 0) (tostop : Bool) (ids : List ℕ) (said : List Said) (old new : List (Runner J)) (id : JobId) (reaction : Reaction) (refused : Bool) → StepInTurn tostop ids said (ids_of old) → AdvancesQueue steps tostop old id reaction refused new → (left : List ℕ) × StepInTurn tostop ids (said ++ (id, reaction) ∷ []) left × (refused ≡ false → left ≡ ids_of new) × (refused ≡ true → left ≡ [] → ⊥)
-in_turn steps tostop ids said old new id reaction refused before a =
+pub in_turn : {J : Type 0} (steps : J → Reaction → J → Type 0) (tostop : Bool) (ids : List ℕ) (said : List Said) (old new : List (Runner J)) (id : JobId) (reaction : Reaction) → StepInTurn tostop ids said (ids_of old) → AdvancesQueue steps tostop old id reaction new → StepInTurn tostop ids (said ++ (id, reaction) ∷ []) (ids_of new)
+in_turn steps tostop ids said old new id reaction before a =
     let s : Said = (id, reaction) in
-    let left = turned (stays tostop reaction) id.0 (ids_of a.rest) in (
-      left,
-      FoldsTo-push (TakesItsTurn tostop) ids said (ids_of old) s left before (takes_turn tostop old a.rest a.runner s a.was a.number),
-      stands_ids (stays tostop reaction) refused a.rest new (record { id = id; job = a.job }) a.left,
-      stands_some (stays tostop reaction) refused a.rest new (record { id = id; job = a.job }) (ids_of a.rest) a.left,
-    )
+    let left = turned (stays tostop reaction) id.0 (ids_of a.rest) in
+    subst (λ (l : List ℕ). StepInTurn tostop ids (said ++ s ∷ []) l)
+    (stands_ids (stays tostop reaction) a.rest new (record { id = id; job = a.job }) a.left)
+    (FoldsTo-push (TakesItsTurn tostop) ids said (ids_of old) s left before (takes_turn tostop old a.rest a.runner s a.was a.number))
 
 pub said_step : (ss : List Said) (s : Said) (v : View) → v ≡ sender Back (map (mail Back) (map step_said ss ++ step_said s ∷ [])) → v ≡ sender Back (map (mail Back) (map step_said (ss ++ s ∷ [])))
 said_step ss s v e = e ∙ ap (λ (ms : List Message). sender Back (map (mail Back) ms)) (sym (map-append step_said ss (s ∷ [])))
 
-pub closes_left : {J : Type 0} (began : ℕ → J → Type 0) (steps : J → Reaction → J → Type 0) (tostop : Bool) (ids : List ℕ) (ss : List Said) (queue : List (Runner J)) (stopped : Bool) (v : View) → Running began steps tostop ids ss queue → (left : List ℕ) → StepInTurn tostop ids ss left → (left ≡ []) ⊎ (stopped ≡ true) → v ≡ sender Back (map (mail Back) (map step_said ss ++ Left ∷ [])) → AreSteps {J = J} began steps (record { ids = ids; tostop = tostop }) stopped v
-closes_left began steps tostop ids ss queue stopped v r left turn why e = (ss, Left ∷ [], inl refl, e, r.by, r.each, r.leave, left, turn, inr why)
+abbrev pub IsClose : List Message → Type 0
+IsClose close = (close ≡ Left ∷ []) ⊎ (close ≡ Refused ∷ Left ∷ [])
 
-pub closes_refused : {J : Type 0} (began : ℕ → J → Type 0) (steps : J → Reaction → J → Type 0) (tostop : Bool) (ids : List ℕ) (ss : List Said) (queue : List (Runner J)) (stopped : Bool) (v : View) → Running began steps tostop ids ss queue → (left : List ℕ) → StepInTurn tostop ids ss left → (left ≡ [] → ⊥) → v ≡ sender Back (map (mail Back) ((map step_said ss ++ Refused ∷ []) ++ Left ∷ [])) → AreSteps {J = J} began steps (record { ids = ids; tostop = tostop }) stopped v
-closes_refused began steps tostop ids ss queue stopped v r left turn some e =
-    (ss, Refused ∷ Left ∷ [], inr refl, e ∙ ap (λ (ms : List Message). sender Back (map (mail Back) ms)) (append_assoc (map step_said ss) (Refused ∷ []) (Left ∷ [])), r.by, r.each, r.leave, left, turn, inl (refl, some))
+-- for whichever cause it left
+pub is_close : {J : Type 0} (began : ℕ → J → Type 0) (acts : JobActs J) (stopped : Bool) (said : List Said) (close : List Message) (left : List ℕ) → LeavesFor {J = J} began acts stopped said close left → IsClose close
+is_close began acts stopped said close [] f = inl f
+is_close began acts stopped said close (id ∷ ids) f = ⊎_elim (λ x. inl x.0) (λ y. inr y.0) f
 
--- a job that runs on stands last, if memory for that was found
-pub kept_on : {J : Type 0} (on found refused : Bool) (xs new : List (Runner J)) (r : Runner J) → on ≡ true → refused ≡ not found → new ≡ (if found then xs ++ r ∷ [] else xs) → StandsNext on refused xs r new
-kept_on on found refused xs new r e f n = rw (e, f) (by found n)
-  where
-    by : (b : Bool) → new ≡ (if b then xs ++ r ∷ [] else xs) → StandsNext true (not b) xs r new
-    by true m = m
-    by false m = m
+module _ {J : Type 0} (began : ℕ → J → Type 0) (acts : JobActs J) (tostop : Bool) (ids : List ℕ) (said : List Said) (queue : List (Runner J)) (stopped : Bool) (v : View)
+    (run : Running began acts.steps tostop ids said queue) (turn : StepInTurn tostop ids said (ids_of queue)) where
+  with_close : (close : List Message) → LeavesFor {J = J} began acts stopped said close (ids_of queue) → v ≡ sender Back (map (mail Back) (map step_said said ++ close)) → AreSteps {J = J} began acts (record { ids = ids; tostop = tostop }) stopped v
+  with_close close why e = (said, close, e, run.by, run.each, run.leave, ids_of queue, turn, why)
 
-pub let_go : {J : Type 0} (on : Bool) (xs : List (Runner J)) (r : Runner J) → on ≡ false → StandsNext on false xs r xs
-let_go on xs r e = rw e (refl, refl)
+  -- no job runs any more
+  pub closes_idle : queue ≡ [] → v ≡ sender Back (map (mail Back) (map step_said said ++ Left ∷ [])) → AreSteps {J = J} began acts (record { ids = ids; tostop = tostop }) stopped v
+  closes_idle none e = with_close (Left ∷ []) (subst (λ (l : List (Runner J)). LeavesFor {J = J} began acts stopped said (Left ∷ []) (ids_of l)) (sym none) refl) e
+
+  -- it was told to stop
+  pub closes_stopped : stopped ≡ true → v ≡ sender Back (map (mail Back) (map step_said said ++ Left ∷ [])) → AreSteps {J = J} began acts (record { ids = ids; tostop = tostop }) stopped v
+  closes_stopped told e = with_close (Left ∷ []) (by (ids_of queue)) e
+    where
+      by : (left : List ℕ) → LeavesFor {J = J} began acts stopped said (Left ∷ []) left
+      by [] = refl
+      by (id ∷ others) = inl (refl, told)
+
+-- memory ran out for the first
+pub closes_refused : {J : Type 0} (began : ℕ → J → Type 0) (acts : JobActs J) (tostop : Bool) (ids : List ℕ) (said : List Said) (queue rest : List (Runner J)) (stopped : Bool) (v : View) (runner : Runner J) → Running began acts.steps tostop ids said queue → StepInTurn tostop ids said (ids_of queue) → queue ≡ runner ∷ rest → acts.refuses runner.job None → v ≡ sender Back (map (mail Back) ((map step_said said ++ Refused ∷ []) ++ Left ∷ [])) → AreSteps {J = J} began acts (record { ids = ids; tostop = tostop }) stopped v
+closes_refused {J} began acts tostop ids said queue rest stopped v runner run turn was refused e =
+    let runs = subst (λ (l : List (Runner J)). EachRuns began acts.steps ids said l) was run.runs in
+    let c = runs.1 in
+    let why : LeavesFor {J = J} began acts stopped said (Refused ∷ Left ∷ []) (ids_of (runner ∷ rest)) = inr (refl, (c.0, runner.job, c.1, c.2, refused)) in (
+      said,
+      Refused ∷ Left ∷ [],
+      e ∙ ap (λ (ms : List Message). sender Back (map (mail Back) ms)) (append_assoc (map step_said said) (Refused ∷ []) (Left ∷ [])),
+      run.by,
+      run.each,
+      run.leave,
+      ids_of queue,
+      turn,
+      subst (λ (l : List (Runner J)). LeavesFor {J = J} began acts stopped said (Refused ∷ Left ∷ []) (ids_of l)) (sym was) why,
+    )
+
+-- a job that runs on stands last
+pub kept_on : {J : Type 0} (on : Bool) (xs new : List (Runner J)) (r : Runner J) → on ≡ true → new ≡ xs ++ r ∷ [] → new ≡ standing on xs r
+kept_on on xs new r e n = rw e n
+
+pub let_go : {J : Type 0} (on : Bool) (xs : List (Runner J)) (r : Runner J) → on ≡ false → xs ≡ standing on xs r
+let_go on xs r e = rw e refl
 
 -- where none was first, the queue is empty
 pub none_first : {A : Type 0} (old new : List A) → old ≡ new → new ≡ drop 1 old → old ≡ []
@@ -258,7 +263,3 @@ text_is (x ∷ xs) = grind arith
 -- whether the job stays, as it was judged
 pub stays_is : (tostop : Bool) (r : Reaction) (text : List ℕ) (empty on : Bool) → text ≡ r.text → empty ≡ (length text == 0) → on ≡ leaves_in_background (judged job.Background (not empty) r.after tostop) → stays tostop r ≡ on
 stays_is tostop r text empty on e f g = sym (g ∙ ap (λ (b : Bool). leaves_in_background (judged job.Background b r.after tostop)) (ap not f ∙ sym (text_is text) ∙ ap has_text e))
-
-pub err_not_ok : {A E : Type 0} (r : Result A E) → is_err r ≡ not (is_ok r)
-err_not_ok (Ok x) = refl
-err_not_ok (Err e) = refl

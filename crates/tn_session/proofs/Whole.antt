@@ -14,13 +14,15 @@ use Rattle.tn_session.proofs.Lefts.{none_over}
 use Rattle.tn_session.proofs.Mailbox.{all_woven}
 use Rattle.tn_session.proofs.Sent.{NoLeft, Sent, no_left-append, sent_by, reader_sent}
 use Rattle.tn_session.proofs.Stopped.{was_left, stopped_told}
-use Rattle.tn_session.specs.Facts.{JobActs, SessionJobs, SessionResult, SessionViews}
+use Rattle.tn_session.specs.Acts.{JobActs}
+use Rattle.tn_session.specs.Facts.{SessionJobs, SessionResult, SessionViews}
 use Rattle.tn_session.specs.Joining.{handler, AreSettled}
 use Rattle.tn_session.specs.Mailbox.{Interleaves, from, four, sender, union, nobody, everyone, with_handled, mail, Total}
 use Rattle.tn_queue.specs.Queue.{putter, taker, joined_hands, both_hands, no_hand, LeftOver}
 use Rattle.tn_session.specs.Reader.{ReaderSends}
 use Rattle.tn_session.specs.Session.{IsOpening, IsRun, report_of}
 use Rattle.tn_session.specs.Stepping.{BackJobs, AreSteps, step_said}
+use Rattle.tn_session.proofs.Turning.{is_close}
 use Rattle.tn_session.specs.Stops.{StopHand, IsTold, term_stops}
 use Rattle.tn_session.specs.Talk.{IsJob, IsTalk, Closes, turns_said}
 use Rattle.tn_session.specs.Turning.{Holds, queue_of}
@@ -85,11 +87,11 @@ pub record DeskSent (v : View) (w : EntryHand) : Type 0 where
   pub taken : List (Option Entry)
   pub took : w ≡ taker taken
 
-pub desk_sent : {J : Type 0} (id : JobId) (fresh : J → Type 0) (reacts : J → Entry → Reaction → J → Type 0) (v : View) (w : EntryHand) → IsTalk {J = J} id fresh reacts v w → DeskSent v w
-desk_sent id fresh reacts v w talked = closed talked.0 talked.5
+pub desk_sent : {J : Type 0} (id : JobId) (fresh : J → Type 0) (acts : JobActs J) (v : View) (w : EntryHand) → IsTalk {J = J} id fresh acts v w → DeskSent v w
+desk_sent id fresh acts v w talked = closed (λ e. acts.refuses talked.2 (Some e)) talked.0 talked.5
   where
-    closed : (turns : List (Entry × Reaction)) → Closes id turns v w → DeskSent v w
-    closed turns c =
+    closed : (refuses : Entry → Type 0) (turns : List (Entry × Reaction)) → Closes id refuses turns v w → DeskSent v w
+    closed refuses turns c =
         let said = turns_said id turns in
         let stay = turns_stay id turns in
         ⊎_elim
@@ -100,15 +102,15 @@ desk_sent id fresh reacts v w talked = closed talked.0 talked.5
         y)
         c
 
-pub back_sent : {J : Type 0} (began : ℕ → J → Type 0) (steps : J → Reaction → J → Type 0) (jobs : BackJobs) (stopped : Bool) (v : View) → AreSteps {J = J} began steps jobs stopped v → Sent Back v
-back_sent began steps ids stopped v s =
+pub back_sent : {J : Type 0} (began : ℕ → J → Type 0) (acts : JobActs J) (jobs : BackJobs) (stopped : Bool) (v : View) → AreSteps {J = J} began acts jobs stopped v → Sent Back v
+back_sent began acts jobs stopped v s =
     let said = map step_said s.0 in
     let stay = steps_stay s.0 in
     let P : List Message → Type 0 = λ ms. v ≡ sender Back (map (mail Back) (said ++ ms)) in
     ⊎_elim
-    (λ e. sent_by Back said (said ++ Left ∷ []) v stay refl (subst P e s.3))
-    (λ e. sent_by Back (said ++ Refused ∷ []) (said ++ Refused ∷ Left ∷ []) v (no_left-append said (Refused ∷ []) stay (refl, tt)) (sym (append_assoc said (Refused ∷ []) (Left ∷ []))) (subst P e s.3))
-    s.2
+    (λ e. sent_by Back said (said ++ Left ∷ []) v stay refl (subst P e s.2))
+    (λ e. sent_by Back (said ++ Refused ∷ []) (said ++ Refused ∷ Left ∷ []) v (no_left-append said (Refused ∷ []) stay (refl, tt)) (sym (append_assoc said (Refused ∷ []) (Left ∷ []))) (subst P e s.2))
+    (is_close began acts stopped s.0 s.1 s.6 s.8)
 
 -- what was written, with the opening words
 wrote_all : (b : Bool) (words bytes rest sends : List ℕ) (x y z : Option (List ℕ)) (whole : Bool) → Writes b x y words → Appends y z bytes → (b ≡ false → bytes ≡ []) → sends ≡ words ++ (bytes ++ rest) → (whole ≡ true → rest ≡ []) → (written : List ℕ) × (unwritten : List ℕ) × Appends x z written × (sends ≡ written ++ unwritten) × ((b && whole) ≡ true → unwritten ≡ [])
@@ -133,7 +135,7 @@ same_history false canon editing jobs = refl
 -- all of a session that ran
 pub scheduled : {J : Type 0} (facts : JobActs J) (jobs : SessionJobs J) (stopped : Bool) (words : List ℕ) (reader : KnownReader) (x y z : KnownWriter) (term mid last : Term) (pass₀ : View) (hand₀ : EntryHand) (ended : SessionViews) (result : SessionResult)
     → pass₀ ≡ handler [] → hand₀ ≡ putter [] → IsOpening term words (from_to x y) mid → HandlesAll mid pass₀ ended.term hand₀ ended.put (from_to y z) ended.told last
-    → ReaderSends Net false reader ended.net → IsTalk {J = J} jobs.first (IsJob jobs.job) facts.reacts ended.desk ended.took → AreSteps {J = J} (Holds jobs.queue) facts.steps (queue_of jobs.tostop jobs.queue) stopped ended.back → (stopped ≡ true → ended.told ≡ putter [] → ⊥)
+    → ReaderSends Net false reader ended.net → IsTalk {J = J} jobs.first (IsJob jobs.job) facts ended.desk ended.took → AreSteps {J = J} (Holds jobs.queue) facts (queue_of jobs.tostop jobs.queue) stopped ended.back → (stopped ≡ true → ended.told ≡ putter [] → ⊥)
     → AreSettled ended result.views → result.report ≡ report_of last.progress
     → IsRun {J = J} facts jobs term words reader (from_to x z) result
 scheduled {J} facts jobs stopped words reader x y z term mid last pass₀ hand₀ ended result ep eh o acted sn talked stepped never settled er settings table at ew =
@@ -142,8 +144,8 @@ scheduled {J} facts jobs stopped words reader x y z term mid last pass₀ hand�
     let begin = run_after_opening o.written (start canon editing table) in
     let g = acted.goes.leads begin (o.leads (start canon editing table) at) in
     let ns = reader_sent Net false reader ended.net sn in
-    let ds = desk_sent jobs.first (IsJob jobs.job) facts.reacts ended.desk ended.took talked in
-    let bs = back_sent (Holds jobs.queue) facts.steps (queue_of jobs.tostop jobs.queue) stopped ended.back stepped in
+    let ds = desk_sent jobs.first (IsJob jobs.job) facts ended.desk ended.took talked in
+    let bs = back_sent (Holds jobs.queue) facts (queue_of jobs.tostop jobs.queue) stopped ended.back stepped in
     let puts : g.0.puts ≡ acted.puts = g.3 ∙ ap (λ (ps : List (Option Entry)). ps ++ acted.puts) (no_puts o.written canon editing table) in
     let view : ended.term ≡ handler acted.handled = acted.view ∙ ap (λ (v : View). with_handled v acted.handled) ep in
     let all = settled acted.handled ns.mails ds.sent.mails bs.mails acted.puts ds.taken view ns.is ds.sent.is bs.is (acted.hand [] eh) ds.took in
@@ -151,7 +153,7 @@ scheduled {J} facts jobs stopped words reader x y z term mid last pass₀ hand�
     let sends : spells (items_said g.0.history) ≡ words ++ (acted.goes.bytes ++ g.4) = g.5 ∙ ap (λ (bytes : List ℕ). bytes ++ (acted.goes.bytes ++ g.4)) (ap (λ h. spells (items_said h)) (same_history o.written canon editing table) ∙ sym ew) in
     let w = wrote_all o.written words acted.goes.bytes g.4 (spells (items_said g.0.history)) x.bytes y.bytes z.bytes (all_whole acted.goes.marked) o.wrote acted.goes.wrote (λ e. acted.goes.idle (o.over e)) sends g.6 in
     let N : View → Type 0 = λ v. ReaderSends Net false reader v in
-    let B : View → Type 0 = λ v. AreSteps {J = J} (Holds jobs.queue) facts.steps (queue_of jobs.tostop jobs.queue) stopped v in
+    let B : View → Type 0 = λ v. AreSteps {J = J} (Holds jobs.queue) facts (queue_of jobs.tostop jobs.queue) stopped v in
     let woven : Interleaves acted.handled (four ns.mails ds.sent.mails bs.mails []) = λ r. ap (from r) (sym (append-nil acted.handled) ∙ ap (λ (l : List Mail). acted.handled ++ l) (sym none)) ∙ all.6.1 r in
     let stands = acted.stands begin (o.leads (start canon editing table) at) in
     let left = stands.gone (was_left Back acted.handled bs.mails (woven Back) bs.one) in
@@ -182,7 +184,7 @@ scheduled {J} facts jobs stopped words reader x y z term mid last pass₀ hand�
       taken = ds.taken;
       took_is = all.5;
       took_first = (all.7.0, all.7.1 ∙ sym puts);
-      talked = subst (λ (u : View × EntryHand). IsTalk {J = J} jobs.first (IsJob jobs.job) facts.reacts u.0 u.1) (λ i. ((ds.sent.is ∙ sym all.1) i, (ds.took ∙ sym all.5) i)) talked;
+      talked = subst (λ (u : View × EntryHand). IsTalk {J = J} jobs.first (IsJob jobs.job) facts u.0 u.1) (λ i. ((ds.sent.is ∙ sym all.1) i, (ds.took ∙ sym all.5) i)) talked;
       stopped = stopped;
       stepped = subst B (bs.is ∙ sym all.2) stepped;
       back_left = left.0;

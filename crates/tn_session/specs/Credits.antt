@@ -1,15 +1,19 @@
 -- The credits of a session: the thread that reads the network takes one for each piece that it sends.
 use Rattle.std.specs.Prelude.{◌≡◌, ℕ, Bool, true, false, ◌+◌, ◌≤◌, List, Option, Some, None, [], ◌∷◌, ◌++◌, length, ⊤}
 use Rattle.crossbeam_channel.specs.Claims.{view, IsSeatAt}
-use Rattle.crossbeam_channel.specs.Ends.{receives_on}
+use Rattle.crossbeam_channel.specs.Ends.{sends_on, receives_on, ruled_capacity}
 use Rattle.tn_messages.specs.declared.messages.Message.{Message}
-use Rattle.tn_messages.specs.declared.messages.Message.TheVariants.{Piece}
+use Rattle.tn_messages.specs.declared.messages.Message.TheVariants.{Piece, Said}
 use Rattle.tn_session.specs.Mailbox.{with_handled}
 use Rattle.tn_session.specs.declared.channels.View.{View}
 use Rattle.tn_session.specs.declared.credit.Credit.{Credit}
+use Rattle.tn_session.specs.declared.credit.CreditGiver.{CreditGiver}
 use Rattle.tn_session.specs.declared.credit.CreditSeat.{CreditSeat}
+use Rattle.tn_session.specs.declared.credit.StepCredits.{StepCredits}
 use Rattle.tn_session.specs.declared.credit.Tally.{Tally}
 use Rattle.tn_session.specs.declared.mail.Mail.{Mail}
+use Rattle.tn_session.specs.declared.mail.Sender.{Sender}
+use Rattle.tn_session.specs.declared.mail.Sender.TheVariants.{Back}
 
 abbrev pub none_taken : Tally
 none_taken = record { taken = []; given = [] }
@@ -48,6 +52,35 @@ piece_one _ = 0
 abbrev pub pieces_among : List Mail → ℕ
 pieces_among [] = 0
 pieces_among (x ∷ xs) = piece_one x.message + pieces_among xs
+
+-- a step that a background job said
+abbrev pub step_one : Sender → Message → ℕ
+step_one Back (Said job text after) = 1
+step_one _ _ = 0
+
+-- how many of these are steps
+abbrev pub steps_among : List Mail → ℕ
+steps_among [] = 0
+steps_among (x ∷ xs) = step_one x.from x.message + steps_among xs
+
+-- so many credits for steps were used at least: of those that were there at first, and of those that were taken
+abbrev pub HaveUsed : ℕ → StepCredits → StepCredits → Type 0
+HaveUsed n old new =
+    new.left + length (view old.seat.pass).taken + n ≤ old.left + length (view new.seat.pass).taken
+
+-- one credit at most is given for each step that was handled
+abbrev pub GivesStepCredits : View → View → Tally → Tally → Type 0
+GivesStepCredits v w old new =
+    (handled : List Mail) × (w ≡ with_handled v handled)
+    × (length new.given ≤ length old.given + steps_among handled)
+
+-- both are at one channel, and none was given
+pub record AreNewCredits (giver : CreditGiver) (credits : StepCredits) : Type 0 where
+  pub one_channel : receives_on credits.seat.from ≡ sends_on giver.to
+  pub giver_at : IsSeatAt (sends_on giver.to) giver.pass
+  pub seat_at : IsSeatAt (sends_on giver.to) credits.seat.pass
+  pub room : ruled_capacity (sends_on giver.to) ≡ 32
+  pub first : credits.left ≡ 32
 
 -- one credit is given at first at most, and one more for each piece that was handled
 abbrev pub GivesCredits : View → View → Tally → Tally → Type 0

@@ -1,11 +1,12 @@
 -- What is known of a session's jobs, its settings and what it gives back, each in one record.
-use Rattle.std.specs.Prelude.{ℕ, Bool, List}
+use Rattle.std.specs.Prelude.{ℕ, Bool, Option, List}
 use Rattle.crossbeam_channel.specs.Claims.{view}
 use Rattle.tn_discipline.specs.Canon.{Canon}
 use Rattle.tn_discipline.specs.declared.reads.Entry.{Entry}
 use Rattle.tn_jobs.specs.declared.held_jobs.JobId.{JobId}
 use Rattle.tn_jobs.specs.declared.reactions.Reaction.{Reaction}
 use Rattle.tn_server.specs.declared.wishes.Editing.{Editing}
+use Rattle.tn_session.specs.Acts.{JobActs, job_acts}
 use Rattle.tn_session.specs.declared.back.Runner.{Runner}
 use Rattle.tn_session.specs.declared.channels.View.{View}
 use Rattle.tn_session.specs.EntryChannel.{EntryHand}
@@ -14,22 +15,14 @@ use Rattle.tn_session.specs.declared.parties.Ports.{Ports}
 use Rattle.tn_session.specs.declared.parties.Report.{Report}
 use Rattle.tn_session.specs.Stops.{StopHand}
 
--- of a type of jobs: how an entry and a step change one
-pub record JobActs (J : Type 0) : Type 1 where
-  pub reacts : J → Entry → Reaction → J → Type 0
-  pub steps : J → Reaction → J → Type 0
-
-abbrev pub job_acts : {J : Type 0} → (J → Entry → Reaction → J → Type 0) → (J → Reaction → J → Type 0) → JobActs J
-job_acts reacts steps = record { reacts = reacts; steps = steps }
-
--- and with which a session may begin: the first and then the others, in order
+-- of a type of jobs: how they act, and with which a session may begin, the first and then the others, in order
 pub record JobFacts (J : Type 0) : Type 1 where
   pub begins : List J → Type 0
   pub acts : JobActs J
 
 abbrev pub job_facts : {J : Type 0} → (List J → Type 0) → (J → Entry → Reaction → J → Type 0)
-    → (J → Reaction → J → Type 0) → JobFacts J
-job_facts begins reacts steps = record { begins = begins; acts = job_acts reacts steps }
+    → (J → Reaction → J → Type 0) → (J → Option Entry → Type 0) → JobFacts J
+job_facts begins reacts steps refuses = record { begins = begins; acts = job_acts reacts steps refuses }
 
 -- The jobs of a session as they begin: the foreground job with its number, those in the background, and whether
 -- a text stops one of these (the flag TOSTOP of the terminal).

@@ -3,6 +3,7 @@ use Rattle.std.specs.Prelude.{◌≡◌, List, Option, Some, None, [], ◌++◌}
 use Rattle.crossbeam_channel.specs.Claims.{view, IsSeatAt}
 use Rattle.crossbeam_channel.specs.Ends.{sends_on, receives_on, ruled_capacity}
 use Rattle.tn_discipline.specs.declared.reads.Entry.{Entry}
+use Rattle.tn_session.specs.Credits.{AreNewCredits}
 use Rattle.tn_session.specs.Facts.{SessionViews}
 use Rattle.tn_session.specs.Mailbox.{Interleaves, four, sender}
 use Rattle.tn_queue.specs.Queue.{putter, taker}
@@ -17,7 +18,7 @@ abbrev pub handler : List Mail → View
 handler h = record { handled = Some h; net = None; desk = None; back = None; keys = Some [] }
 
 -- nothing was sent, handled, put or taken; the mailbox holds 64 messages, and the channel of entries two;
--- each pass has its seat
+-- 32 steps may be said and not yet handled; each pass has its seat
 pub record IsReady (c : Channels) : Type 0 where
   pub one_mailbox : receives_on c.ends.from ≡ sends_on c.ends.to
   pub mails : ruled_capacity (sends_on c.ends.to) ≡ 64
@@ -41,6 +42,7 @@ pub record IsReady (c : Channels) : Type 0 where
   pub one_credit : receives_on c.credits.from ≡ sends_on c.ends.give
   pub give : IsSeatAt (sends_on c.ends.give) c.passes.give
   pub credits : IsSeatAt (sends_on c.ends.give) c.credits.pass
+  pub step_credits : AreNewCredits c.passes.step_credits c.step_credits
 
 -- whatever the lists are: they are those of the new passes too, what was handled begins an interleaving of
 -- what was sent, and what was taken begins what was put; the word to stop stays as it was

@@ -1,6 +1,7 @@
 pub mod Mailbox
 pub mod EntryChannel
 pub mod Credits
+pub mod Acts
 pub mod Reading
 pub mod Talk
 pub mod Stepping

@@ -9,7 +9,8 @@ use Rattle.tn_nvt.specs.declared.items.Item.{Item}
 use Rattle.tn_server.specs.Events.{items}
 use Rattle.tn_server.specs.Lines.{entries}
 use Rattle.tn_server.specs.Replies.{items_said}
-use Rattle.tn_session.specs.Facts.{JobActs, JobFacts, SessionJobs, SessionResult, TermSettings}
+use Rattle.tn_session.specs.Acts.{JobActs}
+use Rattle.tn_session.specs.Facts.{JobFacts, SessionJobs, SessionResult, TermSettings}
 use Rattle.tn_session.specs.Jobs.{Numbered}
 use Rattle.tn_streams.specs.Prefixes.{IsPrefixOf}
 use Rattle.tn_session.specs.Mailbox.{Interleaves, four, sender}
@@ -108,9 +109,9 @@ pub record Schedule {J : Type 0} (acts : JobActs J) (jobs : SessionJobs J) (sett
   pub taken : List (Option Entry)
   pub took_is : result.views.took ≡ taker taken
   pub took_first : IsPrefixOf taken run.puts
-  pub talked : IsTalk jobs.first (IsJob jobs.job) acts.reacts result.views.desk result.views.took
+  pub talked : IsTalk jobs.first (IsJob jobs.job) acts result.views.desk result.views.took
   pub stopped : Bool
-  pub stepped : AreSteps (Holds jobs.queue) acts.steps (queue_of jobs.tostop jobs.queue) stopped result.views.back
+  pub stepped : AreSteps (Holds jobs.queue) acts (queue_of jobs.tostop jobs.queue) stopped result.views.back
   -- where Back left, it was told to stop if by then nothing had any effect any more, or nothing more came from the
   -- network, and else not; and only then it stopped
   pub back_left : LeavesAt Back messages_of

@@ -1,5 +1,5 @@
 -- What the thread of the background jobs sends.
-use Rattle.std.specs.Prelude.{◌≡◌, ◌≢◌, ℕ, ◌==◌, Bool, true, false, Option, Some, None, List, [], ◌∷◌, ◌++◌, ◌⊎◌, map, if◌then◌else◌}
+use Rattle.std.specs.Prelude.{◌≡◌, ℕ, ◌==◌, Bool, true, false, Option, Some, None, List, [], ◌∷◌, ◌++◌, ◌⊎◌, map, if◌then◌else◌}
 use Rattle.std.specs.List.{FoldsTo}
 use Rattle.tn_jobs.specs.Judging.{judged}
 use Rattle.tn_jobs.specs.declared.held_jobs.JobId.{JobId}
@@ -9,6 +9,7 @@ use Rattle.tn_jobs.specs.declared.verdicts.JobState.TheVariants as job
 use Rattle.tn_jobs.specs.declared.verdicts.Verdict.{Verdict}
 use Rattle.tn_session.specs.declared.mail.Sender.TheVariants.{Back}
 use Rattle.tn_session.specs.declared.channels.View.{View}
+use Rattle.tn_session.specs.Acts.{JobActs}
 use Rattle.tn_session.specs.Mailbox.{mail, sender}
 use Rattle.tn_term.specs.Run.{has_text}
 use Rattle.tn_messages.specs.declared.messages.Message.{Message}
@@ -28,9 +29,6 @@ abbrev pub Steps : {J : Type 0} → (ℕ → J → Type 0) → (J → Reaction �
     → Type 0
 Steps {J} began steps said id =
     (first : J) × (last : J) × began id first × FoldsTo steps first (reactions_of id said) last
-
-abbrev pub IsClose : List Message → Type 0
-IsClose close = (close ≡ Left ∷ []) ⊎ (close ≡ Refused ∷ Left ∷ [])
 
 abbrev pub IsIn : ℕ → List ℕ → Type 0
 IsIn id [] = ⊥
@@ -79,18 +77,26 @@ TakesItsTurn tostop (id ∷ ids) s new = (s.0.0 ≡ id) × (new ≡ turned (stay
 abbrev pub StepInTurn : Bool → List ℕ → List (JobId × Reaction) → List ℕ → Type 0
 StepInTurn tostop ids said left = FoldsTo (TakesItsTurn tostop) ids said left
 
--- why it left: no job runs any more, it was told to stop, or memory ran out while one ran
-abbrev pub LeavesFor : Bool → List Message → List ℕ → Type 0
-LeavesFor stopped close left =
-    ((close ≡ Refused ∷ Left ∷ []) × (left ≢ [])) ⊎ ((left ≡ []) ⊎ (stopped ≡ true))
+-- memory ran out for the job of this number, where its steps had led it
+abbrev pub IsRefused : {J : Type 0} → (ℕ → J → Type 0) → JobActs J → List (JobId × Reaction) → ℕ → Type 0
+IsRefused {J} began acts said id =
+    (first : J) × (last : J) × began id first × FoldsTo acts.steps first (reactions_of id said) last × acts.refuses last None
+
+-- why it left: no job runs any more; or it was told to stop, or memory ran out for the one whose turn it was
+abbrev pub LeavesFor : {J : Type 0} → (ℕ → J → Type 0) → JobActs J → Bool → List (JobId × Reaction) → List Message
+    → List ℕ → Type 0
+LeavesFor began acts stopped said close [] = close ≡ Left ∷ []
+LeavesFor {J} began acts stopped said close (id ∷ ids) =
+    ((close ≡ Left ∷ []) × (stopped ≡ true))
+    ⊎ ((close ≡ Refused ∷ Left ∷ []) × IsRefused {J = J} began acts said id)
 
 -- of these jobs: each step is one of theirs, those of each go through its states, no job makes one after it
 -- was judged out of the background, they step in turn, and then comes the close, for its cause
-abbrev pub AreSteps : {J : Type 0} → (ℕ → J → Type 0) → (J → Reaction → J → Type 0) → BackJobs → Bool → View
-    → Type 0
-AreSteps {J} began steps jobs stopped v =
-    (said : List (JobId × Reaction)) × (close : List Message) × IsClose close
+abbrev pub AreSteps : {J : Type 0} → (ℕ → J → Type 0) → JobActs J → BackJobs → Bool → View → Type 0
+AreSteps {J} began acts jobs stopped v =
+    (said : List (JobId × Reaction)) × (close : List Message)
     × (v ≡ sender Back (map (mail Back) (map step_said said ++ close)))
-    × AreBy jobs.ids said × ((id : ℕ) → IsIn id jobs.ids → Steps {J = J} began steps said id)
+    × AreBy jobs.ids said × ((id : ℕ) → IsIn id jobs.ids → Steps {J = J} began acts.steps said id)
     × ((id : ℕ) → IsIn id jobs.ids → LeavesLast jobs.tostop (reactions_of id said))
-    × (left : List ℕ) × StepInTurn jobs.tostop jobs.ids said left × LeavesFor stopped close left
+    × (left : List ℕ) × StepInTurn jobs.tostop jobs.ids said left
+    × LeavesFor {J = J} began acts stopped said close left

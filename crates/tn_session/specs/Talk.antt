@@ -11,6 +11,7 @@ use Rattle.tn_jobs.specs.declared.verdicts.After.TheVariants.{Done}
 use Rattle.tn_session.specs.declared.channels.View.{View}
 use Rattle.tn_session.specs.EntryChannel.{EntryHand}
 use Rattle.tn_queue.specs.Queue.{taker}
+use Rattle.tn_session.specs.Acts.{JobActs}
 use Rattle.tn_session.specs.Mailbox.{mail, sender}
 
 -- an entry, and what the job answered
@@ -36,21 +37,20 @@ ends_done (t ∷ u ∷ us) = ends_done (u ∷ us)
 abbrev pub desk_sends : List Message → View
 desk_sends messages = sender Desk (map (mail Desk) messages)
 
--- how it ended: the end came, the job was done, or the job found no memory
-abbrev pub Closes : JobId → List (Entry × Reaction) → View → EntryHand → Type 0
-Closes id turns v w =
+-- how it ended: the end came, the job was done, or memory ran out for it at an entry
+abbrev pub Closes : JobId → (Entry → Type 0) → List (Entry × Reaction) → View → EntryHand → Type 0
+Closes id refuses turns v w =
     ((v ≡ desk_sends (turns_said id turns ++ Take ∷ Left ∷ [])) × (w ≡ taker (entries_of turns ++ None ∷ [])))
     ⊎ ((v ≡ desk_sends (turns_said id turns ++ Left ∷ [])) × (w ≡ taker (entries_of turns)) × ends_done turns)
     ⊎ ((e : Entry) × (v ≡ desk_sends (turns_said id turns ++ Take ∷ Refused ∷ Left ∷ []))
-    × (w ≡ taker (entries_of turns ++ Some e ∷ [])))
+    × (w ≡ taker (entries_of turns ++ Some e ∷ [])) × refuses e)
 
 -- the job itself
 abbrev pub IsJob : {J : Type 0} → J → J → Type 0
 IsJob job other = other ≡ job
 
 -- it asked before each thing that it took, and answered each entry from the job's state, which began so
-abbrev pub IsTalk : {J : Type 0} → JobId → (J → Type 0) → (J → Entry → Reaction → J → Type 0) → View → EntryHand
-    → Type 0
-IsTalk {J} id began reacts v w =
+abbrev pub IsTalk : {J : Type 0} → JobId → (J → Type 0) → JobActs J → View → EntryHand → Type 0
+IsTalk {J} id began acts v w =
     (turns : List (Entry × Reaction)) × (first : J) × (last : J)
-    × began first × Answers reacts first turns last × Closes id turns v w
+    × began first × Answers acts.reacts first turns last × Closes id (λ e. acts.refuses last (Some e)) turns v w

@@ -1,7 +1,8 @@
 -- The background jobs that run, in a queue.
-use Rattle.std.specs.Prelude.{◌≡◌, ℕ, Bool, true, false, List, [], ◌∷◌, ◌++◌, ◌⊎◌}
+use Rattle.std.specs.Prelude.{◌≡◌, ℕ, Bool, true, false, None, List, [], ◌∷◌, ◌++◌, ◌⊎◌}
 use Rattle.std.specs.List.{FoldsTo}
 use Rattle.tn_jobs.specs.declared.held_jobs.JobId.{JobId}
+use Rattle.tn_session.specs.Acts.{JobActs}
 use Rattle.tn_session.specs.declared.back.Runner.{Runner}
 use Rattle.tn_session.specs.declared.back.Turn.{Turn}
 use Rattle.tn_session.specs.declared.back.Turn.TheVariants.{Idle, Refused, Did}
@@ -71,29 +72,25 @@ pub record Running {J : Type 0} (began : ℕ → J → Type 0) (steps : J → Re
   pub runs : EachRuns began steps ids said queue
   pub apart : AreApart (ids_of queue)
 
--- The job that made a step stands last as long as it runs in the background, unless there was no memory
--- for that; one that was judged out of it stands in the queue no more.
-abbrev pub StandsNext : {J : Type 0} → Bool → Bool → List (Runner J) → Runner J → List (Runner J) → Type 0
-StandsNext true false rest runner new = new ≡ rest ++ runner ∷ []
-StandsNext true true rest runner new = new ≡ rest
-StandsNext false refused rest runner new = (refused ≡ false) × (new ≡ rest)
+-- The job that made a step stands last as long as it runs in the background; one that was judged out of it
+-- stands in the queue no more.
+abbrev pub standing : {J : Type 0} → Bool → List (Runner J) → Runner J → List (Runner J)
+standing true rest runner = rest ++ runner ∷ []
+standing false rest runner = rest
 
 -- The first of the queue made a step.
 pub record AdvancesQueue {J : Type 0} (steps : J → Reaction → J → Type 0) (tostop : Bool)
-    (old : List (Runner J)) (id : JobId) (reaction : Reaction) (refused : Bool) (new : List (Runner J))
-    : Type 0 where
+    (old : List (Runner J)) (id : JobId) (reaction : Reaction) (new : List (Runner J)) : Type 0 where
   pub runner : Runner J
   pub rest : List (Runner J)
   pub job : J
   pub was : old ≡ runner ∷ rest
   pub number : id ≡ runner.id
   pub step : steps runner.job reaction job
-  pub left : StandsNext (stays tostop reaction) refused rest (record { id = id; job = job }) new
+  pub left : new ≡ standing (stays tostop reaction) rest (record { id = id; job = job })
 
--- no job makes a step only where none runs; memory runs out only for one that does
-abbrev pub TakesTurn : {J : Type 0} → (J → Reaction → J → Type 0) → Bool → List (Runner J) → Turn
-    → List (Runner J) → Type 0
-TakesTurn steps tostop old Idle new = old ≡ []
-TakesTurn {J} steps tostop old Refused new = (runner : Runner J) × (old ≡ runner ∷ new)
-TakesTurn steps tostop old (Did id reaction refused) new =
-    AdvancesQueue steps tostop old id reaction refused new
+-- no job makes a step only where none runs; memory runs out for the first
+abbrev pub TakesTurn : {J : Type 0} → JobActs J → Bool → List (Runner J) → Turn → List (Runner J) → Type 0
+TakesTurn acts tostop old Idle new = old ≡ []
+TakesTurn {J} acts tostop old Refused new = (runner : Runner J) × (old ≡ runner ∷ new) × acts.refuses runner.job None
+TakesTurn acts tostop old (Did id reaction) new = AdvancesQueue acts.steps tostop old id reaction new

@@ -2,16 +2,20 @@
 
 ghost use Rattle.std.specs.Prelude.{◌≡◌, List, [], ◌++◌, ◌∷◌, IfSome};
 ghost use Rattle.crossbeam_channel.specs.Claims.{view, IsSeatAt};
-ghost use Rattle.crossbeam_channel.specs.Ends.{sends_on};
+ghost use Rattle.crossbeam_channel.specs.Ends.{sends_on, receives_on};
+ghost use Rattle.tn_session.specs.Acts.{job_acts};
+ghost use Rattle.tn_session.specs.Credits.{HaveUsed, steps_among};
 ghost use Rattle.tn_session.specs.Mailbox.{sender};
 ghost use Rattle.tn_session.specs.Stepping.{AreSteps, is_background, leaves_in_background};
 ghost use Rattle.tn_session.specs.Stops.{StopsStay, has_stopped};
 ghost use Rattle.tn_jobs.specs.Judging.{judged};
 ghost use Rattle.tn_jobs.specs.declared.verdicts.JobState.TheVariants as state;
 ghost use Rattle.tn_session.specs.Turning.{Holds, IsQueue, queue_of, TakesTurn};
+ghost use Rattle.tn_session.specs.declared.mail.Mail.{Mail as MailT};
 ghost use Rattle.tn_session.specs.declared.mail.Sender.TheVariants.{Back};
 
 use crate::channels::{MailPass, MailSeat};
+use crate::credit::StepCredits;
 use crate::mail::Sender;
 use crate::parties::{Gate, Place};
 use crate::sending::say;
@@ -55,16 +59,12 @@ enum Turn {
     Idle,
     // The first job found no memory.
     Refused,
-    // The first job made this step. Where it runs on and memory for that runs out, it is dropped.
-    Did {
-        id: JobId,
-        reaction: Reaction,
-        refused: bool,
-    },
+    // The first job made this step.
+    Did { id: JobId, reaction: Reaction },
 }
 
 fn advance<J: Job>(queue: &mut VecDeque<Runner<J>>, alloc: Global, tostop: bool) -> Turn
-    ensures { TakesTurn J.steps tostop queue.old.items result queue.new.items }
+    ensures { TakesTurn (job_acts J.reacts J.steps J.refuses) tostop queue.old.items result queue.new.items }
 {
     let Some(Runner { id, mut job }) = queue.pop_front() else {
         return Turn::Idle;
@@ -74,22 +74,15 @@ fn advance<J: Job>(queue: &mut VecDeque<Runner<J>>, alloc: Global, tostop: bool)
     };
     let on = goes_on(!reaction.text.as_slice().is_empty(), reaction.after, tostop);
     if !on {
-        return Turn::Did {
-            id,
-            reaction,
-            refused: false,
-        };
+        return Turn::Did { id, reaction };
     }
-    let refused = queue.push_back(Runner { id, job }).is_err();
-    Turn::Did {
-        id,
-        reaction,
-        refused,
-    }
+    // The place that it left is free.
+    queue.push_back_reserved(Runner { id, job });
+    Turn::Did { id, reaction }
 }
 
 // tools/progress: proctype Back
-/// Runs the jobs in turn, until none of them runs or it is told to stop.
+/// Runs the jobs in turn, each step for a credit, until none of them runs or it is told to stop.
 pub(crate) fn run_back<R: Wait, J: Job, G: Gate>(
     rt: &R,
     alloc: Global,
@@ -98,17 +91,22 @@ pub(crate) fn run_back<R: Wait, J: Job, G: Gate>(
     tostop: bool,
     gate: &G,
     stops: &mut Option<StopSeat>,
+    credits: &mut StepCredits,
 ) -> Option<MailPass>
     requires mailbox { IsSeatAt (sends_on seat.to) seat.pass × (view seat.pass ≡ sender Back []) }
     requires jobs { IsQueue J.fresh queue.items }
     requires stops { StopsStay stops.old stops.old }
+    requires credits { IsSeatAt (receives_on credits.old.seat.from) credits.old.seat.pass }
     ensures seat { IfSome result (λ p. IsSeatAt (sends_on seat.to) p) }
-    ensures stepped { IfSome result (λ p. AreSteps (Holds queue.items) J.steps (queue_of tostop queue.items)
-        (has_stopped stops.new) (view p)) }
+    ensures stepped { IfSome result (λ p. AreSteps (Holds queue.items)
+        (job_acts J.reacts J.steps J.refuses) (queue_of tostop queue.items) (has_stopped stops.new) (view p)) }
     ensures stays { StopsStay stops.old stops.new }
+    ensures credited { IfSome result (λ p. (mails : List MailT) → view p ≡ sender Back mails →
+        HaveUsed (steps_among mails) credits.old credits.new) }
 {
     let MailSeat { to, mut pass } = seat;
     for _ in rt.forever() {
+        credits.take(rt)?;
         if is_stopped(rt, stops) {
             return say(rt, &to, pass, Sender::Back, Message::Left);
         }
@@ -119,11 +117,7 @@ pub(crate) fn run_back<R: Wait, J: Job, G: Gate>(
                 pass = say(rt, &to, pass, Sender::Back, Message::Refused)?;
                 return say(rt, &to, pass, Sender::Back, Message::Left);
             },
-            Turn::Did {
-                id,
-                reaction,
-                refused,
-            } => {
+            Turn::Did { id, reaction } => {
                 let Reaction { text, after } = reaction;
                 pass = say(
                     rt,
@@ -136,10 +130,6 @@ pub(crate) fn run_back<R: Wait, J: Job, G: Gate>(
                         after,
                     },
                 )?;
-                if refused {
-                    pass = say(rt, &to, pass, Sender::Back, Message::Refused)?;
-                    return say(rt, &to, pass, Sender::Back, Message::Left);
-                }
             },
         }
     }

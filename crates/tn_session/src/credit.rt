@@ -1,16 +1,20 @@
 //! One piece at a time comes from the network: the terminal gives a credit once one more is welcome, and the
-//! thread that reads takes one before it sends a piece.
+//! thread that reads takes one before it sends a piece. Of what the background jobs say only so much waits for the
+//! terminal: their thread takes a credit for each step, and the terminal gives one back for each that it takes. So a
+//! key is passed by few messages, however fast these jobs are.
 
-ghost use Rattle.std.specs.Prelude.{◌≡◌, ◌≤◌, ◌<◌, ◌+◌, true, false, length, IfSome};
+ghost use Rattle.std.specs.Prelude.{◌≡◌, ◌≤◌, ◌<◌, ◌+◌, true, false, length, IfOk, IfSome};
 ghost use Rattle.crossbeam_channel.specs.Claims.{view, IsSeatAt};
 ghost use Rattle.crossbeam_channel.specs.Ends.{sends_on, receives_on};
 ghost use Rattle.tn_server.specs.Lines.{waiting};
-ghost use Rattle.tn_session.specs.Credits.{AnyTally, none_taken, one_given, one_taken, owed_one, piece_one, IsSeated, HaveTaken};
+ghost use Rattle.tn_session.specs.Credits.{AnyTally, AreNewCredits, HaveUsed, none_taken, one_given, one_taken, owed_one, piece_one, step_one, IsSeated, HaveTaken};
 ghost use Rattle.tn_term.specs.Reaching.{LeadsTo};
 ghost use Rattle.tn_term.specs.Run.{Run};
 
+use crate::mail::{Mail, Sender};
 use crossbeam_channel::protocol::{Lesson, Outcome, Protocol, Split};
-use crossbeam_channel::{Pass, RuledReceiver, RuledSender};
+use crossbeam_channel::{Pass, RuledReceiver, RuledSender, bounded_with};
+use std::alloc::{AllocError, Global};
 use std::collections::LinkedList;
 use std::sync::Wait;
 use tn_messages::Message;
@@ -19,7 +23,11 @@ use tn_term::Term;
 /// How many credits there are.
 pub(crate) const CREDITS: usize = 1;
 
-/// The leave to send one piece.
+/// How many steps of background jobs may be said that the terminal has not taken: half of what the mailbox holds, so
+/// that it is never full.
+const STEPS_AHEAD: u8 = 32;
+
+/// The leave to send one piece, or to say one step.
 #[derive(Drop)]
 pub struct Credit;
 
@@ -104,6 +112,87 @@ pub(crate) fn take_credit<R: Wait>(rt: &R, credits: &mut Option<CreditSeat>) -> 
         Some(seat) => seat.take(rt),
         None => Some(()),
     }
+}
+
+/// What the thread of the background jobs needs for its steps: so many credits are left of those that it has at
+/// first, and the others come.
+#[derive(Drop)]
+pub(crate) struct StepCredits {
+    pub(crate) left: u8,
+    pub(crate) seat: CreditSeat,
+}
+
+impl StepCredits {
+    /// Uses one, and waits for it where none is left. `None` where the other end is gone.
+    pub(crate) fn take<R: Wait>(&mut self, rt: &R) -> Option<()>
+        requires seat { IsSeatAt (receives_on self.old.seat.from) self.old.seat.pass }
+        ensures seat { IsSeatAt (receives_on self.new.seat.from) self.new.seat.pass }
+        ensures used { IfSome result (λ _. HaveUsed 1 self.old self.new) }
+    {
+        if self.left > 0 {
+            self.left -= 1;
+            return Some(());
+        }
+        self.seat.take(rt)
+    }
+}
+
+/// Where the terminal gives credits for steps.
+#[derive(Drop)]
+pub(crate) struct CreditGiver {
+    pub(crate) to: CreditSender,
+    pub(crate) pass: CreditPass,
+}
+
+impl CreditGiver {
+    /// Gives one for this mail if a step of a background job said it. One that nobody waits for any more is lost; the
+    /// channel has room for each.
+    pub(crate) fn give_for<R: Wait>(&mut self, rt: &R, mail: &Mail)
+        requires seat { IsSeatAt (sends_on self.old.to) self.old.pass }
+        ensures seat { IsSeatAt (sends_on self.new.to) self.new.pass }
+        ensures counted { length (view self.new.pass).given ≤
+            length (view self.old.pass).given + step_one mail.now.from mail.now.message }
+    {
+        if is_step(mail) {
+            self.give(rt);
+        }
+    }
+
+    fn give<R: Wait>(&mut self, rt: &R)
+        requires seat { IsSeatAt (sends_on self.old.to) self.old.pass }
+        ensures seat { IsSeatAt (sends_on self.new.to) self.new.pass }
+        ensures counted { length (view self.new.pass).given ≤ length (view self.old.pass).given + 1 }
+    {
+        match self.to.send_as::<Gives, R>(rt, &mut self.pass, Credit) {
+            Ok(()) | Err(_) => {},
+        }
+    }
+}
+
+fn is_step(mail: &Mail) -> bool
+    ensures { owed_one result ≡ step_one mail.now.from mail.now.message }
+{
+    match (mail.from, &mail.message) {
+        (Sender::Back, Message::Said { .. }) => true,
+        _ => false,
+    }
+}
+
+/// Makes both ends of the credits for steps.
+pub(crate) fn make_step_credits(alloc: Global) -> Result<(CreditGiver, StepCredits), AllocError>
+    ensures { IfOk result (λ r. AreNewCredits r.0 r.1) }
+{
+    let (to, from, mut pass) = bounded_with::<Credit, Tally, Freely, Global>(
+        alloc,
+        STEPS_AHEAD as usize,
+    )?;
+    let taken = to.another::<CutReader>(&mut pass);
+    let seat = CreditSeat { from, pass: taken };
+    let credits = StepCredits {
+        left: STEPS_AHEAD,
+        seat,
+    };
+    Ok((CreditGiver { to, pass }, credits))
 }
 
 pub(crate) fn is_piece(message: &Message) -> bool

@@ -4,6 +4,7 @@ ghost use Rattle.std.specs.Prelude.{◌≡◌, List, Option, [], ◌++◌, ◌�
 ghost use Rattle.crossbeam_channel.specs.Claims.{view, IsSeatAt};
 ghost use Rattle.crossbeam_channel.specs.Ends.{sends_on, receives_on};
 ghost use Rattle.tn_discipline.specs.declared.reads.Entry.{Entry as EntryT};
+ghost use Rattle.tn_session.specs.Acts.{job_acts};
 ghost use Rattle.tn_session.specs.Mailbox.{sender};
 ghost use Rattle.tn_queue.specs.Queue.{taker};
 ghost use Rattle.tn_session.specs.Talk.{IsJob, IsTalk};
@@ -55,7 +56,8 @@ pub(crate) fn run_desk<R: Wait, J: Job, G: Gate>(
     requires fresh { J.fresh job }
     ensures mailbox { IfSome result (λ r. IsSeatAt (sends_on seat.to) r.0) }
     ensures entries { IfSome result (λ r. IsSeatAt (receives_on entries.from) r.1) }
-    ensures talk { IfSome result (λ r. IsTalk id (IsJob job) J.reacts (view r.0) (view r.1)) }
+    ensures talk { IfSome result (λ r. IsTalk id (IsJob job) (job_acts J.reacts J.steps J.refuses)
+        (view r.0) (view r.1)) }
 {
     let MailSeat { to, mut pass } = seat;
     let EntrySeat {

@@ -42,6 +42,7 @@ pub(crate) fn settle(ends: &Ends, passes: Passes, returned: Returned, teller: St
         mut mails,
         mut hand,
         give: _,
+        step_credits: _,
     } = passes;
     let Returned {
         net,

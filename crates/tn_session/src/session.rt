@@ -3,7 +3,8 @@
 ghost use Rattle.std.specs.Prelude.{◌≡◌, ◌≢◌, [], ◌∷◌, None, Some, IfOk, IfErr, IfSome, IsErrOf};
 ghost use Rattle.crossbeam_channel.specs.Claims.{view, IsSeatAt};
 ghost use Rattle.crossbeam_channel.specs.Ends.{sends_on, receives_on};
-ghost use Rattle.tn_session.specs.Facts.{job_acts, job_facts, session_result};
+ghost use Rattle.tn_session.specs.Acts.{job_acts};
+ghost use Rattle.tn_session.specs.Facts.{job_facts, session_result};
 ghost use Rattle.tn_session.specs.Joining.{IsReady, handler};
 ghost use Rattle.tn_session.specs.Makers.{AreAll, GivesJobs, IsMakerFault, begins};
 ghost use Rattle.tn_queue.specs.Queue.{putter};
@@ -17,7 +18,9 @@ ghost use Rattle.tn_term.specs.Welcoming.{too_far_ahead};
 
 use crate::back::Runner;
 use crate::channels::{AllRoles, CutBack, CutDesk, CutNet, MailSeat, View};
-use crate::credit::{CREDITS, Credit, CreditSeat, CutReader, Freely, Tally};
+use crate::credit::{
+    CREDITS, Credit, CreditSeat, CutReader, Freely, StepCredits, Tally, make_step_credits,
+};
 use crate::entries::{CutTaker, EntrySeat, Hand, InTurn};
 use crate::joining::settle;
 use crate::mail::{Mail, Sender};
@@ -26,7 +29,7 @@ use crate::net::ReaderPart;
 use crate::parties::{Gate, Maker, Place, Ports, Report};
 use crate::stops::{StopSeat, Watched, make_stops};
 use crate::term::{Ends, Passes, run_term};
-use crate::threads::{Started, start_back, start_desk, start_reader};
+use crate::threads::{BackSeats, Started, start_back, start_desk, start_reader};
 use crate::writing::write_out;
 use crossbeam_channel::bounded_with;
 use std::alloc::{AllocError, Global};
@@ -57,6 +60,7 @@ struct Channels {
     back: MailSeat,
     take: EntrySeat,
     credits: CreditSeat,
+    step_credits: StepCredits,
 }
 
 // Makes the channels and splits their passes.
@@ -73,6 +77,7 @@ fn make_channels(alloc: Global) -> Result<Channels, AllocError>
     let (give, credits, mut credit) = bounded_with::<Credit, Tally, Freely, Global>(
         alloc, CREDITS,
     )?;
+    let (step_giver, step_credits) = make_step_credits(alloc)?;
     let net = to.another::<CutNet>(&mut mails);
     let desk = to.another::<CutDesk>(&mut mails);
     let back = to.another::<CutBack>(&mut mails);
@@ -89,6 +94,7 @@ fn make_channels(alloc: Global) -> Result<Channels, AllocError>
             mails,
             hand,
             give: credit,
+            step_credits: step_giver,
         },
         net: MailSeat {
             to: net_to,
@@ -110,6 +116,7 @@ fn make_channels(alloc: Global) -> Result<Channels, AllocError>
             from: credits,
             pass: taken,
         },
+        step_credits,
     })
 }
 
@@ -214,6 +221,7 @@ where
         IsSeatAt (sends_on ends.to) passes.mails × (view passes.mails ≡ handler []) }
     requires entries { IsSeatAt (sends_on ends.put) passes.hand × (view passes.hand ≡ putter []) }
     requires credits { IsSeatAt (sends_on ends.give) passes.give }
+    requires step_credits { IsSeatAt (sends_on passes.step_credits.to) passes.step_credits.pass }
     requires net { (sends_on started.net.promise.to.value ≡ sends_on ends.to) ×
         (started.net.promise.who ≡ Sender.Net) × (started.net.promise.stops.value ≡ None) }
     requires desk { (sends_on started.desk.promise.to.value ≡ sends_on ends.to) ×
@@ -225,7 +233,7 @@ where
         (view watched.stops.pass ≡ putter []) }
     ensures fault { IfErr result (λ fault. fault ≡ SessionFault.Channel) }
     ensures ran { IfOk result (λ r.
-        RunsOn (job_acts J.reacts J.steps)
+        RunsOn (job_acts J.reacts J.steps J.refuses)
         (record {
           first = started.desk.promise.id;
           job = started.desk.promise.job.value;
@@ -272,7 +280,7 @@ where
     requires out { begun.out.items ≡ [] }
     ensures fault { IfErr result IsOfThreads }
     ensures ran { IfOk result (λ r.
-        RunsOn (job_acts J.reacts J.steps)
+        RunsOn (job_acts J.reacts J.steps J.refuses)
         (record {
           first = begun.posts.first;
           job = begun.posts.job;
@@ -292,6 +300,7 @@ where
         back,
         take,
         credits,
+        step_credits,
     } = outfit.channels;
     let Posts {
         first,
@@ -314,15 +323,11 @@ where
         net.join(&rt);
         return Err(SessionFault::Start);
     };
-    let Some(back) = start_back(
-        rt,
-        alloc,
-        back,
-        queue,
-        tostop,
-        outfit.back_gate,
-        outfit.stops,
-    ) else {
+    let seats = BackSeats {
+        stops: outfit.stops,
+        credits: step_credits,
+    };
+    let Some(back) = start_back(rt, alloc, back, queue, tostop, outfit.back_gate, seats) else {
         writer.finish();
         drop(ends);
         net.join(&rt);
@@ -393,7 +398,7 @@ where
     requires fresh { J.fresh begun.posts.job × IsQueue J.fresh begun.posts.queue.items }
     ensures fault { IfErr result IsRefusal }
     ensures ran { IfOk result (λ r.
-        IsRun (job_acts J.reacts J.steps)
+        IsRun (job_acts J.reacts J.steps J.refuses)
         (record {
           first = begun.posts.first;
           job = begun.posts.job;
@@ -437,7 +442,7 @@ where
     ensures fault { IfErr result IsRefusal }
     ensures none { M.left maker ≡ Some 0 → IsErrOf result SessionFault.Start }
     ensures ran { IfOk result (λ r.
-        RunningSession (job_facts (begins M.Job.fresh M.gives maker) M.Job.reacts M.Job.steps) (M.left maker)
+        RunningSession (job_facts (begins M.Job.fresh M.gives maker) M.Job.reacts M.Job.steps M.Job.refuses) (M.left maker)
         (record { canon = record { settings = settings; limit = limit }; editing = editing })
         (known_reader Rd.remaining Rd.foretold Rd.sizes reader)
         (known_writing W.contents W.told writer.old writer.new) (session_result r.0 r.1)) }

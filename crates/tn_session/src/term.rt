@@ -6,7 +6,7 @@ ghost use Rattle.crossbeam_channel.specs.Claims.{view, IsSeatAt};
 ghost use Rattle.crossbeam_channel.specs.Ends.{sends_on, receives_on};
 ghost use Rattle.tn_discipline.specs.declared.reads.Entry.{Entry as EntryT};
 ghost use Rattle.tn_session.specs.Closing.{Closes};
-ghost use Rattle.tn_session.specs.Credits.{GivesCredits};
+ghost use Rattle.tn_session.specs.Credits.{GivesCredits, GivesStepCredits};
 ghost use Rattle.tn_queue.specs.Queue.{putter};
 ghost use Rattle.tn_session.specs.Stops.{term_stops, leaves as leaves_of};
 ghost use Rattle.tn_session.specs.Turns.{HandlesAll, StaysInReach, TurnsMessage, left_one};
@@ -18,7 +18,7 @@ ghost use Rattle.tn_term.specs.Run.{puts_of};
 
 use crate::channels::{Handles, MailPass, MailReceiver, MailSender};
 use crate::closing::finish_once;
-use crate::credit::{CreditPass, CreditSender, give_credit, is_piece};
+use crate::credit::{CreditGiver, CreditPass, CreditSender, give_credit, is_piece};
 use crate::entries::{EntryPass, EntrySender, Puts};
 use crate::mail::{Mail, Sender};
 use crate::parties::{Gate, Place};
@@ -43,12 +43,13 @@ pub(crate) struct Ends {
     pub(crate) give: CreditSender,
 }
 
-/// The terminal's passes: of the mailbox, of the entries, and of the credits.
+/// The terminal's passes: of the mailbox, of the entries, and of the credits; and where it gives those for steps.
 #[derive(Drop)]
 pub(crate) struct Passes {
     pub(crate) mails: MailPass,
     pub(crate) hand: EntryPass,
     pub(crate) give: CreditPass,
+    pub(crate) step_credits: CreditGiver,
 }
 
 // Puts an entry, or their end. `None` where the other end is gone.
@@ -202,7 +203,8 @@ pub(crate) fn finish_unless<W: Finish>(closed: bool, writer: &mut W)
 }
 
 // tools/progress: proctype Term
-/// Handles the mails until all senders have left, and gives a credit for the next piece once it is welcome.
+/// Handles the mails until all senders have left, and gives a credit for the next piece once it is welcome, and for
+/// one more step of a background job as it takes one.
 /// `None` where the other end of a channel is gone, or a piece comes that is not welcome: the thread that
 /// reads waits for a credit before each piece, but no rule of the channels says so here.
 pub(crate) fn run_term<R: Wait, W: Finish, G: Gate>(
@@ -219,6 +221,7 @@ pub(crate) fn run_term<R: Wait, W: Finish, G: Gate>(
     requires entries { (l : List (Option EntryT)) × IsSeatAt (sends_on ends.now.put) passes.hand ×
         (view passes.hand ≡ putter l) }
     requires credits { IsSeatAt (sends_on ends.now.give) passes.give }
+    requires step_credits { IsSeatAt (sends_on passes.step_credits.to) passes.step_credits.pass }
     requires out { out.old.items ≡ [] }
     requires stops { IsSeatAt (sends_on watched.old.stops.to) watched.old.stops.pass ×
         (view watched.old.stops.pass ≡ putter []) }
@@ -228,6 +231,8 @@ pub(crate) fn run_term<R: Wait, W: Finish, G: Gate>(
         HandlesAll term.old (view passes.mails) (view p.mails) (view passes.hand) (view p.hand)
         (known_writing W.contents W.told writer.old writer.new) (view watched.new.stops.pass) term.new) }
     ensures credits { IfSome result (λ p. GivesCredits (view passes.mails) (view p.mails) (view passes.give) (view p.give)) }
+    ensures step_credits { IfSome result (λ p. GivesStepCredits (view passes.mails) (view p.mails)
+        (view passes.step_credits.pass) (view p.step_credits.pass)) }
     ensures in_reach { IfSome result (λ p. StaysInReach term.old term.new.progress.ended) }
     ensures finished { IfSome result (λ p. IsFinished (W.sending writer.old) (W.sending writer.new)) }
     ensures stops { IfSome result (λ p. (watched.new.stops.to ≡ watched.old.stops.to) ×
@@ -237,6 +242,7 @@ pub(crate) fn run_term<R: Wait, W: Finish, G: Gate>(
         mut mails,
         mut hand,
         mut give,
+        mut step_credits,
     } = passes;
     let mut lefts = 0u64;
     let mut back_left = false;
@@ -246,12 +252,18 @@ pub(crate) fn run_term<R: Wait, W: Finish, G: Gate>(
     for _ in rt.forever() {
         if lefts >= SENDERS {
             finish_unless(closed, writer);
-            return Some(Passes { mails, hand, give });
+            return Some(Passes {
+                mails,
+                hand,
+                give,
+                step_credits,
+            });
         }
         let Ok(mail) = ends.from.recv_as::<Handles, R>(rt, &mut mails) else {
             return None;
         };
         back_left = has_left(back_left, &mail);
+        step_credits.give_for(rt, &mail);
         let Mail { from: _, message } = mail;
         if !term.welcomes(&message) {
             return None;

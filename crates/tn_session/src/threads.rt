@@ -3,6 +3,7 @@
 ghost use Rattle.std.specs.Prelude.{◌≡◌, [], false, None, Some, IfSome};
 ghost use Rattle.crossbeam_channel.specs.Claims.{view, IsSeatAt};
 ghost use Rattle.crossbeam_channel.specs.Ends.{sends_on, receives_on};
+ghost use Rattle.tn_session.specs.Acts.{job_acts};
 ghost use Rattle.tn_session.specs.Credits.{IsSeated};
 ghost use Rattle.tn_session.specs.Mailbox.{sender};
 ghost use Rattle.tn_queue.specs.Queue.{taker};
@@ -16,7 +17,7 @@ ghost use Rattle.tn_streams.specs.Known.{known_reader};
 
 use crate::back::{Runner, run_back};
 use crate::channels::{MailPass, MailSeat, MailSender};
-use crate::credit::CreditSeat;
+use crate::credit::{CreditSeat, StepCredits};
 use crate::desk::run_desk;
 use crate::entries::{EntryPass, EntryReceiver, EntrySeat};
 use crate::mail::Sender;
@@ -77,11 +78,12 @@ impl<J: Job> Promise<Option<(MailPass, EntryPass)>> for DeskSays<J> {
     ghost use Rattle.std.specs.Prelude.{IfSome};
     ghost use Rattle.crossbeam_channel.specs.Claims.{view, IsSeatAt};
     ghost use Rattle.crossbeam_channel.specs.Ends.{sends_on, receives_on};
+    ghost use Rattle.tn_session.specs.Acts.{job_acts};
     ghost use Rattle.tn_session.specs.Talk.{IsJob, IsTalk};
 
     ghost kept_by = { λ p r.
         IfSome r (λ x. IsSeatAt (sends_on p.to.value) x.0 × IsSeatAt (receives_on p.from.value) x.1 ×
-        IsTalk p.id (IsJob p.job.value) J.reacts (view x.0) (view x.1)) };
+        IsTalk p.id (IsJob p.job.value) (job_acts J.reacts J.steps J.refuses) (view x.0) (view x.1)) };
 }
 
 /// What the thread of the background jobs promises.
@@ -98,13 +100,14 @@ impl<J: Job> Promise<Option<ThreadLeft>> for BackSays<J> {
     ghost use Rattle.std.specs.Prelude.{IfSome};
     ghost use Rattle.crossbeam_channel.specs.Claims.{view, IsSeatAt};
     ghost use Rattle.crossbeam_channel.specs.Ends.{sends_on};
+    ghost use Rattle.tn_session.specs.Acts.{job_acts};
     ghost use Rattle.tn_session.specs.Stepping.{AreSteps};
     ghost use Rattle.tn_session.specs.Stops.{StopsStay, has_stopped};
     ghost use Rattle.tn_session.specs.Turning.{Holds, queue_of};
 
     ghost kept_by = { λ p r.
         IfSome r (λ left. IsSeatAt (sends_on p.to.value) left.pass ×
-        AreSteps (Holds p.queue.value.items) J.steps (queue_of p.tostop p.queue.value.items)
+        AreSteps (Holds p.queue.value.items) (job_acts J.reacts J.steps J.refuses) (queue_of p.tostop p.queue.value.items)
         (has_stopped left.stops) (view left.pass) ×
         StopsStay p.stops.value left.stops) };
 }
@@ -189,7 +192,8 @@ pub(crate) fn start_desk<
             (IsSeatAt (receives_on entries.from) entries.pass) × (view entries.pass ≡ taker []) ×
             J.fresh job }
         ensures { IfSome result (λ x. IsSeatAt (sends_on seat.to) x.0 ×
-            IsSeatAt (receives_on entries.from) x.1 × IsTalk id (IsJob job) J.reacts (view x.0) (view x.1)) }
+            IsSeatAt (receives_on entries.from) x.1 × IsTalk id (IsJob job)
+            (job_acts J.reacts J.steps J.refuses) (view x.0) (view x.1)) }
     { run_desk(&rt, alloc, seat, entries, id, job, &*gate) };
     match thread::spawn_with(&rt, promise, work) {
         Ok(handle) => Some(handle),
@@ -197,8 +201,16 @@ pub(crate) fn start_desk<
     }
 }
 
-/// Starts the thread of the background jobs, with the seat where it is told to stop. `None` where it can't be
-/// started. It takes eight, as what it is given goes together nowhere else.
+/// What the thread of the background jobs is given beside its jobs: the seat where it is told to stop, and the credits
+/// for its steps.
+#[derive(Drop)]
+pub(crate) struct BackSeats {
+    pub(crate) stops: StopSeat,
+    pub(crate) credits: StepCredits,
+}
+
+/// Starts the thread of the background jobs. `None` where it can't be started. It takes seven, as what it is given
+/// goes together nowhere else.
 pub(crate) fn start_back<
     R: Threads + Wait + Copy + Send + 'static,
     J: Job + Send + 'static,
@@ -210,15 +222,17 @@ pub(crate) fn start_back<
     queue: VecDeque<Runner<J>>,
     tostop: bool,
     gate: Arc<G, Global>,
-    stops: StopSeat,
+    seats: BackSeats,
 ) -> Option<PromisedHandle<Option<ThreadLeft>, BackSays<J>>>
     requires mailbox { IsSeatAt (sends_on seat.to) seat.pass × (view seat.pass ≡ sender Back []) }
     requires jobs { IsQueue J.fresh queue.items }
-    requires stops { StopsStay (Some stops) (Some stops) }
+    requires stops { StopsStay (Some seats.stops) (Some seats.stops) }
+    requires credits { IsSeatAt (receives_on seats.credits.seat.from) seats.credits.seat.pass }
     ensures { IfSome result (λ h. (sends_on h.promise.to.value ≡ sends_on seat.to) ×
         (h.promise.queue.value ≡ queue) × (h.promise.tostop ≡ tostop) ×
-        (h.promise.stops.value ≡ Some stops)) }
+        (h.promise.stops.value ≡ Some seats.stops)) }
 {
+    let BackSeats { stops, credits } = seats;
     let stops = Some(stops);
     let promise = BackSays {
         to: Snapshot::of(&seat.to),
@@ -229,13 +243,24 @@ pub(crate) fn start_back<
     };
     let work = move || -> Option<ThreadLeft>
         requires { IsSeatAt (sends_on seat.to) seat.pass × (view seat.pass ≡ sender Back []) ×
-            IsQueue J.fresh queue.items × StopsStay stops stops }
+            IsQueue J.fresh queue.items × StopsStay stops stops ×
+            IsSeatAt (receives_on credits.seat.from) credits.seat.pass }
         ensures { IfSome result (λ left. IsSeatAt (sends_on seat.to) left.pass ×
-            AreSteps (Holds queue.items) J.steps (queue_of tostop queue.items) (has_stopped left.stops)
-            (view left.pass) × StopsStay stops left.stops) }
+            AreSteps (Holds queue.items) (job_acts J.reacts J.steps J.refuses) (queue_of tostop queue.items)
+            (has_stopped left.stops) (view left.pass) × StopsStay stops left.stops) }
     {
         let mut stops = stops;
-        match run_back(&rt, alloc, seat, queue, tostop, &*gate, &mut stops) {
+        let mut credits = credits;
+        match run_back(
+            &rt,
+            alloc,
+            seat,
+            queue,
+            tostop,
+            &*gate,
+            &mut stops,
+            &mut credits,
+        ) {
             Some(pass) => Some(ThreadLeft { pass, stops }),
             None => None,
         }
@@ -270,9 +295,10 @@ impl<Rd: Source, J: Job> Started<Rd, J> {
             (known_reader Rd.remaining Rd.foretold Rd.sizes self.net.promise.reader.value) (view r.net))) }
         ensures desk { IfSome result (λ r. IsSeatAt (sends_on self.desk.promise.to.value) r.desk ×
             IsSeatAt (receives_on self.desk.promise.from.value) r.took ×
-            IsTalk self.desk.promise.id (IsJob self.desk.promise.job.value) J.reacts (view r.desk) (view r.took)) }
+            IsTalk self.desk.promise.id (IsJob self.desk.promise.job.value) (job_acts J.reacts J.steps J.refuses)
+            (view r.desk) (view r.took)) }
         ensures back { IfSome result (λ r. IsSeatAt (sends_on self.back.promise.to.value) r.back.pass ×
-            AreSteps (Holds self.back.promise.queue.value.items) J.steps
+            AreSteps (Holds self.back.promise.queue.value.items) (job_acts J.reacts J.steps J.refuses)
             (queue_of self.back.promise.tostop self.back.promise.queue.value.items) (has_stopped r.back.stops)
             (view r.back.pass)) }
         ensures stays { IfSome result (λ r. StopsStay self.back.promise.stops.value r.back.stops) }

@@ -7,7 +7,7 @@ use Rattle.tn_loopback.proofs.serving.serve_as.Goals as goal
 
 pub returns-clause-each : goal.returns-clause-each
 returns-clause-each g c =
-    let server = server_of (facts_of g.V.Job.Job.fresh g.V.Jobs.Maker.gives g.V.Job.Job.reacts g.V.Job.Job.steps) g.V.Jobs.Maker.left g.O.Asked.options g.O.Asked.made g.O.Asked.turned in
+    let server = server_of (facts_of g.V.Job.Job.fresh g.V.Jobs.Maker.gives g.V.Job.Job.reacts g.V.Job.Job.steps g.V.Job.Job.refuses) g.V.Jobs.Maker.left g.O.Asked.options g.O.Asked.made g.O.Asked.turned in
     let started = c.new-2.result in
     let ended = c.serve_all.new.self.running in
     let joined = c.join_all.new.self.running in
@@ -17,7 +17,7 @@ returns-clause-each g c =
 
 pub returns-clause-heard : goal.returns-clause-heard
 returns-clause-heard g c =
-    let server = server_of (facts_of g.V.Job.Job.fresh g.V.Jobs.Maker.gives g.V.Job.Job.reacts g.V.Job.Job.steps) g.V.Jobs.Maker.left g.O.Asked.options g.O.Asked.made g.O.Asked.turned in
+    let server = server_of (facts_of g.V.Job.Job.fresh g.V.Jobs.Maker.gives g.V.Job.Job.reacts g.V.Job.Job.steps g.V.Job.Job.refuses) g.V.Jobs.Maker.left g.O.Asked.options g.O.Asked.made g.O.Asked.turned in
     let started = c.new-2.result in
     let joined = c.join_all.new.self in
     let served = c.served-served.result in

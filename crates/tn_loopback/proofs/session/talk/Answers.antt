@@ -33,6 +33,6 @@ module _ {J : Type 0} (facts : JobFacts J) (to_make : Option ℕ) (options : Ses
 pub returns-clause-ran : goal.returns-clause-ran
 returns-clause-ran g c =
     let standard = standard_is c.standard-settings.result c.standard-settings.ensures.flags c.standard-settings.ensures.chars in
-    as_asked (job_facts (begins g.M.Job.Job.fresh g.M.Maker.gives c.args.jobs) g.M.Job.Job.reacts g.M.Job.Job.steps) (g.M.Maker.left c.args.jobs) c.args.options
+    as_asked (job_facts (begins g.M.Job.Job.fresh g.M.Maker.gives c.args.jobs) g.M.Job.Job.reacts g.M.Job.Job.steps g.M.Job.Job.refuses) (g.M.Maker.left c.args.jobs) c.args.options
     (session_result c.in_ok-report.report c.in_ok-report.ports) c.standard-settings.result (logged c.args.writer.now.log) (logged c.serve_session.new.writer.log)
     standard c.requires.new c.in_ok-report.ensures.ran

@@ -1,19 +1,22 @@
-use Rattle.std.proofs.Common.{ℕ, List, [], ◌∷◌, ◌++◌, map, refl, ap, inl, inr, subst}
+use Rattle.std.proofs.Common.{ℕ, List, [], ◌∷◌, ◌++◌, ◌+◌, map, length, length-append, refl, sym, ap, subst}
 use Rattle.std.proofs.lemmas.Option.{IfSome_then}
 use Rattle.crossbeam_channel.specs.Claims.{view}
 use Rattle.tn_jobs.specs.declared.held_jobs.JobId.{JobId}
 use Rattle.tn_jobs.specs.declared.reactions.Reaction.{Reaction}
-use Rattle.tn_session.specs.Stepping.{StepInTurn, step_said}
+use Rattle.tn_session.specs.Acts.{job_acts}
+use Rattle.tn_session.specs.Credits.{HaveUsed}
+use Rattle.tn_session.specs.Stepping.{step_said}
 use Rattle.tn_session.specs.Turning.{Holds, ids_of}
 use Rattle.tn_messages.specs.declared.messages.Message.TheVariants.{Refused, Left}
-use Rattle.tn_session.proofs.Readers.{said, role}
+use Rattle.tn_session.proofs.Credits.{used_none, used_more, used_still, used_for}
+use Rattle.tn_session.proofs.Readers.{said, said_two, role}
 use Rattle.tn_session.specs.declared.mail.Sender.TheVariants.{Back}
 use Rattle.tn_session.proofs.Stopped.{stays_on, stays_here}
-use Rattle.tn_session.proofs.Turning.{said_step, closes_left, closes_refused, running_first, advanced, in_turn, some_first}
+use Rattle.tn_session.proofs.Turning.{said_step, closes_idle, closes_stopped, closes_refused, running_first, advanced, in_turn}
 use Rattle.tn_session.proofs.back.run_back.Goals as goal
 
 pub loop-init : goal.loop-init
-loop-init g c = (c.requires.mailbox.0, ([], c.requires.mailbox.1, running_first g.J.Job.steps c.args.tostop c.args.queue.items c.requires.jobs.1, refl), c.requires.stops)
+loop-init g c = (c.requires.mailbox.0, ([], c.requires.mailbox.1, running_first g.J.Job.steps c.args.tostop c.args.queue.items c.requires.jobs.1, refl, used_none c.args.credits.now), c.requires.stops, c.requires.credits)
 
 pub is_stopped-requires : goal.is_stopped-requires
 is_stopped-requires g c = record { seat = stays_here c.args.stops.now c.loop.stops c.loop.invariant.2 }
@@ -21,12 +24,22 @@ is_stopped-requires g c = record { seat = stays_here c.args.stops.now c.loop.sto
 pub returns-then-is_stopped-clause-stepped : goal.returns-then-is_stopped-clause-stepped
 returns-then-is_stopped-clause-stepped g c =
     let i = c.loop.invariant.1 in
-    IfSome_then c.say.result c.say.ensures.said (λ p f. closes_left (Holds c.args.queue.items) g.J.Job.steps c.args.tostop (ids_of c.args.queue.items) i.0 c.loop.queue.items _ (view p) i.2 (ids_of c.loop.queue.items) i.3 (inr (c.is_stopped.ensures.told c.if-is_stopped.true)) (said Back (map step_said i.0) Left (view c.loop.pass) (view p) i.1 f))
+    IfSome_then c.say.result c.say.ensures.said (λ p f. closes_stopped (Holds c.args.queue.items) (job_acts g.J.Job.reacts g.J.Job.steps g.J.Job.refuses) c.args.tostop (ids_of c.args.queue.items) i.0 c.loop.queue.items _ (view p) i.2 i.3 (c.is_stopped.ensures.told c.if-is_stopped.true) (said Back (map step_said i.0) Left (view c.loop.pass) (view p) i.1 f))
+
+pub returns-then-is_stopped-clause-credited : goal.returns-then-is_stopped-clause-credited
+returns-then-is_stopped-clause-credited g c =
+    let i = c.loop.invariant.1 in
+    IfSome_then c.say.result c.say.ensures.said (λ p f. used_for i.0 (Left ∷ []) (view p) c.args.credits.now c.take.new.self (used_still (length i.0) c.args.credits.now c.loop.credits c.take.new.self i.4 c.in_ok-take.ensures.used) (said Back (map step_said i.0) Left (view c.loop.pass) (view p) i.1 f) refl)
 
 pub returns-in-Idle-clause-stepped : goal.returns-in-Idle-clause-stepped
 returns-in-Idle-clause-stepped g c =
     let i = c.loop.invariant.1 in
-    IfSome_then c.say-in-Idle.result c.say-in-Idle.ensures.said (λ p f. closes_left (Holds c.args.queue.items) g.J.Job.steps c.args.tostop (ids_of c.args.queue.items) i.0 c.loop.queue.items _ (view p) i.2 (ids_of c.loop.queue.items) i.3 (inl (ap (λ rs. ids_of rs) c.in-Idle.ensures)) (said Back (map step_said i.0) Left (view c.loop.pass) (view p) i.1 f))
+    IfSome_then c.say-in-Idle.result c.say-in-Idle.ensures.said (λ p f. closes_idle (Holds c.args.queue.items) (job_acts g.J.Job.reacts g.J.Job.steps g.J.Job.refuses) c.args.tostop (ids_of c.args.queue.items) i.0 c.loop.queue.items _ (view p) i.2 i.3 c.in-Idle.ensures (said Back (map step_said i.0) Left (view c.loop.pass) (view p) i.1 f))
+
+pub returns-in-Idle-clause-credited : goal.returns-in-Idle-clause-credited
+returns-in-Idle-clause-credited g c =
+    let i = c.loop.invariant.1 in
+    IfSome_then c.say-in-Idle.result c.say-in-Idle.ensures.said (λ p f. used_for i.0 (Left ∷ []) (view p) c.args.credits.now c.take.new.self (used_still (length i.0) c.args.credits.now c.loop.credits c.take.new.self i.4 c.in_ok-take.ensures.used) (said Back (map step_said i.0) Left (view c.loop.pass) (view p) i.1 f) refl)
 
 pub say-requires-in-Refused-2-clause-role : goal.say-requires-in-Refused-2-clause-role
 say-requires-in-Refused-2-clause-role g c =
@@ -37,42 +50,26 @@ pub returns-in-Refused-clause-stepped : goal.returns-in-Refused-clause-stepped
 returns-in-Refused-clause-stepped g c =
     let i = c.loop.invariant.1 in
     let first = said Back (map step_said i.0) Refused (view c.loop.pass) (view c.in_ok-pass-in-Refused.pass) i.1 c.in_ok-pass-in-Refused.ensures.said in
-    IfSome_then c.say-in-Refused-2.result c.say-in-Refused-2.ensures.said (λ p f. closes_refused (Holds c.args.queue.items) g.J.Job.steps c.args.tostop (ids_of c.args.queue.items) i.0 c.loop.queue.items _ (view p) i.2 (ids_of c.loop.queue.items) i.3 (some_first c.loop.queue.items _ c.in-Refused.ensures.0 c.in-Refused.ensures.1) (said Back (map step_said i.0 ++ Refused ∷ []) Left (view c.in_ok-pass-in-Refused.pass) (view p) first f))
+    IfSome_then c.say-in-Refused-2.result c.say-in-Refused-2.ensures.said (λ p f. closes_refused (Holds c.args.queue.items) (job_acts g.J.Job.reacts g.J.Job.steps g.J.Job.refuses) c.args.tostop (ids_of c.args.queue.items) i.0 c.loop.queue.items _ _ (view p) c.in-Refused.ensures.0 i.2 i.3 c.in-Refused.ensures.1 c.in-Refused.ensures.2 (said Back (map step_said i.0 ++ Refused ∷ []) Left (view c.in_ok-pass-in-Refused.pass) (view p) first f))
 
-pub say-requires-then-refused-clause-role : goal.say-requires-then-refused-clause-role
-say-requires-then-refused-clause-role g c =
+pub returns-in-Refused-clause-credited : goal.returns-in-Refused-clause-credited
+returns-in-Refused-clause-credited g c =
     let i = c.loop.invariant.1 in
-    let s : JobId × Reaction = (c.in-Did.id, c.in-Did.reaction) in
-    role Back (map step_said i.0 ++ step_said s ∷ []) (view c.in_ok-pass-in-Did.pass) (said Back (map step_said i.0) (step_said s) (view c.loop.pass) (view c.in_ok-pass-in-Did.pass) i.1 c.in_ok-pass-in-Did.ensures.said)
-
-pub say-requires-then-refused-2-clause-role : goal.say-requires-then-refused-2-clause-role
-say-requires-then-refused-2-clause-role g c =
-    let i = c.loop.invariant.1 in
-    let s : JobId × Reaction = (c.in-Did.id, c.in-Did.reaction) in
-    let first = said Back (map step_said i.0) (step_said s) (view c.loop.pass) (view c.in_ok-pass-in-Did.pass) i.1 c.in_ok-pass-in-Did.ensures.said in
-    role Back ((map step_said i.0 ++ step_said s ∷ []) ++ Refused ∷ []) (view c.in_ok-pass-in-Did-2.pass) (said Back (map step_said i.0 ++ step_said s ∷ []) Refused (view c.in_ok-pass-in-Did.pass) (view c.in_ok-pass-in-Did-2.pass) first c.in_ok-pass-in-Did-2.ensures.said)
-
-pub returns-then-refused-clause-stepped : goal.returns-then-refused-clause-stepped
-returns-then-refused-clause-stepped g c =
-    let i = c.loop.invariant.1 in
-    let s : JobId × Reaction = (c.in-Did.id, c.in-Did.reaction) in
-    let first = said_step i.0 s (view c.in_ok-pass-in-Did.pass) (said Back (map step_said i.0) (step_said s) (view c.loop.pass) (view c.in_ok-pass-in-Did.pass) i.1 c.in_ok-pass-in-Did.ensures.said) in
-    let second = said Back (map step_said (i.0 ++ s ∷ [])) Refused (view c.in_ok-pass-in-Did.pass) (view c.in_ok-pass-in-Did-2.pass) first c.in_ok-pass-in-Did-2.ensures.said in
-    let run = advanced (Holds c.args.queue.items) g.J.Job.steps c.args.tostop (ids_of c.args.queue.items) i.0 c.loop.queue.items c.advance.new.queue.items c.in-Did.id c.in-Did.reaction c.in-Did.refused i.2 c.in-Did.ensures in
-    let turn = in_turn g.J.Job.steps c.args.tostop (ids_of c.args.queue.items) i.0 c.loop.queue.items c.advance.new.queue.items c.in-Did.id c.in-Did.reaction c.in-Did.refused i.3 c.in-Did.ensures in
-    IfSome_then c.say-then-refused-2.result c.say-then-refused-2.ensures.said (λ p f. closes_refused (Holds c.args.queue.items) g.J.Job.steps c.args.tostop (ids_of c.args.queue.items) (i.0 ++ s ∷ []) c.advance.new.queue.items _ (view p) run turn.0 turn.1 (turn.3 c.if-refused.true) (said Back (map step_said (i.0 ++ s ∷ []) ++ Refused ∷ []) Left (view c.in_ok-pass-in-Did-2.pass) (view p) second f))
+    let first = said Back (map step_said i.0) Refused (view c.loop.pass) (view c.in_ok-pass-in-Refused.pass) i.1 c.in_ok-pass-in-Refused.ensures.said in
+    IfSome_then c.say-in-Refused-2.result c.say-in-Refused-2.ensures.said (λ p f. used_for i.0 (Refused ∷ Left ∷ []) (view p) c.args.credits.now c.take.new.self (used_still (length i.0) c.args.credits.now c.loop.credits c.take.new.self i.4 c.in_ok-take.ensures.used) (said_two Back (map step_said i.0) Refused Left (view c.loop.pass) (view c.in_ok-pass-in-Refused.pass) (view p) i.1 c.in_ok-pass-in-Refused.ensures.said f) refl)
 
 pub loop-preserved : goal.loop-preserved
 loop-preserved g c =
     let i = c.loop.invariant.1 in
-    let s : JobId × Reaction = (c.in-Did.id, c.in-Did.reaction) in
-    let turn = in_turn g.J.Job.steps c.args.tostop (ids_of c.args.queue.items) i.0 c.loop.queue.items c.advance.new.queue.items c.in-Did.id c.in-Did.reaction c.in-Did.refused i.3 c.in-Did.ensures in (
+    let s : JobId × Reaction = (c.in-Did.id, c.in-Did.reaction) in (
       c.in_ok-pass-in-Did.ensures.seat,
       (
         i.0 ++ s ∷ [],
         said_step i.0 s (view c.in_ok-pass-in-Did.pass) (said Back (map step_said i.0) (step_said s) (view c.loop.pass) (view c.in_ok-pass-in-Did.pass) i.1 c.in_ok-pass-in-Did.ensures.said),
-        advanced (Holds c.args.queue.items) g.J.Job.steps c.args.tostop (ids_of c.args.queue.items) i.0 c.loop.queue.items c.advance.new.queue.items c.in-Did.id c.in-Did.reaction c.in-Did.refused i.2 c.in-Did.ensures,
-        subst (λ (l : List ℕ). StepInTurn c.args.tostop (ids_of c.args.queue.items) (i.0 ++ s ∷ []) l) (turn.2 c.if-refused.false) turn.1,
+        advanced (Holds c.args.queue.items) g.J.Job.steps c.args.tostop (ids_of c.args.queue.items) i.0 c.loop.queue.items c.advance.new.queue.items c.in-Did.id c.in-Did.reaction i.2 c.in-Did.ensures,
+        in_turn g.J.Job.steps c.args.tostop (ids_of c.args.queue.items) i.0 c.loop.queue.items c.advance.new.queue.items c.in-Did.id c.in-Did.reaction i.3 c.in-Did.ensures,
+        subst (λ (n : ℕ). HaveUsed n c.args.credits.now c.take.new.self) (sym (length-append i.0 (s ∷ []))) (used_more (length i.0) c.args.credits.now c.loop.credits c.take.new.self i.4 c.in_ok-take.ensures.used),
       ),
       stays_on c.args.stops.now c.loop.stops c.is_stopped.new.stops c.loop.invariant.2 c.is_stopped.ensures.stays,
+      c.take.ensures.seat,
     )

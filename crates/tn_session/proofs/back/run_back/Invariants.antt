@@ -1,9 +1,10 @@
-use Rattle.std.proofs.Common.{◌≡◌, List, map}
+use Rattle.std.proofs.Common.{◌≡◌, List, map, length}
 use Rattle.crossbeam_channel.specs.Claims.{view, IsSeatAt}
-use Rattle.crossbeam_channel.specs.Ends.{sends_on}
+use Rattle.crossbeam_channel.specs.Ends.{sends_on, receives_on}
 use Rattle.tn_jobs.specs.declared.held_jobs.JobId.{JobId}
 use Rattle.tn_jobs.specs.declared.reactions.Reaction.{Reaction}
 use Rattle.tn_session.specs.declared.mail.Sender.TheVariants.{Back}
+use Rattle.tn_session.specs.Credits.{HaveUsed}
 use Rattle.tn_session.specs.Mailbox.{sender, mail}
 use Rattle.tn_session.specs.Stepping.{StepInTurn, step_said}
 use Rattle.tn_session.specs.Stops.{StopsStay}
@@ -13,5 +14,6 @@ use Rattle.tn_session.proofs.back.run_back.Given as goal
 abbrev pub invariant-loop : goal.invariant-loop
 invariant-loop g l =
     IsSeatAt (sends_on l.to) l.pass
-    × ((said : List (JobId × Reaction)) × (view l.pass ≡ sender Back (map (mail Back) (map step_said said))) × Running (Holds l.fn.queue.items) g.J.Job.steps l.fn.tostop (ids_of l.fn.queue.items) said l.queue.items × StepInTurn l.fn.tostop (ids_of l.fn.queue.items) said (ids_of l.queue.items))
+    × ((said : List (JobId × Reaction)) × (view l.pass ≡ sender Back (map (mail Back) (map step_said said))) × Running (Holds l.fn.queue.items) g.J.Job.steps l.fn.tostop (ids_of l.fn.queue.items) said l.queue.items × StepInTurn l.fn.tostop (ids_of l.fn.queue.items) said (ids_of l.queue.items) × HaveUsed (length said) l.fn.credits l.credits)
     × StopsStay l.fn.stops l.stops
+    × IsSeatAt (receives_on l.credits.seat.from) l.credits.seat.pass

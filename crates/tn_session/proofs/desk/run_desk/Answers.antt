@@ -24,7 +24,7 @@ say-requires-in_default-entry-2-clause-role g c = role Desk _ _ (said_two Desk _
 pub returns-in_default-entry-clause-talk : goal.returns-in_default-entry-clause-talk
 returns-in_default-entry-clause-talk g c =
     let i = c.loop.invariant.2 in
-    (i.0, c.args.job, c.loop.job, refl, i.1, inr (inr (c.in-Some-entry.entry, said_three Desk _ _ _ _ _ _ _ _ i.2 c.in_ok-pass.ensures.said c.in_ok-pass-3.ensures.said c.in_ok-pass-4.ensures.said, c.in_ok-after_take.ensures.took _ i.3 ∙ ap (λ (o : Option Entry). taker (entries_of i.0 ++ o ∷ [])) c.in-Some-entry.is)))
+    (i.0, c.args.job, c.loop.job, refl, i.1, inr (inr (c.in-Some-entry.entry, said_three Desk _ _ _ _ _ _ _ _ i.2 c.in_ok-pass.ensures.said c.in_ok-pass-3.ensures.said c.in_ok-pass-4.ensures.said, c.in_ok-after_take.ensures.took _ i.3 ∙ ap (λ (o : Option Entry). taker (entries_of i.0 ++ o ∷ [])) c.in-Some-entry.is, c.in_default-entry.ensures.refused)))
 
 pub say-requires-in-loop-clause-role : goal.say-requires-in-loop-clause-role
 say-requires-in-loop-clause-role g c = role Desk _ _ (said Desk _ _ _ _ c.loop.invariant.2.2 c.in_ok-pass.ensures.said)
@@ -38,7 +38,7 @@ loop-preserved g c =
       c.in_ok-after_take.ensures.seat,
       (
         i.0 ++ (e, r) ∷ [],
-        answers-push g.J.Job.reacts c.args.job i.0 c.loop.job c.entry.new.self e r i.1 c.in-Ok.ensures,
+        answers-push g.J.Job.reacts c.args.job i.0 c.loop.job c.entry.new.self e r i.1 c.in-Ok.ensures.answers,
         said_two Desk _ _ _ _ _ _ i.2 c.in_ok-pass.ensures.said c.in_ok-pass-5.ensures.said ∙ ap desk_sends (sym (turns_said-push c.args.id i.0 e r)),
         c.in_ok-after_take.ensures.took _ i.3 ∙ ap (λ (o : Option Entry). taker (entries_of i.0 ++ o ∷ [])) c.in-Some-entry.is ∙ ap taker (sym (entries_of-push i.0 e r)),
       ),
@@ -56,7 +56,7 @@ returns-in-Done-clause-talk g c =
       c.args.job,
       c.entry.new.self,
       refl,
-      answers-push g.J.Job.reacts c.args.job i.0 c.loop.job c.entry.new.self e r i.1 c.in-Ok.ensures,
+      answers-push g.J.Job.reacts c.args.job i.0 c.loop.job c.entry.new.self e r i.1 c.in-Ok.ensures.answers,
       inr (inl (
         said Desk _ _ _ _ (said_two Desk _ _ _ _ _ _ i.2 c.in_ok-pass.ensures.said c.in_ok-pass-5.ensures.said ∙ ap desk_sends (sym (turns_said-push c.args.id i.0 e r))) c.in_ok-pass-in-Done.ensures.said,
         c.in_ok-after_take.ensures.took _ i.3 ∙ ap (λ (o : Option Entry). taker (entries_of i.0 ++ o ∷ [])) c.in-Some-entry.is ∙ ap taker (sym (entries_of-push i.0 e r)),

@@ -59,4 +59,5 @@ returns c =
       one_credit = c.in_ok-give.ensures.0;
       give = c.another-taken.ensures.channel.0;
       credits = c.another-taken.ensures.channel.2;
+      step_credits = c.in_ok-step_giver.ensures;
     }

@@ -1,6 +1,7 @@
 use Rattle.std.proofs.Common.{Bool, IfOk, subst}
 use Rattle.tn_jobs.specs.declared.held_jobs.JobId.{JobId}
-use Rattle.tn_session.specs.Facts.{job_acts, session_result}
+use Rattle.tn_session.specs.Acts.{job_acts}
+use Rattle.tn_session.specs.Facts.{session_result}
 use Rattle.tn_session.specs.Session.{RunsOn}
 use Rattle.tn_streams.specs.Known.{known_reader, known_writing}
 use Rattle.tn_session.proofs.session.run.Goals as goal
@@ -11,7 +12,7 @@ returns-clause-ran g c =
     let net = c.in-Some.net in
     let desk = c.in-Some-start_desk.desk in
     let back = c.in-Some-start_back.back in
-    let acts = job_acts g.J.Job.reacts g.J.Job.steps in
+    let acts = job_acts g.J.Job.reacts g.J.Job.steps g.J.Job.refuses in
     let reader = known_reader g.Rd.Source.remaining g.Rd.Source.foretold g.Rd.Source.sizes in
     let writer = known_writing g.W.Drain.contents g.W.Drain.told c.args.writer.now c.run_beside.new.writer in
     let by_id = subst (λ (id : JobId). IfOk c.run_beside.result (λ r. RunsOn acts (record { first = id; job = desk.promise.job.value; queue = back.promise.queue.value.items; tostop = back.promise.tostop }) (reader net.promise.reader.value) writer c.args.begun.term (session_result r.0 r.1))) c.in-Some-start_desk.ensures.2 c.run_beside.ensures.ran in

@@ -2,7 +2,8 @@ use Rattle.std.proofs.Common.{false, ap, subst, sym, ◌∙◌}
 use Rattle.crossbeam_channel.specs.Claims.{view}
 use Rattle.tn_session.proofs.Whole.{scheduled}
 use Rattle.tn_session.specs.Reader.{ReaderSends}
-use Rattle.tn_session.specs.Facts.{job_acts, session_result}
+use Rattle.tn_session.specs.Acts.{job_acts}
+use Rattle.tn_session.specs.Facts.{session_result}
 use Rattle.tn_session.proofs.Stopped.{told_words, seat_at}
 use Rattle.tn_session.specs.Session.{report_of}
 use Rattle.tn_session.specs.Stops.{has_stopped}
@@ -21,7 +22,7 @@ returns-clause-ran g c began words first opened settings table at ew =
     let ended = c.in-Some in
     let reader = known_reader g.Rd.Source.remaining g.Rd.Source.foretold g.Rd.Source.sizes started.net.promise.reader.value in
     let writer = known_writer g.W.Drain.contents g.W.Drain.told in
-    scheduled (job_acts g.J.Job.reacts g.J.Job.steps) (record { first = started.desk.promise.id; job = started.desk.promise.job.value; queue = back.queue.value.items; tostop = back.tostop }) (has_stopped returned.back.stops) words reader first (writer c.args.writer.now) (writer c.run_term.new.writer) began c.args.term.now c.run_term.new.term (view c.args.passes.mails) (view c.args.passes.hand)
+    scheduled (job_acts g.J.Job.reacts g.J.Job.steps g.J.Job.refuses) (record { first = started.desk.promise.id; job = started.desk.promise.job.value; queue = back.queue.value.items; tostop = back.tostop }) (has_stopped returned.back.stops) words reader first (writer c.args.writer.now) (writer c.run_term.new.writer) began c.args.term.now c.run_term.new.term (view c.args.passes.mails) (view c.args.passes.hand)
     (record { net = view returned.net; desk = view returned.desk; back = view returned.back.pass; term = view ended.passes.mails; put = view ended.passes.hand; took = view returned.took; told = view c.run_term.new.watched.stops.pass })
     (session_result c.report.result ports)
     c.requires.mailbox.2 c.requires.entries.1 opened ended.ensures.acted

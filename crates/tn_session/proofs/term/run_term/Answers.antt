@@ -9,7 +9,7 @@ use Rattle.tn_term.specs.declared.messages.Mark.{Mark}
 use Rattle.tn_term.specs.Run.{puts_of}
 use Rattle.tn_term.specs.declared.progress.Progress.{Progress}
 use Rattle.tn_session.proofs.Mailbox.{handles, totals, handled_more}
-use Rattle.tn_session.proofs.Credits.{among-push, counts_on}
+use Rattle.tn_session.proofs.Credits.{among-push, counts_on, steps-push}
 use Rattle.tn_session.specs.Credits.{pieces_among}
 use Rattle.tn_session.proofs.Finishing.{open_none, stands_next, stands_last}
 use Rattle.tn_session.proofs.Going.{false_true, going_next, going_none, going_kept, lefts_of-push, left_small, puts_two, term_told}
@@ -35,6 +35,7 @@ loop-init g c = (
     refl,
     omega (arith, c.give_credit-owed.ensures.counted),
     (going_kept c.args.term.now _ [] (known_writer g.W.Drain.contents g.W.Drain.told c.args.writer.now) (known_writer g.W.Drain.contents g.W.Drain.told c.args.writer.now) (known_writer g.W.Drain.contents g.W.Drain.told c.finish_once-closed.new.writer) [] c.finish_once-closed.ensures.contents c.finish_once-closed.ensures.told (going_none c.args.term.now (known_writer g.W.Drain.contents g.W.Drain.told c.args.writer.now))).0,
+    omega arith,
     refl,
     λ run at. stands_first Back messages_of (Runs run) (λ r. term_stops r.progress) _ c.in_ok-told.told (term_stops c.args.term.now.progress) (c.in_ok-told.ensures.told ∙ c.stops.ensures ∙ ap term_stops c.progress-2.ensures),
   ),
@@ -46,6 +47,7 @@ loop-init g c = (
   c.tell.ensures.seat,
   c.tell.ensures.to,
   c.in_ok-told.ensures.word,
+  c.requires.step_credits,
 )
 
 pub turn-requires-clause-role : goal.turn-requires-clause-role
@@ -61,7 +63,7 @@ loop-preserved g c =
     let writer = known_writer g.W.Drain.contents g.W.Drain.told in
     let small = left_small x.message in
     let more = c.if-lefts-ge-SENDERS.false in
-    let left = left_next Back i.0 x c.loop.back_left c.has_left-back_left.result i.7 c.has_left-back_left.ensures in
+    let left = left_next Back i.0 x c.loop.back_left c.has_left-back_left.result i.8 c.has_left-back_left.ensures in
     let goes = going_next c.args.term.now c.loop.term c.turn.new.term i.0 x (writer c.args.writer.now) (writer c.loop.writer) (writer c.turn.new.writer) (writer c.finish_once-closed-in-loop.new.writer) i.1 (view c.loop.hand) (view c.in_ok-hand.hand) c.finish_once-closed-in-loop.ensures.contents c.finish_once-closed-in-loop.ensures.told i.6 t in (
       c.in-Ok.ensures.channel.0,
       c.in_ok-hand.ensures.seat,
@@ -73,8 +75,9 @@ loop-preserved g c =
         omega (arith, lefts_of-push i.0 x, c.leaves-left.ensures, i.4),
         (let n = counts_on (length (view c.args.passes.give).given) (length (view c.loop.give).given) (length (view c.give_credit-owed-in-loop.new.pass).given) (pieces_among i.0) _ c.loop.owed c.is_piece-piece.result c.is_due.result c.give_credit-owed-in-loop.result i.5 c.is_piece-piece.ensures c.is_due.ensures c.give_credit-owed-in-loop.ensures.counted in let p = among-push i.0 x in omega (arith, n, p)),
         goes.0,
+        omega (arith, i.7, c.give_for.ensures.counted, steps-push i.0 x),
         left,
-        term_told c.args.term.now c.loop.term c.turn.new.term i.0 x _ _ _ i.1 _ (view c.loop.hand) (view c.in_ok-hand.hand) c.loop.told c.is_told.result c.in_ok-told-2.told c.has_left-back_left.result i.6 t goes.0 goes.1 left (c.is_told.ensures ∙ ap (λ (p : Progress). term_stops p && not c.has_left-back_left.result) c.progress-in-loop-3.ensures) c.in_ok-told-2.ensures.told i.8,
+        term_told c.args.term.now c.loop.term c.turn.new.term i.0 x _ _ _ i.1 _ (view c.loop.hand) (view c.in_ok-hand.hand) c.loop.told c.is_told.result c.in_ok-told-2.told c.has_left-back_left.result i.6 t goes.0 goes.1 left (c.is_told.ensures ∙ ap (λ (p : Progress). term_stops p && not c.has_left-back_left.result) c.progress-in-loop-3.ensures) c.in_ok-told-2.ensures.told i.9,
       ),
       c.turn.ensures.out,
       omega (arith, small, more, c.leaves-left.ensures),
@@ -84,6 +87,7 @@ loop-preserved g c =
       c.tell-in-loop.ensures.seat,
       c.tell-in-loop.ensures.to ∙ c.loop.invariant.9,
       c.in_ok-told-2.ensures.word,
+      c.give_for.ensures.seat,
     )
 
 pub returns-then-lefts-ge-SENDERS-clause-acted : goal.returns-then-lefts-ge-SENDERS-clause-acted
@@ -101,7 +105,7 @@ returns-then-lefts-ge-SENDERS-clause-acted g c =
       goes = kept.0;
       told = c.loop.told;
       word = c.loop.invariant.10;
-      stands = λ run at. subst (λ (ms : List (Message × Mark)). StandsTold Back messages_of (Runs run) (λ r. term_stops r.progress) i.0 ms (term_stops c.loop.term.progress) c.loop.told) (sym kept.1) (i.8 run at);
+      stands = λ run at. subst (λ (ms : List (Message × Mark)). StandsTold Back messages_of (Runs run) (λ r. term_stops r.progress) i.0 ms (term_stops c.loop.term.progress) c.loop.told) (sym kept.1) (i.9 run at);
     }
 
 pub returns-then-lefts-ge-SENDERS-clause-finished : goal.returns-then-lefts-ge-SENDERS-clause-finished
@@ -111,6 +115,11 @@ pub returns-then-lefts-ge-SENDERS-clause-credits : goal.returns-then-lefts-ge-SE
 returns-then-lefts-ge-SENDERS-clause-credits g c =
     let i = c.loop.invariant.2 in
     (i.0, i.2, omega (arith, i.5))
+
+pub returns-then-lefts-ge-SENDERS-clause-step_credits : goal.returns-then-lefts-ge-SENDERS-clause-step_credits
+returns-then-lefts-ge-SENDERS-clause-step_credits g c =
+    let i = c.loop.invariant.2 in
+    (i.0, i.2, i.7)
 
 pub returns-then-lefts-ge-SENDERS-clause-stops : goal.returns-then-lefts-ge-SENDERS-clause-stops
 returns-then-lefts-ge-SENDERS-clause-stops g c = (c.loop.invariant.9, c.loop.invariant.8)

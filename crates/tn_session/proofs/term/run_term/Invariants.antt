@@ -2,7 +2,7 @@ use Rattle.std.proofs.Common.{◌≡◌, ◌≤◌, ◌+◌, List, [], Option, �
 use Rattle.crossbeam_channel.specs.Claims.{view, IsSeatAt}
 use Rattle.crossbeam_channel.specs.Ends.{sends_on, receives_on}
 use Rattle.tn_discipline.specs.declared.reads.Entry.{Entry}
-use Rattle.tn_session.specs.Credits.{owed_one, pieces_among}
+use Rattle.tn_session.specs.Credits.{owed_one, pieces_among, steps_among}
 use Rattle.tn_session.specs.Mailbox.{with_handled}
 use Rattle.tn_queue.specs.Queue.{putter}
 use Rattle.tn_session.specs.Stops.{IsTold, StandsTold, has_left, term_stops}
@@ -25,6 +25,7 @@ invariant-loop g l =
     × (l.lefts ≡ lefts_of handled)
     × (length (view l.give).given + owed_one l.owed ≤ length (view l.fn.passes.give).given + 1 + pieces_among handled)
     × (goes : GoesOn l.fn.term (messages_of handled) (known_writing g.W.Drain.contents g.W.Drain.told l.fn.writer l.writer) puts l.term)
+    × (length (view l.step_credits.pass).given ≤ length (view l.fn.passes.step_credits.pass).given + steps_among handled)
     × (l.back_left ≡ has_left Back handled)
     × ((c : Run) → LeadsTo c l.fn.term → StandsTold Back messages_of (Runs c) (λ r. term_stops r.progress) handled goes.marked (term_stops l.term.progress) l.told))
     × (l.out.items ≡ []) × (l.lefts ≤ 3)
@@ -33,3 +34,4 @@ invariant-loop g l =
     × IsSeatAt (sends_on l.watched.stops.to) l.watched.stops.pass
     × (l.watched.stops.to ≡ l.fn.watched.stops.to)
     × IsTold l.told (view l.watched.stops.pass)
+    × IsSeatAt (sends_on l.step_credits.to) l.step_credits.pass

@@ -1,6 +1,7 @@
 use Rattle.std.proofs.Common.{IfSome, Some, subst, sym}
 use Rattle.crossbeam_channel.specs.Claims.{view, IsSeatAt}
 use Rattle.crossbeam_channel.specs.Ends.{sends_on}
+use Rattle.tn_session.specs.Acts.{job_acts}
 use Rattle.tn_session.specs.Stepping.{AreSteps}
 use Rattle.tn_session.specs.Stops.{StopsStay, has_stopped}
 use Rattle.tn_session.specs.Turning.{Holds, queue_of}
@@ -8,7 +9,7 @@ use Rattle.tn_session.proofs.threads.start_back.Goals as goal
 
 pub spawn_with-requires-clause-keeps : goal.spawn_with-requires-clause-keeps
 spawn_with-requires-clause-keeps g c κs within r e =
-    let steps = g.J.Job.steps in
-    let by_seat = subst (λ to. IfSome r (λ left. IsSeatAt (sends_on to) left.pass × AreSteps (Holds c.args.queue.items) steps (queue_of c.args.tostop c.args.queue.items) (has_stopped left.stops) (view left.pass) × StopsStay (Some c.args.stops) left.stops)) (sym c.of.ensures) e in
-    let by_queue = subst (λ queue. IfSome r (λ left. IsSeatAt (sends_on c.of.result.value) left.pass × AreSteps (Holds queue.items) steps (queue_of c.args.tostop queue.items) (has_stopped left.stops) (view left.pass) × StopsStay (Some c.args.stops) left.stops)) (sym c.of-2.ensures) by_seat in
-    subst (λ stops. IfSome r (λ left. IsSeatAt (sends_on c.of.result.value) left.pass × AreSteps (Holds c.of-2.result.value.items) steps (queue_of c.args.tostop c.of-2.result.value.items) (has_stopped left.stops) (view left.pass) × StopsStay stops left.stops)) (sym c.of-3.ensures) by_queue
+    let acts = job_acts g.J.Job.reacts g.J.Job.steps g.J.Job.refuses in
+    let by_seat = subst (λ to. IfSome r (λ left. IsSeatAt (sends_on to) left.pass × AreSteps (Holds c.args.queue.items) acts (queue_of c.args.tostop c.args.queue.items) (has_stopped left.stops) (view left.pass) × StopsStay (Some c.args.seats.stops) left.stops)) (sym c.of.ensures) e in
+    let by_queue = subst (λ queue. IfSome r (λ left. IsSeatAt (sends_on c.of.result.value) left.pass × AreSteps (Holds queue.items) acts (queue_of c.args.tostop queue.items) (has_stopped left.stops) (view left.pass) × StopsStay (Some c.args.seats.stops) left.stops)) (sym c.of-2.ensures) by_seat in
+    subst (λ stops. IfSome r (λ left. IsSeatAt (sends_on c.of.result.value) left.pass × AreSteps (Holds c.of-2.result.value.items) acts (queue_of c.args.tostop c.of-2.result.value.items) (has_stopped left.stops) (view left.pass) × StopsStay stops left.stops)) (sym c.of-3.ensures) by_queue

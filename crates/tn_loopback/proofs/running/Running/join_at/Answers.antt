@@ -9,7 +9,7 @@ use Rattle.tn_loopback.proofs.running.Running.join_at.Goals as goal
 
 pub returns-clause-ended : goal.returns-clause-ended
 returns-clause-ended g c =
-    let server = server_of (facts_of g.J.Job.fresh g.M.Maker.gives g.J.Job.reacts g.J.Job.steps) g.M.Maker.left g.O.Asked.options g.O.Asked.made g.O.Asked.turned in
+    let server = server_of (facts_of g.J.Job.fresh g.M.Maker.gives g.J.Job.reacts g.J.Job.steps g.J.Job.refuses) g.M.Maker.left g.O.Asked.options g.O.Asked.made g.O.Asked.turned in
     let promise = c.swap_remove-traffic.result.session.promise in
     let jobs = promise.jobs.value in
     let joined : Joined server = record {
@@ -22,7 +22,7 @@ returns-clause-ended g c =
 
 pub returns-clause-each : goal.returns-clause-each
 returns-clause-each g c =
-    let server = server_of (facts_of g.J.Job.fresh g.M.Maker.gives g.J.Job.reacts g.J.Job.steps) g.M.Maker.left g.O.Asked.options g.O.Asked.made g.O.Asked.turned in
+    let server = server_of (facts_of g.J.Job.fresh g.M.Maker.gives g.J.Job.reacts g.J.Job.steps g.J.Job.refuses) g.M.Maker.left g.O.Asked.options g.O.Asked.made g.O.Asked.turned in
     let old = c.args.self.now in
     let promise = c.swap_remove-traffic.result.session.promise in
     let jobs = promise.jobs.value in
