@@ -1,5 +1,5 @@
 -- What the job of a served session answers, and what the one in the background writes.
-use Rattle.std.specs.Prelude.{◌≡◌, ◌-◌, ℕ, nat_le, zero, suc, List, [], ◌∷◌, codes, if◌then◌else◌}
+use Rattle.std.specs.Prelude.{◌≡◌, ◌-◌, ℕ, nat_le, zero, suc, true, Option, Some, List, [], ◌∷◌, codes, if◌then◌else◌}
 use Rattle.std.specs.Str.{bytes_eq}
 use Rattle.tn_discipline.specs.declared.reads.Sig.TheVariants.{Int, Quit, Tstp}
 use Rattle.tn_discipline.specs.declared.reads.Entry.{Entry}
@@ -22,6 +22,11 @@ answer Eof = say (codes "bye\n") Done
 answer (Signal Int) = say (codes "int\n") Stay
 answer (Signal Quit) = say (codes "quit\n") Stay
 answer (Signal Tstp) = say (codes "tstp\n") Stop
+
+-- Memory may run out for words of its own, which each tick has; a line comes back in the memory that it has.
+abbrev pub MayRefuse : Option Entry → Type 0
+MayRefuse (Some (Text line)) = bytes_eq line (codes "exit\n") ≡ true
+MayRefuse _ = Unit {0}
 
 -- a tick, of which so many are left with it, and the last one ends the job
 abbrev pub tick : ℕ → Reaction

@@ -1,7 +1,7 @@
 //! What a served session's job writes in answer to what its user types.
 
-ghost use Rattle.std.specs.Prelude.{◌≡◌, IfOk};
-ghost use Rattle.tn_answerer.specs.Answering.{say, answer_line};
+ghost use Rattle.std.specs.Prelude.{◌≡◌, Some, IfOk, IfErr};
+ghost use Rattle.tn_answerer.specs.Answering.{MayRefuse, say, answer_line};
 
 use std::alloc::{AllocError, Global};
 use tn_discipline::{Entry, Sig, Text};
@@ -28,13 +28,15 @@ impl Answerer {
 
 impl Job for Answerer {
     ghost use Rattle.std.specs.Prelude.{◌≡◌};
-    ghost use Rattle.tn_answerer.specs.Answering.{answer, IsFresh, IsStep};
+    ghost use Rattle.tn_answerer.specs.Answering.{answer, IsFresh, IsStep, MayRefuse};
 
     ghost fresh = { λ job. IsFresh job };
 
     ghost reacts = { λ old entry reaction new. (reaction ≡ answer entry) × (new ≡ old) };
 
     ghost steps = { λ old reaction new. IsStep old reaction new };
+
+    ghost refuses = { λ job entry. MayRefuse entry };
 
     fn entry(&mut self, alloc: Global, entry: Entry) -> Result<Reaction, AllocError> {
         match entry {
@@ -59,7 +61,8 @@ impl Job for Answerer {
 }
 
 fn answer_line(alloc: Global, line: Text) -> Result<Reaction, AllocError>
-    ensures { IfOk result (λ reaction. reaction ≡ answer_line line) }
+    ensures answers { IfOk result (λ reaction. reaction ≡ answer_line line) }
+    ensures refused { IfErr result (λ _. MayRefuse (Some (Entry.Text line))) }
 {
     if line.as_slice() == b"exit\n".as_slice() {
         return say(alloc, "bye\n", After::Done);

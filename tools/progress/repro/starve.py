@@ -5,8 +5,8 @@
 
 A service of `tn serve --to` writes lines without end. Its user reads READ_SIZE bytes every PAUSE_MS (65536 and 0: as fast as it
 can), types KEYS keys (50), one after another, and waits for the echo of each among the flood. What both sockets held before the
-key is not counted: the rest passed it in the session, whose mailbox holds 64 mails of 1,024 bytes. Status 0 where no key is passed
-by more than MOST mails (256), 1 where one is.
+key is not counted: the rest passed it in the session, which has credits for 32 mails of 1,024 bytes. Status 0 where no key is passed
+by more than MOST mails (48), 1 where one is.
 """
 import socket
 import statistics
@@ -20,7 +20,7 @@ MAIL = 1024
 
 
 def main():
-    program, keys, size, pause, most = words_of(__doc__, keys=50, size=65_536, pause=0.0, most=256)
+    program, keys, size, pause, most = words_of(__doc__, keys=50, size=65_536, pause=0.0, most=48)
     listener, port = socket.create_server(("127.0.0.1", 0)), free_port()
     to = "127.0.0.1:%d" % listener.getsockname()[1]
     server = subprocess.Popen([program, "serve", "--port", str(port), "--to", to], stderr=subprocess.DEVNULL)
