@@ -10,7 +10,7 @@
 static uint8_t buf[70000];
 
 /* What waits to be sent is exactly this. */
-static void says(tn_handle *server, const char *bytes, size_t length)
+static void says(tn_server *server, const char *bytes, size_t length)
 {
     size_t count = 0, wanted = 0;
     SURE(tn_server_pending(server, &wanted) == TN_OK && wanted == length);
@@ -22,23 +22,23 @@ static void says(tn_handle *server, const char *bytes, size_t length)
 #define FEED(server, text) SURE(tn_server_feed(server, (const uint8_t *)text, sizeof text - 1) == TN_OK)
 
 /* What a client has to send and to show is exactly this. */
-static void client_says(tn_handle *client, const char *sent, size_t sent_length, const char *shown)
+static void client_says(tn_client *client, const char *sent, size_t sent_length, const char *shown)
 {
     size_t count = 0;
     SURE(tn_client_pending(client, &count) == TN_OK && count == sent_length);
     SURE(tn_client_read(client, buf, sizeof buf, &count) == TN_OK && count == sent_length);
     SURE(memcmp(buf, sent, sent_length) == 0);
-    SURE(tn_client_shown(client, &count) == TN_OK && count == strlen(shown));
+    SURE(tn_client_screen_pending(client, &count) == TN_OK && count == strlen(shown));
     SURE(tn_client_screen(client, buf, sizeof buf, &count) == TN_OK && memcmp(buf, shown, count) == 0);
 }
 
 #define CLIENT_SAYS(client, sent, shown) client_says(client, sent, sizeof sent - 1, shown)
 
 /* A line's flags and special characters are changed with a half line of 254 bytes that stays. */
-static void worked_settings(tn_handle *line)
+static void worked_settings(tn_line *line)
 {
     tn_flags flags = standard;
-    uint32_t effect = 77;
+    tn_effect effect = TN_DROPPED;
     uint16_t value = 77;
     size_t count = 77;
     SURE(tn_line_char(line, TN_CHAR_INTR, &value) == TN_OK && value == 3);
@@ -58,10 +58,10 @@ static void worked_settings(tn_handle *line)
 
 static void worked_line(void)
 {
-    tn_handle line = TN_HANDLE;
-    uint32_t effect = 77;
+    tn_line line = TN_HANDLE;
+    tn_effect effect = TN_DROPPED;
     size_t count = 77;
-    SURE(tn_line_key(&line, 'a', &effect) == TN_NOT_STARTED && effect == 77);
+    SURE(tn_line_key(&line, 'a', &effect) == TN_NOT_STARTED && effect == TN_DROPPED);
     SURE(tn_line_start(&line, &standard, 254) == TN_NO_LIMIT && line.tn_private == NULL);
     SURE(tn_line_start(&line, &standard, 4096) == TN_NO_LIMIT);
     SURE(tn_line_start(&line, &standard, 255) == TN_OK);
@@ -82,9 +82,9 @@ static void worked_line(void)
         SURE(tn_line_key(&line, 'x', &effect) == TN_OK && effect == TN_KEPT);
     SURE(tn_line_key(&line, 'x', &effect) == TN_OK && effect == TN_DROPPED);
     worked_settings(&line);
-    tn_end(&line);
+    tn_line_free(&line);
     SURE(line.tn_private == NULL && tn_line_half(&line, buf, 1, &count) == TN_NOT_STARTED && count == 0);
-    tn_end(&line);
+    tn_line_free(&line);
 }
 
 static void worked_decoder(void)
@@ -93,10 +93,10 @@ static void worked_decoder(void)
     static const tn_item wanted[] = { { TN_BYTE, 'a', 0, 0 },    { TN_NEWLINE, 0, 0, 0 },
                                       { TN_WORD, 251, 34, 0 },   { TN_COMMAND, 244, 0, 0 },
                                       { TN_SUBNEGOTIATION, 0, 31, 4 }, { TN_NO_ITEM, 0, 0, 0 } };
-    tn_handle decoder = TN_HANDLE;
-    tn_item item = { 77, 77, 77, 77 };
+    tn_decoder decoder = TN_HANDLE;
+    tn_item item = { TN_WORD, 77, 77, 77 };
     size_t count = 0;
-    SURE(tn_decoder_take(&decoder, &item) == TN_NOT_STARTED && item.kind == 77);
+    SURE(tn_decoder_take(&decoder, &item) == TN_NOT_STARTED && item.kind == TN_WORD);
     SURE(tn_decoder_start(&decoder) == TN_OK && tn_decoder_start(&decoder) == TN_STARTED);
     for (size_t i = 0; i + 1 < sizeof stream; i++)
         SURE(tn_decoder_feed(&decoder, stream + i, 1) == TN_OK);
@@ -107,15 +107,14 @@ static void worked_decoder(void)
         if (item.length > 0)
             SURE(memcmp(buf, "\0\x50\xff", 3) == 0);
     }
-    SURE(tn_line_text(&decoder, buf, sizeof buf, &count) == TN_OTHER_KIND);
-    SURE(tn_server_pending(&decoder, &count) == TN_OTHER_KIND && tn_client_key(&decoder, 'a') == TN_OTHER_KIND);
-    tn_end(&decoder);
+    tn_decoder_free(&decoder);
 }
 
 static void worked_server(void)
 {
-    tn_handle server = TN_HANDLE;
-    uint32_t kind = 77, state = 77;
+    tn_server server = TN_HANDLE;
+    tn_kind kind = TN_DROPPED;
+    tn_option_state state = TN_OPTION_WANT_NO;
     uint16_t width = 0, height = 0, value = 0;
     uint8_t mode = 77;
     size_t count = 77;
@@ -167,12 +166,12 @@ static void worked_server(void)
     SURE(tn_server_signal_waiting(&server, &kind) == TN_OK && kind == TN_TSTP);
     SURE(tn_server_half(&server, buf, sizeof buf, &count) == TN_OK);
     SURE(tn_server_failed(&server, &failed) == TN_OK && !failed);
-    tn_end(&server);
+    tn_server_free(&server);
 }
 
 static void worked_client(void)
 {
-    tn_handle client = TN_HANDLE;
+    tn_client client = TN_HANDLE;
     uint8_t mode = 77;
     uint16_t ahead = 77, trapped = 77, plain = 77;
     size_t count = 77;
@@ -191,8 +190,7 @@ static void worked_client(void)
     SURE(tn_client_half(&client, buf, sizeof buf, &count) == TN_OK && count == 0);
     SURE(tn_client_ahead(&client, &ahead) == TN_OK && ahead == 0);
     SURE(tn_client_failed(&client, &failed) == TN_OK && !failed);
-    SURE(tn_server_failed(&client, &failed) == TN_OTHER_KIND);
-    tn_end(&client);
+    tn_client_free(&client);
 }
 
 /* Each code is TN_OK, or of a refusal of memory. */
@@ -202,7 +200,7 @@ static bool may(tn_code code)
     return code == TN_OK;
 }
 
-static void deliver(tn_handle *server, tn_handle *client)
+static void deliver(tn_server *server, tn_client *client)
 {
     for (int round = 0; round < 4; round++) {
         size_t count = 0;
@@ -219,8 +217,10 @@ static void deliver(tn_handle *server, tn_handle *client)
 /* Both ends joined: a line is edited at the client, a special character is agreed on, and then the server edits. */
 static void worked_pair(void)
 {
-    tn_handle server = TN_HANDLE, client = TN_HANDLE;
-    uint32_t kind = 77, state = 77;
+    tn_server server = TN_HANDLE;
+    tn_client client = TN_HANDLE;
+    tn_kind kind = TN_DROPPED;
+    tn_option_state state = TN_OPTION_WANT_NO;
     uint16_t value = 77, trapped = 77, plain = 77, width = 77, height = 77;
     uint8_t mode = 77;
     size_t count = 77;
@@ -256,18 +256,21 @@ static void worked_pair(void)
     deliver(&server, &client);
     SURE(tn_server_half(&server, buf, sizeof buf, &count) == TN_OK && count == 1 && buf[0] == 'd');
     SURE(tn_client_counts(&client, &trapped, &plain) == TN_OK && trapped == 1 && plain == 1);
-    tn_end(&server);
-    tn_end(&client);
+    tn_server_free(&server);
+    tn_client_free(&client);
 }
 
 /* A session of both ends, with a line that is edited at the client, and a line and a decoder beside it. */
 static void session(void)
 {
-    tn_handle server = TN_HANDLE, client = TN_HANDLE, line = TN_HANDLE, decoder = TN_HANDLE;
-    uint32_t kind = 0;
+    tn_server server = TN_HANDLE;
+    tn_client client = TN_HANDLE;
+    tn_line line = TN_HANDLE;
+    tn_decoder decoder = TN_HANDLE;
+    tn_kind kind = TN_DROPPED;
     size_t count = 0;
     bool sent = false;
-    tn_item item = { 0, 0, 0, 0 };
+    tn_item item = { TN_NO_ITEM, 0, 0, 0 };
     may(tn_server_start(&server, &standard, 255));
     may(tn_client_start(&client, 80, 24, 255));
     deliver(&server, &client);
@@ -297,10 +300,10 @@ static void session(void)
         item.kind = TN_NO_ITEM;
         may(tn_decoder_take(&decoder, &item));
     } while (item.kind != TN_NO_ITEM);
-    tn_end(&server);
-    tn_end(&client);
-    tn_end(&line);
-    tn_end(&decoder);
+    tn_server_free(&server);
+    tn_client_free(&client);
+    tn_line_free(&line);
+    tn_decoder_free(&decoder);
 }
 
 static void refuse_each(void)
@@ -314,7 +317,7 @@ static void refuse_each(void)
     printf("%ld allocations, each refused once\n", refused_call - 1);
 }
 
-static void print_entry(uint32_t kind, const uint8_t *text, size_t length)
+static void print_entry(tn_kind kind, const uint8_t *text, size_t length)
 {
     static const char *names[] = { "", "text ", "eof", "signal int", "signal quit", "signal tstp" };
     printf("%s", names[kind]);
@@ -327,8 +330,8 @@ static uint8_t stream[1 << 20];
 
 static void by_server(size_t length)
 {
-    tn_handle server = TN_HANDLE;
-    uint32_t kind = TN_NONE;
+    tn_server server = TN_HANDLE;
+    tn_kind kind = TN_DROPPED;
     size_t at = 0, count = 0;
     SURE(tn_server_start(&server, &standard, 255) == TN_OK);
     while (at < length) {
@@ -346,15 +349,16 @@ static void by_server(size_t length)
         SURE(tn_server_pull(&server, 4096, &count) == TN_OK);
         SURE(tn_server_read(&server, buf, sizeof buf, &count) == TN_OK);
     }
-    tn_end(&server);
+    tn_server_free(&server);
 }
 
 static void by_parts(size_t length)
 {
-    tn_handle decoder = TN_HANDLE, line = TN_HANDLE;
-    uint32_t effect = TN_NONE;
+    tn_decoder decoder = TN_HANDLE;
+    tn_line line = TN_HANDLE;
+    tn_effect effect = TN_DROPPED;
     size_t at = 0, count = 0;
-    tn_item item = { 0, 0, 0, 0 };
+    tn_item item = { TN_NO_ITEM, 0, 0, 0 };
     SURE(tn_decoder_start(&decoder) == TN_OK && tn_line_start(&line, &standard, 255) == TN_OK);
     while (at < length) {
         size_t piece = (size_t)(rand() % 300);
@@ -371,8 +375,8 @@ static void by_parts(size_t length)
                 print_entry(effect, buf, count);
         } while (item.kind != TN_NO_ITEM);
     }
-    tn_end(&decoder);
-    tn_end(&line);
+    tn_decoder_free(&decoder);
+    tn_line_free(&line);
 }
 
 int main(int argc, char **argv)

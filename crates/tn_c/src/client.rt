@@ -66,6 +66,14 @@ pub extern "C" fn tn_client_start(
     handle.hold(alloc, Held::Client(client)).number()
 }
 
+/// Gives up what the handle holds, if it holds something, and all of its memory.
+#[unsafe(no_mangle)]
+pub extern "C" fn tn_client_free(alloc: Global, handle: &mut Handle)
+    ensures { handle.new.held ≡ None }
+{
+    handle.free(alloc);
+}
+
 /// Types a key: what it sends is to be read, and its echo is to be shown.
 #[unsafe(no_mangle)]
 pub extern "C" fn tn_client_key(alloc: Global, handle: &mut Handle, key: u8) -> u32
@@ -229,7 +237,11 @@ pub extern "C" fn tn_client_read(
 
 /// Says how many bytes wait to be shown.
 #[unsafe(no_mangle)]
-pub extern "C" fn tn_client_shown(alloc: Global, handle: &mut Handle, count: &mut usize) -> u32
+pub extern "C" fn tn_client_screen_pending(
+    alloc: Global,
+    handle: &mut Handle,
+    count: &mut usize,
+) -> u32
     ensures refused { IfSome (client_absence handle.old.held) (λ code.
         (result ≡ number code) × (handle.new.held ≡ handle.old.held)) }
     ensures unwritten { IfSome (client_absence handle.old.held) (λ _. count.new ≡ count.old) }

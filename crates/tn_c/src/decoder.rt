@@ -35,6 +35,14 @@ pub extern "C" fn tn_decoder_start(alloc: Global, handle: &mut Handle) -> u32
     handle.hold(alloc, Held::Decoder(decoder)).number()
 }
 
+/// Gives up what the handle holds, if it holds something, and all of its memory.
+#[unsafe(no_mangle)]
+pub extern "C" fn tn_decoder_free(alloc: Global, handle: &mut Handle)
+    ensures { handle.new.held ≡ None }
+{
+    handle.free(alloc);
+}
+
 /// Reads a piece, cut anywhere: the items that it completes wait behind those that wait already.
 #[unsafe(no_mangle)]
 pub extern "C" fn tn_decoder_feed(alloc: Global, handle: &mut Handle, bytes: &[u8]) -> u32

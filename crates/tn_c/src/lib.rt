@@ -1,11 +1,11 @@
 //! Lines, decoders and both ends of a Telnet connection for C, behind one opaque handle.
 //!
 //! ```c
-//! tn_handle server = TN_HANDLE;
+//! tn_server server = TN_HANDLE;
 //! if (tn_server_start(&server, &flags, 255) != TN_OK) return 1;
-//! tn_server_feed(&server, bytes, length); /* what came; the replies wait in the handle */
-//! tn_server_read(&server, buf, sizeof buf, &count); /* the first of them, to be sent */
-//! tn_end(&server);
+//! code = tn_server_feed(&server, bytes, length); /* what came; the replies wait in the handle */
+//! code = tn_server_read(&server, buf, sizeof buf, &count); /* the first of them, to be sent */
+//! tn_server_free(&server);
 //! ```
 //!
 //! No call waits, and none keeps a pointer that it was lent. `include/tn.h` says what C must keep to.
@@ -25,12 +25,10 @@ mod line;
 mod server;
 mod unboxed;
 
-/// Gives up what the handle holds, if it holds something, and all of its memory.
+/// The same of any handle: what version 1.0 had in place of the calls `_free`.
 #[unsafe(no_mangle)]
 pub extern "C" fn tn_end(alloc: Global, handle: &mut Handle)
     ensures { handle.new.held ≡ None }
 {
-    if let Some(held) = handle.take(alloc) {
-        drop(held);
-    }
+    handle.free(alloc);
 }

@@ -56,6 +56,14 @@ pub extern "C" fn tn_line_start(
     handle.hold(alloc, Held::Line(line)).number()
 }
 
+/// Gives up what the handle holds, if it holds something, and all of its memory.
+#[unsafe(no_mangle)]
+pub extern "C" fn tn_line_free(alloc: Global, handle: &mut Handle)
+    ensures { handle.new.held ≡ None }
+{
+    handle.free(alloc);
+}
+
 /// Types a key, and gives the number of what it did.
 #[unsafe(no_mangle)]
 pub extern "C" fn tn_line_key(alloc: Global, handle: &mut Handle, key: u8, effect: &mut u32) -> u32

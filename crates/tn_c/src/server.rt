@@ -85,6 +85,14 @@ pub extern "C" fn tn_server_start(
     handle.hold(alloc, Held::Server(server)).number()
 }
 
+/// Gives up what the handle holds, if it holds something, and all of its memory.
+#[unsafe(no_mangle)]
+pub extern "C" fn tn_server_free(alloc: Global, handle: &mut Handle)
+    ensures { handle.new.held ≡ None }
+{
+    handle.free(alloc);
+}
+
 /// Takes a piece of what comes from the client, cut anywhere; the replies wait to be read.
 #[unsafe(no_mangle)]
 pub extern "C" fn tn_server_feed(alloc: Global, handle: &mut Handle, bytes: &[u8]) -> u32
