@@ -9,14 +9,18 @@
  *   - One call at a time uses it, on the thread that started it. Different ones are independent.
  *   - A pointer to bytes may be null where their number is 0; no other pointer is null. Each points to as many objects of its
  *     type as the call names. They are initialized, also where the call only writes them, since that is what the proof takes for
- *     granted: a count begins as 0, a buffer as { 0 }. No two pointers of one call point to the same memory. No pointer is kept:
+ *     granted: a count or a length begins as 0, a buffer as { 0 }. No two pointers of one call point to the same memory. No pointer is kept:
  *     after the call what it points to is the caller's again.
  *   - Memory comes from malloc and realloc and is freed by free, all three of one allocator.
  *   - No call is made from a signal handler, nor in the child of a fork of a process with threads.
  *
- * Each call but _free returns a code. Where it is not TN_OK, nothing was written through the pointers, and what is held is as it
+ * A call that copies to a buffer copies the first bytes, as many as fit, and *length is how many there are: where that is more than the
+ * buffer's size, they stay, and may be copied to a larger one. Those of _read and _screen are moved: *count of them, and the others
+ * wait on.
+ *
+ * Each call but _free and tn_version returns a code. Where it is not TN_OK, nothing was written through the pointers, and what is held is as it
  * was, except after the three calls of _feed, whose comments say what they leave. TN_NOT_STARTED, where nothing is held, is
- * returned by every call but _start and _free, and is not named again below. The other codes of a call stand at it; of several
+ * returned by every call but _start, _free and those without a handle, and is not named again below. The other codes of a call stand at it; of several
  * that fit, it returns the first one there.
  */
 #ifndef TN_H
@@ -34,9 +38,10 @@ extern "C" {
 #define TN_VERSION_MAJOR 1
 #define TN_VERSION_MINOR 1
 #define TN_VERSION_PATCH 0
+#define TN_VERSION_NUMBER 10100 /* what tn_version() returns */
 
 /* The shared library that a program built with this header asks for. */
-#define TN_SONAME "libtn.so.1"
+#define TN_SONAME "libtn.so.2"
 
 /* What compilers that can do so see to: that these parameters are not null, and that the answer is looked at. */
 #ifdef __GNUC__
@@ -61,7 +66,7 @@ typedef struct tn_handle {
     void *tn_private;
 } tn_handle;
 typedef tn_handle tn_line, tn_decoder, tn_server, tn_client;
-void tn_end(tn_handle *handle) TN_NONNULL((1));
+#define tn_end tn_line_free
 #define tn_client_shown tn_client_screen_pending
 #else
 typedef struct tn_line {
@@ -96,8 +101,24 @@ typedef enum tn_code TN_ENUM {
     TN_RESERVED = 11,     /* 10, 13 and 255 are never special characters */
     TN_TAKEN = 12,        /* another function has this character */
     TN_NOT_ON = 13,       /* LINEMODE is not on */
-    TN_TOO_LONG = 14      /* a forward mask has at most 32 octets */
+    TN_TOO_LONG = 14,     /* a forward mask has at most 32 octets, a subnegotiation 512 parameters */
+    TN_NO_COMMAND = 15    /* no command, or no option word, has this byte */
 } tn_code;
+
+/* A few words on a code. */
+static inline const char *tn_code_text(tn_code code)
+{
+    static const char *const texts[] = {
+        "done", "out of memory", "it has failed before", "nothing is held", "something is held already", "something else is held",
+        "a line's limit is 255 to 4,095", "too many entries wait", "the terminal is closed", "no such function",
+        "the function has no special character", "never a special character", "another function has this character",
+        "LINEMODE is not on", "too long", "no such command"
+    };
+    return (size_t)code < sizeof texts / sizeof *texts ? texts[code] : "no code of this library";
+}
+
+/* The version of the library that is linked, as TN_VERSION_NUMBER has that of this header. */
+uint32_t tn_version(void);
 
 /* What a read of a terminal gives, and what a key does. */
 typedef enum tn_effect TN_ENUM {
@@ -170,12 +191,14 @@ tn_code tn_line_start(tn_line *line, const tn_flags *flags, uint16_t limit) TN_C
 /* Types a key; *effect is TN_NONE to TN_DROPPED. TN_MEMORY: nothing was typed (only a key that gives a text). */
 tn_code tn_line_key(tn_line *line, uint8_t key, tn_effect *effect) TN_CALL((1, 3));
 
-/* Copies the first bytes of the text that the last key gave, as many as fit; *count is how many, and 0 where it gave
- * none. A text has at most limit bytes. */
-tn_code tn_line_text(tn_line *line, uint8_t *buf, size_t size, size_t *count) TN_CALL((1, 4));
+/* Copies the text that the last key gave, at most limit bytes; *length is 0 where it gave none. */
+tn_code tn_line_text(tn_line *line, uint8_t *buf, size_t size, size_t *length) TN_CALL((1, 4));
 
-/* The same of the half line, which has fewer than limit bytes. */
-tn_code tn_line_half(tn_line *line, uint8_t *buf, size_t size, size_t *count) TN_CALL((1, 4));
+/* Copies what a terminal shows of the last key, at most 3 bytes, with CR LF for a new line. TN_MEMORY. */
+tn_code tn_line_echo(tn_line *line, uint8_t *buf, size_t size, size_t *length) TN_CALL((1, 4));
+
+/* Copies the half line, which has fewer than limit bytes. */
+tn_code tn_line_half(tn_line *line, uint8_t *buf, size_t size, size_t *length) TN_CALL((1, 4));
 
 /* Goes on under these flags; the half line stays. */
 tn_code tn_line_set_flags(tn_line *line, const tn_flags *flags) TN_CALL((1, 2));
@@ -214,9 +237,22 @@ tn_code tn_decoder_feed(tn_decoder *decoder, const uint8_t *bytes, size_t length
 /* Takes the first item that waits; TN_NO_ITEM where none does. */
 tn_code tn_decoder_take(tn_decoder *decoder, tn_item *item) TN_CALL((1, 2));
 
-/* Copies the first parameters of the item that was taken last, as many as fit; *count is how many, and 0 where that is
- * no subnegotiation. */
-tn_code tn_decoder_parameters(tn_decoder *decoder, uint8_t *buf, size_t size, size_t *count) TN_CALL((1, 4));
+/* Copies the parameters of the item that was taken last; *length is 0 where that is no subnegotiation. */
+tn_code tn_decoder_parameters(tn_decoder *decoder, uint8_t *buf, size_t size, size_t *length) TN_CALL((1, 4));
+
+/* ---- Spelling: what a decoder reads as such an item ---- */
+
+/* A byte of data, at most 2 bytes long, and a new line, 2 bytes. TN_MEMORY. */
+tn_code tn_put_byte(uint8_t byte, uint8_t *buf, size_t size, size_t *length) TN_CALL((4));
+tn_code tn_put_newline(uint8_t *buf, size_t size, size_t *length) TN_CALL((3));
+
+/* A command (236 to 249, never 240), 2 bytes, and an option word (251 WILL to 254 DONT), 3 bytes. TN_NO_COMMAND, TN_MEMORY. */
+tn_code tn_put_command(uint8_t command, uint8_t *buf, size_t size, size_t *length) TN_CALL((4));
+tn_code tn_put_option(uint8_t word, uint8_t option, uint8_t *buf, size_t size, size_t *length) TN_CALL((5));
+
+/* A subnegotiation, at most 6 bytes longer than twice its parameters. TN_TOO_LONG, TN_MEMORY. */
+tn_code tn_put_sub(uint8_t option, const uint8_t *parameters, size_t count, uint8_t *buf, size_t size, size_t *length)
+    TN_CALL((6));
 
 /* ---- A server end, with the terminal behind it ---- */
 
@@ -241,9 +277,12 @@ tn_code tn_server_read(tn_server *server, uint8_t *buf, size_t size, size_t *cou
  * TN_MEMORY is answered for it alone. */
 tn_code tn_server_take(tn_server *server, tn_kind *kind) TN_CALL((1, 2));
 
-/* Copies the first bytes of the text of the entry that was taken last, as many as fit; *count is how many, and 0 where
- * that was no text, or none waited. A text has at most limit bytes. */
-tn_code tn_server_text(tn_server *server, uint8_t *buf, size_t size, size_t *count) TN_CALL((1, 4));
+/* Copies the text of the entry that was taken last, at most limit bytes; *length is 0 where that was no text, or none waited. */
+tn_code tn_server_text(tn_server *server, uint8_t *buf, size_t size, size_t *length) TN_CALL((1, 4));
+
+/* Writes zeros over that text, as over a password: its length stays, until the next take. What the terminal and the decoder held of
+ * it before is not reached by this. */
+tn_code tn_server_forget(tn_server *server) TN_CALL((1));
 
 /* Writes output to the terminal's screen, which has room for 4,096 symbols; *count says how many bytes found room. */
 tn_code tn_server_write(tn_server *server, const uint8_t *bytes, size_t length, size_t *count) TN_CALL((1, 4));
@@ -274,9 +313,8 @@ tn_code tn_server_clear_mask(tn_server *server) TN_CALL((1));
 /* The kind of an entry that waits, by its place from 0 on; TN_NONE behind the last. */
 tn_code tn_server_waiting(tn_server *server, size_t index, tn_kind *kind) TN_CALL((1, 3));
 
-/* Copies the first bytes of the text of an entry that waits, as many as fit; *count is how many, and 0 where none is at
- * that place, or it is no text. The entry stays. */
-tn_code tn_server_waiting_text(tn_server *server, size_t index, uint8_t *buf, size_t size, size_t *count) TN_CALL((1, 5));
+/* Copies the text of an entry that waits, and stays; *length is 0 where none is at that place, or it is no text. */
+tn_code tn_server_waiting_text(tn_server *server, size_t index, uint8_t *buf, size_t size, size_t *length) TN_CALL((1, 5));
 
 /* The first signal among the entries that wait, or TN_NONE. */
 tn_code tn_server_signal_waiting(tn_server *server, tn_kind *kind) TN_CALL((1, 2));
@@ -288,8 +326,8 @@ tn_code tn_server_size(tn_server *server, uint16_t *width, uint16_t *height) TN_
 tn_code tn_server_mode(tn_server *server, uint8_t *mode) TN_CALL((1, 2));
 tn_code tn_server_asked(tn_server *server, uint8_t *mode) TN_CALL((1, 2));
 
-/* Copies the first bytes of the half line, as many as fit; *count is how many. It has fewer than limit bytes. */
-tn_code tn_server_half(tn_server *server, uint8_t *buf, size_t size, size_t *count) TN_CALL((1, 4));
+/* Copies the half line, which has fewer than limit bytes. */
+tn_code tn_server_half(tn_server *server, uint8_t *buf, size_t size, size_t *length) TN_CALL((1, 4));
 
 /* A special character, or TN_NO_CHAR. TN_NO_FUNCTION. */
 tn_code tn_server_char(tn_server *server, uint8_t function, uint16_t *value) TN_CALL((1, 3));
@@ -331,9 +369,8 @@ tn_code tn_client_propose(tn_client *client, uint8_t function, uint16_t value) T
 /* The mode in force. */
 tn_code tn_client_mode(tn_client *client, uint8_t *mode) TN_CALL((1, 2));
 
-/* Copies the first bytes of the half line that are held here, as many as fit; *count is how many. With those of _ahead they
- * are fewer than limit. */
-tn_code tn_client_half(tn_client *client, uint8_t *buf, size_t size, size_t *count) TN_CALL((1, 4));
+/* Copies the bytes of the half line that are held here: with those of _ahead they are fewer than limit. */
+tn_code tn_client_half(tn_client *client, uint8_t *buf, size_t size, size_t *length) TN_CALL((1, 4));
 
 /* How many bytes of the half line were sent before those. */
 tn_code tn_client_ahead(tn_client *client, uint16_t *count) TN_CALL((1, 2));

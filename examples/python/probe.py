@@ -1,7 +1,7 @@
 #!/usr/bin/env python3
 """probe.py HOST PORT: prints what a Telnet server asks for in its first two seconds, by tn.py.
 
-    LIBTN=out/libtn.so.1 examples/python/probe.py 127.0.0.1 23
+    LIBTN=out/libtn.so.2 examples/python/probe.py 127.0.0.1 23
 """
 import socket
 import sys

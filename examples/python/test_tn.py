@@ -1,7 +1,7 @@
 #!/usr/bin/env python3
 """test_tn.py: both ends joined by tn.py, and what it refuses.
 
-    LIBTN=out/libtn.so.1 examples/python/test_tn.py
+    LIBTN=out/libtn.so.2 examples/python/test_tn.py
 """
 import ctypes
 
@@ -49,6 +49,11 @@ def main():
     with tn.Decoder() as decoder:
         found = [(item.kind, item.option, parameters) for item, parameters in decoder.items(b"\xff\xfa\x1f\x00\x50\xff\xf0")]
         assert found == [(tn.SUBNEGOTIATION, 31, b"\x00\x50")]
+        stream = tn.data(b"a\xff\n") + tn.command(241) + tn.option(251, 24) + tn.subnegotiation(24, b"\x00\xffx")
+        kinds = [(item.kind, item.code, parameters) for item, parameters in decoder.items(stream)]
+        assert kinds == [(tn.BYTE, 97, b""), (tn.BYTE, 255, b""), (tn.NEWLINE, 0, b""), (tn.COMMAND, 241, b""), (tn.WORD, 251, b""),
+                         (tn.SUBNEGOTIATION, 0, b"\x00\xffx")]
+    assert refusal(tn.command, 240) == tn.NO_COMMAND and tn.version() == 10100
     print("tn.py: lines, a decoder and both ends")
 
 

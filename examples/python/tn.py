@@ -6,14 +6,14 @@
         print(server.take())        # (tn.TEXT, b'hello\\n')
         connection.sendall(server.read())
 
-A call that is refused raises tn.Refused, whose code is one of tn.h. The library is libtn.so.1, or the one that LIBTN names.
+A call that is refused raises tn.Refused, whose code is one of tn.h. The library is libtn.so.2, or the one that LIBTN names.
 """
 import ctypes
 import os
 from ctypes import POINTER, byref, c_bool, c_char_p, c_size_t, c_uint8, c_uint16, c_uint32, c_void_p
 
 OK, MEMORY, FAILED, NOT_STARTED, STARTED, OTHER_KIND, NO_LIMIT, TOO_FAR_AHEAD, CLOSED, NO_FUNCTION, NOT_SETTABLE, RESERVED, TAKEN, \
-    NOT_ON, TOO_LONG = range(15)
+    NOT_ON, TOO_LONG, NO_COMMAND = range(16)
 NONE, TEXT, EOF, INT, QUIT, TSTP, KEPT, ERASED, ERASED_AHEAD, KILLED, DROPPED = range(11)
 NO_ITEM, BYTE, NEWLINE, COMMAND, WORD, SUBNEGOTIATION = range(6)
 CHAR_INTR, CHAR_QUIT, CHAR_EOF, CHAR_SUSP, CHAR_ERASE, CHAR_KILL, CHAR_EOL, CHAR_EOL2 = 3, 7, 8, 9, 10, 11, 17, 18
@@ -57,6 +57,7 @@ CALLS = {
     "line_key": (c_uint8, POINTER(c_uint32)),
     "line_text": BUFFER,
     "line_half": BUFFER,
+    "line_echo": BUFFER,
     "line_set_flags": (POINTER(Flags),),
     "line_set_char": (c_uint8, c_uint16),
     "line_char": (c_uint8, POINTER(c_uint16)),
@@ -64,12 +65,18 @@ CALLS = {
     "decoder_feed": BYTES,
     "decoder_take": (POINTER(Item),),
     "decoder_parameters": BUFFER,
+    "put_byte": (c_uint8, *BUFFER),
+    "put_newline": BUFFER,
+    "put_command": (c_uint8, *BUFFER),
+    "put_option": (c_uint8, c_uint8, *BUFFER),
+    "put_sub": (c_uint8, *BYTES, *BUFFER),
     "server_start": (POINTER(Flags), c_uint16),
     "server_feed": BYTES,
     "server_pending": (POINTER(c_size_t),),
     "server_read": BUFFER,
     "server_take": (POINTER(c_uint32),),
     "server_text": BUFFER,
+    "server_forget": (),
     "server_write": (*BYTES, POINTER(c_size_t)),
     "server_pull": (c_size_t, POINTER(c_size_t)),
     "server_wish": (c_bool, POINTER(c_bool)),
@@ -105,13 +112,47 @@ CALLS = {
     "client_failed": (POINTER(c_bool),),
 }
 
-_library = ctypes.CDLL(os.environ.get("LIBTN", "libtn.so.1"))
+_library = ctypes.CDLL(os.environ.get("LIBTN", "libtn.so.2"))
 for _name, _parameters in CALLS.items():
-    getattr(_library, "tn_" + _name).argtypes = (HANDLE, *_parameters)
+    getattr(_library, "tn_" + _name).argtypes = _parameters if _name.startswith("put_") else (HANDLE, *_parameters)
     getattr(_library, "tn_" + _name).restype = c_uint32
 for _kind in ("line", "decoder", "server", "client"):
     getattr(_library, f"tn_{_kind}_free").argtypes = (HANDLE,)
     getattr(_library, f"tn_{_kind}_free").restype = None
+
+
+_library.tn_version.argtypes = ()
+_library.tn_version.restype = c_uint32
+
+
+def version():
+    """10,000 times the first number of the library's version, 100 times its second, and its third."""
+    return _library.tn_version()
+
+
+def _spelled(name, size, *arguments):
+    buf, length = (c_uint8 * size)(), c_size_t()
+    code = getattr(_library, "tn_put_" + name)(*arguments, buf, size, byref(length))
+    if code != OK:
+        raise Refused("tn_put_" + name, code)
+    return bytes(buf[: length.value])
+
+
+def data(text):
+    """Bytes of data as a decoder reads them back, each line feed as the end of a line."""
+    return b"".join(_spelled("newline", 2) if byte == 10 else _spelled("byte", 2, byte) for byte in text)
+
+
+def command(byte):
+    return _spelled("command", 2, byte)
+
+
+def option(word, number):
+    return _spelled("option", 3, word, number)
+
+
+def subnegotiation(number, parameters):
+    return _spelled("sub", 2 * len(parameters) + 6, number, parameters, len(parameters))
 
 
 class _Held:
@@ -170,6 +211,10 @@ class Line(_Held):
     def half(self):
         return self._bytes("half", self._limit)
 
+    def echo(self):
+        """What a terminal shows of the last key."""
+        return self._bytes("echo", 6)
+
 
 class Decoder(_Held):
     """A stream to items."""
@@ -221,6 +266,10 @@ class Server(_End):
         """The first entry's kind, and its text, if it is one; NONE where no entry waits."""
         kind = self._value("take", c_uint32)
         return kind, self._bytes("text", self._limit) if kind == TEXT else None
+
+    def forget(self):
+        """Writes zeros over the text that was taken last."""
+        self._call("forget")
 
     def write(self, output):
         """Writes to the screen and spells it, all of it; echo comes by this too, also where nothing is written."""

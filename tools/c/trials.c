@@ -69,10 +69,13 @@ static void worked_line(void)
     for (const char *key = "lss"; *key; key++)
         SURE(tn_line_key(&line, (uint8_t)*key, &effect) == TN_OK && effect == TN_KEPT);
     SURE(tn_line_key(&line, 127, &effect) == TN_OK && effect == TN_ERASED);
-    SURE(tn_line_half(&line, buf, 1, &count) == TN_OK && count == 1 && buf[0] == 'l');
+    SURE(tn_line_half(&line, buf, 1, &count) == TN_OK && count == 2 && buf[0] == 'l');
+    SURE(tn_line_echo(&line, buf, sizeof buf, &count) == TN_OK && count == 3 && memcmp(buf, "\b \b", 3) == 0);
     SURE(tn_line_half(&line, buf, sizeof buf, &count) == TN_OK && count == 2);
     SURE(tn_line_key(&line, 3, &effect) == TN_OK && effect == TN_INT);
+    SURE(tn_line_echo(&line, buf, sizeof buf, &count) == TN_OK && count == 0);
     SURE(tn_line_key(&line, 13, &effect) == TN_OK && effect == TN_TEXT);
+    SURE(tn_line_echo(&line, buf, sizeof buf, &count) == TN_OK && count == 2 && memcmp(buf, "\r\n", 2) == 0);
     SURE(tn_line_text(&line, buf, sizeof buf, &count) == TN_OK && count == 3 && memcmp(buf, "ls\n", 3) == 0);
     SURE(tn_line_key(&line, 4, &effect) == TN_OK && effect == TN_EOF);
     SURE(tn_line_text(&line, buf, sizeof buf, &count) == TN_OK && count == 0);
@@ -103,11 +106,47 @@ static void worked_decoder(void)
     for (size_t i = 0; i < sizeof wanted / sizeof *wanted; i++) {
         SURE(tn_decoder_take(&decoder, &item) == TN_OK && item.kind == wanted[i].kind && item.code == wanted[i].code);
         SURE(item.option == wanted[i].option && item.length == wanted[i].length);
-        SURE(tn_decoder_parameters(&decoder, buf, 3, &count) == TN_OK && count == (item.length < 3 ? item.length : 3));
+        SURE(tn_decoder_parameters(&decoder, buf, 3, &count) == TN_OK && count == item.length);
         if (item.length > 0)
             SURE(memcmp(buf, "\0\x50\xff", 3) == 0);
     }
     tn_decoder_free(&decoder);
+}
+
+/* The spelling of each kind of item, into a buffer that is large enough and into one of a byte. */
+static void worked_spelling(void)
+{
+    static const uint8_t zeros[513] = { 0 };
+    static const struct {
+        const char *bytes;
+        size_t length;
+    } wanted[] = { { "a", 1 }, { "\r\0", 2 }, { "\xff\xff", 2 }, { "\r\n", 2 }, { "\xff\xf4", 2 }, { "\xff\xfb\xff", 3 },
+                   { "\xff\xfa\x1f\0\xff\xff\xff\xf0", 8 } };
+    for (size_t size = sizeof buf; size > 0; size = size > 1 ? 1 : 0) {
+        for (size_t i = 0; i < sizeof wanted / sizeof *wanted; i++) {
+            size_t count = 77;
+            tn_code code = TN_FAILED;
+            memset(buf, 7, 16);
+            switch (i) {
+            case 0: code = tn_put_byte('a', buf, size, &count); break;
+            case 1: code = tn_put_byte('\r', buf, size, &count); break;
+            case 2: code = tn_put_byte(255, buf, size, &count); break;
+            case 3: code = tn_put_newline(buf, size, &count); break;
+            case 4: code = tn_put_command(244, buf, size, &count); break;
+            case 5: code = tn_put_option(251, 255, buf, size, &count); break;
+            case 6: code = tn_put_sub(31, (const uint8_t *)"\0\xff", 2, buf, size, &count); break;
+            }
+            SURE(code == TN_OK && count == wanted[i].length);
+            SURE(memcmp(buf, wanted[i].bytes, size > count ? count : size) == 0 && (size > 1 || buf[1] == 7));
+        }
+    }
+    {
+        size_t count = 77;
+        SURE(tn_put_command(240, buf, 2, &count) == TN_NO_COMMAND && tn_put_option(250, 1, buf, 3, &count) == TN_NO_COMMAND);
+        SURE(tn_put_sub(1, zeros, 513, buf, sizeof buf, &count) == TN_TOO_LONG && count == 77);
+        SURE(tn_put_sub(1, zeros, 512, buf, sizeof buf, &count) == TN_OK && count == 517);
+        SURE(tn_version() == TN_VERSION_NUMBER && strcmp(tn_code_text(TN_TAKEN), "another function has this character") == 0);
+    }
 }
 
 static void worked_server(void)
@@ -128,10 +167,13 @@ static void worked_server(void)
     FEED(&server, "\0");
     SURE(tn_server_waiting(&server, 0, &kind) == TN_OK && kind == TN_TEXT);
     SURE(tn_server_waiting(&server, 1, &kind) == TN_OK && kind == TN_NONE);
-    SURE(tn_server_waiting_text(&server, 0, buf, 4, &count) == TN_OK && count == 4 && memcmp(buf, "ls -", 4) == 0);
+    SURE(tn_server_waiting_text(&server, 0, buf, 4, &count) == TN_OK && count == 6 && memcmp(buf, "ls -", 4) == 0);
     SURE(tn_server_waiting_text(&server, 1, buf, sizeof buf, &count) == TN_OK && count == 0);
     SURE(tn_server_take(&server, &kind) == TN_OK && kind == TN_TEXT);
+    SURE(tn_server_text(&server, buf, 4, &count) == TN_OK && count == 6 && memcmp(buf, "ls -", 4) == 0);
     SURE(tn_server_text(&server, buf, sizeof buf, &count) == TN_OK && count == 6 && memcmp(buf, "ls -l\n", 6) == 0);
+    SURE(tn_server_forget(&server) == TN_OK);
+    SURE(tn_server_text(&server, buf, sizeof buf, &count) == TN_OK && count == 6 && memcmp(buf, "\0\0\0\0\0", 6) == 0);
     SURE(tn_server_write(&server, (const uint8_t *)"a\n", 2, &count) == TN_OK && count == 2);
     SURE(tn_server_pull(&server, 4096, &count) == TN_OK && count == 12);
     SAYS(&server, "lss\b \b -l\r\na\r\n");
@@ -300,6 +342,13 @@ static void session(void)
         item.kind = TN_NO_ITEM;
         may(tn_decoder_take(&decoder, &item));
     } while (item.kind != TN_NO_ITEM);
+    may(tn_line_echo(&line, buf, sizeof buf, &count));
+    may(tn_server_forget(&server));
+    may(tn_put_byte('a', buf, sizeof buf, &count));
+    may(tn_put_newline(buf, sizeof buf, &count));
+    may(tn_put_command(241, buf, sizeof buf, &count));
+    may(tn_put_option(251, 1, buf, sizeof buf, &count));
+    may(tn_put_sub(24, (const uint8_t *)"\0vt100", 6, buf, sizeof buf, &count));
     tn_server_free(&server);
     tn_client_free(&client);
     tn_line_free(&line);
@@ -387,6 +436,7 @@ int main(int argc, char **argv)
     if (strcmp(word, "worked") == 0) {
         worked_line();
         worked_decoder();
+        worked_spelling();
         worked_server();
         worked_client();
         worked_pair();

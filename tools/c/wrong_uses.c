@@ -37,6 +37,7 @@ static bool is_blank(const struct given *g)
     X(LINE, line_key, (h, 'a', &g->effect)) \
     X(LINE, line_text, (h, TO_BUF)) \
     X(LINE, line_half, (h, TO_BUF)) \
+    X(LINE, line_echo, (h, TO_BUF)) \
     X(LINE, line_set_flags, (h, &standard)) \
     X(LINE, line_set_char, (h, TN_CHAR_EOL, 7)) \
     X(LINE, line_char, (h, TN_CHAR_EOL, &g->width)) \
@@ -48,6 +49,7 @@ static bool is_blank(const struct given *g)
     X(SERVER, server_read, (h, TO_BUF)) \
     X(SERVER, server_take, (h, &g->effect)) \
     X(SERVER, server_text, (h, TO_BUF)) \
+    X(SERVER, server_forget, (h)) \
     X(SERVER, server_write, (h, BYTES, &g->count)) \
     X(SERVER, server_pull, (h, 8, &g->count)) \
     X(SERVER, server_wish, (h, true, &g->yes)) \
@@ -80,6 +82,13 @@ static bool is_blank(const struct given *g)
     X(CLIENT, client_char, (h, TN_CHAR_EOL, &g->width)) \
     X(CLIENT, client_option, (h, true, 1, &g->state)) \
     X(CLIENT, client_failed, (h, &g->yes))
+
+/* A call that gives nothing there, and counts so many bytes. */
+#define COUNTS(count_, ...) \
+    do { \
+        g.count = 77; \
+        SURE(__VA_ARGS__ == TN_OK && g.count == count_); \
+    } while (0)
 
 #define STARTS(X) \
     X(LINE, line_start, (h, &standard, limit)) \
@@ -234,7 +243,8 @@ static void takes_no_bytes(uint8_t *at)
 {
     tn_handle line = holding(LINE), decoder = holding(DECODER), server = holding(SERVER), client = holding(CLIENT);
     struct given g = blank;
-    NONE(tn_line_half(&line, at, 0, &g.count));
+    COUNTS(1, tn_line_half(&line, at, 0, &g.count));
+    COUNTS(1, tn_line_echo(&line, at, 0, &g.count));
     NONE(tn_line_text(&line, at, 0, &g.count));
     SURE(tn_decoder_feed(&decoder, at, 0) == TN_OK);
     NONE(tn_decoder_parameters(&decoder, at, 0, &g.count));
@@ -243,7 +253,9 @@ static void takes_no_bytes(uint8_t *at)
     NONE(tn_server_text(&server, at, 0, &g.count));
     NONE(tn_server_write(&server, at, 0, &g.count));
     NONE(tn_server_pull(&server, 0, &g.count));
-    NONE(tn_server_half(&server, at, 0, &g.count));
+    COUNTS(1, tn_server_half(&server, at, 0, &g.count));
+    COUNTS(2, tn_put_byte(255, at, 0, &g.count));
+    COUNTS(5, tn_put_sub(24, at, 0, NULL, 0, &g.count));
     NONE(tn_server_waiting_text(&server, 0, at, 0, &g.count));
     SURE(tn_server_set_mask(&server, at, 0) == TN_NOT_ON);
     SURE(tn_client_feed(&client, at, 0) == TN_OK);

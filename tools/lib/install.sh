@@ -31,7 +31,7 @@ defined_in() {
 install_library() {
     local folder=$1 prefix=$2 libdir=$3 root=${DESTDIR-} top shared soname
     top=$(dirname "$(dirname "$(dirname "$(readlink -f "${BASH_SOURCE[0]}")")")")
-    shared=libtn.so.$(defined_in "$top/include/tn.h" TN_VERSION)
+    shared=libtn-$(defined_in "$top/include/tn.h" TN_VERSION).so
     soname=$(defined_in "$top/include/tn.h" TN_SONAME)
     install -D -m 644 "$folder/libtn.a" "$root$libdir/libtn.a"
     install -m 644 "$folder/$shared" "$root$libdir/$shared"
@@ -45,7 +45,7 @@ includedir=\${prefix}/include
 
 Name: tn
 Description: Telnet with LINEMODE, proved
-Version: ${shared#libtn.so.}
+Version: $(defined_in "$top/include/tn.h" TN_VERSION)
 Cflags: -I\${includedir}
 Libs: -L\${libdir} -ltn
 END

@@ -14,7 +14,7 @@ ghost use Rattle.tn_client.specs.Lines.{ahead, count_under, held_bytes};
 ghost use Rattle.tn_client.specs.Replies.{replies};
 ghost use Rattle.tn_client.specs.Terms.{options, mode, chars};
 ghost use Rattle.tn_client.specs.declared.faults.ClientFault.TheVariants as fault;
-ghost use Rattle.tn_c_parts.specs.Bytes.{Copies};
+ghost use Rattle.tn_c_parts.specs.Bytes.{Copies, Gives};
 ghost use Rattle.tn_c_parts.specs.Calling.{Untouched};
 ghost use Rattle.tn_c_parts.specs.Faults.{client_refusal};
 ghost use Rattle.tn_c_parts.specs.Readings.{char_given, char_number, side_given, state_number};
@@ -292,7 +292,7 @@ pub extern "C" fn tn_client_mode(alloc: Global, handle: &mut Handle, mask: &mut 
     call_held!(handle, alloc, Client, client => { *mask = client.end.mode(); Code::Done })
 }
 
-/// Copies the first bytes of the half line that are held here, as many as fit, and says how many.
+/// Copies the first bytes of the half line that are held here, as many as fit, and says how many there are.
 #[unsafe(no_mangle)]
 pub extern "C" fn tn_client_half(
     alloc: Global,
@@ -306,9 +306,9 @@ pub extern "C" fn tn_client_half(
         (buf.new ≡ buf.old) × (count.new ≡ count.old)) }
     ensures done { OnClient handle.old.held handle.new.held (λ _ _. result ≡ number code.Done) }
     ensures copies { OnClient handle.old.held handle.new.held (λ before _.
-        Copies before.end.line.held buf.old buf.new count.new) }
+        Gives before.end.line.held buf.old buf.new count.new) }
     ensures stands { OnClient handle.old.held handle.new.held (λ before _.
-        (h : History) → LeadsTo h before.end → Copies (held_bytes h) buf.old buf.new count.new) }
+        (h : History) → LeadsTo h before.end → Gives (held_bytes h) buf.old buf.new count.new) }
     ensures same { handle.new.held ≡ handle.old.held }
 {
     call_held!(handle, alloc, Client, client => { client.half(buf, count); Code::Done })

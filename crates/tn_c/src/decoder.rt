@@ -2,7 +2,7 @@
 
 ghost use Rattle.std.specs.Prelude.{◌≡◌, ◌≢◌, ◌↔◌, ◌⊎◌, None, [], ◌∷◌, IfSome, MatchOption};
 ghost use Rattle.tn_nvt.specs.Feeding.{failed, LeadsTo, Feeds, StopsWithin, IsLetGo};
-ghost use Rattle.tn_c_parts.specs.Bytes.{Copies};
+ghost use Rattle.tn_c_parts.specs.Bytes.{Gives};
 ghost use Rattle.tn_c_parts.specs.Codes.{code_number as number};
 ghost use Rattle.tn_c_parts.specs.Items.{item_seen, parameters_of};
 ghost use Rattle.tn_c_parts.specs.declared.codes.Code.TheVariants as code;
@@ -89,7 +89,7 @@ pub extern "C" fn tn_decoder_take(alloc: Global, handle: &mut Handle, item: &mut
     call_held!(handle, alloc, Decoder, decoder => { decoder.take(item); Code::Done })
 }
 
-/// Copies the first parameters of the item that was taken last, as many as fit, and says how many.
+/// Copies the first parameters of the item that was taken last, as many as fit, and says how many there are.
 #[unsafe(no_mangle)]
 pub extern "C" fn tn_decoder_parameters(
     alloc: Global,
@@ -103,7 +103,7 @@ pub extern "C" fn tn_decoder_parameters(
         (buf.new ≡ buf.old) × (count.new ≡ count.old)) }
     ensures done { OnDecoder handle.old.held handle.new.held (λ _ _. result ≡ number code.Done) }
     ensures copies { OnDecoder handle.old.held handle.new.held (λ before _.
-        Copies (parameters_of before.item) buf.old buf.new count.new) }
+        Gives (parameters_of before.item) buf.old buf.new count.new) }
     ensures same { handle.new.held ≡ handle.old.held }
 {
     call_held!(handle, alloc, Decoder, decoder => { decoder.parameters(buf, count); Code::Done })

@@ -11,10 +11,7 @@
 //! No call waits, and none keeps a pointer that it was lent. `include/tn.h` says what C must keep to.
 #![tactic(auto)]
 
-ghost use Rattle.std.specs.Prelude.{◌≡◌, None};
-
-use handle::Handle;
-use std::alloc::Global;
+ghost use Rattle.std.specs.Prelude.{◌≡◌};
 
 mod calls;
 mod client;
@@ -23,12 +20,13 @@ mod handle;
 mod held;
 mod line;
 mod server;
+mod spelling;
 mod unboxed;
 
-/// The same of any handle: what version 1.0 had in place of the calls `_free`.
+/// The version of the library: 10,000 times its first number, 100 times its second, and its third.
 #[unsafe(no_mangle)]
-pub extern "C" fn tn_end(alloc: Global, handle: &mut Handle)
-    ensures { handle.new.held ≡ None }
+pub extern "C" fn tn_version() -> u32
+    ensures { result ≡ 10100 }
 {
-    handle.free(alloc);
+    10_100
 }

@@ -5,11 +5,13 @@ ghost use Rattle.tn_codes.specs.Codes.{func_code};
 ghost use Rattle.tn_codes.specs.declared.codes.Func.{Func};
 ghost use Rattle.tn_discipline.specs.Advancing.{Advances, DropsExactly};
 ghost use Rattle.tn_discipline.specs.Characters.{AreAllowed, standard_characters, slot, with_slot, char_fault};
+ghost use Rattle.tn_discipline.specs.Echo.{echo_at, no_echo};
 ghost use Rattle.tn_discipline.specs.HalfLine.{empty_line, line_length, line_after, effect_of, effect_entries, GivesText};
 ghost use Rattle.tn_discipline.specs.Keys.{role_of_key, roles_of};
 ghost use Rattle.tn_discipline.specs.Limits.{is_limit};
-ghost use Rattle.tn_c_parts.specs.Bytes.{Copies};
-ghost use Rattle.tn_c_parts.specs.Codes.{code_number as number};
+ghost use Rattle.tn_c_parts.specs.Bytes.{Gives};
+ghost use Rattle.tn_c_parts.specs.Codes.{code_number as number, Answers};
+ghost use Rattle.tn_c_parts.specs.Echoes.{GivesEcho};
 ghost use Rattle.tn_c_parts.specs.Entries.{effect_number, entry_given, text_of};
 ghost use Rattle.tn_c_parts.specs.Faults.{char_answer};
 ghost use Rattle.tn_c_parts.specs.Readings.{char_given, char_number};
@@ -42,6 +44,7 @@ pub extern "C" fn tn_line_start(
     ensures settings { result ≡ number code.Done → HoldsLine handle.new.held (λ line.
         line.settings ≡ record { flags = flags_given flags.now; chars = standard_characters }) }
     ensures entry { result ≡ number code.Done → HoldsLine handle.new.held (λ line. line.entry ≡ None) }
+    ensures echo { result ≡ number code.Done → HoldsLine handle.new.held (λ line. line.echo ≡ no_echo) }
     ensures err { result ≢ number code.Done → handle.new.held ≡ handle.old.held }
 {
     if handle.is_started(alloc) {
@@ -88,6 +91,9 @@ pub extern "C" fn tn_line_key(alloc: Global, handle: &mut Handle, key: u8, effec
     ensures entry { OnLine handle.old.held handle.new.held (λ before after.
         result ≡ number code.Done →
         after.entry ≡ entry_given (effect_of before.line (role_of_key before.settings key))) }
+    ensures echo { OnLine handle.old.held handle.new.held (λ before after.
+        let role = role_of_key before.settings key in
+        result ≡ number code.Done → after.echo ≡ echo_at before.settings.flags role (effect_of before.line role)) }
     ensures settings { OnLine handle.old.held handle.new.held (λ before after.
         after.settings ≡ before.settings) }
     ensures only_a_text { OnLine handle.old.held handle.new.held (λ before _.
@@ -100,7 +106,7 @@ pub extern "C" fn tn_line_key(alloc: Global, handle: &mut Handle, key: u8, effec
     call_held!(handle, alloc, Line, line => line.key(key, effect))
 }
 
-/// Copies the first bytes of the text that the last key gave, as many as fit, and says how many.
+/// Copies the first bytes of the text that the last key gave, as many as fit, and says how many there are.
 #[unsafe(no_mangle)]
 pub extern "C" fn tn_line_text(
     alloc: Global,
@@ -114,13 +120,33 @@ pub extern "C" fn tn_line_text(
         (buf.new ≡ buf.old) × (count.new ≡ count.old)) }
     ensures done { OnLine handle.old.held handle.new.held (λ _ _. result ≡ number code.Done) }
     ensures copies { OnLine handle.old.held handle.new.held (λ before _.
-        Copies (text_of before.entry) buf.old buf.new count.new) }
+        Gives (text_of before.entry) buf.old buf.new count.new) }
     ensures same { handle.new.held ≡ handle.old.held }
 {
     call_held!(handle, alloc, Line, line => { line.text(buf, count); Code::Done })
 }
 
-/// Copies the first bytes of the half line, as many as fit, and says how many.
+/// Copies what a terminal shows of the last key, as much as fits, and says how long that is.
+#[unsafe(no_mangle)]
+pub extern "C" fn tn_line_echo(
+    alloc: Global,
+    handle: &mut Handle,
+    buf: &mut [u8],
+    count: &mut usize,
+) -> u32
+    ensures refused { IfSome (line_absence handle.old.held) (λ code.
+        (result ≡ number code) × (handle.new.held ≡ handle.old.held)) }
+    ensures unwritten { IfSome (line_absence handle.old.held) (λ _.
+        (buf.new ≡ buf.old) × (count.new ≡ count.old)) }
+    ensures gives { OnLine handle.old.held handle.new.held (λ before _.
+        Answers result (GivesEcho before.echo
+        (record { old_buf = buf.old; new_buf = buf.new; old_count = count.old; new_count = count.new }))) }
+    ensures same { handle.new.held ≡ handle.old.held }
+{
+    call_held!(handle, alloc, Line, line => line.echo(alloc, buf, count))
+}
+
+/// Copies the first bytes of the half line, as many as fit, and says how many there are.
 #[unsafe(no_mangle)]
 pub extern "C" fn tn_line_half(
     alloc: Global,
@@ -134,7 +160,7 @@ pub extern "C" fn tn_line_half(
         (buf.new ≡ buf.old) × (count.new ≡ count.old)) }
     ensures done { OnLine handle.old.held handle.new.held (λ _ _. result ≡ number code.Done) }
     ensures copies { OnLine handle.old.held handle.new.held (λ before _.
-        Copies before.line.held buf.old buf.new count.new) }
+        Gives before.line.held buf.old buf.new count.new) }
     ensures within { OnLine handle.old.held handle.new.held (λ before _.
         line_length before.line < before.line.limit) }
     ensures same { handle.new.held ≡ handle.old.held }
@@ -156,6 +182,7 @@ pub extern "C" fn tn_line_set_flags(
         after.settings ≡ record { flags = flags_given flags.now; chars = before.settings.chars }) }
     ensures line { OnLine handle.old.held handle.new.held (λ before after. after.line ≡ before.line) }
     ensures entry { OnLine handle.old.held handle.new.held (λ before after. after.entry ≡ before.entry) }
+    ensures echo { OnLine handle.old.held handle.new.held (λ before after. after.echo ≡ before.echo) }
 {
     call_held!(handle, alloc, Line, line => { line.set_flags(flags.flags()); Code::Done })
 }
@@ -186,6 +213,7 @@ pub extern "C" fn tn_line_set_char(
         after.settings.flags ≡ before.settings.flags) }
     ensures line { OnLine handle.old.held handle.new.held (λ before after. after.line ≡ before.line) }
     ensures entry { OnLine handle.old.held handle.new.held (λ before after. after.entry ≡ before.entry) }
+    ensures echo { OnLine handle.old.held handle.new.held (λ before after. after.echo ≡ before.echo) }
 {
     call_held!(handle, alloc, Line, line => line.set_function(function, value))
 }

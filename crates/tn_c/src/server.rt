@@ -24,11 +24,11 @@ ghost use Rattle.tn_server.specs.Screen.{queue, size};
 ghost use Rattle.tn_server.specs.Terms.{mode, asked_mask, chars, options, sends_mode};
 ghost use Rattle.tn_server.specs.declared.faults.ServerFault.{ServerFault};
 ghost use Rattle.tn_server.specs.declared.faults.ServerFault.TheVariants as fault;
-ghost use Rattle.tn_c_parts.specs.Bytes.{Copies};
+ghost use Rattle.tn_c_parts.specs.Bytes.{Copies, Gives};
 ghost use Rattle.tn_c_parts.specs.Entries.{kind_number, signal_number, text_of};
 ghost use Rattle.tn_c_parts.specs.Faults.{server_code, server_refusal};
 ghost use Rattle.tn_c_parts.specs.Readings.{char_given, char_number, editing_given, side_given, state_number};
-ghost use Rattle.tn_c_parts.specs.Serving.{Untouched};
+ghost use Rattle.tn_c_parts.specs.Serving.{Untouched, Forgets};
 ghost use Rattle.tn_c_parts.specs.declared.codes.Code.TheVariants as code;
 ghost use Rattle.tn_c.specs.Holding.{HoldsServer, OnServer, server_absence};
 
@@ -153,7 +153,7 @@ pub extern "C" fn tn_server_take(alloc: Global, handle: &mut Handle, kind: &mut 
     call_held!(handle, alloc, Server, server => server.take(kind))
 }
 
-/// Copies the first bytes of the text that was taken last, as many as fit, and says how many.
+/// Copies the first bytes of the text that was taken last, as many as fit, and says how many there are.
 #[unsafe(no_mangle)]
 pub extern "C" fn tn_server_text(
     alloc: Global,
@@ -167,10 +167,21 @@ pub extern "C" fn tn_server_text(
         (buf.new ≡ buf.old) × (count.new ≡ count.old)) }
     ensures done { OnServer handle.old.held handle.new.held (λ _ _. result ≡ number code.Done) }
     ensures copies { OnServer handle.old.held handle.new.held (λ before _.
-        Copies (text_of before.entry) buf.old buf.new count.new) }
+        Gives (text_of before.entry) buf.old buf.new count.new) }
     ensures same { handle.new.held ≡ handle.old.held }
 {
     call_held!(handle, alloc, Server, server => { server.text(buf, count); Code::Done })
+}
+
+/// Wipes the text of the entry that was taken last: its bytes are 0 from then on.
+#[unsafe(no_mangle)]
+pub extern "C" fn tn_server_forget(alloc: Global, handle: &mut Handle) -> u32
+    ensures refused { IfSome (server_absence handle.old.held) (λ code.
+        (result ≡ number code) × (handle.new.held ≡ handle.old.held)) }
+    ensures done { OnServer handle.old.held handle.new.held (λ _ _. result ≡ number code.Done) }
+    ensures forgets { OnServer handle.old.held handle.new.held (λ before after. Forgets before after) }
+{
+    call_held!(handle, alloc, Server, server => { server.forget(); Code::Done })
 }
 
 /// Writes output of a job to the terminal's screen, the first bytes, and says how many fit.
@@ -447,7 +458,7 @@ pub extern "C" fn tn_server_waiting(
     call_held!(handle, alloc, Server, server => { *kind = server.waiting_kind(index); Code::Done })
 }
 
-/// Copies the first bytes of the text of an entry that waits, as many as fit, and says how many.
+/// Copies the first bytes of the text of an entry that waits, as many as fit, and says how many there are.
 #[unsafe(no_mangle)]
 pub extern "C" fn tn_server_waiting_text(
     alloc: Global,
@@ -463,7 +474,7 @@ pub extern "C" fn tn_server_waiting_text(
     ensures done { OnServer handle.old.held handle.new.held (λ _ _. result ≡ number code.Done) }
     ensures copies { OnServer handle.old.held handle.new.held (λ before _.
         (h : History) → LeadsTo h before.end →
-        Copies (text_of (slice_get (waiting h) index)) buf.old buf.new count.new) }
+        Gives (text_of (slice_get (waiting h) index)) buf.old buf.new count.new) }
     ensures same { handle.new.held ≡ handle.old.held }
 {
     call_held!(
@@ -538,7 +549,7 @@ pub extern "C" fn tn_server_asked(alloc: Global, handle: &mut Handle, mask: &mut
     call_held!(handle, alloc, Server, server => { *mask = server.end.asked(); Code::Done })
 }
 
-/// Copies the first bytes of the half line, as many as fit, and says how many.
+/// Copies the first bytes of the half line, as many as fit, and says how many there are.
 #[unsafe(no_mangle)]
 pub extern "C" fn tn_server_half(
     alloc: Global,
@@ -552,7 +563,7 @@ pub extern "C" fn tn_server_half(
         (buf.new ≡ buf.old) × (count.new ≡ count.old)) }
     ensures done { OnServer handle.old.held handle.new.held (λ _ _. result ≡ number code.Done) }
     ensures copies { OnServer handle.old.held handle.new.held (λ before _.
-        (h : History) → LeadsTo h before.end → Copies (half h) buf.old buf.new count.new) }
+        (h : History) → LeadsTo h before.end → Gives (half h) buf.old buf.new count.new) }
     ensures same { handle.new.held ≡ handle.old.held }
 {
     call_held!(handle, alloc, Server, server => { server.half(buf, count); Code::Done })

@@ -1,6 +1,8 @@
 pub mod Codes
 pub mod Faults
 pub mod Bytes
+pub mod Spelled
+pub mod Echoes
 pub mod Entries
 pub mod Items
 pub mod Terminals

@@ -12,13 +12,13 @@ ghost use Rattle.tn_client.specs.Lines.{count_under, held_bytes};
 ghost use Rattle.tn_client.specs.Replies.{replies};
 ghost use Rattle.tn_client.specs.Terms.{options, chars};
 ghost use Rattle.tn_client.specs.declared.faults.ClientFault.TheVariants as fault;
-ghost use Rattle.tn_c_parts.specs.Bytes.{Copies};
+ghost use Rattle.tn_c_parts.specs.Bytes.{Copies, Gives};
 ghost use Rattle.tn_c_parts.specs.Calling.{Untouched};
 ghost use Rattle.tn_c_parts.specs.Faults.{client_refusal};
 ghost use Rattle.tn_c_parts.specs.Readings.{char_given, char_number, side_given, state_number};
 ghost use Rattle.tn_c_parts.specs.declared.codes.Code.TheVariants as code;
 
-use crate::bytes::{copy_front, move_front};
+use crate::bytes::{give, move_front};
 use crate::codes::Code;
 use crate::readings::{char_given, give_char, side_given, state_number};
 use std::alloc::Global;
@@ -185,13 +185,13 @@ impl HeldClient {
         *count = move_front(&mut self.shown, buf);
     }
 
-    /// Copies the first bytes of the half line that is held here, as many as fit, and says how many.
+    /// Copies the first bytes of the half line that is held here, as many as fit, and says how many there are.
     pub fn half(&self, buf: &mut [u8], count: &mut usize)
-        ensures value { Copies self.now.end.line.held buf.old buf.new count.new }
+        ensures value { Gives self.now.end.line.held buf.old buf.new count.new }
         ensures stands { (h : History) → LeadsTo h self.now.end →
-            Copies (held_bytes h) buf.old buf.new count.new }
+            Gives (held_bytes h) buf.old buf.new count.new }
     {
-        *count = copy_front(self.end.half(), buf);
+        *count = give(self.end.half(), buf);
     }
 
     /// Says how long a half line is that the server edits, with its ISIG set and with it clear.

@@ -2,11 +2,11 @@
 
 ghost use Rattle.std.specs.Prelude.{◌≡◌, ◌↔◌, ◌⊎◌, ◌-◌, None, [], ◌∷◌, reverse, vec_len, vec_capacity, MatchOption};
 ghost use Rattle.tn_nvt.specs.Feeding.{failed, LeadsTo, Feeds, StopsWithin, IsLetGo};
-ghost use Rattle.tn_c_parts.specs.Bytes.{Copies};
+ghost use Rattle.tn_c_parts.specs.Bytes.{Gives};
 ghost use Rattle.tn_c_parts.specs.Items.{item_seen, parameters_of};
 ghost use Rattle.tn_c_parts.specs.declared.codes.Code.TheVariants as code;
 
-use crate::bytes::copy_front;
+use crate::bytes::give;
 use crate::codes::Code;
 use std::alloc::Global;
 use std::marker::Model;
@@ -130,10 +130,10 @@ impl HeldDecoder {
         *item = seen(&self.item);
     }
 
-    /// Copies the first parameters of the item that was taken last, as many as fit, and says how many.
+    /// Copies the first parameters of the item that was taken last, as many as fit, and says how many there are.
     pub fn parameters(&self, buf: &mut [u8], count: &mut usize)
-        ensures { Copies (parameters_of self.now.item) buf.old buf.new count.new }
+        ensures { Gives (parameters_of self.now.item) buf.old buf.new count.new }
     {
-        *count = copy_front(parameters(&self.item), buf);
+        *count = give(parameters(&self.item), buf);
     }
 }

@@ -20,16 +20,16 @@ ghost use Rattle.tn_server.specs.Screen.{queue, size};
 ghost use Rattle.tn_server.specs.Terms.{chars, options, sends_mode};
 ghost use Rattle.tn_server.specs.declared.faults.ServerFault.{ServerFault};
 ghost use Rattle.tn_server.specs.declared.faults.ServerFault.TheVariants as fault;
-ghost use Rattle.tn_c_parts.specs.Bytes.{Copies};
+ghost use Rattle.tn_c_parts.specs.Bytes.{Copies, Gives};
 ghost use Rattle.tn_c_parts.specs.Entries.{kind_number, signal_number, text_of};
 ghost use Rattle.tn_c_parts.specs.Faults.{server_code, server_refusal};
 ghost use Rattle.tn_c_parts.specs.Readings.{char_given, char_number, editing_given, side_given, state_number};
-ghost use Rattle.tn_c_parts.specs.Serving.{Untouched};
+ghost use Rattle.tn_c_parts.specs.Serving.{Untouched, Forgets};
 ghost use Rattle.tn_c_parts.specs.declared.codes.Code.TheVariants as code;
 
-use crate::bytes::{copy_front, move_front};
+use crate::bytes::{give, move_front};
 use crate::codes::Code;
-use crate::entries::{entry_number, entry_text, kind_number, sig_number, text_of};
+use crate::entries::{entry_number, entry_text, kind_number, sig_number, text_of, wiped};
 use crate::readings::{char_given, editing_given, give_char, side_given, state_number};
 use std::alloc::Global;
 use tn_codes::{Func, Mask};
@@ -134,11 +134,18 @@ impl HeldServer {
         }
     }
 
-    /// Copies the first bytes of the text that was taken last, as many as fit, and says how many.
+    /// Copies the first bytes of the text that was taken last, as many as fit, and says how many there are.
     pub fn text(&self, buf: &mut [u8], count: &mut usize)
-        ensures { Copies (text_of self.now.entry) buf.old buf.new count.new }
+        ensures { Gives (text_of self.now.entry) buf.old buf.new count.new }
     {
-        *count = copy_front(text_of(&self.entry), buf);
+        *count = give(text_of(&self.entry), buf);
+    }
+
+    /// Wipes the text of the entry that was taken last: its bytes are 0 from then on.
+    pub fn forget(&mut self)
+        ensures { Forgets self.old self.new }
+    {
+        self.entry = wiped(self.entry.take());
     }
 
     /// Writes output of a job to the terminal's screen, the first bytes, and says how many fit.
@@ -327,11 +334,11 @@ impl HeldServer {
         *count = move_front(&mut self.pending, buf);
     }
 
-    /// Copies the first bytes of the half line, as many as fit, and says how many.
+    /// Copies the first bytes of the half line, as many as fit, and says how many there are.
     pub fn half(&self, buf: &mut [u8], count: &mut usize)
-        ensures { (h : History) → LeadsTo h self.now.end → Copies (half h) buf.old buf.new count.new }
+        ensures { (h : History) → LeadsTo h self.now.end → Gives (half h) buf.old buf.new count.new }
     {
-        *count = copy_front(self.end.half(), buf);
+        *count = give(self.end.half(), buf);
     }
 
     /// The number of the kind of an entry that waits, by its place from the first on; 0 where none is there.
@@ -346,15 +353,15 @@ impl HeldServer {
     }
 
     /// Copies the first bytes of the text of an entry that waits, by its place from the first on, as many as
-    /// fit, and says how many; the entry stays.
+    /// fit, and says how many there are; the entry stays.
     pub fn waiting_text(&self, index: usize, buf: &mut [u8], count: &mut usize)
         ensures { (h : History) → LeadsTo h self.now.end →
-            Copies (text_of (slice_get (waiting h) index)) buf.old buf.new count.new }
+            Gives (text_of (slice_get (waiting h) index)) buf.old buf.new count.new }
     {
         let waiting = self.end.waiting(index);
         match waiting {
-            Some(entry) => *count = copy_front(entry_text(entry), buf),
-            None => *count = copy_front(&[], buf),
+            Some(entry) => *count = give(entry_text(entry), buf),
+            None => *count = give(&[], buf),
         }
     }
 
