@@ -7,5 +7,8 @@ pub mod Entries
 pub mod Items
 pub mod Terminals
 pub mod Readings
-pub mod Serving
+pub mod LineCalls
+pub mod DecoderCalls
+pub mod ServerCalls
+pub mod ClientCalls
 pub mod Calling
