@@ -6,7 +6,8 @@
  * What the caller keeps to:
  *   - Each begins as TN_HANDLE and holds nothing. Its _start fills it, its _free frees what it holds, and it may be started anew.
  *     It may be moved, never copied: of two copies only one is ever used again. Only these calls read or write what is in it.
- *   - One call at a time uses it, on the thread that started it. Different ones are independent.
+ *   - One call at a time uses it, on any thread: a lock, a thread's start or join, or a sequentially consistent atomic orders the
+ *     calls of two threads. Different ones are independent.
  *   - A pointer to bytes may be null where their number is 0; no other pointer is null. Each points to as many objects of its
  *     type as the call names. They are initialized, also where the call only writes them, since that is what the proof takes for
  *     granted: a count or a length begins as 0, a buffer as { 0 }. No two pointers of one call point to the same memory. No pointer is kept:

@@ -7,6 +7,8 @@
  */
 #include "trial.h"
 
+#include <pthread.h>
+
 static uint8_t buf[70000];
 
 /* What waits to be sent is exactly this. */
@@ -235,6 +237,23 @@ static void worked_client(void)
     tn_client_free(&client);
 }
 
+static void *typed_elsewhere(void *client)
+{
+    SURE(tn_client_key(client, 'b') == TN_OK);
+    return NULL;
+}
+
+/* A handle is used on another thread, and then here again. */
+static void worked_threads(void)
+{
+    tn_client client = TN_HANDLE;
+    pthread_t thread;
+    SURE(tn_client_start(&client, 80, 24, 255) == TN_OK && tn_client_key(&client, 'a') == TN_OK);
+    SURE(pthread_create(&thread, NULL, typed_elsewhere, &client) == 0 && pthread_join(thread, NULL) == 0);
+    CLIENT_SAYS(&client, "ab", "ab");
+    tn_client_free(&client);
+}
+
 /* Each code is TN_OK, or of a refusal of memory. */
 static bool may(tn_code code)
 {
@@ -440,6 +459,7 @@ int main(int argc, char **argv)
         worked_server();
         worked_client();
         worked_pair();
+        worked_threads();
     } else if (strcmp(word, "refused") == 0) {
         refuse_each();
     } else if (strcmp(word, "server") == 0) {

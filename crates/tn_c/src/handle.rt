@@ -28,6 +28,9 @@ impl Model for Handle {
     ghost also_owns = { λ h. handle_owns h.alloc h.at h.held };
 }
 
+// C moves it between threads: all that it holds may be used on any.
+unsafe impl Send for Handle {}
+
 impl Handle {
     pub(crate) fn empty(alloc: Global) -> Handle
         ensures { result.held ≡ None }

@@ -34,7 +34,7 @@ pub enum Entry {
     Tstp,
 }
 
-/// A server end. It stays on the thread that started it, since the pointer in it is not `Send`.
+/// A server end.
 pub struct Server {
     held: raw::tn_server,
     limit: u16,
@@ -42,6 +42,10 @@ pub struct Server {
 
 /// A client end.
 pub struct Client(raw::tn_client);
+
+// SAFETY: what they hold may be used on any thread, one at a time (`tn.h`).
+unsafe impl Send for Server {}
+unsafe impl Send for Client {}
 
 // SAFETY, of each call below: what it is for is started, lent to this call alone and never copied; each pointer leads to as
 // many initialized objects as are said to be there, or to none, and is not kept.
@@ -185,9 +189,14 @@ mod tests {
             client.feed(&server.read()?)?;
             server.feed(&client.read()?)?;
         }
-        for &key in b"helo\x7flo\r" {
-            client.key(key)?;
-        }
+        let mut client = std::thread::spawn(move || -> Result<Client> {
+            for &key in b"helo\x7flo\r" {
+                client.key(key)?;
+            }
+            Ok(client)
+        })
+        .join()
+        .unwrap()?;
         server.feed(&client.read()?)?;
         assert_eq!(server.take()?, Some(Entry::Text(b"hello\n".to_vec())));
         assert_eq!(server.take()?, None);
