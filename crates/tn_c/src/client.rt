@@ -110,7 +110,8 @@ pub extern "C" fn tn_client_read(
     buf: &mut [u8],
     count: &mut usize,
 ) -> u32
-    ensures { CallsClient handle.old.held handle.new.held result ((buf.new ≡ buf.old) × (count.new ≡ count.old))
+    ensures { CallsClient handle.old.held handle.new.held result
+        ((buf.new ≡ buf.old) × (count.new ≡ count.old))
         (Does (ReadCall buf.old buf.new count.new)) }
 {
     call_held!(handle, alloc, Client, client => { client.read(buf, count); Code::Done })
@@ -137,7 +138,8 @@ pub extern "C" fn tn_client_screen(
     buf: &mut [u8],
     count: &mut usize,
 ) -> u32
-    ensures { CallsClient handle.old.held handle.new.held result ((buf.new ≡ buf.old) × (count.new ≡ count.old))
+    ensures { CallsClient handle.old.held handle.new.held result
+        ((buf.new ≡ buf.old) × (count.new ≡ count.old))
         (Does (ScreenCall buf.old buf.new count.new)) }
 {
     call_held!(handle, alloc, Client, client => { client.screen(buf, count); Code::Done })
@@ -160,7 +162,8 @@ pub extern "C" fn tn_client_half(
     buf: &mut [u8],
     count: &mut usize,
 ) -> u32
-    ensures { CallsClient handle.old.held handle.new.held result ((buf.new ≡ buf.old) × (count.new ≡ count.old))
+    ensures { CallsClient handle.old.held handle.new.held result
+        ((buf.new ≡ buf.old) × (count.new ≡ count.old))
         (Looks (GivesHalf buf.old buf.new count.new)) }
 {
     call_held!(handle, alloc, Client, client => { client.half(buf, count); Code::Done })
@@ -183,7 +186,8 @@ pub extern "C" fn tn_client_counts(
     trapped: &mut u16,
     plain: &mut u16,
 ) -> u32
-    ensures { CallsClient handle.old.held handle.new.held result ((trapped.new ≡ trapped.old) × (plain.new ≡ plain.old))
+    ensures { CallsClient handle.old.held handle.new.held result
+        ((trapped.new ≡ trapped.old) × (plain.new ≡ plain.old))
         (Looks (GivesCounts trapped.new plain.new)) }
 {
     call_held!(handle, alloc, Client, client => { client.counts(trapped, plain); Code::Done })

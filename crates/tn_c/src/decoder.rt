@@ -59,7 +59,8 @@ pub extern "C" fn tn_decoder_parameters(
     buf: &mut [u8],
     count: &mut usize,
 ) -> u32
-    ensures { CallsDecoder handle.old.held handle.new.held result ((buf.new ≡ buf.old) × (count.new ≡ count.old))
+    ensures { CallsDecoder handle.old.held handle.new.held result
+        ((buf.new ≡ buf.old) × (count.new ≡ count.old))
         (Looks (λ decoder. Gives (parameters_of decoder.item) buf.old buf.new count.new)) }
 {
     call_held!(handle, alloc, Decoder, decoder => { decoder.parameters(buf, count); Code::Done })

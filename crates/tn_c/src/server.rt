@@ -90,7 +90,8 @@ pub extern "C" fn tn_server_text(
     buf: &mut [u8],
     count: &mut usize,
 ) -> u32
-    ensures { CallsServer handle.old.held handle.new.held result ((buf.new ≡ buf.old) × (count.new ≡ count.old))
+    ensures { CallsServer handle.old.held handle.new.held result
+        ((buf.new ≡ buf.old) × (count.new ≡ count.old))
         (Looks (λ server. Gives (text_of server.entry) buf.old buf.new count.new)) }
 {
     call_held!(handle, alloc, Server, server => { server.text(buf, count); Code::Done })
@@ -205,7 +206,8 @@ pub extern "C" fn tn_server_read(
     buf: &mut [u8],
     count: &mut usize,
 ) -> u32
-    ensures { CallsServer handle.old.held handle.new.held result ((buf.new ≡ buf.old) × (count.new ≡ count.old))
+    ensures { CallsServer handle.old.held handle.new.held result
+        ((buf.new ≡ buf.old) × (count.new ≡ count.old))
         (Does (ReadCall buf.old buf.new count.new)) }
 {
     call_held!(handle, alloc, Server, server => { server.read(buf, count); Code::Done })
@@ -235,7 +237,8 @@ pub extern "C" fn tn_server_waiting_text(
     buf: &mut [u8],
     count: &mut usize,
 ) -> u32
-    ensures { CallsServer handle.old.held handle.new.held result ((buf.new ≡ buf.old) × (count.new ≡ count.old))
+    ensures { CallsServer handle.old.held handle.new.held result
+        ((buf.new ≡ buf.old) × (count.new ≡ count.old))
         (Looks (λ server. (h : History) → LeadsTo h server.end →
         Gives (text_of (slice_get (waiting h) index)) buf.old buf.new count.new)) }
 {
@@ -267,7 +270,8 @@ pub extern "C" fn tn_server_size(
     width: &mut u16,
     height: &mut u16,
 ) -> u32
-    ensures { CallsServer handle.old.held handle.new.held result ((width.new ≡ width.old) × (height.new ≡ height.old))
+    ensures { CallsServer handle.old.held handle.new.held result
+        ((width.new ≡ width.old) × (height.new ≡ height.old))
         (Looks (λ server. (h : History) → LeadsTo h server.end → (width.new, height.new) ≡ size h)) }
 {
     call_held!(handle, alloc, Server, server => { server.size(width, height); Code::Done })
@@ -299,7 +303,8 @@ pub extern "C" fn tn_server_half(
     buf: &mut [u8],
     count: &mut usize,
 ) -> u32
-    ensures { CallsServer handle.old.held handle.new.held result ((buf.new ≡ buf.old) × (count.new ≡ count.old))
+    ensures { CallsServer handle.old.held handle.new.held result
+        ((buf.new ≡ buf.old) × (count.new ≡ count.old))
         (Looks (λ server. (h : History) → LeadsTo h server.end → Gives (half h) buf.old buf.new count.new)) }
 {
     call_held!(handle, alloc, Server, server => { server.half(buf, count); Code::Done })

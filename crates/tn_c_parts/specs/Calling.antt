@@ -22,8 +22,8 @@ pub record Does {X : Type 0} (F : X → X → Type 0) (answer : Code) (before af
   pub did : F before after
 
 -- The call is about the function with this number (RFC 1184, section 2.4), if there is one.
-pub record OfFunction {X : Type 0} (number : ℕ) (R : Func → Code → X → X → Type 0) (answer : Code) (before after : X)
-    : Type 0 where
+pub record OfFunction {X : Type 0} (number : ℕ) (R : Func → Code → X → X → Type 0) (answer : Code)
+    (before after : X) : Type 0 where
   pub known : (func : Func) → func_code func ≡ number → R func answer before after
   pub unknown : (answer ≡ code.NoFunction) ↔ ((func : Func) → func_code func ≢ number)
   pub stays : answer ≡ code.NoFunction → after ≡ before
@@ -34,8 +34,9 @@ pub record GivesSome (given : Type 0) (answer : Code) : Type 0 where
   pub so : given
 
 -- The special character of the function with this number was given: such a value, of what is held.
-pub record GivesChar {X : Type 0} (number old_value new_value : ℕ) (IsChar : X → Func → ℕ → Type 0) (answer : Code)
-    (before after : X) : Type 0 where
-  pub function : OfFunction number (λ func a held _. GivesSome (IsChar held func new_value) a) answer before after
+pub record GivesChar {X : Type 0} (number old_value new_value : ℕ) (IsChar : X → Func → ℕ → Type 0)
+    (answer : Code) (before after : X) : Type 0 where
+  pub function : OfFunction number (λ func a held _. GivesSome (IsChar held func new_value) a)
+      answer before after
   pub same : after ≡ before
   pub unwritten : answer ≡ code.NoFunction → new_value ≡ old_value

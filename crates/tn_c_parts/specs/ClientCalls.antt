@@ -1,5 +1,5 @@
 -- What each call of a held client end does.
-use Rattle.std.specs.Prelude.{◌≡◌, ◌≢◌, ◌⊎◌, ◌↔◌, ℕ, Bool, true, false, List, [], drop, Option, Some, None}
+use Rattle.std.specs.Prelude.{◌≡◌, ◌≢◌, ◌⊎◌, ℕ, Bool, true, false, List, [], drop, Option, None}
 use Rattle.tn_codes.specs.declared.codes.Func.{Func}
 use Rattle.tn_discipline.specs.Characters.{slot}
 use Rattle.tn_option.specs.Options.{state_of}
@@ -24,7 +24,8 @@ pub record Untouched (old new : HeldClient) : Type 0 where
   pub shown : new.shown.items ≡ old.shown.items
 
 -- A call of the owner, which is this event, and which may be refused for such a cause.
-pub record Acts (e : Event) (cause : End → Option ClientFault) (answer : Code) (before after : HeldClient) : Type 0 where
+pub record Acts (e : Event) (cause : End → Option ClientFault) (answer : Code) (before after : HeldClient)
+    : Type 0 where
   pub goes : answer ≡ code.Done → Advances before.end e after.end
   pub sends : answer ≡ code.Done → Sends before.end e before.pending.items after.pending.items
   pub keeps : ReadsNothing before.end after.end
@@ -40,11 +41,13 @@ pub record KeyCall (key : ℕ) (answer : Code) (before after : HeldClient) : Typ
 
 pub record ResizeCall (width height : ℕ) (answer : Code) (before after : HeldClient) : Type 0 where
   pub acts : Acts (resized width height) call_fault answer before after
-  pub grows : answer ≡ code.Memory → (h : History) → LeadsTo h before.end → replies h (resized width height) ≢ []
+  pub grows : answer ≡ code.Memory → (h : History) → LeadsTo h before.end
+      → replies h (resized width height) ≢ []
   pub full : answer ≡ code.Memory → LacksRoomFor before.end (resized width height) before.pending
   pub shown : after.shown.items ≡ before.shown.items
 
-pub record ProposeCall (value : Option ℕ) (func : Func) (answer : Code) (before after : HeldClient) : Type 0 where
+pub record ProposeCall (value : Option ℕ) (func : Func) (answer : Code) (before after : HeldClient)
+    : Type 0 where
   pub acts : Acts (proposed func value) (λ end. propose_fault end func value) answer before after
   pub full : answer ≡ code.Memory → LacksRoomFor before.end (proposed func value) before.pending
   pub shown : after.shown.items ≡ before.shown.items

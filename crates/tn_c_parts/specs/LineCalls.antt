@@ -47,7 +47,8 @@ pub record SetFlagsCall (flags : Flags) (before after : HeldLine) : Type 0 where
   pub settings : after.settings ≡ record { flags = flags; chars = before.settings.chars }
   pub keeps : KeepsTyped before after
 
-pub record SetCharCall (value : Option ℕ) (func : Func) (answer : Code) (before after : HeldLine) : Type 0 where
+pub record SetCharCall (value : Option ℕ) (func : Func) (answer : Code) (before after : HeldLine)
+    : Type 0 where
   pub ok : answer ≡ code.Done → after.settings.chars ≡ with_slot before.settings.chars func value
   pub refused : answer ≡ char_answer (char_fault before.settings.chars func value)
   pub allowed : AreAllowed after.settings.chars

@@ -10,7 +10,7 @@ use Rattle.tn_nvt.specs.Spelling.{spells}
 use Rattle.tn_nvt.specs.Room.{LacksRoom}
 use Rattle.tn_pty.specs.Terminal.{fitting_count}
 use Rattle.tn_server.specs.Calls.{End, LeadsTo, Advances, ReadsNothing, Feeds, StopsWithin, LacksRoomFor, call_fault, char_fault_at, mask_fault}
-use Rattle.tn_server.specs.Events.{History, Event, begun, next, took, wrote, pulled, wished, char_set, echo_set, mask_set}
+use Rattle.tn_server.specs.Events.{History, Event, begun, next, took, wrote, pulled, wished, char_set, mask_set}
 use Rattle.tn_server.specs.Faults.{SaysSomething}
 use Rattle.tn_server.specs.Lines.{waiting}
 use Rattle.tn_server.specs.Replies.{opening}
@@ -33,7 +33,8 @@ pub record Untouched (old new : HeldServer) : Type 0 where
   pub entry : new.entry ≡ old.entry
 
 -- A call of the owner, which is this event, and which may be refused for such a cause.
-pub record Acts (e : Event) (cause : End → Option ServerFault) (answer : Code) (before after : HeldServer) : Type 0 where
+pub record Acts (e : Event) (cause : End → Option ServerFault) (answer : Code) (before after : HeldServer)
+    : Type 0 where
   pub ok : answer ≡ code.Done → Advances before.end e before.pending.items after.pending.items after.end
   pub keeps : ReadsNothing before.end after.end
   pub accepted : answer ≡ code.Done → cause before.end ≡ None
@@ -43,7 +44,8 @@ pub record Acts (e : Event) (cause : End → Option ServerFault) (answer : Code)
   pub full : answer ≡ code.Memory → LacksRoomFor before.end e before.pending
   pub entry : after.entry ≡ before.entry
 
-pub record WishCall (editing : Editing) (old_sent new_sent : Bool) (answer : Code) (before after : HeldServer) : Type 0 where
+pub record WishCall (editing : Editing) (old_sent new_sent : Bool) (answer : Code)
+    (before after : HeldServer) : Type 0 where
   pub acts : Acts (wished editing) call_fault answer before after
   pub sent : answer ≡ code.Done → (h : History) → LeadsTo h before.end → new_sent ≡ sends_mode h editing
   pub unsent : answer ≢ code.Done → new_sent ≡ old_sent
@@ -56,7 +58,8 @@ SetMaskCall mask = Acts (mask_set mask) mask_fault
 
 -- a mask of these octets; those that are left out are zero
 pub record SetOctetsCall (octets : List ℕ) (answer : Code) (before after : HeldServer) : Type 0 where
-  pub short : length octets ≤ 32 → (mask : Mask) → mask.0 ≡ filled_octets octets → SetMaskCall (Some mask) answer before after
+  pub short : length octets ≤ 32 → (mask : Mask) → mask.0 ≡ filled_octets octets
+      → SetMaskCall (Some mask) answer before after
   pub long : (answer ≡ code.TooLong) ↔ (32 < length octets)
   pub stays : answer ≡ code.TooLong → after ≡ before
 
@@ -66,7 +69,8 @@ pub record FeedCall (piece : List ℕ) (answer : Code) (before after : HeldServe
   pub failed : (answer ≡ code.Failed) ↔ (before.end.failed ≡ true)
   pub failed_stays : answer ≡ code.Failed → Untouched before after
   pub halts : answer ≢ code.Done → answer ≢ code.Failed → (f : ServerFault)
-      × (answer ≡ server_code f) × StopsWithin before.end piece f before.pending.items after.pending.items after.end
+      × (answer ≡ server_code f)
+      × StopsWithin before.end piece f before.pending.items after.pending.items after.end
   pub err : answer ≢ code.Done → after.end.failed ≡ true
   pub codes : (answer ≡ code.Done) ⊎ ((answer ≡ code.Memory) ⊎ ((answer ≡ code.Failed)
       ⊎ ((answer ≡ code.TooFarAhead) ⊎ (answer ≡ code.Closed))))
@@ -94,9 +98,11 @@ pub record WriteCall (bytes : List ℕ) (count : ℕ) (before after : HeldServer
 
 pub record PullCall (max old_count new_count : ℕ) (answer : Code) (before after : HeldServer) : Type 0 where
   pub codes : (answer ≡ code.Done) ⊎ (answer ≡ code.Memory)
-  pub ok : answer ≡ code.Done → Advances before.end (pulled new_count) before.pending.items after.pending.items after.end
+  pub ok : answer ≡ code.Done
+      → Advances before.end (pulled new_count) before.pending.items after.pending.items after.end
   pub keeps : ReadsNothing before.end after.end
-  pub counts : answer ≡ code.Done → (h : History) → LeadsTo h before.end → new_count ≡ min max (length (queue h))
+  pub counts : answer ≡ code.Done → (h : History) → LeadsTo h before.end
+      → new_count ≡ min max (length (queue h))
   pub entry : after.entry ≡ before.entry
   pub err : answer ≡ code.Memory → Untouched before after
   pub err_count : answer ≡ code.Memory → new_count ≡ old_count
@@ -118,7 +124,8 @@ pub record ForgetCall (before after : HeldServer) : Type 0 where
   pub entry : after.entry ≡ wiped_entry before.entry
 
 abbrev pub IsServerChar : HeldServer → Func → ℕ → Type 0
-IsServerChar server func value = (h : History) → LeadsTo h server.end → value ≡ char_number (slot (chars h) func)
+IsServerChar server func value =
+    (h : History) → LeadsTo h server.end → value ≡ char_number (slot (chars h) func)
 
 -- It was just opened, and its opening words wait.
 pub record IsOpened (canon : Canon) (held : HeldServer) : Type 0 where

@@ -109,7 +109,8 @@ impl HeldClient {
         *count = move_front(&mut self.shown, buf);
     }
 
-    /// Copies the first bytes of the half line that is held here, as many as fit, and says how many there are.
+    /// Copies the first bytes of the half line that is held here, as many as fit, and says how many there
+    /// are.
     pub fn half(&self, buf: &mut [u8], count: &mut usize)
         ensures { GivesHalf buf.old buf.new count.new self.now }
     {

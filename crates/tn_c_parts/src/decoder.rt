@@ -113,7 +113,8 @@ impl HeldDecoder {
         *item = seen(&self.item);
     }
 
-    /// Copies the first parameters of the item that was taken last, as many as fit, and says how many there are.
+    /// Copies the first parameters of the item that was taken last, as many as fit, and says how many there
+    /// are.
     pub fn parameters(&self, buf: &mut [u8], count: &mut usize)
         ensures { Gives (parameters_of self.now.item) buf.old buf.new count.new }
     {

@@ -59,7 +59,8 @@ impl HeldLine {
         }
     }
 
-    /// Copies the first bytes of the text that the last key gave, as many as fit, and says how many there are.
+    /// Copies the first bytes of the text that the last key gave, as many as fit, and says how many there
+    /// are.
     pub fn text(&self, buf: &mut [u8], count: &mut usize)
         ensures { Gives (text_of self.now.entry) buf.old buf.new count.new }
     {
@@ -76,7 +77,8 @@ impl HeldLine {
     /// Copies what a terminal shows of the last key, as much as fits, and says how long that is.
     pub fn echo(&self, alloc: Global, buf: &mut [u8], count: &mut usize) -> Code
         ensures { GivesEcho self.now.echo
-            (record { old_buf = buf.old; new_buf = buf.new; old_count = count.old; new_count = count.new }) result }
+            (record { old_buf = buf.old; new_buf = buf.new; old_count = count.old; new_count = count.new })
+            result }
     {
         match shown_bytes(alloc, self.echo) {
             Ok(bytes) => {

@@ -13,7 +13,8 @@ use tn_nvt::{MAX_PARAMETERS, put_byte, put_cmd, put_neg, put_newline, put_sub};
 /// Spells a byte of data.
 pub fn spell_byte(alloc: Global, byte: u8, buf: &mut [u8], count: &mut usize) -> Code
     ensures { Spells (item.Byte byte)
-        (record { old_buf = buf.old; new_buf = buf.new; old_count = count.old; new_count = count.new }) result }
+        (record { old_buf = buf.old; new_buf = buf.new; old_count = count.old; new_count = count.new })
+        result }
 {
     let mut out = Vec::new(alloc);
     match put_byte(byte, &mut out) {
@@ -28,7 +29,8 @@ pub fn spell_byte(alloc: Global, byte: u8, buf: &mut [u8], count: &mut usize) ->
 /// Spells the end of a line.
 pub fn spell_newline(alloc: Global, buf: &mut [u8], count: &mut usize) -> Code
     ensures { Spells item.Newline
-        (record { old_buf = buf.old; new_buf = buf.new; old_count = count.old; new_count = count.new }) result }
+        (record { old_buf = buf.old; new_buf = buf.new; old_count = count.old; new_count = count.new })
+        result }
 {
     let mut out = Vec::new(alloc);
     match put_newline(&mut out) {
@@ -43,7 +45,8 @@ pub fn spell_newline(alloc: Global, buf: &mut [u8], count: &mut usize) -> Code
 // Spells a command.
 fn spell_known(alloc: Global, command: Command, buf: &mut [u8], count: &mut usize) -> Code
     ensures { Spells (item.Cmd command)
-        (record { old_buf = buf.old; new_buf = buf.new; old_count = count.old; new_count = count.new }) result }
+        (record { old_buf = buf.old; new_buf = buf.new; old_count = count.old; new_count = count.new })
+        result }
 {
     let mut out = Vec::new(alloc);
     match put_cmd(command, &mut out) {
@@ -58,7 +61,8 @@ fn spell_known(alloc: Global, command: Command, buf: &mut [u8], count: &mut usiz
 /// Spells the command with this byte behind IAC, if there is one.
 pub fn spell_command(alloc: Global, byte: u8, buf: &mut [u8], count: &mut usize) -> Code
     ensures { SpellsCommand byte
-        (record { old_buf = buf.old; new_buf = buf.new; old_count = count.old; new_count = count.new }) result }
+        (record { old_buf = buf.old; new_buf = buf.new; old_count = count.old; new_count = count.new })
+        result }
 {
     match Command::from_code(byte) {
         Some(command) => spell_known(alloc, command, buf, count),
@@ -69,7 +73,8 @@ pub fn spell_command(alloc: Global, byte: u8, buf: &mut [u8], count: &mut usize)
 // Spells an option word.
 fn spell_verb(alloc: Global, verb: Verb, option: u8, buf: &mut [u8], count: &mut usize) -> Code
     ensures { Spells (item.Neg verb option)
-        (record { old_buf = buf.old; new_buf = buf.new; old_count = count.old; new_count = count.new }) result }
+        (record { old_buf = buf.old; new_buf = buf.new; old_count = count.old; new_count = count.new })
+        result }
 {
     let mut out = Vec::new(alloc);
     match put_neg(verb, option, &mut out) {
@@ -84,7 +89,8 @@ fn spell_verb(alloc: Global, verb: Verb, option: u8, buf: &mut [u8], count: &mut
 /// Spells the option word with this byte behind IAC, if there is one.
 pub fn spell_word(alloc: Global, byte: u8, option: u8, buf: &mut [u8], count: &mut usize) -> Code
     ensures { SpellsWord byte option
-        (record { old_buf = buf.old; new_buf = buf.new; old_count = count.old; new_count = count.new }) result }
+        (record { old_buf = buf.old; new_buf = buf.new; old_count = count.old; new_count = count.new })
+        result }
 {
     match Verb::from_code(byte) {
         Some(verb) => spell_verb(alloc, verb, option, buf, count),
@@ -101,7 +107,8 @@ pub fn spell_sub(
     count: &mut usize,
 ) -> Code
     ensures { SpellsSub option parameters.now
-        (record { old_buf = buf.old; new_buf = buf.new; old_count = count.old; new_count = count.new }) result }
+        (record { old_buf = buf.old; new_buf = buf.new; old_count = count.old; new_count = count.new })
+        result }
 {
     if parameters.len() > MAX_PARAMETERS {
         return Code::TooLong;
