@@ -1,23 +1,28 @@
 /* tn.h: Telnet with LINEMODE (RFC 854, 855, 857, 858, 1073, 1143, 1184) for C99 and C++.
  *
- * A tn_handle holds nothing, or one of four: a line (keys to entries), a decoder (a stream to items), a server end
- * or a client end. No call opens a socket, reads a file, starts a thread or waits: bytes go in, bytes come out.
+ * There are four things: a tn_line (keys to entries), a tn_decoder (a stream to items), a tn_server and a tn_client (the two ends
+ * of a connection). No call opens a socket, reads a file, starts a thread or waits: bytes go in, bytes come out.
  *
  * What the caller keeps to:
- *   - A handle begins as TN_HANDLE. It may be moved, never copied: of two copies only one is ever used again.
- *     Only these calls read or write what is in it. tn_end frees its memory, and it may be started anew.
- *   - One call at a time uses a handle, on the thread that started it. Different handles are independent.
- *   - No pointer is null, even for no bytes. Each points to as many objects of its type as the call names. They are
- *     initialized, also where the call only writes them: a count begins as 0, a buffer as { 0 }. No two pointers of one
- *     call point to the same memory. No pointer is kept: after the call what it points to is the caller's again.
+ *   - Each begins as TN_HANDLE and holds nothing. Its _start fills it, its _free frees what it holds, and it may be started anew.
+ *     It may be moved, never copied: of two copies only one is ever used again. Only these calls read or write what is in it.
+ *   - One call at a time uses it, on any thread: a lock, a thread's start or join, or a sequentially consistent atomic orders the
+ *     calls of two threads. Different ones are independent.
+ *   - A pointer to bytes may be null where their number is 0; no other pointer is null. Each points to as many objects of its
+ *     type as the call names. They are initialized, also where the call only writes them, since that is what the proof takes for
+ *     granted: a count or a length begins as 0, a buffer as { 0 }. No two pointers of one call point to the same memory. No pointer is kept:
+ *     after the call what it points to is the caller's again.
  *   - Memory comes from malloc and realloc and is freed by free, all three of one allocator.
  *   - No call is made from a signal handler, nor in the child of a fork of a process with threads.
  *
- * Each call but tn_end returns a code. Where it is not TN_OK, nothing was written through the pointers, and the handle
- * holds what it held, except after the three calls of _feed, whose comments say what they leave.
- *   TN_NOT_STARTED  the handle holds nothing     TN_OTHER_KIND  it holds another of the four
- * are returned by every call but the four of _start and tn_end, and are not named again below. The other codes of a call
- * stand at it; of several that fit, it returns the first one there.
+ * A call that copies to a buffer copies the first bytes, as many as fit, and *length is how many there are: where that is more than the
+ * buffer's size, they stay, and may be copied to a larger one. Those of _read and _screen are moved: *count of them, and the others
+ * wait on.
+ *
+ * Each call but _free and tn_version returns a code. Where it is not TN_OK, nothing was written through the pointers, and what is held is as it
+ * was, except after the three calls of _feed, whose comments say what they leave. TN_NOT_STARTED, where nothing is held, is
+ * returned by every call but _start, _free and those without a handle, and is not named again below. The other codes of a call stand at it; of several
+ * that fit, it returns the first one there.
  */
 #ifndef TN_H
 #define TN_H
@@ -34,22 +39,61 @@ extern "C" {
 #define TN_VERSION_MAJOR 1
 #define TN_VERSION_MINOR 1
 #define TN_VERSION_PATCH 0
+#define TN_VERSION_NUMBER 10100 /* what tn_version() returns */
 
+/* The shared library that a program built with this header asks for. */
+#define TN_SONAME "libtn.so.2"
+
+/* What compilers that can do so see to: that these parameters are not null, and that the answer is looked at. */
+#ifdef __GNUC__
+#define TN_NONNULL(places) __attribute__((nonnull places))
+#define TN_CALL(places) TN_NONNULL(places) __attribute__((warn_unused_result))
+#else
+#define TN_NONNULL(places)
+#define TN_CALL(places)
+#endif
+
+/* Each enum has four bytes. */
+#if (defined(__cplusplus) && __cplusplus >= 201103L) || (defined(__STDC_VERSION__) && __STDC_VERSION__ >= 202311L)
+#define TN_ENUM : uint32_t
+#else
+#define TN_ENUM
+#endif
+
+/* Four types, so that a call with another one does not compile. Where TN_UNTYPED is defined they are one, tn_handle, and the names
+ * of version 1.0 are there. */
+#ifdef TN_UNTYPED
 typedef struct tn_handle {
     void *tn_private;
 } tn_handle;
+typedef tn_handle tn_line, tn_decoder, tn_server, tn_client;
+#define tn_end tn_line_free
+#define tn_client_shown tn_client_screen_pending
+#else
+typedef struct tn_line {
+    void *tn_private;
+} tn_line;
+typedef struct tn_decoder {
+    void *tn_private;
+} tn_decoder;
+typedef struct tn_server {
+    void *tn_private;
+} tn_server;
+typedef struct tn_client {
+    void *tn_private;
+} tn_client;
+#endif
 
 #define TN_HANDLE { 0 }
 
 /* What a call answers. */
-typedef uint32_t tn_code;
-enum {
+typedef enum tn_code TN_ENUM {
     TN_OK = 0,
     TN_MEMORY = 1,        /* an allocation was refused */
     TN_FAILED = 2,        /* a feed was refused before: the end or the decoder reads no more */
-    TN_NOT_STARTED = 3,   /* the handle holds nothing */
-    TN_STARTED = 4,       /* the handle holds something already */
-    TN_OTHER_KIND = 5,    /* the handle holds something of another kind */
+    TN_NOT_STARTED = 3,   /* nothing is held */
+    TN_STARTED = 4,       /* something is held already */
+    TN_OTHER_KIND = 5,    /* it holds another of the four: never, unless a pointer was cast */
     TN_NO_LIMIT = 6,      /* a line's limit is 255 to 4,095 bytes */
     TN_TOO_FAR_AHEAD = 7, /* a key would make an entry while 1,024 wait */
     TN_CLOSED = 8,        /* the terminal takes no input; it is closed only as its end fails, which TN_FAILED tells */
@@ -58,11 +102,27 @@ enum {
     TN_RESERVED = 11,     /* 10, 13 and 255 are never special characters */
     TN_TAKEN = 12,        /* another function has this character */
     TN_NOT_ON = 13,       /* LINEMODE is not on */
-    TN_TOO_LONG = 14      /* a forward mask has at most 32 octets */
-};
+    TN_TOO_LONG = 14,     /* a forward mask has at most 32 octets, a subnegotiation 512 parameters */
+    TN_NO_COMMAND = 15    /* no command, or no option word, has this byte */
+} tn_code;
+
+/* A few words on a code. */
+static inline const char *tn_code_text(tn_code code)
+{
+    static const char *const texts[] = {
+        "done", "out of memory", "it has failed before", "nothing is held", "something is held already", "something else is held",
+        "a line's limit is 255 to 4,095", "too many entries wait", "the terminal is closed", "no such function",
+        "the function has no special character", "never a special character", "another function has this character",
+        "LINEMODE is not on", "too long", "no such command"
+    };
+    return (size_t)code < sizeof texts / sizeof *texts ? texts[code] : "no code of this library";
+}
+
+/* The version of the library that is linked, as TN_VERSION_NUMBER has that of this header. */
+uint32_t tn_version(void);
 
 /* What a read of a terminal gives, and what a key does. */
-enum {
+typedef enum tn_effect TN_ENUM {
     TN_NONE = 0, /* no entry waits; of a key: it was ignored, or there was nothing to erase */
     TN_TEXT = 1, /* a line with its closing byte, or without one where EOF ended it */
     TN_EOF = 2,  /* EOF where nothing was typed */
@@ -74,9 +134,12 @@ enum {
     TN_ERASED_AHEAD = 8, /* one that was handed on before: never of tn_line_key */
     TN_KILLED = 9,       /* the half line was erased */
     TN_DROPPED = 10      /* the line is full */
-};
+} tn_effect;
 
-/* A terminal's flags, under their names in POSIX.1-2017, XBD 11.2. */
+typedef tn_effect tn_kind; /* of an entry: TN_NONE to TN_TSTP */
+
+/* A terminal's flags, under their names in POSIX.1-2017, XBD 11.2. This struct and tn_item never grow in a library of this
+ * TN_SONAME. */
 typedef struct tn_flags {
     bool icrnl, inlcr, igncr, isig, echo, echoe, echok, echonl, tostop, opost, onlcr;
 } tn_flags;
@@ -84,7 +147,7 @@ typedef struct tn_flags {
 #define TN_STANDARD_FLAGS { true, false, false, true, true, true, true, false, false, true, true }
 
 /* The functions of RFC 1184 that have a special character, and what they begin with. */
-enum {
+typedef enum tn_function TN_ENUM {
     TN_CHAR_INTR = 3,   /* 3, control-C */
     TN_CHAR_QUIT = 7,   /* 28 */
     TN_CHAR_EOF = 8,    /* 4, control-D */
@@ -93,7 +156,7 @@ enum {
     TN_CHAR_KILL = 11,  /* 21, control-U */
     TN_CHAR_EOL = 17,   /* none */
     TN_CHAR_EOL2 = 18   /* none */
-};
+} tn_function;
 
 /* A special character is 0 to 254; TN_NO_CHAR, and each greater number that is given, is none. */
 #define TN_NO_CHAR 256
@@ -103,201 +166,223 @@ enum {
 #define TN_MODE_TRAPSIG 2
 
 /* Where one side of an option stands (RFC 1143, section 7). */
-enum {
+typedef enum tn_option_state TN_ENUM {
     TN_OPTION_NO = 0,
     TN_OPTION_YES = 1,
     TN_OPTION_WANT_NO = 2,
     TN_OPTION_WANT_NO_THEN_YES = 3,
     TN_OPTION_WANT_YES = 4,
     TN_OPTION_WANT_YES_THEN_NO = 5
-};
+} tn_option_state;
 
-/* Gives up what the handle holds, if anything, and all of its memory; the handle holds nothing then. */
-void tn_end(tn_handle *handle);
+typedef char tn_enums_have_four_bytes[sizeof(tn_code) == 4 ? 1 : -1]; /* not under -fshort-enums */
+
+/* Frees all that is held, if anything: nothing is held then. */
+void tn_line_free(tn_line *line) TN_NONNULL((1));
+void tn_decoder_free(tn_decoder *decoder) TN_NONNULL((1));
+void tn_server_free(tn_server *server) TN_NONNULL((1));
+void tn_client_free(tn_client *client) TN_NONNULL((1));
 
 /* ---- A line: keys to entries (POSIX.1-2017, XBD 11.1) ---- */
 
 /* An empty line of at most limit bytes with its closing one, and the characters of TN_CHAR_... above.
- * TN_STARTED, TN_NO_LIMIT, TN_MEMORY: the handle is as it was. */
-tn_code tn_line_start(tn_handle *handle, const tn_flags *flags, uint16_t limit);
+ * TN_STARTED, TN_NO_LIMIT, TN_MEMORY. */
+tn_code tn_line_start(tn_line *line, const tn_flags *flags, uint16_t limit) TN_CALL((1, 2));
 
 /* Types a key; *effect is TN_NONE to TN_DROPPED. TN_MEMORY: nothing was typed (only a key that gives a text). */
-tn_code tn_line_key(tn_handle *handle, uint8_t key, uint32_t *effect);
+tn_code tn_line_key(tn_line *line, uint8_t key, tn_effect *effect) TN_CALL((1, 3));
 
-/* Copies the first bytes of the text that the last key gave, as many as fit; *count is how many, and 0 where it gave
- * none. A text has at most limit bytes. */
-tn_code tn_line_text(tn_handle *handle, uint8_t *buf, size_t size, size_t *count);
+/* Copies the text that the last key gave, at most limit bytes; *length is 0 where it gave none. */
+tn_code tn_line_text(tn_line *line, uint8_t *buf, size_t size, size_t *length) TN_CALL((1, 4));
 
-/* The same of the half line, which has fewer than limit bytes. */
-tn_code tn_line_half(tn_handle *handle, uint8_t *buf, size_t size, size_t *count);
+/* Copies what a terminal shows of the last key, at most 3 bytes, with CR LF for a new line. TN_MEMORY. */
+tn_code tn_line_echo(tn_line *line, uint8_t *buf, size_t size, size_t *length) TN_CALL((1, 4));
+
+/* Copies the half line, which has fewer than limit bytes. */
+tn_code tn_line_half(tn_line *line, uint8_t *buf, size_t size, size_t *length) TN_CALL((1, 4));
 
 /* Goes on under these flags; the half line stays. */
-tn_code tn_line_set_flags(tn_handle *handle, const tn_flags *flags);
+tn_code tn_line_set_flags(tn_line *line, const tn_flags *flags) TN_CALL((1, 2));
 
 /* Changes a special character; the half line stays. TN_NO_FUNCTION, TN_NOT_SETTABLE, TN_RESERVED, TN_TAKEN. */
-tn_code tn_line_set_char(tn_handle *handle, uint8_t function, uint16_t value);
+tn_code tn_line_set_char(tn_line *line, uint8_t function, uint16_t value) TN_CALL((1));
 
 /* A special character, or TN_NO_CHAR. TN_NO_FUNCTION. */
-tn_code tn_line_char(tn_handle *handle, uint8_t function, uint16_t *value);
+tn_code tn_line_char(tn_line *line, uint8_t function, uint16_t *value) TN_CALL((1, 3));
 
 /* ---- A decoder: a stream to items (RFC 854, 855) ---- */
 
-typedef struct tn_item {
-    uint32_t kind;  /* TN_NO_ITEM .. TN_SUBNEGOTIATION */
-    uint8_t code;   /* of TN_BYTE, TN_COMMAND (236 to 249, never 240) and TN_WORD (251 WILL to 254 DONT) */
-    uint8_t option; /* of TN_WORD and TN_SUBNEGOTIATION */
-    size_t length;  /* of TN_SUBNEGOTIATION: how many parameters, at most 512 */
-} tn_item;
-
-enum {
+typedef enum tn_item_kind TN_ENUM {
     TN_NO_ITEM = 0,
     TN_BYTE = 1,
     TN_NEWLINE = 2, /* CR LF */
     TN_COMMAND = 3,
     TN_WORD = 4,
     TN_SUBNEGOTIATION = 5
-};
+} tn_item_kind;
+
+typedef struct tn_item {
+    tn_item_kind kind;
+    uint8_t code;   /* of TN_BYTE, TN_COMMAND (236 to 249, never 240) and TN_WORD (251 WILL to 254 DONT) */
+    uint8_t option; /* of TN_WORD and TN_SUBNEGOTIATION */
+    size_t length;  /* of TN_SUBNEGOTIATION: how many parameters, at most 512 */
+} tn_item;
 
 /* A decoder that has read nothing. TN_STARTED, TN_MEMORY. */
-tn_code tn_decoder_start(tn_handle *handle);
+tn_code tn_decoder_start(tn_decoder *decoder) TN_CALL((1));
 
 /* Reads a piece, cut anywhere; the items that it completes wait to be taken. TN_FAILED: the decoder had failed before,
  * and all is as it was. TN_MEMORY: the items before the refusal wait, and the decoder has failed. */
-tn_code tn_decoder_feed(tn_handle *handle, const uint8_t *bytes, size_t length);
+tn_code tn_decoder_feed(tn_decoder *decoder, const uint8_t *bytes, size_t length) TN_CALL((1));
 
 /* Takes the first item that waits; TN_NO_ITEM where none does. */
-tn_code tn_decoder_take(tn_handle *handle, tn_item *item);
+tn_code tn_decoder_take(tn_decoder *decoder, tn_item *item) TN_CALL((1, 2));
 
-/* Copies the first parameters of the item that was taken last, as many as fit; *count is how many, and 0 where that is
- * no subnegotiation. */
-tn_code tn_decoder_parameters(tn_handle *handle, uint8_t *buf, size_t size, size_t *count);
+/* Copies the parameters of the item that was taken last; *length is 0 where that is no subnegotiation. */
+tn_code tn_decoder_parameters(tn_decoder *decoder, uint8_t *buf, size_t size, size_t *length) TN_CALL((1, 4));
+
+/* ---- Spelling: what a decoder reads as such an item ---- */
+
+/* A byte of data, at most 2 bytes long, and a new line, 2 bytes. TN_MEMORY. */
+tn_code tn_put_byte(uint8_t byte, uint8_t *buf, size_t size, size_t *length) TN_CALL((4));
+tn_code tn_put_newline(uint8_t *buf, size_t size, size_t *length) TN_CALL((3));
+
+/* A command (236 to 249, never 240), 2 bytes, and an option word (251 WILL to 254 DONT), 3 bytes. TN_NO_COMMAND, TN_MEMORY. */
+tn_code tn_put_command(uint8_t command, uint8_t *buf, size_t size, size_t *length) TN_CALL((4));
+tn_code tn_put_option(uint8_t word, uint8_t option, uint8_t *buf, size_t size, size_t *length) TN_CALL((5));
+
+/* A subnegotiation, at most 6 bytes longer than twice its parameters. TN_TOO_LONG, TN_MEMORY. */
+tn_code tn_put_sub(uint8_t option, const uint8_t *parameters, size_t count, uint8_t *buf, size_t size, size_t *length)
+    TN_CALL((6));
 
 /* ---- A server end, with the terminal behind it ---- */
 
 /* An end over a terminal with these flags, whose lines have at most limit bytes; the opening words wait to be read.
  * Its special characters are those above: tn_server_set_char changes them, also before anything came.
  * TN_STARTED, TN_NO_LIMIT, TN_MEMORY. */
-tn_code tn_server_start(tn_handle *handle, const tn_flags *flags, uint16_t limit);
+tn_code tn_server_start(tn_server *server, const tn_flags *flags, uint16_t limit) TN_CALL((1, 2));
 
 /* Takes a piece of what comes from the client, cut anywhere; the replies wait to be read. TN_FAILED: it had failed
  * before, and all is as it was. TN_CLOSED, TN_TOO_FAR_AHEAD, TN_MEMORY: what came before the refusal was done, its
  * replies wait, and the end has failed: read what waits, and close the connection. A piece of at most 512 bytes is not
  * too far ahead where at most 511 entries wait: feed no more at once, and take the entries after each. */
-tn_code tn_server_feed(tn_handle *handle, const uint8_t *bytes, size_t length);
+tn_code tn_server_feed(tn_server *server, const uint8_t *bytes, size_t length) TN_CALL((1));
 
 /* How many bytes wait to be sent. */
-tn_code tn_server_pending(tn_handle *handle, size_t *count);
+tn_code tn_server_pending(tn_server *server, size_t *count) TN_CALL((1, 2));
 
 /* Moves to buf the first of the bytes that wait to be sent, as many as fit; *count is how many. The others wait on. */
-tn_code tn_server_read(tn_handle *handle, uint8_t *buf, size_t size, size_t *count);
+tn_code tn_server_read(tn_server *server, uint8_t *buf, size_t size, size_t *count) TN_CALL((1, 4));
 
 /* Takes the first entry; *kind is TN_NONE to TN_TSTP. Where none waits a GA may be due to be sent (RFC 858):
  * TN_MEMORY is answered for it alone. */
-tn_code tn_server_take(tn_handle *handle, uint32_t *kind);
+tn_code tn_server_take(tn_server *server, tn_kind *kind) TN_CALL((1, 2));
 
-/* Copies the first bytes of the text of the entry that was taken last, as many as fit; *count is how many, and 0 where
- * that was no text, or none waited. A text has at most limit bytes. */
-tn_code tn_server_text(tn_handle *handle, uint8_t *buf, size_t size, size_t *count);
+/* Copies the text of the entry that was taken last, at most limit bytes; *length is 0 where that was no text, or none waited. */
+tn_code tn_server_text(tn_server *server, uint8_t *buf, size_t size, size_t *length) TN_CALL((1, 4));
+
+/* Writes zeros over that text, as over a password: its length stays, until the next take. What the terminal and the decoder held of
+ * it before is not reached by this. */
+tn_code tn_server_forget(tn_server *server) TN_CALL((1));
 
 /* Writes output to the terminal's screen, which has room for 4,096 symbols; *count says how many bytes found room. */
-tn_code tn_server_write(tn_handle *handle, const uint8_t *bytes, size_t length, size_t *count);
+tn_code tn_server_write(tn_server *server, const uint8_t *bytes, size_t length, size_t *count) TN_CALL((1, 4));
 
 /* Spells the first symbols of the screen, at most max, to be sent; *count is how many symbols, each of one byte or two.
  * Echo comes by this too, so pull after each feed. TN_MEMORY. */
-tn_code tn_server_pull(tn_handle *handle, size_t max, size_t *count);
+tn_code tn_server_pull(tn_server *server, size_t max, size_t *count) TN_CALL((1, 3));
 
-/* Wishes for lines that are edited at the client (RFC 1184), or here; *sent says whether a MODE waits to be sent
+/* Wishes for lines that are edited at the client (RFC 1184), or at the server; *sent says whether a MODE waits to be sent
  * for it. TN_FAILED, TN_MEMORY. */
-tn_code tn_server_wish(tn_handle *handle, bool local, bool *sent);
+tn_code tn_server_wish(tn_server *server, bool at_client, bool *sent) TN_CALL((1, 3));
 
 /* Changes a special character; a client with LINEMODE is told. TN_NO_FUNCTION, TN_FAILED, TN_NOT_SETTABLE,
  * TN_RESERVED, TN_TAKEN, TN_MEMORY. */
-tn_code tn_server_set_char(tn_handle *handle, uint8_t function, uint16_t value);
+tn_code tn_server_set_char(tn_server *server, uint8_t function, uint16_t value) TN_CALL((1));
 
 /* Sets or clears the terminal's flag ECHO, and says WILL or WONT ECHO where that is due. A password is hidden only at a
- * client that has agreed: tn_server_option(handle, true, 1, &state) gives TN_OPTION_YES. TN_FAILED, TN_MEMORY. */
-tn_code tn_server_set_echo(tn_handle *handle, bool on);
+ * client that has agreed: tn_server_option(server, true, 1, &state) gives TN_OPTION_YES. TN_FAILED, TN_MEMORY. */
+tn_code tn_server_set_echo(tn_server *server, bool on) TN_CALL((1));
 
 /* Asks for what is held at each character of the mask (RFC 1184, section 2.3), of which octets that are left out
  * are zero. TN_TOO_LONG, TN_FAILED, TN_NOT_ON, TN_MEMORY. */
-tn_code tn_server_set_mask(tn_handle *handle, const uint8_t *octets, size_t length);
+tn_code tn_server_set_mask(tn_server *server, const uint8_t *octets, size_t length) TN_CALL((1));
 
 /* Asks for none of that any more. TN_FAILED, TN_NOT_ON, TN_MEMORY. */
-tn_code tn_server_clear_mask(tn_handle *handle);
+tn_code tn_server_clear_mask(tn_server *server) TN_CALL((1));
 
 /* The kind of an entry that waits, by its place from 0 on; TN_NONE behind the last. */
-tn_code tn_server_waiting(tn_handle *handle, size_t index, uint32_t *kind);
+tn_code tn_server_waiting(tn_server *server, size_t index, tn_kind *kind) TN_CALL((1, 3));
 
-/* Copies the first bytes of the text of an entry that waits, as many as fit; *count is how many, and 0 where none is at
- * that place, or it is no text. The entry stays. */
-tn_code tn_server_waiting_text(tn_handle *handle, size_t index, uint8_t *buf, size_t size, size_t *count);
+/* Copies the text of an entry that waits, and stays; *length is 0 where none is at that place, or it is no text. */
+tn_code tn_server_waiting_text(tn_server *server, size_t index, uint8_t *buf, size_t size, size_t *length) TN_CALL((1, 5));
 
 /* The first signal among the entries that wait, or TN_NONE. */
-tn_code tn_server_signal_waiting(tn_handle *handle, uint32_t *kind);
+tn_code tn_server_signal_waiting(tn_server *server, tn_kind *kind) TN_CALL((1, 2));
 
 /* The window's size in characters; 0 is unspecified (RFC 1073). */
-tn_code tn_server_size(tn_handle *handle, uint16_t *width, uint16_t *height);
+tn_code tn_server_size(tn_server *server, uint16_t *width, uint16_t *height) TN_CALL((1, 2, 3));
 
 /* The mode that the client acknowledged last, and the one that it was asked for. */
-tn_code tn_server_mode(tn_handle *handle, uint8_t *mode);
-tn_code tn_server_asked(tn_handle *handle, uint8_t *mode);
+tn_code tn_server_mode(tn_server *server, uint8_t *mode) TN_CALL((1, 2));
+tn_code tn_server_asked(tn_server *server, uint8_t *mode) TN_CALL((1, 2));
 
-/* Copies the first bytes of the half line, as many as fit; *count is how many. */
-tn_code tn_server_half(tn_handle *handle, uint8_t *buf, size_t size, size_t *count);
+/* Copies the half line, which has fewer than limit bytes. */
+tn_code tn_server_half(tn_server *server, uint8_t *buf, size_t size, size_t *length) TN_CALL((1, 4));
 
 /* A special character, or TN_NO_CHAR. TN_NO_FUNCTION. */
-tn_code tn_server_char(tn_handle *handle, uint8_t function, uint16_t *value);
+tn_code tn_server_char(tn_server *server, uint8_t function, uint16_t *value) TN_CALL((1, 3));
 
 /* Where an option stands, at our side or at theirs. */
-tn_code tn_server_option(tn_handle *handle, bool ours, uint8_t option, uint32_t *state);
+tn_code tn_server_option(tn_server *server, bool ours, uint8_t option, tn_option_state *state) TN_CALL((1, 4));
 
 /* Whether a feed was refused. */
-tn_code tn_server_failed(tn_handle *handle, bool *failed);
+tn_code tn_server_failed(tn_server *server, bool *failed) TN_CALL((1, 2));
 
 /* ---- A client end, which edits lines where its server asks for that ---- */
 
 /* An end whose window has this size in characters, 0 where a side is not known, and whose lines have at most limit
  * bytes. Nothing waits: the server speaks first. TN_STARTED, TN_NO_LIMIT, TN_MEMORY. */
-tn_code tn_client_start(tn_handle *handle, uint16_t width, uint16_t height, uint16_t limit);
+tn_code tn_client_start(tn_client *client, uint16_t width, uint16_t height, uint16_t limit) TN_CALL((1));
 
 /* Types a key: what it sends waits to be read, and its echo to be shown. TN_FAILED, TN_MEMORY: nothing was typed. */
-tn_code tn_client_key(tn_handle *handle, uint8_t key);
+tn_code tn_client_key(tn_client *client, uint8_t key) TN_CALL((1));
 
 /* Takes bytes that came from the server, cut anywhere: answers wait to be read, text to be shown. TN_FAILED: it had
  * failed before, and all is as it was. TN_MEMORY: what came before the refusal was done, and the end has failed. */
-tn_code tn_client_feed(tn_handle *handle, const uint8_t *bytes, size_t length);
+tn_code tn_client_feed(tn_client *client, const uint8_t *bytes, size_t length) TN_CALL((1));
 
 /* How many bytes wait to be sent; and moves to buf the first of them, as many as fit, *count of them. */
-tn_code tn_client_pending(tn_handle *handle, size_t *count);
-tn_code tn_client_read(tn_handle *handle, uint8_t *buf, size_t size, size_t *count);
+tn_code tn_client_pending(tn_client *client, size_t *count) TN_CALL((1, 2));
+tn_code tn_client_read(tn_client *client, uint8_t *buf, size_t size, size_t *count) TN_CALL((1, 4));
 
-/* How many bytes wait to be shown; and moves to buf the first of them, as many as fit, *count of them. */
-tn_code tn_client_shown(tn_handle *handle, size_t *count);
-tn_code tn_client_screen(tn_handle *handle, uint8_t *buf, size_t size, size_t *count);
+/* How many bytes wait to be shown on the user's screen; and moves to buf the first of them, as many as fit, *count of them. */
+tn_code tn_client_screen_pending(tn_client *client, size_t *count) TN_CALL((1, 2));
+tn_code tn_client_screen(tn_client *client, uint8_t *buf, size_t size, size_t *count) TN_CALL((1, 4));
 
 /* Takes a new size of the window; the server is told where NAWS is on and it changed. TN_FAILED, TN_MEMORY. */
-tn_code tn_client_resize(tn_handle *handle, uint16_t width, uint16_t height);
+tn_code tn_client_resize(tn_client *client, uint16_t width, uint16_t height) TN_CALL((1));
 
 /* Proposes a special character to the server; nothing changes until it agrees. TN_NO_FUNCTION, TN_FAILED, TN_NOT_ON,
  * TN_NOT_SETTABLE, TN_RESERVED, TN_TAKEN, TN_MEMORY. */
-tn_code tn_client_propose(tn_handle *handle, uint8_t function, uint16_t value);
+tn_code tn_client_propose(tn_client *client, uint8_t function, uint16_t value) TN_CALL((1));
 
 /* The mode in force. */
-tn_code tn_client_mode(tn_handle *handle, uint8_t *mode);
+tn_code tn_client_mode(tn_client *client, uint8_t *mode) TN_CALL((1, 2));
 
-/* Copies the first bytes of the half line that are held here, as many as fit; *count is how many. */
-tn_code tn_client_half(tn_handle *handle, uint8_t *buf, size_t size, size_t *count);
+/* Copies the bytes of the half line that are held here: with those of _ahead they are fewer than limit. */
+tn_code tn_client_half(tn_client *client, uint8_t *buf, size_t size, size_t *length) TN_CALL((1, 4));
 
 /* How many bytes of the half line were sent before those. */
-tn_code tn_client_ahead(tn_handle *handle, uint16_t *count);
+tn_code tn_client_ahead(tn_client *client, uint16_t *count) TN_CALL((1, 2));
 
 /* How long a half line is that the server edits, with its ISIG set and with it clear; 0 where it is edited here. */
-tn_code tn_client_counts(tn_handle *handle, uint16_t *trapped, uint16_t *plain);
+tn_code tn_client_counts(tn_client *client, uint16_t *trapped, uint16_t *plain) TN_CALL((1, 2, 3));
 
 /* As of a server. */
-tn_code tn_client_char(tn_handle *handle, uint8_t function, uint16_t *value);
-tn_code tn_client_option(tn_handle *handle, bool ours, uint8_t option, uint32_t *state);
-tn_code tn_client_failed(tn_handle *handle, bool *failed);
+tn_code tn_client_char(tn_client *client, uint8_t function, uint16_t *value) TN_CALL((1, 3));
+tn_code tn_client_option(tn_client *client, bool ours, uint8_t option, tn_option_state *state) TN_CALL((1, 4));
+tn_code tn_client_failed(tn_client *client, bool *failed) TN_CALL((1, 2));
 
 #ifdef __cplusplus
 }

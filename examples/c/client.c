@@ -83,7 +83,7 @@ static int connect_to(const char *host, const char *port)
 }
 
 /* Sends what waits, as much as the socket takes. */
-static bool send_some(tn_handle *end, int fd)
+static bool send_some(tn_client *end, int fd)
 {
     for (;;) {
         if (from == to) {
@@ -101,7 +101,7 @@ static bool send_some(tn_handle *end, int fd)
 }
 
 /* Shows what waits, all of it. */
-static bool show(tn_handle *end)
+static bool show(tn_client *end)
 {
     uint8_t buf[4096] = { 0 };
     size_t count = 0;
@@ -119,7 +119,7 @@ static bool show(tn_handle *end)
 }
 
 /* False at the escape, and where a key was refused. */
-static bool type_keys(tn_handle *end, const uint8_t *keys, size_t length)
+static bool type_keys(tn_client *end, const uint8_t *keys, size_t length)
 {
     for (size_t i = 0; i < length; i++)
         if (keys[i] == ESCAPE || tn_client_key(end, keys[i]) != TN_OK)
@@ -127,7 +127,7 @@ static bool type_keys(tn_handle *end, const uint8_t *keys, size_t length)
     return true;
 }
 
-static bool resize(tn_handle *end)
+static bool resize(tn_client *end)
 {
     uint16_t width, height;
     is_resized = 0;
@@ -137,7 +137,7 @@ static bool resize(tn_handle *end)
 
 /* A change of the window's size is heard of while the client waits, and at no other time: so none is missed. No key is read
  * while what was typed waits to be sent, and what the server says is always read: so neither waits for the other. */
-static void run(tn_handle *end, int fd, const sigset_t *waiting)
+static void run(tn_client *end, int fd, const sigset_t *waiting)
 {
     bool has_keys = true;
     while ((!is_resized || resize(end)) && send_some(end, fd) && show(end)) {
@@ -170,7 +170,7 @@ static void run(tn_handle *end, int fd, const sigset_t *waiting)
 
 int main(int argc, char **argv)
 {
-    tn_handle end = TN_HANDLE;
+    tn_client end = TN_HANDLE;
     struct sigaction resized;
     sigset_t winch, waiting;
     uint16_t width, height;
@@ -193,7 +193,7 @@ int main(int argc, char **argv)
     }
     set_raw();
     run(&end, fd, &waiting);
-    tn_end(&end);
+    tn_client_free(&end);
     close(fd);
     return 0;
 }

@@ -24,7 +24,7 @@
 struct client {
     int fd; /* -1 where the place is free */
     bool is_done;
-    tn_handle end;
+    tn_server end;
     uint8_t out[4096]; /* read out of the end, and not sent yet: from..to */
     size_t from, to;
     uint8_t text[4096]; /* output of the job that has found no room on the screen yet: first..last */
@@ -36,7 +36,7 @@ static bool is_local = true;
 
 static void give_up(struct client *c)
 {
-    tn_end(&c->end);
+    tn_server_free(&c->end);
     close(c->fd);
     c->fd = -1;
 }
@@ -62,7 +62,7 @@ static void welcome(int listener)
 }
 
 /* The job: a line is answered in capitals; INT says so; EOF ends it. */
-static void answer(struct client *c, uint32_t kind)
+static void answer(struct client *c, tn_kind kind)
 {
     size_t count = 0;
     switch (kind) {
@@ -87,7 +87,7 @@ static bool run_job(struct client *c)
 {
     for (;;) {
         size_t count = 0, symbols = 0;
-        uint32_t kind = TN_NONE;
+        tn_kind kind = TN_NONE;
         if (tn_server_write(&c->end, c->text + c->first, c->last - c->first, &count) != TN_OK)
             return false;
         c->first += count;

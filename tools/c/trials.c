@@ -7,10 +7,12 @@
  */
 #include "trial.h"
 
+#include <pthread.h>
+
 static uint8_t buf[70000];
 
 /* What waits to be sent is exactly this. */
-static void says(tn_handle *server, const char *bytes, size_t length)
+static void says(tn_server *server, const char *bytes, size_t length)
 {
     size_t count = 0, wanted = 0;
     SURE(tn_server_pending(server, &wanted) == TN_OK && wanted == length);
@@ -22,23 +24,23 @@ static void says(tn_handle *server, const char *bytes, size_t length)
 #define FEED(server, text) SURE(tn_server_feed(server, (const uint8_t *)text, sizeof text - 1) == TN_OK)
 
 /* What a client has to send and to show is exactly this. */
-static void client_says(tn_handle *client, const char *sent, size_t sent_length, const char *shown)
+static void client_says(tn_client *client, const char *sent, size_t sent_length, const char *shown)
 {
     size_t count = 0;
     SURE(tn_client_pending(client, &count) == TN_OK && count == sent_length);
     SURE(tn_client_read(client, buf, sizeof buf, &count) == TN_OK && count == sent_length);
     SURE(memcmp(buf, sent, sent_length) == 0);
-    SURE(tn_client_shown(client, &count) == TN_OK && count == strlen(shown));
+    SURE(tn_client_screen_pending(client, &count) == TN_OK && count == strlen(shown));
     SURE(tn_client_screen(client, buf, sizeof buf, &count) == TN_OK && memcmp(buf, shown, count) == 0);
 }
 
 #define CLIENT_SAYS(client, sent, shown) client_says(client, sent, sizeof sent - 1, shown)
 
 /* A line's flags and special characters are changed with a half line of 254 bytes that stays. */
-static void worked_settings(tn_handle *line)
+static void worked_settings(tn_line *line)
 {
     tn_flags flags = standard;
-    uint32_t effect = 77;
+    tn_effect effect = TN_DROPPED;
     uint16_t value = 77;
     size_t count = 77;
     SURE(tn_line_char(line, TN_CHAR_INTR, &value) == TN_OK && value == 3);
@@ -58,10 +60,10 @@ static void worked_settings(tn_handle *line)
 
 static void worked_line(void)
 {
-    tn_handle line = TN_HANDLE;
-    uint32_t effect = 77;
+    tn_line line = TN_HANDLE;
+    tn_effect effect = TN_DROPPED;
     size_t count = 77;
-    SURE(tn_line_key(&line, 'a', &effect) == TN_NOT_STARTED && effect == 77);
+    SURE(tn_line_key(&line, 'a', &effect) == TN_NOT_STARTED && effect == TN_DROPPED);
     SURE(tn_line_start(&line, &standard, 254) == TN_NO_LIMIT && line.tn_private == NULL);
     SURE(tn_line_start(&line, &standard, 4096) == TN_NO_LIMIT);
     SURE(tn_line_start(&line, &standard, 255) == TN_OK);
@@ -69,10 +71,13 @@ static void worked_line(void)
     for (const char *key = "lss"; *key; key++)
         SURE(tn_line_key(&line, (uint8_t)*key, &effect) == TN_OK && effect == TN_KEPT);
     SURE(tn_line_key(&line, 127, &effect) == TN_OK && effect == TN_ERASED);
-    SURE(tn_line_half(&line, buf, 1, &count) == TN_OK && count == 1 && buf[0] == 'l');
+    SURE(tn_line_half(&line, buf, 1, &count) == TN_OK && count == 2 && buf[0] == 'l');
+    SURE(tn_line_echo(&line, buf, sizeof buf, &count) == TN_OK && count == 3 && memcmp(buf, "\b \b", 3) == 0);
     SURE(tn_line_half(&line, buf, sizeof buf, &count) == TN_OK && count == 2);
     SURE(tn_line_key(&line, 3, &effect) == TN_OK && effect == TN_INT);
+    SURE(tn_line_echo(&line, buf, sizeof buf, &count) == TN_OK && count == 0);
     SURE(tn_line_key(&line, 13, &effect) == TN_OK && effect == TN_TEXT);
+    SURE(tn_line_echo(&line, buf, sizeof buf, &count) == TN_OK && count == 2 && memcmp(buf, "\r\n", 2) == 0);
     SURE(tn_line_text(&line, buf, sizeof buf, &count) == TN_OK && count == 3 && memcmp(buf, "ls\n", 3) == 0);
     SURE(tn_line_key(&line, 4, &effect) == TN_OK && effect == TN_EOF);
     SURE(tn_line_text(&line, buf, sizeof buf, &count) == TN_OK && count == 0);
@@ -82,9 +87,9 @@ static void worked_line(void)
         SURE(tn_line_key(&line, 'x', &effect) == TN_OK && effect == TN_KEPT);
     SURE(tn_line_key(&line, 'x', &effect) == TN_OK && effect == TN_DROPPED);
     worked_settings(&line);
-    tn_end(&line);
+    tn_line_free(&line);
     SURE(line.tn_private == NULL && tn_line_half(&line, buf, 1, &count) == TN_NOT_STARTED && count == 0);
-    tn_end(&line);
+    tn_line_free(&line);
 }
 
 static void worked_decoder(void)
@@ -93,29 +98,64 @@ static void worked_decoder(void)
     static const tn_item wanted[] = { { TN_BYTE, 'a', 0, 0 },    { TN_NEWLINE, 0, 0, 0 },
                                       { TN_WORD, 251, 34, 0 },   { TN_COMMAND, 244, 0, 0 },
                                       { TN_SUBNEGOTIATION, 0, 31, 4 }, { TN_NO_ITEM, 0, 0, 0 } };
-    tn_handle decoder = TN_HANDLE;
-    tn_item item = { 77, 77, 77, 77 };
+    tn_decoder decoder = TN_HANDLE;
+    tn_item item = { TN_WORD, 77, 77, 77 };
     size_t count = 0;
-    SURE(tn_decoder_take(&decoder, &item) == TN_NOT_STARTED && item.kind == 77);
+    SURE(tn_decoder_take(&decoder, &item) == TN_NOT_STARTED && item.kind == TN_WORD);
     SURE(tn_decoder_start(&decoder) == TN_OK && tn_decoder_start(&decoder) == TN_STARTED);
     for (size_t i = 0; i + 1 < sizeof stream; i++)
         SURE(tn_decoder_feed(&decoder, stream + i, 1) == TN_OK);
     for (size_t i = 0; i < sizeof wanted / sizeof *wanted; i++) {
         SURE(tn_decoder_take(&decoder, &item) == TN_OK && item.kind == wanted[i].kind && item.code == wanted[i].code);
         SURE(item.option == wanted[i].option && item.length == wanted[i].length);
-        SURE(tn_decoder_parameters(&decoder, buf, 3, &count) == TN_OK && count == (item.length < 3 ? item.length : 3));
+        SURE(tn_decoder_parameters(&decoder, buf, 3, &count) == TN_OK && count == item.length);
         if (item.length > 0)
             SURE(memcmp(buf, "\0\x50\xff", 3) == 0);
     }
-    SURE(tn_line_text(&decoder, buf, sizeof buf, &count) == TN_OTHER_KIND);
-    SURE(tn_server_pending(&decoder, &count) == TN_OTHER_KIND && tn_client_key(&decoder, 'a') == TN_OTHER_KIND);
-    tn_end(&decoder);
+    tn_decoder_free(&decoder);
+}
+
+/* The spelling of each kind of item, into a buffer that is large enough and into one of a byte. */
+static void worked_spelling(void)
+{
+    static const uint8_t zeros[513] = { 0 };
+    static const struct {
+        const char *bytes;
+        size_t length;
+    } wanted[] = { { "a", 1 }, { "\r\0", 2 }, { "\xff\xff", 2 }, { "\r\n", 2 }, { "\xff\xf4", 2 }, { "\xff\xfb\xff", 3 },
+                   { "\xff\xfa\x1f\0\xff\xff\xff\xf0", 8 } };
+    for (size_t size = sizeof buf; size > 0; size = size > 1 ? 1 : 0) {
+        for (size_t i = 0; i < sizeof wanted / sizeof *wanted; i++) {
+            size_t count = 77;
+            tn_code code = TN_FAILED;
+            memset(buf, 7, 16);
+            switch (i) {
+            case 0: code = tn_put_byte('a', buf, size, &count); break;
+            case 1: code = tn_put_byte('\r', buf, size, &count); break;
+            case 2: code = tn_put_byte(255, buf, size, &count); break;
+            case 3: code = tn_put_newline(buf, size, &count); break;
+            case 4: code = tn_put_command(244, buf, size, &count); break;
+            case 5: code = tn_put_option(251, 255, buf, size, &count); break;
+            case 6: code = tn_put_sub(31, (const uint8_t *)"\0\xff", 2, buf, size, &count); break;
+            }
+            SURE(code == TN_OK && count == wanted[i].length);
+            SURE(memcmp(buf, wanted[i].bytes, size > count ? count : size) == 0 && (size > 1 || buf[1] == 7));
+        }
+    }
+    {
+        size_t count = 77;
+        SURE(tn_put_command(240, buf, 2, &count) == TN_NO_COMMAND && tn_put_option(250, 1, buf, 3, &count) == TN_NO_COMMAND);
+        SURE(tn_put_sub(1, zeros, 513, buf, sizeof buf, &count) == TN_TOO_LONG && count == 77);
+        SURE(tn_put_sub(1, zeros, 512, buf, sizeof buf, &count) == TN_OK && count == 517);
+        SURE(tn_version() == TN_VERSION_NUMBER && strcmp(tn_code_text(TN_TAKEN), "another function has this character") == 0);
+    }
 }
 
 static void worked_server(void)
 {
-    tn_handle server = TN_HANDLE;
-    uint32_t kind = 77, state = 77;
+    tn_server server = TN_HANDLE;
+    tn_kind kind = TN_DROPPED;
+    tn_option_state state = TN_OPTION_WANT_NO;
     uint16_t width = 0, height = 0, value = 0;
     uint8_t mode = 77;
     size_t count = 77;
@@ -129,10 +169,13 @@ static void worked_server(void)
     FEED(&server, "\0");
     SURE(tn_server_waiting(&server, 0, &kind) == TN_OK && kind == TN_TEXT);
     SURE(tn_server_waiting(&server, 1, &kind) == TN_OK && kind == TN_NONE);
-    SURE(tn_server_waiting_text(&server, 0, buf, 4, &count) == TN_OK && count == 4 && memcmp(buf, "ls -", 4) == 0);
+    SURE(tn_server_waiting_text(&server, 0, buf, 4, &count) == TN_OK && count == 6 && memcmp(buf, "ls -", 4) == 0);
     SURE(tn_server_waiting_text(&server, 1, buf, sizeof buf, &count) == TN_OK && count == 0);
     SURE(tn_server_take(&server, &kind) == TN_OK && kind == TN_TEXT);
+    SURE(tn_server_text(&server, buf, 4, &count) == TN_OK && count == 6 && memcmp(buf, "ls -", 4) == 0);
     SURE(tn_server_text(&server, buf, sizeof buf, &count) == TN_OK && count == 6 && memcmp(buf, "ls -l\n", 6) == 0);
+    SURE(tn_server_forget(&server) == TN_OK);
+    SURE(tn_server_text(&server, buf, sizeof buf, &count) == TN_OK && count == 6 && memcmp(buf, "\0\0\0\0\0", 6) == 0);
     SURE(tn_server_write(&server, (const uint8_t *)"a\n", 2, &count) == TN_OK && count == 2);
     SURE(tn_server_pull(&server, 4096, &count) == TN_OK && count == 12);
     SAYS(&server, "lss\b \b -l\r\na\r\n");
@@ -167,12 +210,12 @@ static void worked_server(void)
     SURE(tn_server_signal_waiting(&server, &kind) == TN_OK && kind == TN_TSTP);
     SURE(tn_server_half(&server, buf, sizeof buf, &count) == TN_OK);
     SURE(tn_server_failed(&server, &failed) == TN_OK && !failed);
-    tn_end(&server);
+    tn_server_free(&server);
 }
 
 static void worked_client(void)
 {
-    tn_handle client = TN_HANDLE;
+    tn_client client = TN_HANDLE;
     uint8_t mode = 77;
     uint16_t ahead = 77, trapped = 77, plain = 77;
     size_t count = 77;
@@ -191,8 +234,24 @@ static void worked_client(void)
     SURE(tn_client_half(&client, buf, sizeof buf, &count) == TN_OK && count == 0);
     SURE(tn_client_ahead(&client, &ahead) == TN_OK && ahead == 0);
     SURE(tn_client_failed(&client, &failed) == TN_OK && !failed);
-    SURE(tn_server_failed(&client, &failed) == TN_OTHER_KIND);
-    tn_end(&client);
+    tn_client_free(&client);
+}
+
+static void *typed_elsewhere(void *client)
+{
+    SURE(tn_client_key(client, 'b') == TN_OK);
+    return NULL;
+}
+
+/* A handle is used on another thread, and then here again. */
+static void worked_threads(void)
+{
+    tn_client client = TN_HANDLE;
+    pthread_t thread;
+    SURE(tn_client_start(&client, 80, 24, 255) == TN_OK && tn_client_key(&client, 'a') == TN_OK);
+    SURE(pthread_create(&thread, NULL, typed_elsewhere, &client) == 0 && pthread_join(thread, NULL) == 0);
+    CLIENT_SAYS(&client, "ab", "ab");
+    tn_client_free(&client);
 }
 
 /* Each code is TN_OK, or of a refusal of memory. */
@@ -202,7 +261,7 @@ static bool may(tn_code code)
     return code == TN_OK;
 }
 
-static void deliver(tn_handle *server, tn_handle *client)
+static void deliver(tn_server *server, tn_client *client)
 {
     for (int round = 0; round < 4; round++) {
         size_t count = 0;
@@ -219,8 +278,10 @@ static void deliver(tn_handle *server, tn_handle *client)
 /* Both ends joined: a line is edited at the client, a special character is agreed on, and then the server edits. */
 static void worked_pair(void)
 {
-    tn_handle server = TN_HANDLE, client = TN_HANDLE;
-    uint32_t kind = 77, state = 77;
+    tn_server server = TN_HANDLE;
+    tn_client client = TN_HANDLE;
+    tn_kind kind = TN_DROPPED;
+    tn_option_state state = TN_OPTION_WANT_NO;
     uint16_t value = 77, trapped = 77, plain = 77, width = 77, height = 77;
     uint8_t mode = 77;
     size_t count = 77;
@@ -256,18 +317,21 @@ static void worked_pair(void)
     deliver(&server, &client);
     SURE(tn_server_half(&server, buf, sizeof buf, &count) == TN_OK && count == 1 && buf[0] == 'd');
     SURE(tn_client_counts(&client, &trapped, &plain) == TN_OK && trapped == 1 && plain == 1);
-    tn_end(&server);
-    tn_end(&client);
+    tn_server_free(&server);
+    tn_client_free(&client);
 }
 
 /* A session of both ends, with a line that is edited at the client, and a line and a decoder beside it. */
 static void session(void)
 {
-    tn_handle server = TN_HANDLE, client = TN_HANDLE, line = TN_HANDLE, decoder = TN_HANDLE;
-    uint32_t kind = 0;
+    tn_server server = TN_HANDLE;
+    tn_client client = TN_HANDLE;
+    tn_line line = TN_HANDLE;
+    tn_decoder decoder = TN_HANDLE;
+    tn_kind kind = TN_DROPPED;
     size_t count = 0;
     bool sent = false;
-    tn_item item = { 0, 0, 0, 0 };
+    tn_item item = { TN_NO_ITEM, 0, 0, 0 };
     may(tn_server_start(&server, &standard, 255));
     may(tn_client_start(&client, 80, 24, 255));
     deliver(&server, &client);
@@ -297,10 +361,17 @@ static void session(void)
         item.kind = TN_NO_ITEM;
         may(tn_decoder_take(&decoder, &item));
     } while (item.kind != TN_NO_ITEM);
-    tn_end(&server);
-    tn_end(&client);
-    tn_end(&line);
-    tn_end(&decoder);
+    may(tn_line_echo(&line, buf, sizeof buf, &count));
+    may(tn_server_forget(&server));
+    may(tn_put_byte('a', buf, sizeof buf, &count));
+    may(tn_put_newline(buf, sizeof buf, &count));
+    may(tn_put_command(241, buf, sizeof buf, &count));
+    may(tn_put_option(251, 1, buf, sizeof buf, &count));
+    may(tn_put_sub(24, (const uint8_t *)"\0vt100", 6, buf, sizeof buf, &count));
+    tn_server_free(&server);
+    tn_client_free(&client);
+    tn_line_free(&line);
+    tn_decoder_free(&decoder);
 }
 
 static void refuse_each(void)
@@ -314,7 +385,7 @@ static void refuse_each(void)
     printf("%ld allocations, each refused once\n", refused_call - 1);
 }
 
-static void print_entry(uint32_t kind, const uint8_t *text, size_t length)
+static void print_entry(tn_kind kind, const uint8_t *text, size_t length)
 {
     static const char *names[] = { "", "text ", "eof", "signal int", "signal quit", "signal tstp" };
     printf("%s", names[kind]);
@@ -327,8 +398,8 @@ static uint8_t stream[1 << 20];
 
 static void by_server(size_t length)
 {
-    tn_handle server = TN_HANDLE;
-    uint32_t kind = TN_NONE;
+    tn_server server = TN_HANDLE;
+    tn_kind kind = TN_DROPPED;
     size_t at = 0, count = 0;
     SURE(tn_server_start(&server, &standard, 255) == TN_OK);
     while (at < length) {
@@ -346,15 +417,16 @@ static void by_server(size_t length)
         SURE(tn_server_pull(&server, 4096, &count) == TN_OK);
         SURE(tn_server_read(&server, buf, sizeof buf, &count) == TN_OK);
     }
-    tn_end(&server);
+    tn_server_free(&server);
 }
 
 static void by_parts(size_t length)
 {
-    tn_handle decoder = TN_HANDLE, line = TN_HANDLE;
-    uint32_t effect = TN_NONE;
+    tn_decoder decoder = TN_HANDLE;
+    tn_line line = TN_HANDLE;
+    tn_effect effect = TN_DROPPED;
     size_t at = 0, count = 0;
-    tn_item item = { 0, 0, 0, 0 };
+    tn_item item = { TN_NO_ITEM, 0, 0, 0 };
     SURE(tn_decoder_start(&decoder) == TN_OK && tn_line_start(&line, &standard, 255) == TN_OK);
     while (at < length) {
         size_t piece = (size_t)(rand() % 300);
@@ -371,8 +443,8 @@ static void by_parts(size_t length)
                 print_entry(effect, buf, count);
         } while (item.kind != TN_NO_ITEM);
     }
-    tn_end(&decoder);
-    tn_end(&line);
+    tn_decoder_free(&decoder);
+    tn_line_free(&line);
 }
 
 int main(int argc, char **argv)
@@ -383,9 +455,11 @@ int main(int argc, char **argv)
     if (strcmp(word, "worked") == 0) {
         worked_line();
         worked_decoder();
+        worked_spelling();
         worked_server();
         worked_client();
         worked_pair();
+        worked_threads();
     } else if (strcmp(word, "refused") == 0) {
         refuse_each();
     } else if (strcmp(word, "server") == 0) {

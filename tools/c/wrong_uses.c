@@ -1,7 +1,9 @@
-/* wrong_uses: each call of tn.h on a handle that it is not for, of an end that has failed, and with no bytes.
+/* wrong_uses: each call of tn.h on a handle that it is not for, of an end that has failed, and with no bytes, at a null pointer too.
+ * Only with TN_UNTYPED do such uses compile, as any did with version 1.0.
  *
  * It is run by tools/check-c, which sees that each call of the header stands in CALLS or in STARTS.
  */
+#define TN_UNTYPED
 #include "trial.h"
 
 enum { NOTHING, LINE, DECODER, SERVER, CLIENT };
@@ -10,19 +12,20 @@ enum { NOTHING, LINE, DECODER, SERVER, CLIENT };
 struct given {
     uint8_t buf[8];
     size_t count;
-    uint32_t number;
+    tn_effect effect;
+    tn_option_state state;
     uint16_t width, height;
     uint8_t mode;
     bool yes;
     tn_item item;
 };
 
-static const struct given blank = { "unread.", 77, 77, 77, 77, 77, true, { 77, 77, 77, 77 } };
+static const struct given blank = { "unread.", 77, TN_KILLED, TN_OPTION_WANT_NO, 77, 77, 77, true, { TN_WORD, 77, 77, 77 } };
 
 static bool is_blank(const struct given *g)
 {
-    return memcmp(g->buf, blank.buf, sizeof blank.buf) == 0 && g->count == 77 && g->number == 77 && g->width == 77
-        && g->height == 77 && g->mode == 77 && g->yes && g->item.kind == 77 && g->item.code == 77
+    return memcmp(g->buf, blank.buf, sizeof blank.buf) == 0 && g->count == 77 && g->effect == TN_KILLED && g->state == TN_OPTION_WANT_NO && g->width == 77
+        && g->height == 77 && g->mode == 77 && g->yes && g->item.kind == TN_WORD && g->item.code == 77
         && g->item.option == 77 && g->item.length == 77;
 }
 
@@ -31,9 +34,10 @@ static bool is_blank(const struct given *g)
 
 /* Which kind of handle each call is for, its name behind tn_, and what it is called with. */
 #define CALLS(X) \
-    X(LINE, line_key, (h, 'a', &g->number)) \
+    X(LINE, line_key, (h, 'a', &g->effect)) \
     X(LINE, line_text, (h, TO_BUF)) \
     X(LINE, line_half, (h, TO_BUF)) \
+    X(LINE, line_echo, (h, TO_BUF)) \
     X(LINE, line_set_flags, (h, &standard)) \
     X(LINE, line_set_char, (h, TN_CHAR_EOL, 7)) \
     X(LINE, line_char, (h, TN_CHAR_EOL, &g->width)) \
@@ -43,8 +47,9 @@ static bool is_blank(const struct given *g)
     X(SERVER, server_feed, (h, BYTES)) \
     X(SERVER, server_pending, (h, &g->count)) \
     X(SERVER, server_read, (h, TO_BUF)) \
-    X(SERVER, server_take, (h, &g->number)) \
+    X(SERVER, server_take, (h, &g->effect)) \
     X(SERVER, server_text, (h, TO_BUF)) \
+    X(SERVER, server_forget, (h)) \
     X(SERVER, server_write, (h, BYTES, &g->count)) \
     X(SERVER, server_pull, (h, 8, &g->count)) \
     X(SERVER, server_wish, (h, true, &g->yes)) \
@@ -52,21 +57,21 @@ static bool is_blank(const struct given *g)
     X(SERVER, server_set_echo, (h, false)) \
     X(SERVER, server_set_mask, (h, BYTES)) \
     X(SERVER, server_clear_mask, (h)) \
-    X(SERVER, server_waiting, (h, 0, &g->number)) \
+    X(SERVER, server_waiting, (h, 0, &g->effect)) \
     X(SERVER, server_waiting_text, (h, 0, TO_BUF)) \
-    X(SERVER, server_signal_waiting, (h, &g->number)) \
+    X(SERVER, server_signal_waiting, (h, &g->effect)) \
     X(SERVER, server_size, (h, &g->width, &g->height)) \
     X(SERVER, server_mode, (h, &g->mode)) \
     X(SERVER, server_asked, (h, &g->mode)) \
     X(SERVER, server_half, (h, TO_BUF)) \
     X(SERVER, server_char, (h, TN_CHAR_EOL, &g->width)) \
-    X(SERVER, server_option, (h, true, 1, &g->number)) \
+    X(SERVER, server_option, (h, true, 1, &g->state)) \
     X(SERVER, server_failed, (h, &g->yes)) \
     X(CLIENT, client_key, (h, 'a')) \
     X(CLIENT, client_feed, (h, BYTES)) \
     X(CLIENT, client_pending, (h, &g->count)) \
     X(CLIENT, client_read, (h, TO_BUF)) \
-    X(CLIENT, client_shown, (h, &g->count)) \
+    X(CLIENT, client_screen_pending, (h, &g->count)) \
     X(CLIENT, client_screen, (h, TO_BUF)) \
     X(CLIENT, client_resize, (h, 132, 50)) \
     X(CLIENT, client_propose, (h, TN_CHAR_EOL, 7)) \
@@ -75,8 +80,15 @@ static bool is_blank(const struct given *g)
     X(CLIENT, client_ahead, (h, &g->width)) \
     X(CLIENT, client_counts, (h, &g->width, &g->height)) \
     X(CLIENT, client_char, (h, TN_CHAR_EOL, &g->width)) \
-    X(CLIENT, client_option, (h, true, 1, &g->number)) \
+    X(CLIENT, client_option, (h, true, 1, &g->state)) \
     X(CLIENT, client_failed, (h, &g->yes))
+
+/* A call that gives nothing there, and counts so many bytes. */
+#define COUNTS(count_, ...) \
+    do { \
+        g.count = 77; \
+        SURE(__VA_ARGS__ == TN_OK && g.count == count_); \
+    } while (0)
 
 #define STARTS(X) \
     X(LINE, line_start, (h, &standard, limit)) \
@@ -84,14 +96,23 @@ static bool is_blank(const struct given *g)
     X(SERVER, server_start, (h, &standard, limit)) \
     X(CLIENT, client_start, (h, 80, 24, limit))
 
+#define FREES(X) \
+    X(LINE, line_free, (h)) \
+    X(DECODER, decoder_free, (h)) \
+    X(SERVER, server_free, (h)) \
+    X(CLIENT, client_free, (h))
+
 #define DEFINE_CALL(kind, name, arguments) \
     static tn_code name(tn_handle *h, struct given *g) { (void)g; return tn_##name arguments; }
 #define DEFINE_START(kind, name, arguments) \
     static tn_code name(tn_handle *h, uint16_t limit) { (void)limit; return tn_##name arguments; }
+#define DEFINE_FREE(kind, name, arguments) \
+    static void name(tn_handle *h) { tn_##name arguments; }
 #define ROW(kind, name, arguments) { kind, #name, name },
 
 CALLS(DEFINE_CALL)
 STARTS(DEFINE_START)
+FREES(DEFINE_FREE)
 
 static const struct {
     int kind;
@@ -104,6 +125,12 @@ static const struct {
     const char *name;
     tn_code (*start)(tn_handle *h, uint16_t limit);
 } starts[] = { STARTS(ROW) };
+
+static const struct {
+    int kind;
+    const char *name;
+    void (*free)(tn_handle *h);
+} frees[] = { FREES(ROW) };
 
 #define COUNT(table) (sizeof table / sizeof *table)
 
@@ -118,7 +145,7 @@ static const struct {
 static tn_handle holding(int kind)
 {
     tn_handle h = TN_HANDLE;
-    uint32_t effect = TN_NONE;
+    tn_effect effect = TN_NONE;
     switch (kind) {
     case LINE:
         SURE(tn_line_start(&h, &standard, 255) == TN_OK && tn_line_key(&h, 'z', &effect) == TN_OK);
@@ -141,7 +168,7 @@ static void is_as_it_was(tn_handle *h, int kind)
 {
     uint8_t buf[8] = { 0 };
     size_t count = 0, shown = 0;
-    tn_item item = { 0, 0, 0, 0 };
+    tn_item item = { TN_NO_ITEM, 0, 0, 0 };
     switch (kind) {
     case NOTHING:
         SURE(h->tn_private == NULL);
@@ -159,7 +186,7 @@ static void is_as_it_was(tn_handle *h, int kind)
         SURE(tn_server_pull(h, 8, &count) == TN_OK && count == 0); /* the client echoes */
         break;
     case CLIENT:
-        SURE(tn_client_pending(h, &count) == TN_OK && tn_client_shown(h, &shown) == TN_OK && count == 1 && shown == 1);
+        SURE(tn_client_pending(h, &count) == TN_OK && tn_client_screen_pending(h, &shown) == TN_OK && count == 1 && shown == 1);
         break;
     }
 }
@@ -198,27 +225,43 @@ static void refuses_limits(void)
     }
 }
 
-/* With room for no byte nothing is copied, and where no byte comes nothing is done. */
-static void takes_no_bytes(void)
+/* Each call of _free frees whatever is held, and does nothing where nothing is. */
+static void frees_all(void)
+{
+    for (int kind = NOTHING; kind <= CLIENT; kind++) {
+        for (size_t i = 0; i < COUNT(frees); i++) {
+            tn_handle h = holding(kind);
+            frees[i].free(&h);
+            SURE(h.tn_private == NULL && live == 0);
+            frees[i].free(&h);
+        }
+    }
+}
+
+/* With room for no byte, or none at all, nothing is copied, and where no byte comes nothing is done. */
+static void takes_no_bytes(uint8_t *at)
 {
     tn_handle line = holding(LINE), decoder = holding(DECODER), server = holding(SERVER), client = holding(CLIENT);
     struct given g = blank;
-    NONE(tn_line_half(&line, g.buf, 0, &g.count));
-    NONE(tn_line_text(&line, g.buf, 0, &g.count));
-    SURE(tn_decoder_feed(&decoder, g.buf, 0) == TN_OK);
-    NONE(tn_decoder_parameters(&decoder, g.buf, 0, &g.count));
-    SURE(tn_server_feed(&server, g.buf, 0) == TN_OK);
-    NONE(tn_server_read(&server, g.buf, 0, &g.count));
-    NONE(tn_server_text(&server, g.buf, 0, &g.count));
-    NONE(tn_server_write(&server, g.buf, 0, &g.count));
+    COUNTS(1, tn_line_half(&line, at, 0, &g.count));
+    COUNTS(1, tn_line_echo(&line, at, 0, &g.count));
+    NONE(tn_line_text(&line, at, 0, &g.count));
+    SURE(tn_decoder_feed(&decoder, at, 0) == TN_OK);
+    NONE(tn_decoder_parameters(&decoder, at, 0, &g.count));
+    SURE(tn_server_feed(&server, at, 0) == TN_OK);
+    NONE(tn_server_read(&server, at, 0, &g.count));
+    NONE(tn_server_text(&server, at, 0, &g.count));
+    NONE(tn_server_write(&server, at, 0, &g.count));
     NONE(tn_server_pull(&server, 0, &g.count));
-    NONE(tn_server_half(&server, g.buf, 0, &g.count));
-    NONE(tn_server_waiting_text(&server, 0, g.buf, 0, &g.count));
-    SURE(tn_server_set_mask(&server, g.buf, 0) == TN_NOT_ON);
-    SURE(tn_client_feed(&client, g.buf, 0) == TN_OK);
-    NONE(tn_client_read(&client, g.buf, 0, &g.count));
-    NONE(tn_client_screen(&client, g.buf, 0, &g.count));
-    NONE(tn_client_half(&client, g.buf, 0, &g.count));
+    COUNTS(1, tn_server_half(&server, at, 0, &g.count));
+    COUNTS(2, tn_put_byte(255, at, 0, &g.count));
+    COUNTS(5, tn_put_sub(24, at, 0, NULL, 0, &g.count));
+    NONE(tn_server_waiting_text(&server, 0, at, 0, &g.count));
+    SURE(tn_server_set_mask(&server, at, 0) == TN_NOT_ON);
+    SURE(tn_client_feed(&client, at, 0) == TN_OK);
+    NONE(tn_client_read(&client, at, 0, &g.count));
+    NONE(tn_client_screen(&client, at, 0, &g.count));
+    NONE(tn_client_half(&client, at, 0, &g.count));
     g.count = 77;
     SURE(is_blank(&g));
     is_as_it_was(&line, LINE), is_as_it_was(&decoder, DECODER);
@@ -261,7 +304,7 @@ static bool is_refused_by_decoder(const char *name)
 static void fails_too_far_ahead(void)
 {
     tn_handle server = holding(SERVER);
-    uint32_t kind = TN_NONE;
+    tn_kind kind = TN_NONE;
     bool failed = false;
     for (int i = 0; i < 1024; i++)
         SURE(tn_server_feed(&server, (const uint8_t *)"\r\0", 2) == TN_OK);
@@ -298,10 +341,13 @@ int main(void)
     tn_end(&ended);
     refuses_others(none, NOTHING);
     refuses_others(ended, NOTHING);
+    SURE(live == 0);
     for (int kind = LINE; kind <= CLIENT; kind++)
         refuses_others(holding(kind), kind);
+    frees_all();
     refuses_limits();
-    takes_no_bytes();
+    takes_no_bytes((uint8_t[1]) { 0 });
+    takes_no_bytes(NULL);
     fails_too_far_ahead();
     fails_without_memory();
     SURE(live == 0);

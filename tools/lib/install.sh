@@ -1,5 +1,5 @@
 # shellcheck shell=bash
-# What `./tn install` and tools/package share.
+# What `./tn install`, tools/package, tools/build-c and tools/check-c share.
 
 # Puts a program, its launcher, its manual page, its completions and a unit of systemd, which name PREFIX, into a folder. They run without
 # this repository: bin/tn starts the launcher, with the program that lies beside it.
@@ -20,4 +20,33 @@ install_program() {
 folder=$(dirname "$(dirname "$(readlink -f "$0")")")/libexec/tn
 exec "$folder/launch" "$folder/tn" "$@"
 SCRIPT
+}
+
+# A text that is defined in a header, as TN_VERSION "1.1.0".
+defined_in() {
+    sed -n "s/^#define $2 \"\(.*\)\"\$/\1/p" "$1"
+}
+
+# Installs the library for C, from a folder of tools/build-c: into PREFIX, its libraries into LIBDIR, and all of it below DESTDIR.
+install_library() {
+    local folder=$1 prefix=$2 libdir=$3 root=${DESTDIR-} top shared soname
+    top=$(dirname "$(dirname "$(dirname "$(readlink -f "${BASH_SOURCE[0]}")")")")
+    shared=libtn-$(defined_in "$top/include/tn.h" TN_VERSION).so
+    soname=$(defined_in "$top/include/tn.h" TN_SONAME)
+    install -D -m 644 "$folder/libtn.a" "$root$libdir/libtn.a"
+    install -m 644 "$folder/$shared" "$root$libdir/$shared"
+    ln -sf "$shared" "$root$libdir/$soname"
+    ln -sf "$soname" "$root$libdir/libtn.so"
+    install -D -m 644 "$top/include/tn.h" "$root$prefix/include/tn.h"
+    install -D -m 644 /dev/stdin "$root$libdir/pkgconfig/tn.pc" <<END
+prefix=$prefix
+libdir=${libdir/#"$prefix/"/'${prefix}/'}
+includedir=\${prefix}/include
+
+Name: tn
+Description: Telnet with LINEMODE, proved
+Version: $(defined_in "$top/include/tn.h" TN_VERSION)
+Cflags: -I\${includedir}
+Libs: -L\${libdir} -ltn
+END
 }

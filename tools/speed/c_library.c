@@ -2,6 +2,7 @@
 //
 //   tools/build-c && cc -O2 -Iinclude -o c_library tools/speed/c_library.c out/libtn.a -ltelnet && ./c_library
 #include "measure.h"
+#define TN_UNTYPED // a function is for either end
 #include "tn.h"
 #include <libtelnet.h>
 #include <stdbool.h>
@@ -100,7 +101,7 @@ static struct done server_sends(void *server) {
 static struct done server_takes(void *server) {
     struct done all = {sizeof stream, 0};
     size_t at, count = 0;
-    uint32_t kind = TN_NONE;
+    tn_kind kind = TN_NONE;
     for (at = 0; at < sizeof stream; at += PIECE) {
         SURE(tn_server_feed(server, stream + at, PIECE) == TN_OK);
         while (tn_server_take(server, &kind) == TN_OK && kind != TN_NONE) {

@@ -1,11 +1,12 @@
 -- What a handle holds, what a call does to it where that is of the call's kind, and why the call is refused
 -- where it is not.
-use Rattle.std.specs.Prelude.{Option, Some, None}
+use Rattle.std.specs.Prelude.{◌≡◌, ◌≢◌, ◌⊎◌, ℕ, Bool, true, Option, Some, None, IfSome, if◌then◌else◌}
+use Rattle.tn_c_parts.specs.Codes.{code_number, Answers}
 use Rattle.tn_c.specs.declared.held.Held.{Held}
 use Rattle.tn_c.specs.declared.held.Held.TheVariants as held
 use Rattle.tn_c_parts.specs.Items.{ReadStream}
 use Rattle.tn_c_parts.specs.declared.codes.Code.{Code}
-use Rattle.tn_c_parts.specs.declared.codes.Code.TheVariants.{NotStarted, OtherKind}
+use Rattle.tn_c_parts.specs.declared.codes.Code.TheVariants.{Done, Memory, NotStarted, Started, OtherKind, NoLimit}
 use Rattle.tn_c_parts.specs.declared.client.HeldClient.{HeldClient}
 use Rattle.tn_c_parts.specs.declared.line.HeldLine.{HeldLine}
 use Rattle.tn_c_parts.specs.declared.server.HeldServer.{HeldServer}
@@ -73,3 +74,49 @@ abbrev pub client_absence : Option Held → Option Code
 client_absence None = Some NotStarted
 client_absence (Some (held.Client client)) = None
 client_absence (Some _) = Some OtherKind
+
+-- nothing is written through a pointer
+abbrev pub NoPointer : Type 0
+NoPointer = Unit {0}
+
+-- Why a call was refused for what is held: its answer is this code, what is held stays, and nothing was
+-- written.
+pub record IsAbsent (old new : Option Held) (number : ℕ) (unwritten : Type 0) (code : Code) : Type 0 where
+  pub numbers : number ≡ code_number code
+  pub same : new ≡ old
+  pub left : unwritten
+
+-- A call of a line: R of its code and of what was held before and after, or it was refused.
+pub record CallsLine (old new : Option Held) (number : ℕ) (unwritten : Type 0)
+    (R : Code → HeldLine → HeldLine → Type 0) : Type 0 where
+  pub absent : IfSome (line_absence old) (λ code. IsAbsent old new number unwritten code)
+  pub does : OnLine old new (λ before after. Answers number (λ answer. R answer before after))
+
+-- A call of a decoder: R of its code and of what was held before and after, or it was refused.
+pub record CallsDecoder (old new : Option Held) (number : ℕ) (unwritten : Type 0)
+    (R : Code → ReadStream → ReadStream → Type 0) : Type 0 where
+  pub absent : IfSome (decoder_absence old) (λ code. IsAbsent old new number unwritten code)
+  pub does : OnDecoder old new (λ before after. Answers number (λ answer. R answer before after))
+
+-- A call of a server: R of its code and of what was held before and after, or it was refused.
+pub record CallsServer (old new : Option Held) (number : ℕ) (unwritten : Type 0)
+    (R : Code → HeldServer → HeldServer → Type 0) : Type 0 where
+  pub absent : IfSome (server_absence old) (λ code. IsAbsent old new number unwritten code)
+  pub does : OnServer old new (λ before after. Answers number (λ answer. R answer before after))
+
+-- A call of a client: R of its code and of what was held before and after, or it was refused.
+pub record CallsClient (old new : Option Held) (number : ℕ) (unwritten : Type 0)
+    (R : Code → HeldClient → HeldClient → Type 0) : Type 0 where
+  pub absent : IfSome (client_absence old) (λ code. IsAbsent old new number unwritten code)
+  pub does : OnClient old new (λ before after. Answers number (λ answer. R answer before after))
+
+-- A start, with a limit that fits or not: it was done, and this is held, or it was refused, and what was held
+-- stays.
+pub record Starts (old new : Option Held) (number : ℕ) (fits : Bool) (Holds : Option Held → Type 0)
+    : Type 0 where
+  pub started : old ≢ None → number ≡ code_number Started
+  pub codes : old ≡ None
+      → (number ≡ code_number Done) ⊎ (number ≡ code_number (if fits then Memory else NoLimit))
+  pub accepted : number ≡ code_number Done → fits ≡ true
+  pub holds : number ≡ code_number Done → Holds new
+  pub err : number ≢ code_number Done → new ≡ old

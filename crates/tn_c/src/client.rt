@@ -1,25 +1,11 @@
 //! The calls of a client end.
 
-ghost use Rattle.std.specs.Prelude.{◌≡◌, ◌≢◌, ◌↔◌, ◌⊎◌, ℕ, true, false, Some, None, [], length, drop, IfSome, if◌then◌else◌};
-ghost use Rattle.tn_c_parts.specs.Codes.{code_number as number};
+ghost use Rattle.std.specs.Prelude.{◌≡◌, None, length};
 ghost use Rattle.tn_discipline.specs.Limits.{is_limit};
-ghost use Rattle.tn_codes.specs.Codes.{func_code};
-ghost use Rattle.tn_codes.specs.declared.codes.Func.{Func};
-ghost use Rattle.tn_discipline.specs.Characters.{slot};
-ghost use Rattle.tn_nvt.specs.Feeding as nvt;
-ghost use Rattle.tn_option.specs.Options.{state_of};
-ghost use Rattle.tn_client.specs.Calls.{LeadsTo, Advances, Sends, Shows, ReadsNothing, SaysOrShows, Feeds, StopsWithin, LacksRoomFor, LacksMemoryFor, call_fault, propose_fault};
-ghost use Rattle.tn_client.specs.Events.{History, begun, typed, resized, proposed};
-ghost use Rattle.tn_client.specs.Lines.{ahead, count_under, held_bytes};
-ghost use Rattle.tn_client.specs.Replies.{replies};
-ghost use Rattle.tn_client.specs.Terms.{options, mode, chars};
-ghost use Rattle.tn_client.specs.declared.faults.ClientFault.TheVariants as fault;
-ghost use Rattle.tn_c_parts.specs.Bytes.{Copies};
-ghost use Rattle.tn_c_parts.specs.Calling.{Untouched};
-ghost use Rattle.tn_c_parts.specs.Faults.{client_refusal};
-ghost use Rattle.tn_c_parts.specs.Readings.{char_given, char_number, side_given, state_number};
-ghost use Rattle.tn_c_parts.specs.declared.codes.Code.TheVariants as code;
-ghost use Rattle.tn_c.specs.Holding.{HoldsClient, OnClient, client_absence};
+ghost use Rattle.tn_c_parts.specs.Calling.{Looks, Does, OfFunction, GivesChar};
+ghost use Rattle.tn_c_parts.specs.ClientCalls.{IsOpened, KeyCall, FeedCall, ResizeCall, ProposeCall, ReadCall, ScreenCall, GivesMode, GivesHalf, GivesAhead, GivesCounts, GivesOption, IsClientChar};
+ghost use Rattle.tn_c_parts.specs.Readings.{char_given};
+ghost use Rattle.tn_c.specs.Holding.{HoldsClient, CallsClient, Starts, NoPointer};
 
 use crate::calls::call_held;
 use crate::handle::Handle;
@@ -38,21 +24,8 @@ pub extern "C" fn tn_client_start(
     height: u16,
     limit: u16,
 ) -> u32
-    ensures started { handle.old.held ≢ None → result ≡ number code.Started }
-    ensures codes { handle.old.held ≡ None → (result ≡ number code.Done)
-        ⊎ (result ≡ number (if is_limit limit then code.Memory else code.NoLimit)) }
-    ensures accepted { result ≡ number code.Done → is_limit limit ≡ true }
-    ensures leads { result ≡ number code.Done → HoldsClient handle.new.held (λ client.
-        LeadsTo (begun width height limit) client.end) }
-    ensures reads { result ≡ number code.Done → HoldsClient handle.new.held (λ client.
-        nvt.LeadsTo [] [] client.end.decoder) }
-    ensures runs { result ≡ number code.Done → HoldsClient handle.new.held (λ client.
-        client.end.failed ≡ false) }
-    ensures pending { result ≡ number code.Done → HoldsClient handle.new.held (λ client.
-        client.pending.items ≡ []) }
-    ensures shown { result ≡ number code.Done → HoldsClient handle.new.held (λ client.
-        client.shown.items ≡ []) }
-    ensures err { result ≢ number code.Done → handle.new.held ≡ handle.old.held }
+    ensures { Starts handle.old.held handle.new.held result (is_limit limit)
+        (λ held. HoldsClient held (IsOpened width height limit)) }
 {
     if handle.is_started(alloc) {
         return Code::Started.number();
@@ -66,29 +39,19 @@ pub extern "C" fn tn_client_start(
     handle.hold(alloc, Held::Client(client)).number()
 }
 
+/// Gives up what the handle holds, if it holds something, and all of its memory.
+#[unsafe(no_mangle)]
+pub extern "C" fn tn_client_free(alloc: Global, handle: &mut Handle)
+    ensures { handle.new.held ≡ None }
+{
+    handle.free(alloc);
+}
+
 /// Types a key: what it sends is to be read, and its echo is to be shown.
 #[unsafe(no_mangle)]
 pub extern "C" fn tn_client_key(alloc: Global, handle: &mut Handle, key: u8) -> u32
-    ensures refused { IfSome (client_absence handle.old.held) (λ code.
-        (result ≡ number code) × (handle.new.held ≡ handle.old.held)) }
-    ensures goes { OnClient handle.old.held handle.new.held (λ before after.
-        result ≡ number code.Done → Advances before.end (typed key) after.end) }
-    ensures sends { OnClient handle.old.held handle.new.held (λ before after.
-        result ≡ number code.Done → Sends before.end (typed key) before.pending.items after.pending.items) }
-    ensures shows { OnClient handle.old.held handle.new.held (λ before after.
-        result ≡ number code.Done → Shows before.end (typed key) before.shown.items after.shown.items) }
-    ensures keeps { OnClient handle.old.held handle.new.held (λ before after.
-        ReadsNothing before.end after.end) }
-    ensures accepted { OnClient handle.old.held handle.new.held (λ before _.
-        result ≡ number code.Done → call_fault before.end ≡ None) }
-    ensures fault { OnClient handle.old.held handle.new.held (λ before _.
-        (result ≡ number code.Done) ⊎ (result ≡ number (client_refusal (call_fault before.end)))) }
-    ensures err { OnClient handle.old.held handle.new.held (λ before after.
-        result ≢ number code.Done → Untouched before after) }
-    ensures grows { OnClient handle.old.held handle.new.held (λ before _.
-        result ≡ number code.Memory → (h : History) → LeadsTo h before.end → SaysOrShows h (typed key)) }
-    ensures full { OnClient handle.old.held handle.new.held (λ before _.
-        result ≡ number code.Memory → LacksMemoryFor before.end key before.pending before.shown) }
+    ensures { CallsClient handle.old.held handle.new.held result NoPointer
+        (KeyCall key) }
 {
     call_held!(handle, alloc, Client, client => client.key(key))
 }
@@ -96,23 +59,8 @@ pub extern "C" fn tn_client_key(alloc: Global, handle: &mut Handle, key: u8) -> 
 /// Takes bytes that came from the server, cut anywhere: answers are to be read, text is to be shown.
 #[unsafe(no_mangle)]
 pub extern "C" fn tn_client_feed(alloc: Global, handle: &mut Handle, bytes: &[u8]) -> u32
-    ensures refused { IfSome (client_absence handle.old.held) (λ code.
-        (result ≡ number code) × (handle.new.held ≡ handle.old.held)) }
-    ensures feeds { OnClient handle.old.held handle.new.held (λ before after.
-        result ≡ number code.Done → Feeds before.end bytes.now
-        before.pending.items after.pending.items before.shown.items after.shown.items
-        after.end) }
-    ensures accepted { OnClient handle.old.held handle.new.held (λ before _.
-        result ≡ number code.Done → call_fault before.end ≡ None) }
-    ensures fault { OnClient handle.old.held handle.new.held (λ before _.
-        (result ≡ number code.Done) ⊎ (result ≡ number (client_refusal (call_fault before.end)))) }
-    ensures memory { OnClient handle.old.held handle.new.held (λ before after.
-        result ≡ number code.Memory → StopsWithin before.end bytes.now
-        before.pending.items after.pending.items before.shown.items after.shown.items) }
-    ensures err { OnClient handle.old.held handle.new.held (λ _ after.
-        result ≢ number code.Done → after.end.failed ≡ true) }
-    ensures failed { OnClient handle.old.held handle.new.held (λ before after.
-        result ≡ number code.Failed → Untouched before after) }
+    ensures { CallsClient handle.old.held handle.new.held result NoPointer
+        (FeedCall bytes.now) }
 {
     call_held!(handle, alloc, Client, client => client.feed(bytes))
 }
@@ -125,28 +73,8 @@ pub extern "C" fn tn_client_resize(
     width: u16,
     height: u16,
 ) -> u32
-    ensures refused { IfSome (client_absence handle.old.held) (λ code.
-        (result ≡ number code) × (handle.new.held ≡ handle.old.held)) }
-    ensures goes { OnClient handle.old.held handle.new.held (λ before after.
-        result ≡ number code.Done → Advances before.end (resized width height) after.end) }
-    ensures sends { OnClient handle.old.held handle.new.held (λ before after.
-        result ≡ number code.Done →
-        Sends before.end (resized width height) before.pending.items after.pending.items) }
-    ensures keeps { OnClient handle.old.held handle.new.held (λ before after.
-        ReadsNothing before.end after.end) }
-    ensures accepted { OnClient handle.old.held handle.new.held (λ before _.
-        result ≡ number code.Done → call_fault before.end ≡ None) }
-    ensures fault { OnClient handle.old.held handle.new.held (λ before _.
-        (result ≡ number code.Done) ⊎ (result ≡ number (client_refusal (call_fault before.end)))) }
-    ensures err { OnClient handle.old.held handle.new.held (λ before after.
-        result ≢ number code.Done → Untouched before after) }
-    ensures grows { OnClient handle.old.held handle.new.held (λ before _.
-        result ≡ number code.Memory → (h : History) → LeadsTo h before.end →
-        replies h (resized width height) ≢ []) }
-    ensures full { OnClient handle.old.held handle.new.held (λ before _.
-        result ≡ number code.Memory → LacksRoomFor before.end (resized width height) before.pending) }
-    ensures shown { OnClient handle.old.held handle.new.held (λ before after.
-        after.shown.items ≡ before.shown.items) }
+    ensures { CallsClient handle.old.held handle.new.held result NoPointer
+        (ResizeCall width height) }
 {
     call_held!(handle, alloc, Client, client => client.resize(width, height))
 }
@@ -159,32 +87,8 @@ pub extern "C" fn tn_client_propose(
     function: u8,
     value: u16,
 ) -> u32
-    ensures refused { IfSome (client_absence handle.old.held) (λ code.
-        (result ≡ number code) × (handle.new.held ≡ handle.old.held)) }
-    ensures goes { OnClient handle.old.held handle.new.held (λ before after.
-        result ≡ number code.Done → (func : Func) → func_code func ≡ function →
-        Advances before.end (proposed func (char_given value)) after.end) }
-    ensures sends { OnClient handle.old.held handle.new.held (λ before after.
-        result ≡ number code.Done → (func : Func) → func_code func ≡ function →
-        Sends before.end (proposed func (char_given value))
-        before.pending.items after.pending.items) }
-    ensures keeps { OnClient handle.old.held handle.new.held (λ before after.
-        ReadsNothing before.end after.end) }
-    ensures accepted { OnClient handle.old.held handle.new.held (λ before _.
-        result ≡ number code.Done → (func : Func) → func_code func ≡ function →
-        propose_fault before.end func (char_given value) ≡ None) }
-    ensures no_function { OnClient handle.old.held handle.new.held (λ _ _.
-        (result ≡ number code.NoFunction) ↔ ((func : Func) → func_code func ≢ function)) }
-    ensures fault { OnClient handle.old.held handle.new.held (λ before _.
-        (func : Func) → func_code func ≡ function → (result ≡ number code.Done) ⊎
-        (result ≡ number (client_refusal (propose_fault before.end func (char_given value))))) }
-    ensures err { OnClient handle.old.held handle.new.held (λ before after.
-        result ≢ number code.Done → Untouched before after) }
-    ensures full { OnClient handle.old.held handle.new.held (λ before _.
-        result ≡ number code.Memory → (func : Func) → func_code func ≡ function →
-        LacksRoomFor before.end (proposed func (char_given value)) before.pending) }
-    ensures shown { OnClient handle.old.held handle.new.held (λ before after.
-        after.shown.items ≡ before.shown.items) }
+    ensures { CallsClient handle.old.held handle.new.held result NoPointer
+        (OfFunction function (ProposeCall (char_given value))) }
 {
     call_held!(handle, alloc, Client, client => client.propose_function(function, value))
 }
@@ -192,13 +96,8 @@ pub extern "C" fn tn_client_propose(
 /// Says how many bytes wait to be sent.
 #[unsafe(no_mangle)]
 pub extern "C" fn tn_client_pending(alloc: Global, handle: &mut Handle, count: &mut usize) -> u32
-    ensures refused { IfSome (client_absence handle.old.held) (λ code.
-        (result ≡ number code) × (handle.new.held ≡ handle.old.held)) }
-    ensures unwritten { IfSome (client_absence handle.old.held) (λ _. count.new ≡ count.old) }
-    ensures done { OnClient handle.old.held handle.new.held (λ _ _. result ≡ number code.Done) }
-    ensures count { OnClient handle.old.held handle.new.held (λ before _.
-        count.new ≡ length before.pending.items) }
-    ensures same { handle.new.held ≡ handle.old.held }
+    ensures { CallsClient handle.old.held handle.new.held result (count.new ≡ count.old)
+        (Looks (λ client. count.new ≡ length client.pending.items)) }
 {
     call_held!(handle, alloc, Client, client => { *count = client.pending.len(); Code::Done })
 }
@@ -211,32 +110,22 @@ pub extern "C" fn tn_client_read(
     buf: &mut [u8],
     count: &mut usize,
 ) -> u32
-    ensures refused { IfSome (client_absence handle.old.held) (λ code.
-        (result ≡ number code) × (handle.new.held ≡ handle.old.held)) }
-    ensures unwritten { IfSome (client_absence handle.old.held) (λ _.
-        (buf.new ≡ buf.old) × (count.new ≡ count.old)) }
-    ensures done { OnClient handle.old.held handle.new.held (λ _ _. result ≡ number code.Done) }
-    ensures copies { OnClient handle.old.held handle.new.held (λ before _.
-        Copies before.pending.items buf.old buf.new count.new) }
-    ensures stay { OnClient handle.old.held handle.new.held (λ before after.
-        after.pending.items ≡ drop count.new before.pending.items) }
-    ensures end { OnClient handle.old.held handle.new.held (λ before after. after.end ≡ before.end) }
-    ensures shown { OnClient handle.old.held handle.new.held (λ before after.
-        after.shown.items ≡ before.shown.items) }
+    ensures { CallsClient handle.old.held handle.new.held result
+        ((buf.new ≡ buf.old) × (count.new ≡ count.old))
+        (Does (ReadCall buf.old buf.new count.new)) }
 {
     call_held!(handle, alloc, Client, client => { client.read(buf, count); Code::Done })
 }
 
 /// Says how many bytes wait to be shown.
 #[unsafe(no_mangle)]
-pub extern "C" fn tn_client_shown(alloc: Global, handle: &mut Handle, count: &mut usize) -> u32
-    ensures refused { IfSome (client_absence handle.old.held) (λ code.
-        (result ≡ number code) × (handle.new.held ≡ handle.old.held)) }
-    ensures unwritten { IfSome (client_absence handle.old.held) (λ _. count.new ≡ count.old) }
-    ensures done { OnClient handle.old.held handle.new.held (λ _ _. result ≡ number code.Done) }
-    ensures count { OnClient handle.old.held handle.new.held (λ before _.
-        count.new ≡ length before.shown.items) }
-    ensures same { handle.new.held ≡ handle.old.held }
+pub extern "C" fn tn_client_screen_pending(
+    alloc: Global,
+    handle: &mut Handle,
+    count: &mut usize,
+) -> u32
+    ensures { CallsClient handle.old.held handle.new.held result (count.new ≡ count.old)
+        (Looks (λ client. count.new ≡ length client.shown.items)) }
 {
     call_held!(handle, alloc, Client, client => { *count = client.shown.len(); Code::Done })
 }
@@ -249,18 +138,9 @@ pub extern "C" fn tn_client_screen(
     buf: &mut [u8],
     count: &mut usize,
 ) -> u32
-    ensures refused { IfSome (client_absence handle.old.held) (λ code.
-        (result ≡ number code) × (handle.new.held ≡ handle.old.held)) }
-    ensures unwritten { IfSome (client_absence handle.old.held) (λ _.
-        (buf.new ≡ buf.old) × (count.new ≡ count.old)) }
-    ensures done { OnClient handle.old.held handle.new.held (λ _ _. result ≡ number code.Done) }
-    ensures copies { OnClient handle.old.held handle.new.held (λ before _.
-        Copies before.shown.items buf.old buf.new count.new) }
-    ensures stay { OnClient handle.old.held handle.new.held (λ before after.
-        after.shown.items ≡ drop count.new before.shown.items) }
-    ensures end { OnClient handle.old.held handle.new.held (λ before after. after.end ≡ before.end) }
-    ensures pending { OnClient handle.old.held handle.new.held (λ before after.
-        after.pending.items ≡ before.pending.items) }
+    ensures { CallsClient handle.old.held handle.new.held result
+        ((buf.new ≡ buf.old) × (count.new ≡ count.old))
+        (Does (ScreenCall buf.old buf.new count.new)) }
 {
     call_held!(handle, alloc, Client, client => { client.screen(buf, count); Code::Done })
 }
@@ -268,19 +148,13 @@ pub extern "C" fn tn_client_screen(
 /// Gives the mask in force.
 #[unsafe(no_mangle)]
 pub extern "C" fn tn_client_mode(alloc: Global, handle: &mut Handle, mask: &mut u8) -> u32
-    ensures refused { IfSome (client_absence handle.old.held) (λ code.
-        (result ≡ number code) × (handle.new.held ≡ handle.old.held)) }
-    ensures unwritten { IfSome (client_absence handle.old.held) (λ _. mask.new ≡ mask.old) }
-    ensures done { OnClient handle.old.held handle.new.held (λ _ _. result ≡ number code.Done) }
-    ensures value { OnClient handle.old.held handle.new.held (λ before _. mask.new ≡ before.end.mode) }
-    ensures stands { OnClient handle.old.held handle.new.held (λ before _.
-        (h : History) → LeadsTo h before.end → mask.new ≡ mode h) }
-    ensures same { handle.new.held ≡ handle.old.held }
+    ensures { CallsClient handle.old.held handle.new.held result (mask.new ≡ mask.old)
+        (Looks (GivesMode mask.new)) }
 {
     call_held!(handle, alloc, Client, client => { *mask = client.end.mode(); Code::Done })
 }
 
-/// Copies the first bytes of the half line that are held here, as many as fit, and says how many.
+/// Copies the first bytes of the half line that are held here, as many as fit, and says how many there are.
 #[unsafe(no_mangle)]
 pub extern "C" fn tn_client_half(
     alloc: Global,
@@ -288,16 +162,9 @@ pub extern "C" fn tn_client_half(
     buf: &mut [u8],
     count: &mut usize,
 ) -> u32
-    ensures refused { IfSome (client_absence handle.old.held) (λ code.
-        (result ≡ number code) × (handle.new.held ≡ handle.old.held)) }
-    ensures unwritten { IfSome (client_absence handle.old.held) (λ _.
-        (buf.new ≡ buf.old) × (count.new ≡ count.old)) }
-    ensures done { OnClient handle.old.held handle.new.held (λ _ _. result ≡ number code.Done) }
-    ensures copies { OnClient handle.old.held handle.new.held (λ before _.
-        Copies before.end.line.held buf.old buf.new count.new) }
-    ensures stands { OnClient handle.old.held handle.new.held (λ before _.
-        (h : History) → LeadsTo h before.end → Copies (held_bytes h) buf.old buf.new count.new) }
-    ensures same { handle.new.held ≡ handle.old.held }
+    ensures { CallsClient handle.old.held handle.new.held result
+        ((buf.new ≡ buf.old) × (count.new ≡ count.old))
+        (Looks (GivesHalf buf.old buf.new count.new)) }
 {
     call_held!(handle, alloc, Client, client => { client.half(buf, count); Code::Done })
 }
@@ -305,15 +172,8 @@ pub extern "C" fn tn_client_half(
 /// Says how many bytes of the half line were sent before those that are held.
 #[unsafe(no_mangle)]
 pub extern "C" fn tn_client_ahead(alloc: Global, handle: &mut Handle, count: &mut u16) -> u32
-    ensures refused { IfSome (client_absence handle.old.held) (λ code.
-        (result ≡ number code) × (handle.new.held ≡ handle.old.held)) }
-    ensures unwritten { IfSome (client_absence handle.old.held) (λ _. count.new ≡ count.old) }
-    ensures done { OnClient handle.old.held handle.new.held (λ _ _. result ≡ number code.Done) }
-    ensures value { OnClient handle.old.held handle.new.held (λ before _.
-        count.new ≡ before.end.line.ahead) }
-    ensures stands { OnClient handle.old.held handle.new.held (λ before _.
-        (h : History) → LeadsTo h before.end → count.new ≡ ahead h) }
-    ensures same { handle.new.held ≡ handle.old.held }
+    ensures { CallsClient handle.old.held handle.new.held result (count.new ≡ count.old)
+        (Looks (GivesAhead count.new)) }
 {
     call_held!(handle, alloc, Client, client => { *count = client.end.ahead(); Code::Done })
 }
@@ -326,20 +186,9 @@ pub extern "C" fn tn_client_counts(
     trapped: &mut u16,
     plain: &mut u16,
 ) -> u32
-    ensures refused { IfSome (client_absence handle.old.held) (λ code.
-        (result ≡ number code) × (handle.new.held ≡ handle.old.held)) }
-    ensures unwritten { IfSome (client_absence handle.old.held) (λ _.
-        (trapped.new ≡ trapped.old) × (plain.new ≡ plain.old)) }
-    ensures done { OnClient handle.old.held handle.new.held (λ _ _. result ≡ number code.Done) }
-    ensures trapped_value { OnClient handle.old.held handle.new.held (λ before _.
-        trapped.new ≡ before.end.trapped) }
-    ensures plain_value { OnClient handle.old.held handle.new.held (λ before _.
-        plain.new ≡ before.end.plain) }
-    ensures trapped { OnClient handle.old.held handle.new.held (λ before _.
-        (h : History) → LeadsTo h before.end → trapped.new ≡ count_under true h) }
-    ensures plain { OnClient handle.old.held handle.new.held (λ before _.
-        (h : History) → LeadsTo h before.end → plain.new ≡ count_under false h) }
-    ensures same { handle.new.held ≡ handle.old.held }
+    ensures { CallsClient handle.old.held handle.new.held result
+        ((trapped.new ≡ trapped.old) × (plain.new ≡ plain.old))
+        (Looks (GivesCounts trapped.new plain.new)) }
 {
     call_held!(handle, alloc, Client, client => { client.counts(trapped, plain); Code::Done })
 }
@@ -352,22 +201,8 @@ pub extern "C" fn tn_client_char(
     function: u8,
     value: &mut u16,
 ) -> u32
-    ensures refused { IfSome (client_absence handle.old.held) (λ code.
-        (result ≡ number code) × (handle.new.held ≡ handle.old.held)) }
-    ensures unwritten { IfSome (client_absence handle.old.held) (λ _. value.new ≡ value.old) }
-    ensures codes { OnClient handle.old.held handle.new.held (λ _ _.
-        (result ≡ number code.Done) ⊎ (result ≡ number code.NoFunction)) }
-    ensures value { OnClient handle.old.held handle.new.held (λ before _.
-        (func : Func) → func_code func ≡ function →
-        value.new ≡ char_number (slot before.end.table func)) }
-    ensures stands { OnClient handle.old.held handle.new.held (λ before _.
-        (func : Func) → func_code func ≡ function → (h : History) → LeadsTo h before.end →
-        value.new ≡ char_number (slot (chars h) func)) }
-    ensures no_function { OnClient handle.old.held handle.new.held (λ _ _.
-        (result ≡ number code.NoFunction) ↔ ((func : Func) → func_code func ≢ function)) }
-    ensures err { OnClient handle.old.held handle.new.held (λ _ _.
-        result ≡ number code.NoFunction → value.new ≡ value.old) }
-    ensures same { handle.new.held ≡ handle.old.held }
+    ensures { CallsClient handle.old.held handle.new.held result (value.new ≡ value.old)
+        (GivesChar function value.old value.new IsClientChar) }
 {
     call_held!(handle, alloc, Client, client => client.function_char(function, value))
 }
@@ -381,16 +216,8 @@ pub extern "C" fn tn_client_option(
     option: u8,
     state: &mut u32,
 ) -> u32
-    ensures refused { IfSome (client_absence handle.old.held) (λ code.
-        (result ≡ number code) × (handle.new.held ≡ handle.old.held)) }
-    ensures unwritten { IfSome (client_absence handle.old.held) (λ _. state.new ≡ state.old) }
-    ensures done { OnClient handle.old.held handle.new.held (λ _ _. result ≡ number code.Done) }
-    ensures value { OnClient handle.old.held handle.new.held (λ before _.
-        state.new ≡ state_number (state_of before.end.options (side_given ours) option)) }
-    ensures stands { OnClient handle.old.held handle.new.held (λ before _.
-        (h : History) → LeadsTo h before.end →
-        state.new ≡ state_number (state_of (options h) (side_given ours) option)) }
-    ensures same { handle.new.held ≡ handle.old.held }
+    ensures { CallsClient handle.old.held handle.new.held result (state.new ≡ state.old)
+        (Looks (GivesOption ours option state.new)) }
 {
     call_held!(
         handle, alloc, Client,
@@ -401,12 +228,8 @@ pub extern "C" fn tn_client_option(
 /// Says whether a feed was refused.
 #[unsafe(no_mangle)]
 pub extern "C" fn tn_client_failed(alloc: Global, handle: &mut Handle, failed: &mut bool) -> u32
-    ensures refused { IfSome (client_absence handle.old.held) (λ code.
-        (result ≡ number code) × (handle.new.held ≡ handle.old.held)) }
-    ensures unwritten { IfSome (client_absence handle.old.held) (λ _. failed.new ≡ failed.old) }
-    ensures done { OnClient handle.old.held handle.new.held (λ _ _. result ≡ number code.Done) }
-    ensures value { OnClient handle.old.held handle.new.held (λ before _. failed.new ≡ before.end.failed) }
-    ensures same { handle.new.held ≡ handle.old.held }
+    ensures { CallsClient handle.old.held handle.new.held result (failed.new ≡ failed.old)
+        (Looks (λ client. failed.new ≡ client.end.failed)) }
 {
     call_held!(handle, alloc, Client, client => { *failed = client.end.failed(); Code::Done })
 }

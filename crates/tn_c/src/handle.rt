@@ -13,7 +13,7 @@ use std::mem;
 use tn_c_parts::Code;
 
 /// One word that C has: null where nothing is held, and else the address of a box of what is held. In C it is
-/// `tn_handle`, which begins as `{0}`.
+/// `tn_line`, `tn_decoder`, `tn_server` or `tn_client`, which begins as `{0}`.
 ///
 /// It has no `Drop`, so that code that lets one go does not compile: what is held is taken out of it as a
 /// box, and a handle that is left over is taken apart.
@@ -27,6 +27,9 @@ pub struct Handle {
 impl Model for Handle {
     ghost also_owns = { λ h. handle_owns h.alloc h.at h.held };
 }
+
+// C moves it between threads: all that it holds may be used on any.
+unsafe impl Send for Handle {}
 
 impl Handle {
     pub(crate) fn empty(alloc: Global) -> Handle
@@ -81,6 +84,15 @@ impl Handle {
         match mem::replace(self, Handle::of_unboxed(Unboxed::of_box(boxed))).into_unboxed() {
             Some(unboxed) => drop(unboxed.into_box()),
             None => {},
+        }
+    }
+
+    /// Gives up what is held, if anything, and all of its memory.
+    pub(crate) fn free(&mut self, alloc: Global)
+        ensures { self.new.held ≡ None }
+    {
+        if let Some(held) = self.take(alloc) {
+            drop(held);
         }
     }
 

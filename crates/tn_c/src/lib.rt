@@ -1,20 +1,17 @@
 //! Lines, decoders and both ends of a Telnet connection for C, behind one opaque handle.
 //!
 //! ```c
-//! tn_handle server = TN_HANDLE;
+//! tn_server server = TN_HANDLE;
 //! if (tn_server_start(&server, &flags, 255) != TN_OK) return 1;
-//! tn_server_feed(&server, bytes, length); /* what came; the replies wait in the handle */
-//! tn_server_read(&server, buf, sizeof buf, &count); /* the first of them, to be sent */
-//! tn_end(&server);
+//! code = tn_server_feed(&server, bytes, length); /* what came; the replies wait in the handle */
+//! code = tn_server_read(&server, buf, sizeof buf, &count); /* the first of them, to be sent */
+//! tn_server_free(&server);
 //! ```
 //!
 //! No call waits, and none keeps a pointer that it was lent. `include/tn.h` says what C must keep to.
 #![tactic(auto)]
 
-ghost use Rattle.std.specs.Prelude.{◌≡◌, None};
-
-use handle::Handle;
-use std::alloc::Global;
+ghost use Rattle.std.specs.Prelude.{◌≡◌};
 
 mod calls;
 mod client;
@@ -23,14 +20,13 @@ mod handle;
 mod held;
 mod line;
 mod server;
+mod spelling;
 mod unboxed;
 
-/// Gives up what the handle holds, if it holds something, and all of its memory.
+/// The version of the library: 10,000 times its first number, 100 times its second, and its third.
 #[unsafe(no_mangle)]
-pub extern "C" fn tn_end(alloc: Global, handle: &mut Handle)
-    ensures { handle.new.held ≡ None }
+pub extern "C" fn tn_version() -> u32
+    ensures { result ≡ 10100 }
 {
-    if let Some(held) = handle.take(alloc) {
-        drop(held);
-    }
+    10_100
 }

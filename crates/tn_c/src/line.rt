@@ -1,21 +1,15 @@
 //! The calls of a line: keys to entries.
 
-ghost use Rattle.std.specs.Prelude.{◌≡◌, ◌≢◌, ◌↔◌, ◌⊎◌, ◌<◌, true, None, [], ◌∷◌, IfSome, if◌then◌else◌};
-ghost use Rattle.tn_codes.specs.Codes.{func_code};
-ghost use Rattle.tn_codes.specs.declared.codes.Func.{Func};
-ghost use Rattle.tn_discipline.specs.Advancing.{Advances, DropsExactly};
-ghost use Rattle.tn_discipline.specs.Characters.{AreAllowed, standard_characters, slot, with_slot, char_fault};
-ghost use Rattle.tn_discipline.specs.HalfLine.{empty_line, line_length, line_after, effect_of, effect_entries, GivesText};
-ghost use Rattle.tn_discipline.specs.Keys.{role_of_key, roles_of};
+ghost use Rattle.std.specs.Prelude.{◌≡◌, None};
 ghost use Rattle.tn_discipline.specs.Limits.{is_limit};
-ghost use Rattle.tn_c_parts.specs.Bytes.{Copies};
-ghost use Rattle.tn_c_parts.specs.Codes.{code_number as number};
-ghost use Rattle.tn_c_parts.specs.Entries.{effect_number, entry_given, text_of};
-ghost use Rattle.tn_c_parts.specs.Faults.{char_answer};
-ghost use Rattle.tn_c_parts.specs.Readings.{char_given, char_number};
+ghost use Rattle.tn_c_parts.specs.Bytes.{Gives};
+ghost use Rattle.tn_c_parts.specs.Calling.{Looks, LooksBy, Does, OfFunction, GivesChar};
+ghost use Rattle.tn_c_parts.specs.Echoes.{GivesEcho};
+ghost use Rattle.tn_c_parts.specs.Entries.{text_of};
+ghost use Rattle.tn_c_parts.specs.LineCalls.{IsEmpty, KeyCall, HalfGiven, SetFlagsCall, SetCharCall, IsLineChar};
+ghost use Rattle.tn_c_parts.specs.Readings.{char_given};
 ghost use Rattle.tn_c_parts.specs.Terminals.{flags_given};
-ghost use Rattle.tn_c_parts.specs.declared.codes.Code.TheVariants as code;
-ghost use Rattle.tn_c.specs.Holding.{HoldsLine, OnLine, line_absence};
+ghost use Rattle.tn_c.specs.Holding.{HoldsLine, CallsLine, Starts, NoPointer};
 
 use crate::calls::call_held;
 use crate::handle::Handle;
@@ -33,16 +27,8 @@ pub extern "C" fn tn_line_start(
     flags: &TerminalFlags,
     limit: u16,
 ) -> u32
-    ensures started { handle.old.held ≢ None → result ≡ number code.Started }
-    ensures codes { handle.old.held ≡ None → (result ≡ number code.Done)
-        ⊎ (result ≡ number (if is_limit limit then code.Memory else code.NoLimit)) }
-    ensures accepted { result ≡ number code.Done → is_limit limit ≡ true }
-    ensures line { result ≡ number code.Done → HoldsLine handle.new.held (λ line.
-        line.line ≡ empty_line limit) }
-    ensures settings { result ≡ number code.Done → HoldsLine handle.new.held (λ line.
-        line.settings ≡ record { flags = flags_given flags.now; chars = standard_characters }) }
-    ensures entry { result ≡ number code.Done → HoldsLine handle.new.held (λ line. line.entry ≡ None) }
-    ensures err { result ≢ number code.Done → handle.new.held ≡ handle.old.held }
+    ensures { Starts handle.old.held handle.new.held result (is_limit limit)
+        (λ held. HoldsLine held (IsEmpty (flags_given flags.now) limit)) }
 {
     if handle.is_started(alloc) {
         return Code::Started.number();
@@ -56,43 +42,24 @@ pub extern "C" fn tn_line_start(
     handle.hold(alloc, Held::Line(line)).number()
 }
 
+/// Gives up what the handle holds, if it holds something, and all of its memory.
+#[unsafe(no_mangle)]
+pub extern "C" fn tn_line_free(alloc: Global, handle: &mut Handle)
+    ensures { handle.new.held ≡ None }
+{
+    handle.free(alloc);
+}
+
 /// Types a key, and gives the number of what it did.
 #[unsafe(no_mangle)]
 pub extern "C" fn tn_line_key(alloc: Global, handle: &mut Handle, key: u8, effect: &mut u32) -> u32
-    ensures refused { IfSome (line_absence handle.old.held) (λ code.
-        (result ≡ number code) × (handle.new.held ≡ handle.old.held)) }
-    ensures unwritten { IfSome (line_absence handle.old.held) (λ _. effect.new ≡ effect.old) }
-    ensures codes { OnLine handle.old.held handle.new.held (λ _ _.
-        (result ≡ number code.Done) ⊎ (result ≡ number code.Memory)) }
-    ensures advances { OnLine handle.old.held handle.new.held (λ before after.
-        let roles = roles_of before.settings (key ∷ []) in
-        let done = effect_of before.line (role_of_key before.settings key) in
-        result ≡ number code.Done → Advances before.line roles (effect_entries done) after.line) }
-    ensures dropped { OnLine handle.old.held handle.new.held (λ before _.
-        let roles = roles_of before.settings (key ∷ []) in
-        let done = effect_of before.line (role_of_key before.settings key) in
-        result ≡ number code.Done → DropsExactly before.line roles done) }
-    ensures line { OnLine handle.old.held handle.new.held (λ before after.
-        result ≡ number code.Done → after.line ≡ line_after before.line (role_of_key before.settings key)) }
-    ensures effect { OnLine handle.old.held handle.new.held (λ before _.
-        result ≡ number code.Done →
-        effect.new ≡ effect_number (effect_of before.line (role_of_key before.settings key))) }
-    ensures entry { OnLine handle.old.held handle.new.held (λ before after.
-        result ≡ number code.Done →
-        after.entry ≡ entry_given (effect_of before.line (role_of_key before.settings key))) }
-    ensures settings { OnLine handle.old.held handle.new.held (λ before after.
-        after.settings ≡ before.settings) }
-    ensures only_a_text { OnLine handle.old.held handle.new.held (λ before _.
-        result ≡ number code.Memory → GivesText before.line (role_of_key before.settings key)) }
-    ensures err { OnLine handle.old.held handle.new.held (λ before after.
-        result ≡ number code.Memory → after ≡ before) }
-    ensures err_effect { OnLine handle.old.held handle.new.held (λ _ _.
-        result ≡ number code.Memory → effect.new ≡ effect.old) }
+    ensures { CallsLine handle.old.held handle.new.held result (effect.new ≡ effect.old)
+        (KeyCall key effect.old effect.new) }
 {
     call_held!(handle, alloc, Line, line => line.key(key, effect))
 }
 
-/// Copies the first bytes of the text that the last key gave, as many as fit, and says how many.
+/// Copies the first bytes of the text that the last key gave, as many as fit, and says how many there are.
 #[unsafe(no_mangle)]
 pub extern "C" fn tn_line_text(
     alloc: Global,
@@ -100,19 +67,28 @@ pub extern "C" fn tn_line_text(
     buf: &mut [u8],
     count: &mut usize,
 ) -> u32
-    ensures refused { IfSome (line_absence handle.old.held) (λ code.
-        (result ≡ number code) × (handle.new.held ≡ handle.old.held)) }
-    ensures unwritten { IfSome (line_absence handle.old.held) (λ _.
-        (buf.new ≡ buf.old) × (count.new ≡ count.old)) }
-    ensures done { OnLine handle.old.held handle.new.held (λ _ _. result ≡ number code.Done) }
-    ensures copies { OnLine handle.old.held handle.new.held (λ before _.
-        Copies (text_of before.entry) buf.old buf.new count.new) }
-    ensures same { handle.new.held ≡ handle.old.held }
+    ensures { CallsLine handle.old.held handle.new.held result ((buf.new ≡ buf.old) × (count.new ≡ count.old))
+        (Looks (λ line. Gives (text_of line.entry) buf.old buf.new count.new)) }
 {
     call_held!(handle, alloc, Line, line => { line.text(buf, count); Code::Done })
 }
 
-/// Copies the first bytes of the half line, as many as fit, and says how many.
+/// Copies what a terminal shows of the last key, as much as fits, and says how long that is.
+#[unsafe(no_mangle)]
+pub extern "C" fn tn_line_echo(
+    alloc: Global,
+    handle: &mut Handle,
+    buf: &mut [u8],
+    count: &mut usize,
+) -> u32
+    ensures { CallsLine handle.old.held handle.new.held result ((buf.new ≡ buf.old) × (count.new ≡ count.old))
+        (LooksBy (λ line. GivesEcho line.echo
+        (record { old_buf = buf.old; new_buf = buf.new; old_count = count.old; new_count = count.new }))) }
+{
+    call_held!(handle, alloc, Line, line => line.echo(alloc, buf, count))
+}
+
+/// Copies the first bytes of the half line, as many as fit, and says how many there are.
 #[unsafe(no_mangle)]
 pub extern "C" fn tn_line_half(
     alloc: Global,
@@ -120,16 +96,8 @@ pub extern "C" fn tn_line_half(
     buf: &mut [u8],
     count: &mut usize,
 ) -> u32
-    ensures refused { IfSome (line_absence handle.old.held) (λ code.
-        (result ≡ number code) × (handle.new.held ≡ handle.old.held)) }
-    ensures unwritten { IfSome (line_absence handle.old.held) (λ _.
-        (buf.new ≡ buf.old) × (count.new ≡ count.old)) }
-    ensures done { OnLine handle.old.held handle.new.held (λ _ _. result ≡ number code.Done) }
-    ensures copies { OnLine handle.old.held handle.new.held (λ before _.
-        Copies before.line.held buf.old buf.new count.new) }
-    ensures within { OnLine handle.old.held handle.new.held (λ before _.
-        line_length before.line < before.line.limit) }
-    ensures same { handle.new.held ≡ handle.old.held }
+    ensures { CallsLine handle.old.held handle.new.held result ((buf.new ≡ buf.old) × (count.new ≡ count.old))
+        (Looks (HalfGiven buf.old buf.new count.new)) }
 {
     call_held!(handle, alloc, Line, line => { line.half(buf, count); Code::Done })
 }
@@ -141,13 +109,8 @@ pub extern "C" fn tn_line_set_flags(
     handle: &mut Handle,
     flags: &TerminalFlags,
 ) -> u32
-    ensures refused { IfSome (line_absence handle.old.held) (λ code.
-        (result ≡ number code) × (handle.new.held ≡ handle.old.held)) }
-    ensures done { OnLine handle.old.held handle.new.held (λ _ _. result ≡ number code.Done) }
-    ensures settings { OnLine handle.old.held handle.new.held (λ before after.
-        after.settings ≡ record { flags = flags_given flags.now; chars = before.settings.chars }) }
-    ensures line { OnLine handle.old.held handle.new.held (λ before after. after.line ≡ before.line) }
-    ensures entry { OnLine handle.old.held handle.new.held (λ before after. after.entry ≡ before.entry) }
+    ensures { CallsLine handle.old.held handle.new.held result NoPointer
+        (Does (SetFlagsCall (flags_given flags.now))) }
 {
     call_held!(handle, alloc, Line, line => { line.set_flags(flags.flags()); Code::Done })
 }
@@ -160,24 +123,8 @@ pub extern "C" fn tn_line_set_char(
     function: u8,
     value: u16,
 ) -> u32
-    ensures refused { IfSome (line_absence handle.old.held) (λ code.
-        (result ≡ number code) × (handle.new.held ≡ handle.old.held)) }
-    ensures ok { OnLine handle.old.held handle.new.held (λ before after.
-        result ≡ number code.Done → (func : Func) → func_code func ≡ function →
-        after.settings.chars ≡ with_slot before.settings.chars func (char_given value)) }
-    ensures answer { OnLine handle.old.held handle.new.held (λ before _.
-        (func : Func) → func_code func ≡ function →
-        result ≡ number (char_answer (char_fault before.settings.chars func (char_given value)))) }
-    ensures allowed { OnLine handle.old.held handle.new.held (λ _ after.
-        result ≢ number code.NoFunction → AreAllowed after.settings.chars) }
-    ensures no_function { OnLine handle.old.held handle.new.held (λ _ _.
-        (result ≡ number code.NoFunction) ↔ ((func : Func) → func_code func ≢ function)) }
-    ensures err { OnLine handle.old.held handle.new.held (λ before after.
-        result ≢ number code.Done → after.settings ≡ before.settings) }
-    ensures flags { OnLine handle.old.held handle.new.held (λ before after.
-        after.settings.flags ≡ before.settings.flags) }
-    ensures line { OnLine handle.old.held handle.new.held (λ before after. after.line ≡ before.line) }
-    ensures entry { OnLine handle.old.held handle.new.held (λ before after. after.entry ≡ before.entry) }
+    ensures { CallsLine handle.old.held handle.new.held result NoPointer
+        (OfFunction function (SetCharCall (char_given value))) }
 {
     call_held!(handle, alloc, Line, line => line.set_function(function, value))
 }
@@ -190,21 +137,8 @@ pub extern "C" fn tn_line_char(
     function: u8,
     value: &mut u16,
 ) -> u32
-    ensures refused { IfSome (line_absence handle.old.held) (λ code.
-        (result ≡ number code) × (handle.new.held ≡ handle.old.held)) }
-    ensures unwritten { IfSome (line_absence handle.old.held) (λ _. value.new ≡ value.old) }
-    ensures codes { OnLine handle.old.held handle.new.held (λ _ _.
-        (result ≡ number code.Done) ⊎ (result ≡ number code.NoFunction)) }
-    ensures value { OnLine handle.old.held handle.new.held (λ before _.
-        (func : Func) → func_code func ≡ function →
-        value.new ≡ char_number (slot before.settings.chars func)) }
-    ensures allowed { OnLine handle.old.held handle.new.held (λ before _.
-        result ≡ number code.Done → AreAllowed before.settings.chars) }
-    ensures no_function { OnLine handle.old.held handle.new.held (λ _ _.
-        (result ≡ number code.NoFunction) ↔ ((func : Func) → func_code func ≢ function)) }
-    ensures err { OnLine handle.old.held handle.new.held (λ _ _.
-        result ≡ number code.NoFunction → value.new ≡ value.old) }
-    ensures same { handle.new.held ≡ handle.old.held }
+    ensures { CallsLine handle.old.held handle.new.held result (value.new ≡ value.old)
+        (GivesChar function value.old value.new IsLineChar) }
 {
     call_held!(handle, alloc, Line, line => line.function_char(function, value))
 }

@@ -1,5 +1,5 @@
 -- A refusal has the code of its cause.
-use Rattle.std.proofs.Common.{◌≡◌, ℕ, Bool, true, false, Option, Some, None, List, sym, ap, ◌∙◌, if◌then◌else◌}
+use Rattle.std.proofs.Common.{◌≡◌, ◌⊎◌, inl, inr, ℕ, Bool, true, false, Option, Some, None, List, sym, ap, subst, ◌∙◌, if◌then◌else◌}
 use Rattle.std.specs.Prelude.{option_map}
 use Rattle.tn_codes.specs.declared.masks.Mask.{Mask}
 use Rattle.tn_discipline.specs.declared.characters.CharFault.{CharFault}
@@ -9,6 +9,10 @@ use Rattle.tn_server.specs.declared.faults.ServerFault.{ServerFault}
 use Rattle.tn_server.specs.declared.faults.ServerFault.TheVariants as fault
 use Rattle.tn_client.specs.Calls as client
 use Rattle.tn_client.specs.declared.faults.ClientFault.{ClientFault}
+use Rattle.tn_c_parts.specs.ServerCalls.{SetMaskCall}
+use Rattle.tn_c_parts.specs.declared.codes.Code.{Code}
+use Rattle.tn_c_parts.specs.declared.codes.Code.TheVariants as code
+use Rattle.tn_c_parts.specs.declared.server.HeldServer.{HeldServer}
 use Rattle.tn_c_parts.specs.Faults.{server_code, server_refusal, client_code, client_refusal}
 
 pub server_told : (cause : Option ServerFault) (f g : ServerFault) → f ≡ g → server.IsFault cause f → server_code g ≡ server_refusal cause
@@ -32,3 +36,12 @@ octets_mask octets = record { 0 = octets }
 pub same_mask : (m n : Mask) → m.0 ≡ n.0 → m ≡ n
 unfolding octets_mask
 same_mask m n e = ap octets_mask e
+
+-- what a call says of a mask it says of its octets
+pub octets_told : {answer : Code} {before after : HeldServer} (m n : Mask) → m.0 ≡ n.0 → SetMaskCall (Some m) answer before after → SetMaskCall (Some n) answer before after
+octets_told {answer} {before} {after} m n e told = subst (λ (mask : Mask). SetMaskCall (Some mask) answer before after) (same_mask m n e) told
+
+-- of two codes it is the first
+pub is_done : {answer : Code} → (answer ≡ code.Done) ⊎ (answer ≡ code.NoFunction) → (answer ≡ code.NoFunction → ⊥) → answer ≡ code.Done
+is_done (inl done) other = done
+is_done (inr none) other = absurd (other none)

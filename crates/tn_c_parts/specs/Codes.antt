@@ -1,5 +1,5 @@
 -- The numbers of what calls answer.
-use Rattle.std.specs.Prelude.{ℕ}
+use Rattle.std.specs.Prelude.{◌≡◌, ℕ}
 use Rattle.tn_c_parts.specs.declared.codes.Code.{Code}
 use Rattle.tn_c_parts.specs.declared.codes.Code.TheVariants as code
 
@@ -19,3 +19,10 @@ code_number code.Reserved = 11
 code_number code.Taken = 12
 code_number code.NotOn = 13
 code_number code.TooLong = 14
+code_number code.NoCommand = 15
+
+-- A call answered by this number, which is that of a code, of which this is so.
+pub record Answers (number : ℕ) (F : Code → Type 0) : Type 0 where
+  pub answer : Code
+  pub numbers : number ≡ code_number answer
+  pub so : F answer

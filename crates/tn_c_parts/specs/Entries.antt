@@ -1,5 +1,5 @@
 -- The numbers of entries, and of what keys do.
-use Rattle.std.specs.Prelude.{ℕ, Option, Some, None, List, []}
+use Rattle.std.specs.Prelude.{ℕ, Option, Some, None, List, [], length, replicate}
 use Rattle.tn_discipline.specs.declared.reads.Sig.{Sig}
 use Rattle.tn_discipline.specs.declared.reads.Sig.TheVariants.{Int, Quit, Tstp}
 use Rattle.tn_discipline.specs.declared.reads.Entry.{Entry}
@@ -40,6 +40,11 @@ effect_number effect.Dropped = 10
 abbrev pub entry_given : Effect → Option Entry
 entry_given (effect.Gives e) = Some e
 entry_given _ = None
+
+-- an entry whose text has become zeros
+abbrev pub wiped_entry : Option Entry → Option Entry
+wiped_entry (Some (entry.Text text)) = Some (entry.Text (replicate (length text) 0))
+wiped_entry e = e
 
 -- the bytes of an entry that is a text
 abbrev pub text_of : Option Entry → List ℕ

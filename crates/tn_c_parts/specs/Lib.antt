@@ -1,9 +1,14 @@
 pub mod Codes
 pub mod Faults
 pub mod Bytes
+pub mod Spelled
+pub mod Echoes
 pub mod Entries
 pub mod Items
 pub mod Terminals
 pub mod Readings
-pub mod Serving
+pub mod LineCalls
+pub mod DecoderCalls
+pub mod ServerCalls
+pub mod ClientCalls
 pub mod Calling

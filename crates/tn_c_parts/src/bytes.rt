@@ -1,7 +1,7 @@
 //! Copies bytes to a caller's buffer.
 
 ghost use Rattle.std.specs.Prelude.{◌≡◌, length, drop};
-ghost use Rattle.tn_c_parts.specs.Bytes.{Copies};
+ghost use Rattle.tn_c_parts.specs.Bytes.{Copies, Gives};
 
 /// Copies the first bytes, as many as fit, and returns how many.
 pub(crate) fn copy_front(bytes: &[u8], buf: &mut [u8]) -> usize
@@ -10,6 +10,14 @@ pub(crate) fn copy_front(bytes: &[u8], buf: &mut [u8]) -> usize
     let count = bytes.len().min(buf.len());
     buf[..count].copy_from_slice(&bytes[..count]);
     count
+}
+
+/// Copies the first bytes, as many as fit, and returns how many there are.
+pub(crate) fn give(bytes: &[u8], buf: &mut [u8]) -> usize
+    ensures { Gives bytes.now buf.old buf.new result }
+{
+    copy_front(bytes, buf);
+    bytes.len()
 }
 
 /// Moves the first bytes, as many as fit, and returns how many: the others stay.

@@ -43,8 +43,10 @@ pub enum Code {
     Taken,
     /// LINEMODE is not on.
     NotOn,
-    /// A forward mask has at most 32 octets.
+    /// A forward mask has at most 32 octets, and a subnegotiation 512 parameters.
     TooLong,
+    /// No command, or no option word, has this byte.
+    NoCommand,
 }
 
 impl Code {
@@ -69,7 +71,8 @@ impl Code {
             Reserved = 11,
             Taken = 12,
             NotOn = 13,
-            TooLong = 14
+            TooLong = 14,
+            NoCommand = 15
         )
     }
 }

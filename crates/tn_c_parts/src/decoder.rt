@@ -1,12 +1,11 @@
 //! A decoder, and the items that wait to be taken.
 
-ghost use Rattle.std.specs.Prelude.{◌≡◌, ◌↔◌, ◌⊎◌, ◌-◌, None, [], ◌∷◌, reverse, vec_len, vec_capacity, MatchOption};
-ghost use Rattle.tn_nvt.specs.Feeding.{failed, LeadsTo, Feeds, StopsWithin, IsLetGo};
-ghost use Rattle.tn_c_parts.specs.Bytes.{Copies};
+ghost use Rattle.std.specs.Prelude.{◌≡◌};
+ghost use Rattle.tn_c_parts.specs.Bytes.{Gives};
+ghost use Rattle.tn_c_parts.specs.DecoderCalls.{FeedCall, TakeCall, IsFresh};
 ghost use Rattle.tn_c_parts.specs.Items.{item_seen, parameters_of};
-ghost use Rattle.tn_c_parts.specs.declared.codes.Code.TheVariants as code;
 
-use crate::bytes::copy_front;
+use crate::bytes::give;
 use crate::codes::Code;
 use std::alloc::Global;
 use std::marker::Model;
@@ -83,9 +82,7 @@ impl Model for HeldDecoder {
 impl HeldDecoder {
     /// A decoder that has read nothing.
     pub fn start(alloc: Global) -> HeldDecoder
-        ensures decoder { LeadsTo [] [] result.decoder }
-        ensures waiting { result.waiting ≡ [] }
-        ensures item { result.item ≡ None }
+        ensures { IsFresh result }
     {
         HeldDecoder {
             decoder: Decoder::new(alloc),
@@ -96,17 +93,7 @@ impl HeldDecoder {
 
     /// Reads a piece, cut anywhere: the items that it completes wait behind those that wait already.
     pub fn feed(&mut self, piece: &[u8]) -> Code
-        ensures codes { (result ≡ code.Done) ⊎ ((result ≡ code.Memory) ⊎ (result ≡ code.Failed)) }
-        ensures ok { result ≡ code.Done →
-            Feeds self.old.decoder piece.now self.old.waiting self.new.waiting self.new.decoder }
-        ensures memory { result ≡ code.Memory →
-            StopsWithin self.old.decoder piece.now self.old.waiting self.new.waiting self.new.room }
-        ensures memory_fails { result ≡ code.Memory → self.new.decoder ≡ failed }
-        ensures lets_go { IsLetGo self.old.decoder piece.now → result ≡ code.Done }
-        ensures failed { (result ≡ code.Failed) ↔ (self.old.decoder ≡ failed) }
-        ensures failed_stays { result ≡ code.Failed → self.new.decoder ≡ failed }
-        ensures failed_waiting { result ≡ code.Failed → self.new.waiting ≡ self.old.waiting }
-        ensures item { self.new.item ≡ self.old.item }
+        ensures { FeedCall piece.now result self.old self.new }
     {
         self.later_first.reverse();
         let fed = self.decoder.feed(piece, &mut self.later_first);
@@ -120,20 +107,17 @@ impl HeldDecoder {
 
     /// Takes the first item that waits, if there is one.
     pub fn take(&mut self, item: &mut ItemSeen)
-        ensures decoder { self.new.decoder ≡ self.old.decoder }
-        ensures item { MatchOption self.new.item (self.old.waiting ≡ [])
-            (λ first. self.old.waiting ≡ first ∷ self.new.waiting) }
-        ensures none { self.old.waiting ≡ [] → self.new.waiting ≡ [] }
-        ensures seen { item.new ≡ item_seen self.new.item }
+        ensures { TakeCall item.new self.old self.new }
     {
         self.item = self.later_first.pop();
         *item = seen(&self.item);
     }
 
-    /// Copies the first parameters of the item that was taken last, as many as fit, and says how many.
+    /// Copies the first parameters of the item that was taken last, as many as fit, and says how many there
+    /// are.
     pub fn parameters(&self, buf: &mut [u8], count: &mut usize)
-        ensures { Copies (parameters_of self.now.item) buf.old buf.new count.new }
+        ensures { Gives (parameters_of self.now.item) buf.old buf.new count.new }
     {
-        *count = copy_front(parameters(&self.item), buf);
+        *count = give(parameters(&self.item), buf);
     }
 }

@@ -1,7 +1,7 @@
 //! The numbers of entries, and of what keys do.
 
 ghost use Rattle.std.specs.Prelude.{◌≡◌, Some};
-ghost use Rattle.tn_c_parts.specs.Entries.{sig_number, entry_number, kind_number, effect_number, entry_given, text_of};
+ghost use Rattle.tn_c_parts.specs.Entries.{sig_number, entry_number, kind_number, effect_number, entry_given, text_of, wiped_entry};
 
 use tn_discipline::{Effect, Entry, Sig};
 
@@ -56,6 +56,20 @@ pub(crate) fn entry_given(effect: Effect) -> Option<Entry>
     match effect {
         Effect::Gives(entry) => Some(entry),
         _ => None,
+    }
+}
+
+/// The same entry with a text of zeros, in the memory of its text.
+pub(crate) fn wiped(entry: Option<Entry>) -> Option<Entry>
+    ensures { result ≡ wiped_entry entry }
+{
+    match entry {
+        Some(Entry::Text(text)) => {
+            let mut bytes: Vec<u8> = text.into();
+            bytes.fill(0);
+            Some(Entry::Text(bytes.into()))
+        },
+        other => other,
     }
 }
 

@@ -16,13 +16,16 @@ pub use decoder::{HeldDecoder, ItemSeen};
 pub use flags::TerminalFlags;
 pub use line::HeldLine;
 pub use server::HeldServer;
+pub use spelling::{spell_byte, spell_command, spell_newline, spell_sub, spell_word};
 
 mod bytes;
 mod client;
 mod codes;
 mod decoder;
+mod echo;
 mod entries;
 mod flags;
 mod line;
 mod readings;
 mod server;
+mod spelling;

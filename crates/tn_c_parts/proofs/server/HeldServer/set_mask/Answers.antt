@@ -1,6 +1,15 @@
-use Rattle.std.proofs.Common.{Err, ap}
+use Rattle.std.proofs.Common.{rules, Err, ap}
 use Rattle.tn_c_parts.proofs.server.HeldServer.set_mask.Goals as goal
 
-pub returns-in-Err-Memory-clause-full : goal.returns-in-Err-Memory-clause-full
-returns-in-Err-Memory-clause-full c =
-    λ _. c.in-Err-Memory.ensures.full (ap Err c.in-Err-Memory.field-0-is)
+pub returns-in-Err-Memory-clause-call : goal.returns-in-Err-Memory-clause-call
+returns-in-Err-Memory-clause-call c =
+    record {
+      ok = search rules;
+      keeps = search rules;
+      accepted = search rules;
+      refused = search rules;
+      err = search rules;
+      grows = search rules;
+      full = λ _. c.in-Err-Memory.ensures.full (ap Err c.in-Err-Memory.field-0-is);
+      entry = search rules;
+    }

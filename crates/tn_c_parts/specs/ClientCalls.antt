@@ -1,0 +1,113 @@
+-- What each call of a held client end does.
+use Rattle.std.specs.Prelude.{◌≡◌, ◌≢◌, ◌⊎◌, ℕ, Bool, true, false, List, [], drop, Option, None}
+use Rattle.tn_codes.specs.declared.codes.Func.{Func}
+use Rattle.tn_discipline.specs.Characters.{slot}
+use Rattle.tn_option.specs.Options.{state_of}
+use Rattle.tn_client.specs.Calls.{End, LeadsTo, Advances, Sends, Shows, ReadsNothing, SaysOrShows, Feeds, StopsWithin, LacksRoomFor, LacksMemoryFor, call_fault, propose_fault}
+use Rattle.tn_nvt.specs.Feeding as nvt
+use Rattle.tn_client.specs.Events.{History, Event, begun, typed, resized, proposed}
+use Rattle.tn_client.specs.Lines.{ahead, count_under, held_bytes}
+use Rattle.tn_client.specs.Replies.{replies}
+use Rattle.tn_client.specs.Terms.{chars, mode, options}
+use Rattle.tn_client.specs.declared.faults.ClientFault.{ClientFault}
+use Rattle.tn_c_parts.specs.Bytes.{Copies, Gives}
+use Rattle.tn_c_parts.specs.Faults.{client_refusal}
+use Rattle.tn_c_parts.specs.Readings.{char_number, side_given, state_number}
+use Rattle.tn_c_parts.specs.declared.codes.Code.{Code}
+use Rattle.tn_c_parts.specs.declared.codes.Code.TheVariants as code
+use Rattle.tn_c_parts.specs.declared.client.HeldClient.{HeldClient}
+
+-- All that is held is as it was.
+pub record Untouched (old new : HeldClient) : Type 0 where
+  pub end : new.end ≡ old.end
+  pub pending : new.pending.items ≡ old.pending.items
+  pub shown : new.shown.items ≡ old.shown.items
+
+-- A call of the owner, which is this event, and which may be refused for such a cause.
+pub record Acts (e : Event) (cause : End → Option ClientFault) (answer : Code) (before after : HeldClient)
+    : Type 0 where
+  pub goes : answer ≡ code.Done → Advances before.end e after.end
+  pub sends : answer ≡ code.Done → Sends before.end e before.pending.items after.pending.items
+  pub keeps : ReadsNothing before.end after.end
+  pub accepted : answer ≡ code.Done → cause before.end ≡ None
+  pub refused : (answer ≡ code.Done) ⊎ (answer ≡ client_refusal (cause before.end))
+  pub err : answer ≢ code.Done → Untouched before after
+
+pub record KeyCall (key : ℕ) (answer : Code) (before after : HeldClient) : Type 0 where
+  pub acts : Acts (typed key) call_fault answer before after
+  pub shows : answer ≡ code.Done → Shows before.end (typed key) before.shown.items after.shown.items
+  pub grows : answer ≡ code.Memory → (h : History) → LeadsTo h before.end → SaysOrShows h (typed key)
+  pub full : answer ≡ code.Memory → LacksMemoryFor before.end key before.pending before.shown
+
+pub record ResizeCall (width height : ℕ) (answer : Code) (before after : HeldClient) : Type 0 where
+  pub acts : Acts (resized width height) call_fault answer before after
+  pub grows : answer ≡ code.Memory → (h : History) → LeadsTo h before.end
+      → replies h (resized width height) ≢ []
+  pub full : answer ≡ code.Memory → LacksRoomFor before.end (resized width height) before.pending
+  pub shown : after.shown.items ≡ before.shown.items
+
+pub record ProposeCall (value : Option ℕ) (func : Func) (answer : Code) (before after : HeldClient)
+    : Type 0 where
+  pub acts : Acts (proposed func value) (λ end. propose_fault end func value) answer before after
+  pub full : answer ≡ code.Memory → LacksRoomFor before.end (proposed func value) before.pending
+  pub shown : after.shown.items ≡ before.shown.items
+
+pub record FeedCall (piece : List ℕ) (answer : Code) (before after : HeldClient) : Type 0 where
+  pub feeds : answer ≡ code.Done → Feeds before.end piece
+      before.pending.items after.pending.items before.shown.items after.shown.items after.end
+  pub accepted : answer ≡ code.Done → call_fault before.end ≡ None
+  pub refused : (answer ≡ code.Done) ⊎ (answer ≡ client_refusal (call_fault before.end))
+  pub memory : answer ≡ code.Memory → StopsWithin before.end piece
+      before.pending.items after.pending.items before.shown.items after.shown.items
+  pub err : answer ≢ code.Done → after.end.failed ≡ true
+  pub failed : answer ≡ code.Failed → Untouched before after
+
+-- bytes that waited to be sent were moved to a buffer
+pub record ReadCall (old_buf new_buf : List ℕ) (count : ℕ) (before after : HeldClient) : Type 0 where
+  pub copies : Copies before.pending.items old_buf new_buf count
+  pub stay : after.pending.items ≡ drop count before.pending.items
+  pub end : after.end ≡ before.end
+  pub shown : after.shown.items ≡ before.shown.items
+
+-- bytes that waited to be shown were moved to a buffer
+pub record ScreenCall (old_buf new_buf : List ℕ) (count : ℕ) (before after : HeldClient) : Type 0 where
+  pub copies : Copies before.shown.items old_buf new_buf count
+  pub stay : after.shown.items ≡ drop count before.shown.items
+  pub end : after.end ≡ before.end
+  pub pending : after.pending.items ≡ before.pending.items
+
+-- What a look at a client end gives stands in the end, and is what its history has.
+pub record GivesHalf (old_buf new_buf : List ℕ) (whole : ℕ) (held : HeldClient) : Type 0 where
+  pub value : Gives held.end.line.held old_buf new_buf whole
+  pub stands : (h : History) → LeadsTo h held.end → Gives (held_bytes h) old_buf new_buf whole
+
+pub record GivesCounts (trapped plain : ℕ) (held : HeldClient) : Type 0 where
+  pub trapped_value : trapped ≡ held.end.trapped
+  pub plain_value : plain ≡ held.end.plain
+  pub trapped_stands : (h : History) → LeadsTo h held.end → trapped ≡ count_under true h
+  pub plain_stands : (h : History) → LeadsTo h held.end → plain ≡ count_under false h
+
+pub record GivesAhead (count : ℕ) (held : HeldClient) : Type 0 where
+  pub value : count ≡ held.end.line.ahead
+  pub stands : (h : History) → LeadsTo h held.end → count ≡ ahead h
+
+pub record GivesMode (mask : ℕ) (held : HeldClient) : Type 0 where
+  pub value : mask ≡ held.end.mode
+  pub stands : (h : History) → LeadsTo h held.end → mask ≡ mode h
+
+pub record GivesOption (ours : Bool) (option state : ℕ) (held : HeldClient) : Type 0 where
+  pub value : state ≡ state_number (state_of held.end.options (side_given ours) option)
+  pub stands : (h : History) → LeadsTo h held.end
+      → state ≡ state_number (state_of (options h) (side_given ours) option)
+
+pub record IsClientChar (held : HeldClient) (func : Func) (value : ℕ) : Type 0 where
+  pub value_is : value ≡ char_number (slot held.end.table func)
+  pub stands : (h : History) → LeadsTo h held.end → value ≡ char_number (slot (chars h) func)
+
+-- It was just opened, and nothing waits.
+pub record IsOpened (width height limit : ℕ) (held : HeldClient) : Type 0 where
+  pub leads : LeadsTo (begun width height limit) held.end
+  pub reads : nvt.LeadsTo [] [] held.end.decoder
+  pub runs : held.end.failed ≡ false
+  pub pending : held.pending.items ≡ []
+  pub shown : held.shown.items ≡ []

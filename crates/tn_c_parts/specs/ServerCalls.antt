@@ -1,0 +1,137 @@
+-- What each call of a held server end does.
+use Rattle.std.specs.Prelude.{◌≡◌, ◌≢◌, ◌↔◌, ◌⊎◌, ◌*◌, ◌<◌, ◌≤◌, ℕ, Bool, true, false, List, [], ◌∷◌, length, min, drop, Option, Some, None, MatchOption}
+use Rattle.tn_codes.specs.Masks.{filled_octets}
+use Rattle.tn_codes.specs.declared.codes.Func.{Func}
+use Rattle.tn_codes.specs.declared.masks.Mask.{Mask}
+use Rattle.tn_discipline.specs.Characters.{slot}
+use Rattle.tn_discipline.specs.Canon.{Canon}
+use Rattle.tn_nvt.specs.Feeding as nvt
+use Rattle.tn_nvt.specs.Spelling.{spells}
+use Rattle.tn_nvt.specs.Room.{LacksRoom}
+use Rattle.tn_pty.specs.Terminal.{fitting_count}
+use Rattle.tn_server.specs.Calls.{End, LeadsTo, Advances, ReadsNothing, Feeds, StopsWithin, LacksRoomFor, call_fault, char_fault_at, mask_fault}
+use Rattle.tn_server.specs.Events.{History, Event, begun, next, took, wrote, pulled, wished, char_set, mask_set}
+use Rattle.tn_server.specs.Faults.{SaysSomething}
+use Rattle.tn_server.specs.Lines.{waiting}
+use Rattle.tn_server.specs.Replies.{opening}
+use Rattle.tn_server.specs.Screen.{queue}
+use Rattle.tn_server.specs.Terms.{chars, sends_mode}
+use Rattle.tn_server.specs.declared.faults.ServerFault.{ServerFault}
+use Rattle.tn_server.specs.declared.wishes.Editing.{Editing}
+use Rattle.tn_c_parts.specs.Bytes.{Copies}
+use Rattle.tn_c_parts.specs.Entries.{kind_number, wiped_entry}
+use Rattle.tn_c_parts.specs.Readings.{char_number}
+use Rattle.tn_c_parts.specs.Faults.{server_code, server_refusal}
+use Rattle.tn_c_parts.specs.declared.codes.Code.{Code}
+use Rattle.tn_c_parts.specs.declared.codes.Code.TheVariants as code
+use Rattle.tn_c_parts.specs.declared.server.HeldServer.{HeldServer}
+
+-- All that is held is as it was.
+pub record Untouched (old new : HeldServer) : Type 0 where
+  pub end : new.end ≡ old.end
+  pub pending : new.pending.items ≡ old.pending.items
+  pub entry : new.entry ≡ old.entry
+
+-- A call of the owner, which is this event, and which may be refused for such a cause.
+pub record Acts (e : Event) (cause : End → Option ServerFault) (answer : Code) (before after : HeldServer)
+    : Type 0 where
+  pub ok : answer ≡ code.Done → Advances before.end e before.pending.items after.pending.items after.end
+  pub keeps : ReadsNothing before.end after.end
+  pub accepted : answer ≡ code.Done → cause before.end ≡ None
+  pub refused : (answer ≡ code.Done) ⊎ (answer ≡ server_refusal (cause before.end))
+  pub err : answer ≢ code.Done → Untouched before after
+  pub grows : answer ≡ code.Memory → (h : History) → LeadsTo h before.end → SaysSomething h e
+  pub full : answer ≡ code.Memory → LacksRoomFor before.end e before.pending
+  pub entry : after.entry ≡ before.entry
+
+pub record WishCall (editing : Editing) (old_sent new_sent : Bool) (answer : Code)
+    (before after : HeldServer) : Type 0 where
+  pub acts : Acts (wished editing) call_fault answer before after
+  pub sent : answer ≡ code.Done → (h : History) → LeadsTo h before.end → new_sent ≡ sends_mode h editing
+  pub unsent : answer ≢ code.Done → new_sent ≡ old_sent
+
+abbrev pub SetCharCall : Option ℕ → Func → Code → HeldServer → HeldServer → Type 0
+SetCharCall value func = Acts (char_set func value) (λ end. char_fault_at end func value)
+
+abbrev pub SetMaskCall : Option Mask → Code → HeldServer → HeldServer → Type 0
+SetMaskCall mask = Acts (mask_set mask) mask_fault
+
+-- a mask of these octets; those that are left out are zero
+pub record SetOctetsCall (octets : List ℕ) (answer : Code) (before after : HeldServer) : Type 0 where
+  pub short : length octets ≤ 32 → (mask : Mask) → mask.0 ≡ filled_octets octets
+      → SetMaskCall (Some mask) answer before after
+  pub long : (answer ≡ code.TooLong) ↔ (32 < length octets)
+  pub stays : answer ≡ code.TooLong → after ≡ before
+
+pub record FeedCall (piece : List ℕ) (answer : Code) (before after : HeldServer) : Type 0 where
+  pub ok : answer ≡ code.Done → Feeds before.end piece before.pending.items after.pending.items after.end
+  pub accepted : answer ≡ code.Done → call_fault before.end ≡ None
+  pub failed : (answer ≡ code.Failed) ↔ (before.end.failed ≡ true)
+  pub failed_stays : answer ≡ code.Failed → Untouched before after
+  pub halts : answer ≢ code.Done → answer ≢ code.Failed → (f : ServerFault)
+      × (answer ≡ server_code f)
+      × StopsWithin before.end piece f before.pending.items after.pending.items after.end
+  pub err : answer ≢ code.Done → after.end.failed ≡ true
+  pub codes : (answer ≡ code.Done) ⊎ ((answer ≡ code.Memory) ⊎ ((answer ≡ code.Failed)
+      ⊎ ((answer ≡ code.TooFarAhead) ⊎ (answer ≡ code.Closed))))
+  pub shut : answer ≡ code.Closed → before.end.terminal.closed ≡ true
+  pub entry : after.entry ≡ before.entry
+
+pub record TakeCall (old_kind new_kind : ℕ) (answer : Code) (before after : HeldServer) : Type 0 where
+  pub codes : (answer ≡ code.Done) ⊎ (answer ≡ code.Memory)
+  pub ok : answer ≡ code.Done → Advances before.end took before.pending.items after.pending.items after.end
+  pub keeps : ReadsNothing before.end after.end
+  pub entry : answer ≡ code.Done → (h : History) → LeadsTo h before.end
+      → MatchOption after.entry (waiting h ≡ []) (λ e. waiting h ≡ e ∷ waiting (next h took))
+  pub kind : answer ≡ code.Done → new_kind ≡ kind_number after.entry
+  pub err : answer ≡ code.Memory → Untouched before after
+  pub err_kind : answer ≡ code.Memory → new_kind ≡ old_kind
+  pub grows : answer ≡ code.Memory → (h : History) → LeadsTo h before.end → SaysSomething h took
+  pub full : answer ≡ code.Memory → LacksRoomFor before.end took before.pending
+
+pub record WriteCall (bytes : List ℕ) (count : ℕ) (before after : HeldServer) : Type 0 where
+  pub goes : (so_far : List ℕ) → Advances before.end (wrote bytes) so_far so_far after.end
+  pub keeps : ReadsNothing before.end after.end
+  pub counts : (h : History) → LeadsTo h before.end → count ≡ fitting_count (queue h) bytes
+  pub pending : after.pending.items ≡ before.pending.items
+  pub entry : after.entry ≡ before.entry
+
+pub record PullCall (max old_count new_count : ℕ) (answer : Code) (before after : HeldServer) : Type 0 where
+  pub codes : (answer ≡ code.Done) ⊎ (answer ≡ code.Memory)
+  pub ok : answer ≡ code.Done
+      → Advances before.end (pulled new_count) before.pending.items after.pending.items after.end
+  pub keeps : ReadsNothing before.end after.end
+  pub counts : answer ≡ code.Done → (h : History) → LeadsTo h before.end
+      → new_count ≡ min max (length (queue h))
+  pub entry : after.entry ≡ before.entry
+  pub err : answer ≡ code.Memory → Untouched before after
+  pub err_count : answer ≡ code.Memory → new_count ≡ old_count
+  pub grows : answer ≡ code.Memory → (h : History) → LeadsTo h before.end → SaysSomething h (pulled max)
+  pub full : answer ≡ code.Memory → (h : History) → LeadsTo h before.end
+      → LacksRoom before.pending (2 * min max (length (queue h)))
+
+-- bytes that waited to be sent were moved to a buffer
+pub record ReadCall (old_buf new_buf : List ℕ) (count : ℕ) (before after : HeldServer) : Type 0 where
+  pub copies : Copies before.pending.items old_buf new_buf count
+  pub stay : after.pending.items ≡ drop count before.pending.items
+  pub end : after.end ≡ before.end
+  pub entry : after.entry ≡ before.entry
+
+-- the text that was taken last was wiped
+pub record ForgetCall (before after : HeldServer) : Type 0 where
+  pub end : after.end ≡ before.end
+  pub pending : after.pending.items ≡ before.pending.items
+  pub entry : after.entry ≡ wiped_entry before.entry
+
+abbrev pub IsServerChar : HeldServer → Func → ℕ → Type 0
+IsServerChar server func value =
+    (h : History) → LeadsTo h server.end → value ≡ char_number (slot (chars h) func)
+
+-- It was just opened, and its opening words wait.
+pub record IsOpened (canon : Canon) (held : HeldServer) : Type 0 where
+  pub leads : LeadsTo (begun canon) held.end
+  pub reads : nvt.LeadsTo [] [] held.end.decoder
+  pub runs : held.end.failed ≡ false
+  pub opens : held.end.terminal.closed ≡ false
+  pub pending : held.pending.items ≡ spells opening
+  pub entry : held.entry ≡ None

@@ -1,9 +1,0 @@
--- A held server end, and what a refused call leaves.
-use Rattle.std.specs.Prelude.{◌≡◌}
-use Rattle.tn_c_parts.specs.declared.server.HeldServer.{HeldServer}
-
--- All that is held is as it was.
-pub record Untouched (old new : HeldServer) : Type 0 where
-  pub end : new.end ≡ old.end
-  pub pending : new.pending.items ≡ old.pending.items
-  pub entry : new.entry ≡ old.entry

@@ -1,0 +1,236 @@
+/* chat [PORT]: what a client types is said to all others, line by line. One thread, poll, up to 4,096 clients.
+ * Lines are edited at each client that can do that (LINEMODE), and here for the others; ^D leaves.
+ *
+ *   cc -O2 -Iinclude examples/c/chat.c out/libtn.a -o chat
+ *   ./chat 2323 &   then   telnet 127.0.0.1 2323   in several windows
+ */
+#include "tn.h"
+
+#include <arpa/inet.h>
+#include <errno.h>
+#include <netinet/in.h>
+#include <poll.h>
+#include <stdio.h>
+#include <stdlib.h>
+#include <string.h>
+#include <sys/resource.h>
+#include <sys/socket.h>
+#include <unistd.h>
+
+#define MAX_CLIENTS 4096
+#define LIMIT 255
+#define PIECE 512        /* so that no paste makes more entries than may wait */
+#define BACKLOG 65536    /* what may wait to be said to a client that does not read; one who lets more wait is left */
+
+struct client {
+    int fd;
+    bool is_over;
+    tn_server end;
+    uint8_t out[4096]; /* read out of the end, and not sent yet: from..to */
+    size_t from, to;
+    uint8_t *said; /* what has found no room on the screen yet: first..last */
+    size_t first, last;
+};
+
+static struct client *clients[MAX_CLIENTS];
+static struct pollfd polled[MAX_CLIENTS + 1]; /* the listener stands last */
+static size_t count;
+
+static void leave(struct client *c)
+{
+    tn_server_free(&c->end);
+    close(c->fd);
+    free(c->said);
+    free(c);
+}
+
+static void welcome(int listener)
+{
+    static const tn_flags flags = TN_STANDARD_FLAGS;
+    int fd = accept(listener, NULL, NULL);
+    struct client *c = fd < 0 || count == MAX_CLIENTS ? NULL : calloc(1, sizeof *c);
+    bool sent = false;
+    if (!c) {
+        if (fd >= 0)
+            close(fd); /* the house is full */
+        return;
+    }
+    c->fd = fd;
+    if (tn_server_start(&c->end, &flags, LIMIT) != TN_OK || tn_server_wish(&c->end, true, &sent) != TN_OK) {
+        leave(c);
+        return;
+    }
+    clients[count++] = c;
+}
+
+/* Writes to a client's screen what has room there, and spells it. */
+static void show(struct client *c)
+{
+    size_t done = 0, symbols = 0;
+    do {
+        if (tn_server_write(&c->end, c->said + c->first, c->last - c->first, &done) != TN_OK
+            || tn_server_pull(&c->end, 4096, &symbols) != TN_OK) {
+            c->is_over = true;
+            return;
+        }
+        c->first += done;
+    } while (c->first < c->last && done > 0);
+    if (c->first == c->last) {
+        free(c->said);
+        c->said = NULL;
+        c->first = c->last = 0;
+    }
+}
+
+/* Bytes that wait to be sent, beside those that were read out. */
+static size_t pending(struct client *c)
+{
+    size_t waiting = 0;
+    if (tn_server_pending(&c->end, &waiting) != TN_OK)
+        c->is_over = true;
+    return waiting;
+}
+
+static bool has_output(struct client *c)
+{
+    return c->from < c->to || c->first < c->last || pending(c) > 0;
+}
+
+static void say(struct client *c, const uint8_t *text, size_t length)
+{
+    size_t waiting = c->last - c->first;
+    uint8_t *room;
+    if (waiting + pending(c) > BACKLOG || !(room = malloc(waiting + length))) {
+        c->is_over = true;
+        return;
+    }
+    if (waiting > 0)
+        memcpy(room, c->said + c->first, waiting);
+    memcpy(room + waiting, text, length);
+    free(c->said);
+    c->said = room;
+    c->first = 0;
+    c->last = waiting + length;
+    show(c);
+}
+
+/* Takes what was typed: each line goes to all others. */
+static void hear(struct client *c)
+{
+    uint8_t line[LIMIT + 16];
+    for (;;) {
+        tn_kind kind = TN_NONE;
+        size_t length = 0;
+        int name = snprintf((char *)line, 16, "%d> ", c->fd);
+        memset(line + name, 0, LIMIT);
+        if (tn_server_take(&c->end, &kind) != TN_OK || kind == TN_EOF)
+            c->is_over = true;
+        if (c->is_over || kind == TN_NONE)
+            return;
+        if (kind != TN_TEXT || tn_server_text(&c->end, line + name, LIMIT, &length) != TN_OK)
+            continue;
+        for (size_t i = 0; i < count; i++)
+            if (clients[i] != c && !clients[i]->is_over)
+                say(clients[i], line, (size_t)name + length);
+    }
+}
+
+static bool is_passing(ssize_t done)
+{
+    return done < 0 && (errno == EAGAIN || errno == EINTR);
+}
+
+/* Sends what waits, as much as the socket takes. */
+static void send_some(struct client *c)
+{
+    while (!c->is_over) {
+        ssize_t n;
+        if (c->from == c->to) {
+            c->from = c->to = 0;
+            if (c->first < c->last)
+                show(c);
+            if (tn_server_read(&c->end, c->out, sizeof c->out, &c->to) != TN_OK)
+                c->is_over = true;
+            if (c->to == 0)
+                return;
+        }
+        n = send(c->fd, c->out + c->from, c->to - c->from, MSG_NOSIGNAL | MSG_DONTWAIT);
+        if (n < 0) {
+            c->is_over = !is_passing(n);
+            return;
+        }
+        c->from += (size_t)n;
+    }
+}
+
+static void receive(struct client *c)
+{
+    uint8_t piece[PIECE];
+    ssize_t n = recv(c->fd, piece, sizeof piece, MSG_DONTWAIT);
+    if (n <= 0) {
+        c->is_over = !is_passing(n);
+        return;
+    }
+    if (tn_server_feed(&c->end, piece, (size_t)n) != TN_OK) {
+        c->is_over = true;
+        return;
+    }
+    show(c); /* the echo */
+    hear(c);
+}
+
+/* Sends to all, and lets those go that have left. */
+static void send_all(void)
+{
+    size_t kept = 0;
+    for (size_t i = 0; i < count; i++)
+        if (has_output(clients[i]))
+            send_some(clients[i]);
+    for (size_t i = 0; i < count; i++) {
+        if (clients[i]->is_over)
+            leave(clients[i]);
+        else
+            clients[kept++] = clients[i];
+    }
+    count = kept;
+}
+
+static int open_port(int port)
+{
+    struct sockaddr_in at = { .sin_family = AF_INET, .sin_addr.s_addr = htonl(INADDR_LOOPBACK), .sin_port = htons((uint16_t)port) };
+    socklen_t length = sizeof at;
+    int on = 1, listener = socket(AF_INET, SOCK_STREAM, 0);
+    setsockopt(listener, SOL_SOCKET, SO_REUSEADDR, &on, sizeof on);
+    if (bind(listener, (struct sockaddr *)&at, sizeof at) || listen(listener, 1024)) {
+        perror("chat");
+        exit(1);
+    }
+    getsockname(listener, (struct sockaddr *)&at, &length);
+    printf("port %d\n", ntohs(at.sin_port));
+    fflush(stdout);
+    return listener;
+}
+
+int main(int argc, char **argv)
+{
+    struct rlimit files = { MAX_CLIENTS + 16, MAX_CLIENTS + 16 };
+    int listener = open_port(argc > 1 ? atoi(argv[1]) : 2323);
+    setrlimit(RLIMIT_NOFILE, &files);
+    for (;;) {
+        size_t heard = count;
+        for (size_t i = 0; i < count; i++) {
+            polled[i].fd = clients[i]->fd;
+            /* a client that does not read what it was sent is not read either */
+            polled[i].events = has_output(clients[i]) ? POLLOUT : POLLIN;
+        }
+        polled[count] = (struct pollfd) { .fd = listener, .events = POLLIN };
+        if (poll(polled, count + 1, -1) < 0)
+            continue; /* the program was stopped, and goes on */
+        if (polled[heard].revents & POLLIN)
+            welcome(listener);
+        for (size_t i = 0; i < heard; i++)
+            if (polled[i].revents & (POLLIN | POLLHUP | POLLERR))
+                receive(clients[i]);
+        send_all();
+    }
+}
