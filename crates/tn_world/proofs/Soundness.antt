@@ -104,6 +104,7 @@ propose_goes_on end (client_calls.proposed func value) e = by_test end.failed re
 propose_goes_on end (client_calls.typed key) e = call_goes_on end e
 propose_goes_on end (client_calls.got item) e = call_goes_on end e
 propose_goes_on end (client_calls.resized width height) e = call_goes_on end e
+propose_goes_on end (client_calls.sent command) e = call_goes_on end e
 
 -- THE OPTION WORDS in flight
 -- two engines of a server and a client, from their beginning
