@@ -9,6 +9,7 @@ use Rattle.hex.specs.Hex.{decode_of}
 use Rattle.tn_codes.specs.Masks.{filled_octets}
 use Rattle.tn_codes.specs.declared.codes.Func.{Func}
 use Rattle.tn_codes.specs.declared.codes.Func.TheVariants as func
+use Rattle.tn_client.specs.declared.commands.UserCommand.TheVariants as user
 use Rattle.tn_server.specs.declared.wishes.Editing.TheVariants.{Remote, Local}
 use Rattle.tn_world.specs.declared.events.Event.TheVariants as event
 use Rattle.tn_cli.specs.declared.scripts.Command.{Command}
@@ -85,12 +86,21 @@ abbrev pub mask_command : List ℕ → Option Command
 mask_command name =
     if bytes_eq name (codes "off") then Some (Happen (event.Mask None)) else None
 
+abbrev pub send_command : List ℕ → Option Command
+send_command name =
+    if bytes_eq name (codes "brk") then Some (Happen (event.Send user.Brk))
+    else if bytes_eq name (codes "ip") then Some (Happen (event.Send user.Ip))
+    else if bytes_eq name (codes "ayt") then Some (Happen (event.Send user.Ayt))
+    else if bytes_eq name (codes "nop") then Some (Happen (event.Send user.Nop))
+    else None
+
 -- a line of two words, the second of them a name
 abbrev pub with_name : List ℕ → List ℕ → Option Command
 with_name verb name =
     if bytes_eq verb (codes "wish") then wish_command name
     else if bytes_eq verb (codes "echo") then echo_command name
     else if bytes_eq verb (codes "mask") then mask_command name
+    else if bytes_eq verb (codes "send") then send_command name
     else None
 
 -- a line of two words, the second of them a number

@@ -6,6 +6,7 @@ ghost use Rattle.tn_cli.specs.Scripts as script;
 
 use hex::FromHexError;
 use std::alloc::{AllocError, Global};
+use tn_client::UserCommand;
 use tn_codes::{Func, Mask};
 use tn_discipline::Text;
 use tn_server::Editing;
@@ -129,6 +130,9 @@ fn with_name(verb: &[u8], name: &[u8]) -> Option<Command>
     if is_word(verb, b"mask") {
         return unmasked(name);
     }
+    if is_word(verb, b"send") {
+        return sent(name);
+    }
     None
 }
 
@@ -155,6 +159,17 @@ fn unmasked(name: &[u8]) -> Option<Command>
 {
     value_of_word! { name;
         b"off" => Command::Happen(Event::Mask(None)),
+    }
+}
+
+fn sent(name: &[u8]) -> Option<Command>
+    ensures { result ≡ script.send_command name.now }
+{
+    value_of_word! { name;
+        b"brk" => Command::Happen(Event::Send(UserCommand::Brk)),
+        b"ip" => Command::Happen(Event::Send(UserCommand::Ip)),
+        b"ayt" => Command::Happen(Event::Send(UserCommand::Ayt)),
+        b"nop" => Command::Happen(Event::Send(UserCommand::Nop)),
     }
 }
 

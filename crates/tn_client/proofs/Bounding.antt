@@ -25,9 +25,9 @@ use Rattle.tn_wire.specs.Prefixes.{IsRead}
 use Rattle.tn_wire.specs.Words.{word_items, payload_items, mode_items, payload_under}
 use Rattle.tn_wire.proofs.lemmas.Sizes.{size, size-append, size-one, size-word, size-mode, size-list, size-triple, answers-size, says_under, size-came, size-least, size-params}
 use Rattle.tn_client.specs.Bounds.{held_sent, max_answered, max_of_calls, bytes_due}
-use Rattle.tn_client.specs.Events.{History, typed, got, resized, proposed, begun, next, items}
+use Rattle.tn_client.specs.Events.{History, typed, got, resized, proposed, sent, begun, next, items}
 use Rattle.tn_client.specs.Lines.{role_at, held_bytes, count_under, line}
-use Rattle.tn_client.specs.Replies.{byte_items, command_of, command_items, raw_key_items, edited_key_items, sent_ahead_items, key_items, size_items, new_size_items, payload_answers, answer_items, end_of_edit_items, is_same_size, resize_items, replies, items_said}
+use Rattle.tn_client.specs.Replies.{byte_items, command_of, command_items, raw_key_items, edited_key_items, sent_ahead_items, key_items, size_items, new_size_items, payload_answers, answer_items, end_of_edit_items, is_same_size, resize_items, command_sent, replies, items_said}
 use Rattle.tn_client.specs.Steps.{is_sent_now, line_sent, line_left, count_told}
 use Rattle.tn_client.specs.Terms.{options, mode, forward, chars, size as window, linemode, tells_size, options_after, payload_at}
 use Rattle.tn_client.proofs.lemmas.Histories.{unedited-held}
@@ -279,6 +279,8 @@ bounded names (next h (resized width height)) =
     omega (arith, bounded names h, size-append (items_said h) (replies h (resized width height)), resized_pays (tells_size (options h)) (window h) (width, height))
 bounded names (next h (proposed func value)) =
     omega (arith, bounded names h, size-append (items_said h) (replies h (proposed func value)), size-triple func value)
+bounded names (next h (sent command)) =
+    omega (arith, bounded names h, size-append (items_said h) (replies h (sent command)), size-one (Cmd (command_sent command)))
 
 -- WEIGHTS OF A STREAM
 weight-most : (item : Item) → Fits item → weight item ≤ 4 * length (spelling item)

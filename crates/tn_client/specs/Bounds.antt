@@ -4,7 +4,7 @@ use Rattle.tn_linemode.specs.Modes.{edits}
 use Rattle.tn_nvt.specs.Spelling.{spelling, spells}
 use Rattle.tn_nvt.specs.declared.items.Item.{Item}
 use Rattle.tn_nvt.specs.declared.items.Item.TheVariants.{Neg, Sub}
-use Rattle.tn_client.specs.Events.{Event, typed, got, resized, proposed, History, begun, next}
+use Rattle.tn_client.specs.Events.{Event, typed, got, resized, proposed, sent, History, begun, next}
 use Rattle.tn_client.specs.Lines.{held_bytes}
 use Rattle.tn_client.specs.Replies.{byte_items, end_of_edit_items, items_said}
 use Rattle.tn_client.specs.Terms.{mode}
@@ -20,13 +20,14 @@ max_answered (Neg verb option) = 16
 max_answered (Sub option params) = length (spelling (Sub option params))
 max_answered _ = 0
 
--- What a call of the owner adds at most to what is sent, or held: two bytes for a key; the window's size; a
--- triple.
+-- What a call of the owner adds at most to what is sent, or held: two bytes for a key or a command; the
+-- window's size; a triple.
 abbrev pub max_of_call : Event → ℕ
 max_of_call (typed key) = 2
 max_of_call (got item) = 0
 max_of_call (resized width height) = 13
 max_of_call (proposed func value) = 10
+max_of_call (sent command) = 2
 
 abbrev pub max_of_calls : History → ℕ
 max_of_calls (begun width height limit) = 0

@@ -3,7 +3,7 @@ use Rattle.std.specs.Prelude.{◌≡◌, ℕ, List, [], ◌++◌}
 use Rattle.tn_nvt.specs.Feeding as nvt
 use Rattle.tn_nvt.specs.declared.items.Item.{Item}
 use Rattle.tn_wire.specs.Prefixes.{IsRead}
-use Rattle.tn_client.specs.Events.{Event, typed, got, resized, proposed, History, begun, next, items, gets}
+use Rattle.tn_client.specs.Events.{Event, typed, got, resized, proposed, sent, History, begun, next, items, gets}
 use Rattle.tn_client.specs.Calls.{End, LeadsTo}
 
 pub data Course : Type 0 where
@@ -24,6 +24,7 @@ IsCall (typed key) = Unit {0}
 IsCall (got item) = ⊥
 IsCall (resized width height) = Unit {0}
 IsCall (proposed func value) = Unit {0}
+IsCall (sent command) = Unit {0}
 
 -- this is the history of the course: a piece brings the items that the longer stream has more
 abbrev pub ReadsAs : Course → History → Type 0

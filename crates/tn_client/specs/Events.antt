@@ -1,13 +1,16 @@
--- What happens at a client end: keys are typed, items come, the window changes, and characters are proposed.
+-- What happens at a client end: keys are typed, items come, the window changes, characters are proposed, and
+-- commands are sent.
 use Rattle.std.specs.Prelude.{ℕ, Option, List, [], ◌∷◌, ◌++◌}
 use Rattle.tn_codes.specs.declared.codes.Func.{Func}
 use Rattle.tn_nvt.specs.declared.items.Item.{Item}
+use Rattle.tn_client.specs.declared.commands.UserCommand.{UserCommand}
 
 pub data Event : Type 0 where
   typed : ℕ → Event
   got : Item → Event
   resized : ℕ → ℕ → Event
   proposed : Func → Option ℕ → Event
+  sent : UserCommand → Event
 
 -- What has happened since the end was started with a window of this width and height, and with lines of at
 -- most so many bytes with the closing one; the latest at the right.

@@ -19,9 +19,11 @@ use Rattle.tn_nvt.specs.declared.items.Item.{Item}
 use Rattle.tn_nvt.specs.declared.items.Item.TheVariants.{Byte, Newline, Cmd, Neg, Sub}
 use Rattle.tn_option.specs.Options.{Options, reply_to}
 use Rattle.tn_wire.specs.Words.{word_items, payload_items, mode_items, list_items}
-use Rattle.tn_client.specs.Events.{Event, typed, got, resized, proposed, History, begun, next}
+use Rattle.tn_client.specs.Events.{Event, typed, got, resized, proposed, sent, History, begun, next}
 use Rattle.tn_client.specs.Terms.{options, mode, forward, chars, size, payload_at, options_after, mode_at, tells_size}
 use Rattle.tn_client.specs.Lines.{role_at, sends_ahead, line}
+use Rattle.tn_client.specs.declared.commands.UserCommand.{UserCommand}
+use Rattle.tn_client.specs.declared.commands.UserCommand.TheVariants as user
 
 -- bytes of data
 abbrev pub byte_items : List ℕ → List Item
@@ -129,12 +131,20 @@ is_same_size (a, b) (c, d) = a == c && b == d
 abbrev pub resize_items : Bool → ℕ × ℕ → ℕ × ℕ → List Item
 resize_items on old new = if on && not (is_same_size old new) then size_items new else []
 
+-- RFC 854: the command that the user sends
+abbrev pub command_sent : UserCommand → Command
+command_sent user.Brk = command.Brk
+command_sent user.Ip = command.Ip
+command_sent user.Ayt = command.Ayt
+command_sent user.Nop = command.Nop
+
 -- what the client says at an event
 abbrev pub replies : History → Event → List Item
 replies h (typed key) = key_items (edits (mode h)) (forward h) (role_at h key) (line h) key
 replies h (got item) = item_replies (options h) (mode h) (chars h) (size h) (line h) item
 replies h (resized width height) = resize_items (tells_size (options h)) (size h) (width, height)
 replies h (proposed func value) = list_items (triple_of func value ∷ [])
+replies h (sent command) = Cmd (command_sent command) ∷ []
 
 -- what was said
 abbrev pub items_said : History → List Item

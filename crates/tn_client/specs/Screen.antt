@@ -10,7 +10,7 @@ use Rattle.tn_discipline.specs.declared.termios.Settings.{Settings}
 use Rattle.tn_linemode.specs.Modes.{edits}
 use Rattle.tn_nvt.specs.declared.items.Item.{Item}
 use Rattle.tn_nvt.specs.declared.items.Item.TheVariants.{Byte, Newline}
-use Rattle.tn_client.specs.Events.{Event, typed, got, resized, proposed, History, begun, next}
+use Rattle.tn_client.specs.Events.{Event, typed, got, resized, proposed, sent, History, begun, next}
 use Rattle.tn_client.specs.Terms.{options, mode, chars, is_echoed}
 use Rattle.tn_client.specs.Lines.{key_settings, role_at, line}
 
@@ -60,6 +60,7 @@ shows h (typed key) =
 shows h (got item) = item_shown item
 shows h (resized width height) = []
 shows h (proposed func value) = []
+shows h (sent command) = []
 
 -- what was shown
 abbrev pub text_shown : History → List ℕ

@@ -6,13 +6,14 @@ ghost use Rattle.tn_nvt.specs.Room.{LacksRoom};
 ghost use Rattle.tn_nvt.specs.Spelling.{spells};
 ghost use Rattle.tn_nvt.specs.Feeding as nvt;
 ghost use Rattle.tn_option.specs.Options.{state_of};
-ghost use Rattle.tn_client.specs.Events.{History, begun, next, typed, resized, proposed};
+ghost use Rattle.tn_client.specs.Events.{History, begun, next, typed, resized, proposed, sent};
 ghost use Rattle.tn_client.specs.Terms.{options, mode, chars};
 ghost use Rattle.tn_client.specs.Lines.{held_bytes, ahead, count_under};
 ghost use Rattle.tn_client.specs.Replies.{replies, size_items};
 ghost use Rattle.tn_client.specs.Calls.{LeadsTo, Advances, Sends, Shows, ReadsNothing, SaysOrShows, Feeds, StopsWithin, LacksRoomFor, LacksMemoryFor, call_fault, propose_fault, IsFault};
 ghost use Rattle.tn_client.specs.Steps.{end_after_resize, says_resize};
 
+use crate::commands::UserCommand;
 use crate::faults::ClientFault;
 use crate::taking::Lent;
 use std::alloc::{AllocError, Global};
@@ -21,7 +22,7 @@ use std::mem;
 use tn_codes::{Func, Mask, Payload};
 use tn_discipline::{Chars, Limit, Line};
 use tn_linemode::{ClientMode, ClientTable};
-use tn_nvt::Decoder;
+use tn_nvt::{Decoder, put_cmd};
 use tn_option::{Agree, Engine, LINEMODE, NAWS, QState, Side};
 use tn_wire::{put_payload, put_triple};
 
@@ -275,6 +276,29 @@ impl ClientEnd {
                 Ok(()) => Ok(()),
                 Err(_) => Err(ClientFault::Memory),
             },
+        }
+    }
+
+    /// Sends a command at once, before what is held of a line, which stays as it is. Nothing is shown. `Failed`
+    /// after a refused piece, `Memory` for what it says.
+    pub fn send(&mut self, command: UserCommand, out: &mut Vec<u8>) -> Result<(), ClientFault>
+        ensures goes { OnOk result (Advances self.old (sent command) self.new) }
+        ensures sends { OnOk result (Sends self.old (sent command) out.old.items out.new.items) }
+        ensures keeps { OnOk result (ReadsNothing self.old self.new) }
+
+        ensures accepted { OnOk result (call_fault self.old ≡ None) }
+        ensures fault { IfErr result (IsFault (call_fault self.old)) }
+        ensures err { OnErr result (self.new ≡ self.old) }
+        ensures err_out { OnErr result (out.new.items ≡ out.old.items) }
+        ensures full { IsErrOf result ClientFault.Memory →
+            LacksRoomFor self.old (sent command) out.old }
+    {
+        if self.failed {
+            return Err(ClientFault::Failed);
+        }
+        match put_cmd(command.command(), out) {
+            Ok(()) => Ok(()),
+            Err(_) => Err(ClientFault::Memory),
         }
     }
 

@@ -8,13 +8,14 @@ ghost use Rattle.tn_nvt.specs.Spelling.{spelling, spells};
 ghost use Rattle.tn_nvt.specs.declared.items.Item.TheVariants.{Neg, Sub};
 ghost use Rattle.tn_codes.specs.declared.codes.Verb.{Verb};
 ghost use Rattle.tn_nvt.specs.declared.items.Item.{Item};
-ghost use Rattle.tn_client.specs.Events.{Event, got, History, begun, items, keys, gets};
+ghost use Rattle.tn_client.specs.Events.{Event, got, sent, History, begun, next, items, keys, gets};
 ghost use Rattle.tn_client.specs.Bounds.{held_sent, max_answered, max_of_calls, bytes_due};
 ghost use Rattle.tn_wire.specs.Prefixes.{IsRead};
 ghost use Rattle.tn_client.specs.Terms.{options, mode, forward, linemode};
-ghost use Rattle.tn_client.specs.Lines.{line_limit, ahead, held_bytes, half_line, count_under};
+ghost use Rattle.tn_client.specs.Lines.{line_limit, ahead, held_bytes, half_line, count_under, line};
 ghost use Rattle.tn_client.specs.Replies.{replies, items_said};
 ghost use Rattle.tn_client.specs.Screen.{text_shown};
+ghost use Rattle.tn_client.specs.declared.commands.UserCommand.{UserCommand};
 ghost use Rattle.tn_client.specs.Calls.{End, LeadsTo, Advances, ReadsNothing, Feeds, StopsWithin};
 ghost use Rattle.tn_client.specs.Stopping.{StopsBetween};
 ghost use Rattle.tn_client.specs.Course.{Course, started, fed, called, stream, IsCall, ReadsAs, CourseLeadsTo};
@@ -48,6 +49,13 @@ pub fn nothing_without_edit()
     ensures counts { (isig : Bool) (h : History) → edits (mode h) ≡ true → count_under isig h ≡ 0 }
     ensures mode { (h : History) → linemode (options h) ≡ false → mode h ≡ 0 }
     ensures forward { (h : History) → linemode (options h) ≡ false → forward h ≡ None }
+{}
+
+/// A command that the user sends leaves the half line as it is, whichever end edits it.
+pub fn commands_leave_the_line()
+    ensures here { (h : History) (command : UserCommand) → line (next h (sent command)) ≡ line h }
+    ensures there { (isig : Bool) (h : History) (command : UserCommand) →
+        count_under isig (next h (sent command)) ≡ count_under isig h }
 {}
 
 /// A course has one history.

@@ -4,14 +4,17 @@
 //! let mut end = ClientEnd::start(alloc, 80, 24, Limit::standard())?;
 //! end.feed(&from_network, &mut out, &mut screen)?; // answers to `out`, text to `screen`
 //! end.key(0x61, &mut out, &mut screen)?; // sent, or kept and echoed, as the mode has it
+//! end.send(UserCommand::Ip, &mut out)?; // interrupts what runs at the server, in each mode
 //! ```
 //!
 //! It opens no socket and sets no terminal: keys and screen are bytes. It never proposes an option.
 #![tactic(auto)]
 
+pub use commands::UserCommand;
 pub use end::ClientEnd;
 pub use faults::ClientFault;
 
+mod commands;
 mod end;
 mod faults;
 mod items;

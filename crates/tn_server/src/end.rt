@@ -14,7 +14,7 @@ ghost use Rattle.tn_pty.specs.declared.pty.PtyFault.TheVariants.{Closed};
 ghost use Rattle.tn_server.specs.Events.{History, begun, next, took, wrote, pulled, wished, char_set, echo_set, mask_set};
 ghost use Rattle.tn_server.specs.Lines.{half, waiting};
 ghost use Rattle.tn_server.specs.Screen.{queue, size, sends_ga, none_waits, due};
-ghost use Rattle.tn_server.specs.Terms.{mode, asked_mask, chars, options, sends_mode};
+ghost use Rattle.tn_server.specs.Terms.{mode, asked_mask, chars, settings, options, sends_mode};
 ghost use Rattle.tn_server.specs.Replies.{opening};
 ghost use Rattle.tn_server.specs.Faults.{IsOfItem, IsOfPiece, IsFault, SaysSomething};
 ghost use Rattle.tn_server.specs.Calls.{LeadsTo, Advances, ReadsNothing, Feeds, StopsWithin, LacksRoomFor, call_fault, char_fault_at, mask_fault};
@@ -385,6 +385,14 @@ impl ServerEnd {
         ensures { (h : History) → LeadsTo h self.now → result ≡ chars h }
     {
         self.table.chars()
+    }
+
+    /// The terminal's settings: its flags, and the special characters in force.
+    pub fn settings(&self) -> Settings
+        ensures value { result ≡ self.now.terminal.settings }
+        ensures stands { (h : History) → LeadsTo h self.now → result ≡ settings h }
+    {
+        self.pair.settings()
     }
 
     /// Where an option stands.

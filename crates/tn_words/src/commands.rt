@@ -215,6 +215,7 @@ fn world_command<'a>(alloc: Global) -> Command<'a>
              of digits in lower case; N is a number up to 1,000,000, and up to 65,535 in `resize`, where \
              zeros may lead; F is one of `ip`, `abort`, `eof`, `susp`, `ec`, `el`, `forw1` and `forw2`.\n\n\
              key HEX: the user types these keys\n\
+             send brk, send ip, send ayt, send nop: the user sends this command\n\
              to-server N, to-client N: the first N bytes in flight arrive\n\
              settle: all that is in flight arrives, until nothing is in flight, in at most 64 rounds\n\
              write HEX: the job writes this\n\

@@ -20,6 +20,7 @@ use Rattle.tn_client.specs.Course as client_courses
 use Rattle.tn_client.specs.Events as client_calls
 use Rattle.tn_client.specs.Calls as client
 use Rattle.tn_client.specs.Replies as client_says
+use Rattle.tn_client.specs.declared.commands.UserCommand.{UserCommand}
 use Rattle.tn_client.specs.declared.faults.ClientFault.{ClientFault}
 use Rattle.tn_client.specs.declared.faults.ClientFault.TheVariants as client_faults
 use Rattle.tn_world.specs.Past.{HasPast, opening_pair, WishesNothing}
@@ -39,6 +40,11 @@ pub key_sound : (old : World) (end : client.End) (key : ℕ) (later seen keys : 
 key_sound old end key later seen keys accepted goes keeps sends s =
     sound_as (record old { client = end; to_server = later }) (record old { client = end; to_server = later; echoed = seen; typed = keys }) refl refl refl refl
     (tells_sound old end (client_calls.typed key) later tt accepted goes keeps sends s)
+
+pub send_sound : (old : World) (end : client.End) (command : UserCommand) (later keys : List ℕ) → client_fault old.client (client_calls.sent command) ≡ None → client.Advances old.client (client_calls.sent command) end → client.ReadsNothing old.client end → client.Sends old.client (client_calls.sent command) old.to_server later → HasPast old → HasPast (record old { client = end; to_server = later; typed = keys })
+send_sound old end command later keys accepted goes keeps sends s =
+    sound_as (record old { client = end; to_server = later }) (record old { client = end; to_server = later; typed = keys }) refl refl refl refl
+    (tells_sound old end (client_calls.sent command) later tt accepted goes keeps sends s)
 
 -- a call of the server that is accepted
 pub asks_sound : (old : World) (end : server.End) (e : server_calls.Event) (later : List ℕ) → server_courses.IsCall e → server.Advances old.server e old.to_client later end → server.ReadsNothing old.server end → HasPast old → HasPast (record old { server = end; to_client = later })

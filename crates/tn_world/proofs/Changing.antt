@@ -1,7 +1,11 @@
 -- What keys and changes of the mode do to the relation between what was typed, the server once it has read all that
 -- is in flight to it, and the client.
 use Rattle.std.proofs.Common.{◌≡◌, ◌≤◌, inl, inr, ℕ, ◌+◌, Bool, true, false, not, ◌&&◌, List, [], ◌∷◌, ◌++◌, length, refl, sym, ap, ◌∙◌, if◌then◌else◌, subst, arith, append-nil, append_assoc, length-append}
+use Rattle.tn_codes.specs.declared.codes.Command.TheVariants.{Ip}
+use Rattle.tn_discipline.specs.declared.keys.Role.TheVariants as role
 use Rattle.tn_discipline.specs.declared.reads.Entry.{Entry}
+use Rattle.tn_discipline.specs.declared.reads.Entry.TheVariants as entry
+use Rattle.tn_discipline.specs.declared.reads.Sig.TheVariants.{Int}
 use Rattle.tn_discipline.specs.Admitted.{is_dropped}
 use Rattle.tn_discipline.specs.Canon.{Canon, typed_half}
 use Rattle.tn_discipline.specs.Limits.{max_counted}
@@ -11,7 +15,7 @@ use Rattle.tn_discipline.specs.declared.termios.Settings.{Settings}
 use Rattle.tn_discipline.proofs.lemmas.Histories.{half_of-fits, length_by_test}
 use Rattle.tn_server.specs.Terms.{allows_local}
 use Rattle.tn_client.specs.Lines.{settings_by}
-use Rattle.tn_world.specs.relation.Machine.{Mode, Item, byte, mode_ack, linemode_on, other, Server, Client, Message, mode, forward_at, linemode_asked, chatter, read, read_all, bytes, edit_key, remote_item, count_next, client_after_key, is_same, client_with_mode, client_after_mode, passed_over, where_on, client_turned_on, client_after_message, remote_mode, local_mode, IsAskable}
+use Rattle.tn_world.specs.relation.Machine.{Mode, Item, byte, command, mode_ack, linemode_on, other, Server, Client, Message, mode, forward_at, linemode_asked, chatter, read, read_all, bytes, edit_key, remote_item, count_next, client_after_key, is_same, client_with_mode, client_after_mode, passed_over, where_on, client_turned_on, client_after_message, remote_mode, local_mode, IsAskable}
 use Rattle.tn_world.proofs.Reading.{read-bytes_then, half-typed, entries-typed}
 use Rattle.tn_world.proofs.Typing.{Follows, literal_key, key-follows}
 use Rattle.tn_world.specs.relation.Relation.{Agrees, server_at}
@@ -120,6 +124,27 @@ key-agrees canon typed taken v c key false is_remote a =
       none = a.none;
       plain = a.plain;
       count = λ e allowed. count-step canon.limit canon.settings key c.trapped c.plain a.half canon.settings.flags.isig refl allowed (a.count e allowed);
+    }
+
+-- a command by which the server interrupts, as a key would
+pub interrupt-agrees : (canon : Canon) (typed : List ℕ) (taken : List Entry) (v : Server) (c : Client) (key : ℕ) → role_of_key canon.settings key ≡ role.Signal Int → Agrees canon typed taken v c → Agrees canon (typed ++ key ∷ []) taken (read_all canon v (command Ip ∷ [])) c
+interrupt-agrees canon typed taken v c key interrupts a =
+    record {
+      half = a.half;
+      waiting = a.waiting ++ entry.Signal Int ∷ [];
+      is = ap (λ x. read canon x (command Ip)) a.is;
+      off = a.off;
+      entries =
+          entries-typed canon typed key
+          ∙ ap (λ x. x ++ gain_next canon.limit (typed_half canon typed) (role_of_key canon.settings key)) a.entries
+          ∙ ap (λ r. (taken ++ a.waiting) ++ gain_next canon.limit (typed_half canon typed) r) interrupts
+          ∙ append_assoc taken a.waiting (entry.Signal Int ∷ []);
+      line = half-typed canon typed key ∙ ap (λ r. half_next canon.limit (typed_half canon typed) r) interrupts ∙ a.line;
+      askable = a.askable;
+      ahead = a.ahead;
+      none = a.none;
+      plain = a.plain;
+      count = a.count;
     }
 
 same_if : (b : Bool) (n : ℕ) → (if b then n else n) ≡ n

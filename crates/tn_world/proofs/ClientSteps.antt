@@ -3,12 +3,13 @@ use Rattle.std.proofs.Common.{◌≡◌, ◌⊎◌, inl, inr, ◌<◌, ℕ, zero
 use Rattle.std.specs.Prelude.{All, bit_or}
 use Rattle.std.proofs.lemmas.Bool.{eqb-true}
 use Rattle.std.proofs.lemmas.List.{append_cancel_left}
-use Rattle.std.proofs.lemmas.List.Elements.{All-head, All-tail}
+use Rattle.std.proofs.lemmas.List.Elements.{All-nil, All-cons, All-head, All-tail}
 use Rattle.std.proofs.lemmas.Nat.{and_assoc, and_mask}
 use Rattle.tn_codes.specs.Payloads.{parameters_of}
 use Rattle.tn_codes.specs.PayloadOf.{payload_of}
 use Rattle.tn_codes.specs.declared.codes.Verb.{Verb}
 use Rattle.tn_codes.specs.declared.codes.Verb.TheVariants.{Will, DoIt}
+use Rattle.tn_codes.specs.declared.codes.Command.{Command}
 use Rattle.tn_codes.specs.declared.codes.Command.TheVariants as command
 use Rattle.tn_codes.specs.declared.masks.Mask.{Mask}
 use Rattle.tn_codes.specs.declared.payloads.Payload.{Payload}
@@ -29,15 +30,16 @@ use Rattle.tn_linemode.specs.Modes.{edits, mode_of, is_acknowledged, client_mask
 use Rattle.tn_nvt.specs.Spelling.{Fits}
 use Rattle.tn_nvt.specs.declared.items.Item.{Item}
 use Rattle.tn_nvt.specs.declared.items.Item.TheVariants.{Byte, Newline, Cmd, Neg, Sub}
-use Rattle.tn_client.specs.Events.{typed, got, resized, History, next, gets}
+use Rattle.tn_client.specs.Events.{typed, got, resized, sent, History, next, gets}
 use Rattle.tn_client.specs.Terms as terms
 use Rattle.tn_client.specs.Terms.{linemode, tells_size, payload_at, options, options_after, changes, mode_by, mode_at, forward_by, forward_at, chars_by, chars, size}
 use Rattle.tn_client.specs.Lines.{role_of_typed, role_at, line_limit, is_forward, count_under, line, settings_by}
-use Rattle.tn_client.specs.Replies.{byte_items, command_of, command_items, raw_key_items, edited_key_items, sent_ahead_items, key_items, size_items, new_size_items, payload_answers, answer_items, end_of_edit_items, is_same_size, replies, items_said}
+use Rattle.tn_client.specs.Replies.{byte_items, command_of, command_items, raw_key_items, edited_key_items, sent_ahead_items, key_items, size_items, new_size_items, payload_answers, answer_items, end_of_edit_items, is_same_size, command_sent, replies, items_said}
 use Rattle.tn_option.specs.Options.{Options, options_after_word, reply_to, state_of, is_yes, agrees_to}
 use Rattle.tn_option.specs.declared.q_method.Side.TheVariants.{Us}
 use Rattle.tn_wire.specs.Words.{differ, word_items, payload_items, mode_items}
 use Rattle.tn_client.specs.Calls.{End, LeadsTo, Advances, ReadsNothing, Sends, Feeds, StopsWithin}
+use Rattle.tn_client.specs.declared.commands.UserCommand.{UserCommand}
 use Rattle.tn_client.specs.Steps.{is_sent_now, line_sent, line_typed, count_typed, line_left, count_left, count_told}
 use Rattle.tn_client.proofs.lemmas.Ends.{line_is}
 use Rattle.tn_server.proofs.lemmas.Terms.{differ_self}
@@ -52,7 +54,7 @@ use Rattle.tn_world.specs.relation.Ends.{client_messages, SaysItems, ClientKeys,
 use Rattle.tn_world.specs.relation.Pictures.{client_core, client_picture, IsOffOrOn, ClientStays}
 use Rattle.tn_world.proofs.Changing.{remote_of}
 use Rattle.tn_world.proofs.Engines.{client_turned, consent, client_consents, client_agrees, word_keeps_state}
-use Rattle.tn_world.proofs.ClientWrites.{writes-none, writes-one, writes-append, writes-bytes, writes-other, writes-if, word-keeps, size-writes, word-answered, word-mode, word-forward, IsChatter, chatter-mode, chatter-forward, chatter-chars, chatter-heard, chatter-answered, chatter-if, forward_of, forward-answered, Forwards, Asks, Tells, calm-kinds, table-at, table-mode, table-forward, table-chars, table-answered, said-mode, said-forward}
+use Rattle.tn_world.proofs.ClientWrites.{writes-none, writes-one, writes-append, writes-bytes, writes-hushed, writes-other, writes-if, word-keeps, size-writes, word-answered, word-mode, word-forward, IsChatter, chatter-mode, chatter-forward, chatter-chars, chatter-heard, chatter-answered, chatter-if, forward_of, forward-answered, Forwards, Asks, Tells, calm-kinds, table-at, table-mode, table-forward, table-chars, table-answered, said-mode, said-forward}
 
 -- MASKS
 small : (mask : ℕ) → mode_of mask < 4
@@ -745,3 +747,37 @@ pub resized_stays : (canon : Canon) (h : History) (old new : End) (width height 
 resized_stays canon h old new width height s stays goes =
     let k = kept_at canon h old s stays in
     stays_at canon (next h (resized width height)) new (goes.leads h s) (record { on = k.on; characters = k.characters; limit = k.limit })
+
+-- A COMMAND of the user leaves the client as it is
+command-writes : (canon : Canon) (c : Command) (says : machine.Item) → ((v : machine.Server) → machine.read canon v (machine.command c) ≡ machine.read canon v says) → SaysItems canon (says ∷ []) (Cmd c ∷ [])
+command-writes canon c says is = record {
+  fit = All-cons Fits (Cmd c) [] tt (All-nil Fits);
+  calm = All-cons (IsCalmToServer canon.settings) (Cmd c) [] tt (All-nil (IsCalmToServer canon.settings));
+  says_so = is;
+}
+
+-- BRK is read as IP is, and AYT and NOP as what says nothing of lines
+pub brk-writes : (canon : Canon) → SaysItems canon (machine.command command.Ip ∷ []) (Cmd command.Brk ∷ [])
+brk-writes canon = command-writes canon command.Brk (machine.command command.Ip) (λ v. refl)
+
+pub ip-writes : (canon : Canon) → SaysItems canon (machine.command command.Ip ∷ []) (Cmd command.Ip ∷ [])
+ip-writes canon = command-writes canon command.Ip (machine.command command.Ip) (λ v. refl)
+
+pub ayt-writes : (canon : Canon) → SaysItems canon [] (Cmd command.Ayt ∷ [])
+ayt-writes canon = writes-hushed canon (Cmd command.Ayt ∷ []) (command-writes canon command.Ayt other (λ v. refl))
+
+pub nop-writes : (canon : Canon) → SaysItems canon [] (Cmd command.Nop ∷ [])
+nop-writes canon = writes-hushed canon (Cmd command.Nop ∷ []) (command-writes canon command.Nop other (λ v. refl))
+
+pub sent_says : (canon : Canon) (h : History) (old : End) (user : UserCommand) (says : List machine.Item) (before after : List ℕ) → LeadsTo h old → (g : Sends old (sent user) before after) → SaysItems canon says (Cmd (command_sent user) ∷ []) → SaysItems canon says g.said
+sent_says canon h old user says before after s g writes = subst (λ (xs : List Item). SaysItems canon says xs) (g.replies h s) writes
+
+pub sent_same : (h : History) (old new : End) (user : UserCommand) → LeadsTo h old → old.failed ≡ false → Advances old (sent user) new → ReadsNothing old new → client_picture new ≡ client_picture old
+sent_same h old new user s runs goes keeps =
+    ap (λ d. record { decoder = d; core = client_core new }) keeps.decoder
+    ∙ ap (λ (c : Client). record { decoder = old.decoder; core = c }) (core_at (next h (sent user)) new (goes.leads h s) (keeps.failed ∙ runs) ∙ sym (core_at h old s runs))
+
+pub sent_stays : (canon : Canon) (h : History) (old new : End) (user : UserCommand) → LeadsTo h old → ClientStays canon old → Advances old (sent user) new → ClientStays canon new
+sent_stays canon h old new user s stays goes =
+    let k = kept_at canon h old s stays in
+    stays_at canon (next h (sent user)) new (goes.leads h s) (record { on = k.on; characters = k.characters; limit = k.limit })

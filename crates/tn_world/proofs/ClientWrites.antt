@@ -70,7 +70,7 @@ read-other s v = by_test v.failed refl
     by_test true e = refl
     by_test false e = ap (λ (w : List Entry). record v { waiting = w; failed = false }) (append-nil v.waiting) ∙ ap (λ (f : Bool). record v { failed = f }) (sym e)
 
-writes-hushed : (canon : Canon) (out : List Item) → SaysItems canon (other ∷ []) out → SaysItems canon [] out
+pub writes-hushed : (canon : Canon) (out : List Item) → SaysItems canon (other ∷ []) out → SaysItems canon [] out
 writes-hushed canon out h = record { fit = h.fit; calm = h.calm; says_so = λ v. h.says_so v ∙ read-other canon v }
 
 pub writes-other : (canon : Canon) (out : List Item) → SaysItems canon [] out → SaysItems canon (other ∷ []) out

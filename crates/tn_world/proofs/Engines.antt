@@ -156,3 +156,4 @@ client_agrees (client_calls.next h (client_calls.got item)) = client_heard (clie
 client_agrees (client_calls.next h (client_calls.typed key)) = client_agrees h
 client_agrees (client_calls.next h (client_calls.resized width height)) = client_agrees h
 client_agrees (client_calls.next h (client_calls.proposed func value)) = client_agrees h
+client_agrees (client_calls.next h (client_calls.sent command)) = client_agrees h

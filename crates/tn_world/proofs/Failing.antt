@@ -1,5 +1,5 @@
 -- What holds once an end has failed: the entries that were made still begin those that the keys give.
-use Rattle.std.proofs.Common.{◌≡◌, inl, inr, ℕ, Bool, true, false, Some, None, List, [], ◌∷◌, ◌++◌, take, drop, refl, sym, ap, ◌∙◌, if◌then◌else◌, subst, append_assoc}
+use Rattle.std.proofs.Common.{◌≡◌, inl, inr, ℕ, Bool, true, false, Option, Some, None, List, [], ◌∷◌, ◌++◌, take, drop, refl, sym, ap, ◌∙◌, if◌then◌else◌, subst, append-nil, append_assoc}
 use Rattle.std.specs.Prelude.{All, option_to_list}
 use Rattle.std.proofs.lemmas.List.{map-append, take-append-drop}
 use Rattle.std.proofs.lemmas.List.Elements.{All-append}
@@ -32,9 +32,10 @@ use Rattle.tn_world.specs.relation.Ends.{server_items, client_messages, client_a
 use Rattle.tn_world.specs.relation.Machine.{Server, read_all}
 use Rattle.tn_world.specs.relation.Pictures.{server_core, server_picture, client_core, ServerStays}
 use Rattle.tn_world.specs.relation.Relation.{IsRelated, IsBehind}
-use Rattle.tn_world.specs.Worlds.{World, UnlessStopped, TypesKey, CallsClient, DeliversToServer, DeliversToClient, CallsServer, Pulls, TakesEntry, RunsEvent, ServerRefusesDelivery, ClientRefusesDelivery}
+use Rattle.tn_world.specs.Worlds.{World, UnlessStopped, TypesKey, SendsCommand, key_sent, CallsClient, DeliversToServer, DeliversToClient, CallsServer, Pulls, TakesEntry, RunsEvent, ServerRefusesDelivery, ClientRefusesDelivery}
+use Rattle.tn_client.specs.declared.commands.UserCommand.{UserCommand}
 use Rattle.tn_world.specs.declared.events.Event.{Event}
-use Rattle.tn_world.specs.declared.events.Event.TheVariants.{Key, ToServer, ToClient, Write, Pull, Take, Wish, Resize, SetChar, Propose, Echo, Mask, ServerStops, ClientStops}
+use Rattle.tn_world.specs.declared.events.Event.TheVariants.{Key, Send, ToServer, ToClient, Write, Pull, Take, Wish, Resize, SetChar, Propose, Echo, Mask, ServerStops, ClientStops}
 use Rattle.tn_world.proofs.ClientSteps.{stops_done}
 use Rattle.tn_world.proofs.Cut.{said_behind, cut_at}
 use Rattle.tn_world.proofs.Following.{calls, flight_fits, holds_does, does_keeps}
@@ -266,9 +267,11 @@ behind_unless s false old new happens sound done is h = done is
 gone_silent : (s : Canon) (old new : World) → old.client.failed ≡ true → old.client.failed ≡ false → IsBehind s new
 gone_silent s old new failed runs = opposite old.client.failed (IsBehind s new) failed runs
 
-behind_does : (s : Canon) (old new : World) (e : Event) → old.server.failed ≡ false → old.client.failed ≡ true → HasPast new → IsQuietEvent e → RunsEvent old e new → IsBehind s old → IsBehind s new
+behind_does : (s : Canon) (old new : World) (e : Event) → old.server.failed ≡ false → old.client.failed ≡ true → HasPast new → IsQuietEvent old e → RunsEvent old e new → IsBehind s old → IsBehind s new
 behind_does s old new (Key key) runs failed sound quiet d h =
     behind_unless s old.client_stopped old new (TypesKey old key new) sound (λ t. gone_silent s old new failed (call_goes_on old.client t.accepted)) d h
+behind_does s old new (Send command) runs failed sound quiet d h =
+    behind_unless s old.client_stopped old new (SendsCommand old command new) sound (λ t. gone_silent s old new failed (call_goes_on old.client t.accepted)) d h
 behind_does s old new (ToServer n) runs failed sound quiet d h = behind_unless s old.server_stopped old new (DeliversToServer old n new) sound (λ t. behind_reaches s old new n runs sound t h) d h
 behind_does s old new (ToClient n) runs failed sound quiet d h =
     behind_unless s old.client_stopped old new (DeliversToClient old n new) sound (λ t. gone_silent s old new failed (call_goes_on old.client t.accepted)) d h
@@ -304,6 +307,17 @@ begins_types s old new key t p =
     subst (λ (w : World). Begins s w) (sym t.rest)
     (prefix_trans (entries_made old) (local_entries s old.typed) (local_entries s (old.typed ++ key ∷ [])) p (gain, sym (entries-typed s old.typed key)))
 
+-- a key more, or none
+begins_keys : (s : Canon) (typed : List ℕ) (key : Option ℕ) → IsPrefixOf (local_entries s typed) (local_entries s (typed ++ option_to_list key))
+begins_keys s typed (Some key) = (gain_next s.limit (typed_half s typed) (role_of_key s.settings key), sym (entries-typed s typed key))
+begins_keys s typed None = ([], append-nil (local_entries s typed) ∙ ap (local_entries s) (sym (append-nil typed)))
+
+begins_sends : (s : Canon) (old new : World) (command : UserCommand) → SendsCommand old command new → Begins s old → Begins s new
+begins_sends s old new command t p =
+    let key = key_sent old command in
+    subst (λ (w : World). Begins s w) (sym t.rest)
+    (prefix_trans (entries_made old) (local_entries s old.typed) (local_entries s (old.typed ++ option_to_list key)) p (begins_keys s old.typed key))
+
 begins_asks : (s : Canon) (old new : World) (e : server_calls.Event) → KeepsEntries e → HasPast old → CallsServer old e new → Begins s old → Begins s new
 begins_asks s old new e plain sound t p =
     let core = says_core sound.history old.server new.server e old.to_client new.to_client plain sound.server t.goes t.keeps in
@@ -319,8 +333,9 @@ begins_takes s old new sound t p =
     ∙ taken-waits s (server_picture old.server) (server_picture new.server) old.taken (option_to_list t.entry) [] first)
     (ap (λ (w : World). w.typed) t.rest) p
 
-begins_does : (s : Canon) (old new : World) (e : Event) → old.server.failed ≡ true → HasPast old → IsQuietEvent e → RunsEvent old e new → Begins s old → Begins s new
+begins_does : (s : Canon) (old new : World) (e : Event) → old.server.failed ≡ true → HasPast old → IsQuietEvent old e → RunsEvent old e new → Begins s old → Begins s new
 begins_does s old new (Key key) failed sound quiet d p = begins_unless s old.client_stopped old new (TypesKey old key new) (λ t. begins_types s old new key t p) d p
+begins_does s old new (Send command) failed sound quiet d p = begins_unless s old.client_stopped old new (SendsCommand old command new) (λ t. begins_sends s old new command t p) d p
 begins_does s old new (ToServer n) failed sound quiet d p =
     begins_unless s old.server_stopped old new (DeliversToServer old n new) (λ t. opposite old.server.failed (Begins s new) failed (server_goes_on old.server t.accepted)) d p
 begins_does s old new (ToClient n) failed sound quiet d p =
@@ -349,7 +364,7 @@ stage_begins s w (both none h) = behind_begins s w (related_behind s w h)
 stage_begins s w (silent runs failed h) = behind_begins s w h
 stage_begins s w (over failed sound p) = p
 
-stage_does : (s : Canon) (old new : World) (e : Event) → IsQuietEvent e → RunsEvent old e new → Stage s old → Stage s new
+stage_does : (s : Canon) (old new : World) (e : Event) → IsQuietEvent old e → RunsEvent old e new → Stage s old → Stage s new
 stage_does s old new e quiet d (both none h) =
     let same = does_keeps old new e d in
     both (same.0 ∙ none.0, same.1 ∙ none.1) (holds_does s old new e none (sound_does old new e d h.past) quiet d h)

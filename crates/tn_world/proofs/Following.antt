@@ -1,24 +1,38 @@
 -- From a settled moment at rest the relation of the ends holds after every quiet list of events at which no end failed.
-use Rattle.std.proofs.Common.{◌≡◌, inl, inr, ℕ, Bool, true, false, List, [], ◌∷◌, ◌++◌, take, drop, flat_map, sym, ap, ◌∙◌, subst}
+use Rattle.std.proofs.Common.{◌≡◌, inl, inr, ℕ, Bool, true, false, Option, Some, None, List, [], ◌∷◌, ◌++◌, take, drop, flat_map, refl, sym, ap, ◌∙◌, subst, append-nil}
 use Rattle.std.specs.Prelude.{All, option_to_list}
 use Rattle.std.proofs.lemmas.List.Elements.{All-nil, All-cons}
 use Rattle.tn_discipline.specs.Canon.{Canon}
+use Rattle.tn_discipline.specs.Characters.{Characters}
+use Rattle.tn_discipline.specs.Keys.{role_of_key}
+use Rattle.tn_discipline.specs.declared.keys.Role.{Role}
+use Rattle.tn_discipline.specs.declared.keys.Role.TheVariants as role
+use Rattle.tn_discipline.specs.declared.reads.Sig.TheVariants.{Int, Quit, Tstp}
+use Rattle.tn_discipline.specs.declared.termios.Flags.{Flags}
+use Rattle.tn_discipline.specs.declared.termios.Settings.{Settings}
 use Rattle.tn_nvt.specs.Spelling.{Fits}
 use Rattle.tn_nvt.specs.Feeding.{DecoderState}
 use Rattle.tn_nvt.specs.Stream.{Segment, spelled, lone_cr, escaped, unread, cut, Splits, gives, Reading}
+use Rattle.tn_codes.specs.declared.codes.Command.TheVariants as command
 use Rattle.tn_nvt.specs.declared.items.Item.{Item}
+use Rattle.tn_nvt.specs.declared.items.Item.TheVariants.{Cmd}
 use Rattle.tn_server.specs.Events as server_calls
 use Rattle.tn_client.specs.Events as client_calls
+use Rattle.tn_client.specs.Replies.{command_sent}
+use Rattle.tn_client.specs.declared.commands.UserCommand.{UserCommand}
+use Rattle.tn_client.specs.declared.commands.UserCommand.TheVariants as user
+use Rattle.tn_world.specs.Commands.{key_if, interrupt_at}
 use Rattle.tn_world.specs.Past.{HasPast}
 use Rattle.tn_world.specs.Headline.{RunsQuietly, IsQuietEvent, PassesQuietly, NoneFailed}
 use Rattle.tn_world.specs.relation.Calm.{IsCalmToServer, IsCalmToClient}
 use Rattle.tn_world.specs.relation.Ends as ends
+use Rattle.tn_world.specs.relation.Machine as machine
 use Rattle.tn_world.specs.relation.Ends.{AreReplies, ServerFeeds, ServerSays, TakesFirst, SaysItems, ClientKeys, client_after_messages, ClientFeeds, ClientSays, server_items, client_messages, Happens}
 use Rattle.tn_world.specs.Flight.{InFlight}
 use Rattle.tn_world.specs.relation.Pictures.{server_core, server_picture, client_picture, ServerStays, ClientStays}
-use Rattle.tn_world.specs.Worlds.{World, UnlessStopped, TypesKey, CallsClient, DeliversToServer, DeliversToClient, CallsServer, Pulls, TakesEntry, RunsEvent, Refuses}
+use Rattle.tn_world.specs.Worlds.{World, canon_of, UnlessStopped, TypesKey, key_sent, SendsCommand, CallsClient, DeliversToServer, DeliversToClient, CallsServer, Pulls, TakesEntry, RunsEvent, Refuses}
 use Rattle.tn_world.specs.declared.events.Event.{Event}
-use Rattle.tn_world.specs.declared.events.Event.TheVariants.{Key, ToServer, ToClient, Write, Pull, Take, Wish, Resize, SetChar, Propose, Echo, Mask, ServerStops, ClientStops}
+use Rattle.tn_world.specs.declared.events.Event.TheVariants.{Key, Send, ToServer, ToClient, Write, Pull, Take, Wish, Resize, SetChar, Propose, Echo, Mask, ServerStops, ClientStops}
 use Rattle.tn_world.specs.declared.faults.Cause.{Cause}
 use Rattle.tn_world.proofs.ClientSteps as client_steps
 use Rattle.tn_world.proofs.ServerSteps as server_steps
@@ -70,6 +84,88 @@ holds_types s old new key none sound t h =
       client = client_steps.keys_stay s c.history old.client new.client key c.leads h.client t.goes;
       past = sound;
     }
+
+-- a command: the key that it stands for interrupts
+key_interrupts : (r : Role) (key k : ℕ) → key_if r key ≡ Some k → (r ≡ role.Signal Int) × (key ≡ k)
+key_interrupts (role.Signal Int) key k is = (refl, cc)
+key_interrupts (role.Signal Quit) key k is = absurd (cc)
+key_interrupts (role.Signal Tstp) key k is = absurd (cc)
+key_interrupts role.Ignored key k is = absurd (cc)
+key_interrupts role.Nl key k is = absurd (cc)
+key_interrupts (role.Eol byte) key k is = absurd (cc)
+key_interrupts (role.Eol2 byte) key k is = absurd (cc)
+key_interrupts role.Eof key k is = absurd (cc)
+key_interrupts role.Erase key k is = absurd (cc)
+key_interrupts role.Kill key k is = absurd (cc)
+key_interrupts (role.Ordinary byte) key k is = absurd (cc)
+
+interrupts_there : (s : Settings) (intr : Option ℕ) (key : ℕ) → interrupt_at s intr ≡ Some key → role_of_key s key ≡ role.Signal Int
+interrupts_there s None key is = absurd (cc)
+interrupts_there s (Some k) key is =
+    let p = key_interrupts (role_of_key s k) k key is in
+    ap (λ (x : ℕ). role_of_key s x) (sym p.1) ∙ p.0
+
+-- and it does so at the beginning, too
+role_kept : (s : Canon) (w : World) (key : ℕ) → HasPast w → ServerStays s w.server → role_of_key (canon_of w).settings key ≡ role_of_key s.settings key
+role_kept s w key past k =
+    let at = past.server in
+    let now = w.server.terminal.settings in
+    let chars : now.chars ≡ s.settings.chars = ap (λ (x : Settings). x.chars) at.settings ∙ sym at.table ∙ k.chars in
+    ap (λ (c : Characters). role_of_key (record { flags = now.flags; chars = c }) key) chars
+    ∙ ap (λ (f : Flags). role_of_key (record { flags = f; chars = s.settings.chars }) key) k.flags
+
+holds_interrupts : (s : Canon) (old new : World) (sending : UserCommand) (key : ℕ) → NoneFailed old → HasPast new → SendsCommand old sending new → key_sent old sending ≡ Some key → role_of_key (canon_of old).settings key ≡ role.Signal Int → SaysItems s (machine.command command.Ip ∷ []) (Cmd (command_sent sending) ∷ []) → IsRelated s old → IsRelated s new
+holds_interrupts s old new sending key none sound t is interrupts writes h =
+    let c = (h.past.client_course none.1).1 in
+    record {
+      tied = happens-tied s (picture old) (picture new) (ends.interrupt key) (
+        client_picture new.client,
+        t.sends.said,
+        record {
+          same = client_steps.sent_same c.history old.client new.client sending c.leads none.1 t.goes t.keeps;
+          interrupts = sym (role_kept s old key h.past h.server) ∙ interrupts;
+          writes = client_steps.sent_says s c.history old.client sending (machine.command command.Ip ∷ []) old.to_server new.to_server c.leads t.sends writes;
+        },
+        ap picture t.rest
+            ∙ ap (λ (k : Option ℕ). record (picture old) { typed = old.typed ++ option_to_list k; client = client_picture new.client; to_server = new.to_server }) is
+            ∙ ap (λ x. record (picture old) { typed = old.typed ++ key ∷ []; client = client_picture new.client; to_server = x }) t.sends.appended,
+      ) h.tied;
+      server = subst (λ (w : World). ServerStays s w.server) (sym t.rest) h.server;
+      client = client_steps.sent_stays s c.history old.client new.client sending c.leads h.client t.goes;
+      past = sound;
+    }
+
+-- a command that is no input
+holds_asides : (s : Canon) (old new : World) (command : UserCommand) → NoneFailed old → HasPast new → SendsCommand old command new → key_sent old command ≡ None → SaysItems s [] (Cmd (command_sent command) ∷ []) → IsRelated s old → IsRelated s new
+holds_asides s old new sending none sound t is writes h =
+    let c = (h.past.client_course none.1).1 in
+    record {
+      tied = happens-tied s (picture old) (picture new) ends.client_call (
+        client_picture new.client,
+        t.sends.said,
+        record {
+          same = client_steps.sent_same c.history old.client new.client sending c.leads none.1 t.goes t.keeps;
+          writes = client_steps.sent_says s c.history old.client sending [] old.to_server new.to_server c.leads t.sends writes;
+        },
+        ap picture t.rest
+            ∙ ap (λ (k : Option ℕ). record (picture old) { typed = old.typed ++ option_to_list k; client = client_picture new.client; to_server = new.to_server }) is
+            ∙ ap (λ x. record (picture old) { typed = x; client = client_picture new.client; to_server = new.to_server }) (append-nil old.typed)
+            ∙ ap (λ x. record (picture old) { client = client_picture new.client; to_server = x }) t.sends.appended,
+      ) h.tied;
+      server = subst (λ (w : World). ServerStays s w.server) (sym t.rest) h.server;
+      client = client_steps.sent_stays s c.history old.client new.client sending c.leads h.client t.goes;
+      past = sound;
+    }
+
+holds_sends : (s : Canon) (old new : World) (command : UserCommand) → NoneFailed old → HasPast new → IsQuietEvent old (Send command) → SendsCommand old command new → IsRelated s old → IsRelated s new
+holds_sends s old new user.Brk none sound quiet t h =
+    let now = (canon_of old).settings in
+    holds_interrupts s old new user.Brk quiet.0 none sound t quiet.1 (interrupts_there now now.chars.intr quiet.0 quiet.1) (client_steps.brk-writes s) h
+holds_sends s old new user.Ip none sound quiet t h =
+    let now = (canon_of old).settings in
+    holds_interrupts s old new user.Ip quiet.0 none sound t quiet.1 (interrupts_there now now.chars.intr quiet.0 quiet.1) (client_steps.ip-writes s) h
+holds_sends s old new user.Ayt none sound quiet t h = holds_asides s old new user.Ayt none sound t refl (client_steps.ayt-writes s) h
+holds_sends s old new user.Nop none sound quiet t h = holds_asides s old new user.Nop none sound t refl (client_steps.nop-writes s) h
 
 -- the window's size
 holds_resizes : (s : Canon) (old new : World) (width height : ℕ) → NoneFailed old → HasPast new → CallsClient old (client_calls.resized width height) new → IsRelated s old → IsRelated s new
@@ -185,8 +281,9 @@ holds_stops s old new a b is sound h =
     }
 
 -- an event that is done
-pub holds_does : (s : Canon) (old new : World) (e : Event) → NoneFailed old → HasPast new → IsQuietEvent e → RunsEvent old e new → IsRelated s old → IsRelated s new
+pub holds_does : (s : Canon) (old new : World) (e : Event) → NoneFailed old → HasPast new → IsQuietEvent old e → RunsEvent old e new → IsRelated s old → IsRelated s new
 holds_does s old new (Key key) none sound quiet d h = unless s old.client_stopped old new (TypesKey old key new) (holds_types s old new key none sound) d h
+holds_does s old new (Send command) none sound quiet d h = unless s old.client_stopped old new (SendsCommand old command new) (holds_sends s old new command none sound quiet) d h
 holds_does s old new (ToServer n) none sound quiet d h = unless s old.server_stopped old new (DeliversToServer old n new) (holds_reaches s old new n none sound) d h
 holds_does s old new (ToClient n) none sound quiet d h = unless s old.client_stopped old new (DeliversToClient old n new) (holds_returns s old new n none sound) d h
 holds_does s old new (Write bytes) none sound quiet d h = unless s old.server_stopped old new (CallsServer old (server_calls.wrote bytes) new) (holds_asks s old new (server_calls.wrote bytes) tt sound) d h
@@ -222,6 +319,7 @@ tells_keeps old new e t = (ap (λ (w : World). w.server.failed) t.rest, t.keeps.
 
 pub does_keeps : (old new : World) (e : Event) → RunsEvent old e new → FailsNone old new
 does_keeps old new (Key key) d = unless_keeps old.client_stopped old new (TypesKey old key new) (λ t. (ap (λ (w : World). w.server.failed) t.rest, t.keeps.failed)) d
+does_keeps old new (Send command) d = unless_keeps old.client_stopped old new (SendsCommand old command new) (λ t. (ap (λ (w : World). w.server.failed) t.rest, t.keeps.failed)) d
 does_keeps old new (ToServer n) d = unless_keeps old.server_stopped old new (DeliversToServer old n new) (λ t. (t.feeds.failed, ap (λ (w : World). w.client.failed) t.rest)) d
 does_keeps old new (ToClient n) d = unless_keeps old.client_stopped old new (DeliversToClient old n new) (λ t. (ap (λ (w : World). w.server.failed) t.rest, t.feeds.failed)) d
 does_keeps old new (Write bytes) d = unless_keeps old.server_stopped old new (CallsServer old (server_calls.wrote bytes) new) (asks_keeps old new (server_calls.wrote bytes)) d

@@ -92,7 +92,7 @@ follows_ends s old new events at cause f quiet e = follows_on s old new (e.done 
 -- quiet events are quiet wherever they are done
 pub quiet_always : (w : World) (events : List Event) → AreQuietEvents events → IsQuiet w events
 quiet_always w [] q = tt
-quiet_always w (e ∷ events) q = λ mid does. (q.0, quiet_always mid events q.1)
+quiet_always w (e ∷ events) q = λ mid does. (q.0 w, quiet_always mid events q.1)
 
 -- the world whose lists are reset
 pub new_lists_settled : (w : World) → IsSettled w → IsSettled (with_new_lists w)

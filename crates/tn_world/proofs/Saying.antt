@@ -24,9 +24,9 @@ use Rattle.tn_nvt.specs.declared.items.Item.{Item}
 use Rattle.tn_nvt.specs.declared.items.Item.TheVariants.{Byte, Newline, Cmd, Neg, Sub}
 use Rattle.tn_option.specs.Options.{Options, reply_to}
 use Rattle.tn_wire.specs.Words.{word_items, mode_items, list_items}
-use Rattle.tn_client.specs.Events.{Event, History, begun, next, typed, got, resized, proposed}
+use Rattle.tn_client.specs.Events.{Event, History, begun, next, typed, got, resized, proposed, sent}
 use Rattle.tn_client.specs.Lines.{role_at, sends_ahead, line}
-use Rattle.tn_client.specs.Replies.{byte_items, command_of, command_items, raw_key_items, edited_key_items, sent_ahead_items, key_items, size_items, new_size_items, payload_answers, answer_items, end_of_edit_items, is_same_size, replies, items_said}
+use Rattle.tn_client.specs.Replies.{byte_items, command_of, command_items, raw_key_items, edited_key_items, sent_ahead_items, key_items, size_items, new_size_items, payload_answers, answer_items, end_of_edit_items, is_same_size, command_sent, replies, items_said}
 use Rattle.tn_client.specs.Terms.{options, mode, forward, chars, size, tells_size, payload_at, options_after, mode_at}
 use Rattle.tn_world.specs.Past.{IsNoWish, WishesNothing}
 
@@ -137,6 +137,7 @@ module _ (P : Item → Type 0) (byte : (b : ℕ) → P (Byte b)) (newline : P Ne
   replies_all h (got item) p = answers_all h item
   replies_all h (resized width height) p = if_all (tells_size (options h) && not (is_same_size (size h) (width, height))) (size_items (width, height)) (size_all (width, height))
   replies_all h (proposed func value) p = one_all (Sub 34 (parameters_of (payload.Slc (triple_of func value ∷ [])))) (p func value)
+  replies_all h (sent c) p = one_all (Cmd (command_sent c)) (command (command_sent c))
 
 -- NO WISH
 pub list_no_wish : (ts : List Triple) → WishesNothing (Sub 34 (parameters_of (payload.Slc ts)))

@@ -108,11 +108,11 @@ record Delivered (old new : World) : Type 0 where
   pub quiet : AreQuietEvents events
   pub runs : Runs old events new
 
-quiet_on : (events : List Event) (e : Event) → AreQuietEvents events → IsQuietEvent e → AreQuietEvents (events ++ e ∷ [])
+quiet_on : (events : List Event) (e : Event) → AreQuietEvents events → ((w : World) → IsQuietEvent w e) → AreQuietEvents (events ++ e ∷ [])
 quiet_on [] e q here = (here, tt)
 quiet_on (d ∷ events) e q here = (q.0, quiet_on events e q.1 here)
 
-delivered_on : (old mid new : World) (e : Event) → Delivered old mid → IsQuietEvent e → RunsEvent mid e new → Delivered old new
+delivered_on : (old mid new : World) (e : Event) → Delivered old mid → ((w : World) → IsQuietEvent w e) → RunsEvent mid e new → Delivered old new
 delivered_on old mid new e d quiet r = record { events = d.events ++ e ∷ []; quiet = quiet_on d.events e d.quiet quiet; runs = runs_on old mid new d.events e d.runs r }
 
 delivered : (n : ℕ) (old new : World) → RunsRounds n old new → Delivered old new
@@ -120,7 +120,7 @@ delivered zero old new is = record { events = []; quiet = tt; runs = is }
 delivered (suc n) old new r =
     let q = r.3 in
     delivered_on old q.mid new (ToServer (length q.mid.to_server))
-    (delivered_on old r.0 q.mid (ToClient (length r.0.to_client)) (delivered n old r.0 r.1) tt q.to_client) tt q.to_server
+    (delivered_on old r.0 q.mid (ToClient (length r.0.to_client)) (delivered n old r.0 r.1) (λ w. tt) q.to_client) (λ w. tt) q.to_server
 
 record DeliveredBut (old : World) (cause : Cause) (new : World) : Type 0 where
   pub events : List Event
@@ -128,7 +128,7 @@ record DeliveredBut (old : World) (cause : Cause) (new : World) : Type 0 where
   pub at : ℕ
   pub stops : StopsWithin old events at cause new
 
-stopped_on : (old mid new : World) (e : Event) (cause : Cause) → Delivered old mid → IsQuietEvent e → Refuses mid e cause new → DeliveredBut old cause new
+stopped_on : (old mid new : World) (e : Event) (cause : Cause) → Delivered old mid → ((w : World) → IsQuietEvent w e) → Refuses mid e cause new → DeliveredBut old cause new
 stopped_on old mid new e cause d quiet r =
     record {
       events = d.events ++ e ∷ [];
@@ -138,9 +138,9 @@ stopped_on old mid new e cause d quiet r =
     }
 
 stopped_round : (old mid new : World) (at : ℕ) (cause : Cause) → Delivered old mid → RefusesRound mid at cause new → DeliveredBut old cause new
-stopped_round old mid new at cause d (inl x) = stopped_on old mid new (ToClient (length mid.to_client)) cause d tt x.1
+stopped_round old mid new at cause d (inl x) = stopped_on old mid new (ToClient (length mid.to_client)) cause d (λ w. tt) x.1
 stopped_round old mid new at cause d (inr x) =
-    stopped_on old x.0 new (ToServer (length x.0.to_server)) cause (delivered_on old mid x.0 (ToClient (length mid.to_client)) d tt x.2) tt x.3
+    stopped_on old x.0 new (ToServer (length x.0.to_server)) cause (delivered_on old mid x.0 (ToClient (length mid.to_client)) d (λ w. tt) x.2) (λ w. tt) x.3
 
 stopped : (old new : World) (at : ℕ) (cause : Cause) → StopsSettling old at cause new → DeliveredBut old cause new
 stopped old new at cause s = stopped_round old s.mid new s.place cause (delivered s.count old s.mid s.rounds) s.refuses

@@ -25,9 +25,10 @@ use Rattle.tn_world.specs.Past.{HasPast}
 use Rattle.tn_streams.specs.Prefixes.{IsPrefixOf}
 use Rattle.tn_world.specs.Flight.{InFlight}
 use Rattle.tn_world.specs.Output.{screen, text_of, IsOutput, Queues, IsNoneAt, OutputGrows, OutputGrowsTo, OutputGrowsAll, OutputGrowsBefore}
-use Rattle.tn_world.specs.Worlds.{World, UnlessStopped, TypesKey, CallsClient, DeliversToServer, DeliversToClient, CallsServer, Pulls, TakesEntry, RunsEvent, Runs, StopsWithin, ServerRefusesDelivery}
+use Rattle.tn_world.specs.Worlds.{World, UnlessStopped, TypesKey, SendsCommand, CallsClient, DeliversToServer, DeliversToClient, CallsServer, Pulls, TakesEntry, RunsEvent, Runs, StopsWithin, ServerRefusesDelivery}
+use Rattle.tn_client.specs.declared.commands.UserCommand.{UserCommand}
 use Rattle.tn_world.specs.declared.events.Event.{Event}
-use Rattle.tn_world.specs.declared.events.Event.TheVariants.{Key, ToServer, ToClient, Write, Pull, Take, Wish, Resize, SetChar, Propose, Echo, Mask, ServerStops, ClientStops}
+use Rattle.tn_world.specs.declared.events.Event.TheVariants.{Key, Send, ToServer, ToClient, Write, Pull, Take, Wish, Resize, SetChar, Propose, Echo, Mask, ServerStops, ClientStops}
 use Rattle.tn_world.specs.declared.faults.Cause.{Cause}
 use Rattle.tn_world.proofs.Cut.{start, said_behind, cut_at}
 use Rattle.tn_world.proofs.Soundness.{sound_does, opposite, Refusal, unchanged, by_server, by_client, refusal_of, goes_fit, feeds_fit, halts_fit}
@@ -92,6 +93,10 @@ same_grows old new e text is o =
 types_grows : (old new : World) (key : ℕ) (text : List ℕ) → TypesKey old key new → IsOutput old text → OutputGrows old (Key key) new text
 types_grows old new key text t o =
     still_grows old new (Key key) text t.keeps.decoder (ap (λ (w : World). w.shown) t.rest) (ap (λ (w : World). w.to_client) t.rest) (ap (λ (w : World). w.server.terminal.queue) t.rest) o
+
+sends_grows : (old new : World) (command : UserCommand) (text : List ℕ) → SendsCommand old command new → IsOutput old text → OutputGrows old (Send command) new text
+sends_grows old new command text t o =
+    still_grows old new (Send command) text t.keeps.decoder (ap (λ (w : World). w.shown) t.rest) (ap (λ (w : World). w.to_client) t.rest) (ap (λ (w : World). w.server.terminal.queue) t.rest) o
 
 tells_grows : (old new : World) (call : client_calls.Event) (e : Event) (text : List ℕ) → CallsClient old call new → IsOutput old text → OutputGrows old e new text
 tells_grows old new call e text t o =
@@ -200,6 +205,7 @@ unless false old new e text happens done o is = done is
 
 pub output_grows : (old new : World) (e : Event) (text : List ℕ) → HasPast old → old.client.failed ≡ false → RunsEvent old e new → IsOutput old text → OutputGrows old e new text
 output_grows old new (Key key) text s runs d o = unless old.client_stopped old new (Key key) text (TypesKey old key new) (λ t. types_grows old new key text t o) o d
+output_grows old new (Send command) text s runs d o = unless old.client_stopped old new (Send command) text (SendsCommand old command new) (λ t. sends_grows old new command text t o) o d
 output_grows old new (ToServer n) text s runs d o =
     unless old.server_stopped old new (ToServer n) text (DeliversToServer old n new) (λ r. let t = reaches_took old new n text s r o in record { symbols = t.symbols; took = t.took; none = tt; output = t.output }) o d
 output_grows old new (ToClient n) text s runs d o = unless old.client_stopped old new (ToClient n) text (DeliversToClient old n new) (λ r. returns_grows old new n text s runs r o) o d
@@ -237,6 +243,7 @@ asks_on old new e a = ap (λ (w : World). w.client.failed) a.rest
 
 pub goes_on : (old new : World) (e : Event) → RunsEvent old e new → KeepsOn old new
 goes_on old new (Key key) d = on_unless old.client_stopped old new (TypesKey old key new) (λ t. t.keeps.failed) d
+goes_on old new (Send command) d = on_unless old.client_stopped old new (SendsCommand old command new) (λ t. t.keeps.failed) d
 goes_on old new (ToServer n) d = on_unless old.server_stopped old new (DeliversToServer old n new) (λ r. ap (λ (w : World). w.client.failed) r.rest) d
 goes_on old new (ToClient n) d = on_unless old.client_stopped old new (DeliversToClient old n new) (λ r. r.feeds.failed) d
 goes_on old new (Write bytes) d = on_unless old.server_stopped old new (CallsServer old (server_calls.wrote bytes) new) (asks_on old new (server_calls.wrote bytes)) d

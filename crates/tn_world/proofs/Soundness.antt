@@ -34,9 +34,10 @@ use Rattle.tn_client.proofs.lemmas.Fitting as client_fits
 use Rattle.tn_client.proofs.lemmas.Words as client_words
 use Rattle.tn_world.specs.Past.{HasPast, engines, opening_pair, WishesNothing}
 use Rattle.tn_world.specs.Flight.{InFlight}
-use Rattle.tn_world.specs.Worlds.{World, UnlessStopped, TypesKey, CallsClient, DeliversToServer, DeliversToClient, CallsServer, Pulls, TakesEntry, RunsEvent, ServerRefusesDelivery, ClientRefusesDelivery, Refuses, client_fault}
+use Rattle.tn_world.specs.Worlds.{World, UnlessStopped, TypesKey, SendsCommand, CallsClient, DeliversToServer, DeliversToClient, CallsServer, Pulls, TakesEntry, RunsEvent, ServerRefusesDelivery, ClientRefusesDelivery, Refuses, client_fault}
+use Rattle.tn_client.specs.declared.commands.UserCommand.{UserCommand}
 use Rattle.tn_world.specs.declared.events.Event.{Event}
-use Rattle.tn_world.specs.declared.events.Event.TheVariants.{Key, ToServer, ToClient, Write, Pull, Take, Wish, Resize, SetChar, Propose, Echo, Mask, ServerStops, ClientStops}
+use Rattle.tn_world.specs.declared.events.Event.TheVariants.{Key, Send, ToServer, ToClient, Write, Pull, Take, Wish, Resize, SetChar, Propose, Echo, Mask, ServerStops, ClientStops}
 use Rattle.tn_world.specs.declared.faults.Cause.{Cause}
 use Rattle.tn_world.specs.declared.faults.Cause.TheVariants as cause
 use Rattle.tn_world.proofs.Cut.{said_behind, cut_at}
@@ -104,6 +105,7 @@ propose_goes_on end (client_calls.proposed func value) e = by_test end.failed re
 propose_goes_on end (client_calls.typed key) e = call_goes_on end e
 propose_goes_on end (client_calls.got item) e = call_goes_on end e
 propose_goes_on end (client_calls.resized width height) e = call_goes_on end e
+propose_goes_on end (client_calls.sent command) e = call_goes_on end e
 
 -- THE OPTION WORDS in flight
 -- two engines of a server and a client, from their beginning
@@ -195,6 +197,13 @@ sound_types old new key t s =
     subst (λ w. HasPast w) (sym t.rest)
     (sound_as (record old { client = new.client; to_server = new.to_server }) (record old { client = new.client; to_server = new.to_server; echoed = new.echoed; typed = old.typed ++ key ∷ [] }) refl refl refl refl
     (told_sound old new (client_calls.typed key) tt t.goes t.keeps t.sends runs s))
+
+pub sound_sends : (old new : World) (command : UserCommand) → SendsCommand old command new → HasPast old → HasPast new
+sound_sends old new command t s =
+    let runs = propose_goes_on old.client (client_calls.sent command) t.accepted in
+    subst (λ w. HasPast w) (sym t.rest)
+    (sound_as (record old { client = new.client; to_server = new.to_server }) _ refl refl refl refl
+    (told_sound old new (client_calls.sent command) tt t.goes t.keeps t.sends runs s))
 
 pub sound_tells : (old new : World) (e : client_calls.Event) → client_courses.IsCall e → CallsClient old e new → HasPast old → HasPast new
 sound_tells old new e call t s =
@@ -301,6 +310,7 @@ unless false old new happens done is s = done is s
 
 pub sound_does : (old new : World) (e : Event) → RunsEvent old e new → HasPast old → HasPast new
 sound_does old new (Key key) d s = unless old.client_stopped old new (TypesKey old key new) (sound_types old new key) d s
+sound_does old new (Send command) d s = unless old.client_stopped old new (SendsCommand old command new) (sound_sends old new command) d s
 sound_does old new (ToServer n) d s = unless old.server_stopped old new (DeliversToServer old n new) (sound_reaches old new n) d s
 sound_does old new (ToClient n) d s = unless old.client_stopped old new (DeliversToClient old n new) (sound_returns old new n) d s
 sound_does old new (Write bytes) d s = unless old.server_stopped old new (CallsServer old (server_calls.wrote bytes) new) (sound_asks old new (server_calls.wrote bytes) tt) d s
@@ -389,6 +399,7 @@ refusal_of old new e cause.Memory r = unchanged r.1
 refusal_of old new (ToServer n) (cause.Server fault) r = by_server n fault refl r
 refusal_of old new (ToClient n) (cause.Client fault) r = by_client n fault refl r
 refusal_of old new (Key key) (cause.Server fault) r = unchanged r.1
+refusal_of old new (Send command) (cause.Server fault) r = unchanged r.1
 refusal_of old new (ToClient n) (cause.Server fault) r = unchanged r.1
 refusal_of old new (Write bytes) (cause.Server fault) r = unchanged r.1
 refusal_of old new (Pull n) (cause.Server fault) r = unchanged r.1
@@ -402,6 +413,7 @@ refusal_of old new (Mask mask) (cause.Server fault) r = unchanged r.1
 refusal_of old new ServerStops (cause.Server fault) r = unchanged r.1
 refusal_of old new ClientStops (cause.Server fault) r = unchanged r.1
 refusal_of old new (Key key) (cause.Client fault) r = unchanged r.1
+refusal_of old new (Send command) (cause.Client fault) r = unchanged r.1
 refusal_of old new (ToServer n) (cause.Client fault) r = unchanged r.1
 refusal_of old new (Write bytes) (cause.Client fault) r = unchanged r.1
 refusal_of old new (Pull n) (cause.Client fault) r = unchanged r.1

@@ -4,6 +4,7 @@ use Rattle.std.specs.Prelude.{All}
 use Rattle.std.proofs.lemmas.List.Elements.{All-nil, All-cons, All-head, All-tail, All-append}
 use Rattle.std.proofs.lemmas.List.{map-append}
 use Rattle.tn_codes.specs.PayloadOf.{payload_of}
+use Rattle.tn_codes.specs.declared.codes.Command.TheVariants.{Ip}
 use Rattle.tn_codes.specs.declared.payloads.Payload.{Payload}
 use Rattle.tn_codes.specs.declared.payloads.Payload.TheVariants as payload
 use Rattle.std.specs.Prelude.{Option, Some, None}
@@ -21,9 +22,9 @@ use Rattle.tn_world.specs.relation.Machine.{Mode, Message, mode, forward_at, cha
 use Rattle.tn_world.proofs.Cut.{behind, cut_at, no_items}
 use Rattle.tn_world.proofs.Reading.{read_all-append}
 use Rattle.tn_world.proofs.Changing as was
-use Rattle.tn_world.proofs.Changing.{key-agrees, message-agrees}
+use Rattle.tn_world.proofs.Changing.{key-agrees, interrupt-agrees, message-agrees}
 use Rattle.tn_world.proofs.Prefixes.{take-agrees, agreed}
-use Rattle.tn_world.specs.relation.Ends.{ServerEnd, ClientEnd, server_items, client_messages, AreReplies, ServerFeeds, with_waiting, TakesFirst, SaysItems, ClientKeys, client_after_messages, ClientFeeds, ClientSays, World, Event, key, to_server, to_client, take_entry, server_call, client_call, Happens, made}
+use Rattle.tn_world.specs.relation.Ends.{ServerEnd, ClientEnd, server_items, client_messages, AreReplies, ServerFeeds, with_waiting, TakesFirst, SaysItems, ClientKeys, ClientInterrupts, client_after_messages, ClientFeeds, ClientSays, World, Event, key, interrupt, to_server, to_client, take_entry, server_call, client_call, Happens, made}
 use Rattle.tn_world.specs.relation.Relation.{Agrees, IsTied, server_at}
 
 -- both parts
@@ -91,6 +92,12 @@ key-tied canon w k client said h t =
     (subst (λ c. Agrees canon (w.typed ++ k ∷ []) w.taken (read_all canon (read_all canon w.server.core (server_items t.items)) (client_after_key canon w.client.core.mask.edit w.client.core k).items) c) (sym h.core)
     (key-agrees canon w.typed w.taken (read_all canon w.server.core (server_items t.items)) w.client.core k w.client.core.mask.edit refl t.agrees))
 
+interrupt-tied : (canon : Canon) (w : World) (k : ℕ) (client : ClientEnd) (said : List Item) → ClientInterrupts canon w.client k said client → IsTied canon w → IsTied canon (record w { typed = w.typed ++ k ∷ []; client = client; to_server = w.to_server ++ spells said })
+interrupt-tied canon w k client said h t =
+    subst (λ c. IsTied canon (record w { typed = w.typed ++ k ∷ []; client = c; to_server = w.to_server ++ spells said })) (sym h.same)
+    (writes-tied canon w t (machine.command Ip ∷ []) said (w.typed ++ k ∷ []) w.client t.messages w.to_client h.writes t.back t.calm_back
+    (interrupt-agrees canon w.typed w.taken (read_all canon w.server.core (server_items t.items)) w.client.core k h.interrupts t.agrees))
+
 client-tied : (canon : Canon) (w : World) (n : ℕ) (client : ClientEnd) (said : List Item) → ClientFeeds canon w.client (take n w.to_client) said client → IsTied canon w → IsTied canon (record w { client = client; to_client = drop n w.to_client; to_server = w.to_server ++ spells said })
 client-tied canon w n client said h t =
     let d = cut_at w.client.decoder client.decoder n w.to_client t.messages h.got t.back h.reads in
@@ -156,6 +163,7 @@ took-tied canon w (x ∷ none) server h t =
 -- every event keeps the relation
 pub happens-tied : (canon : Canon) (w new : World) (e : Event) → Happens canon w e new → IsTied canon w → IsTied canon new
 happens-tied canon w new (key k) h t = subst (λ x. IsTied canon x) (sym h.3) (key-tied canon w k h.0 h.1 h.2 t)
+happens-tied canon w new (interrupt k) h t = subst (λ x. IsTied canon x) (sym h.3) (interrupt-tied canon w k h.0 h.1 h.2 t)
 happens-tied canon w new (to_server n) h t = subst (λ x. IsTied canon x) (sym h.3) (server-tied canon w n h.0 h.1 h.2 t)
 happens-tied canon w new (to_client n) h t = subst (λ x. IsTied canon x) (sym h.3) (client-tied canon w n h.0 h.1 h.2 t)
 happens-tied canon w new take_entry h t =

@@ -16,7 +16,7 @@ use Rattle.tn_server.proofs.lemmas.Stopping.{has_read, many_wait}
 use Rattle.tn_world.specs.Past.{HasPast}
 use Rattle.tn_world.specs.Worlds.{World, ServerRefusesDelivery, Refuses, StopsWithin, ShowsCause}
 use Rattle.tn_world.specs.declared.events.Event.{Event}
-use Rattle.tn_world.specs.declared.events.Event.TheVariants.{Key, ToServer, ToClient, Write, Pull, Take, Wish, Resize, SetChar, Propose, Echo, Mask, ServerStops, ClientStops}
+use Rattle.tn_world.specs.declared.events.Event.TheVariants.{Key, Send, ToServer, ToClient, Write, Pull, Take, Wish, Resize, SetChar, Propose, Echo, Mask, ServerStops, ClientStops}
 use Rattle.tn_world.specs.declared.faults.Cause.{Cause}
 use Rattle.tn_world.specs.declared.faults.Cause.TheVariants as cause
 use Rattle.tn_world.proofs.Showing.{runs_sound}
@@ -63,6 +63,7 @@ far_behind old new n s r = go (by_test old.server.failed refl)
 far_at : (old new : World) (e : Event) → HasPast old → Refuses old e (cause.Server far) new → length new.server.terminal.entries ≡ max_waiting
 far_at old new (ToServer n) s r = far_behind old new n s r
 far_at old new (Key key) s r = absurd r.0
+far_at old new (Send command) s r = absurd r.0
 far_at old new (ToClient n) s r = absurd r.0
 far_at old new (Write bytes) s r = absurd r.0
 far_at old new (Pull n) s r = absurd (never_none r.0.1.cause)
@@ -105,6 +106,7 @@ shut_mask false f = cc
 shut_at : (old new : World) (e : Event) → HasPast old → Refuses old e (cause.Server (Pty pty.Closed)) new → ⊥
 shut_at old new (ToServer n) s r = never_shut old new n s r
 shut_at old new (Key key) s r = r.0
+shut_at old new (Send command) s r = r.0
 shut_at old new (ToClient n) s r = r.0
 shut_at old new (Write bytes) s r = r.0
 shut_at old new (Pull n) s r = shut_none r.0.1.cause

@@ -14,11 +14,12 @@ use Rattle.tn_option.specs.declared.q_method.Side.TheVariants.{Us, Them}
 use Rattle.tn_option.specs.declared.q_method.QState.{QState}
 use Rattle.tn_option.specs.declared.q_method.QState.TheVariants.{No, Yes, WantNoEmpty, WantNoOpposite, WantYesEmpty, WantYesOpposite}
 use Rattle.tn_streams.specs.Prefixes.{IsPrefixOf}
+use Rattle.tn_world.specs.Commands.{IsTypeable}
 use Rattle.tn_world.specs.Opened.{IsOpened}
 use Rattle.tn_world.specs.Past.{HasPast}
 use Rattle.tn_world.specs.Worlds.{World, RunsEvent, Refuses, canon_of}
 use Rattle.tn_world.specs.declared.events.Event.{Event}
-use Rattle.tn_world.specs.declared.events.Event.TheVariants.{SetChar, Propose}
+use Rattle.tn_world.specs.declared.events.Event.TheVariants.{Send, SetChar, Propose}
 use Rattle.tn_world.specs.declared.faults.Cause.{Cause}
 
 -- A SETTLED MOMENT: what `mark` finds.
@@ -100,17 +101,19 @@ pub record IsOpening (canon : Canon) (w : World) : Type 0 where
 abbrev pub IsBeginning : Canon → World → Type 0
 IsBeginning canon w = IsMark canon w ⊎ IsOpening canon w
 
--- QUIET LISTS OF EVENTS: no special character is set or proposed. A mode may change in the middle of a line,
--- and so may masks, sizes and ECHO; no event turns LINEMODE off or changes another flag.
+-- QUIET LISTS OF EVENTS: no special character is set or proposed, and where BRK or IP is sent, the server's
+-- terminal has a key that interrupts. A mode may change in the middle of a line, and so may masks, sizes and
+-- ECHO; no event turns LINEMODE off or changes another flag.
 
-abbrev pub IsQuietEvent : Event → Type 0
-IsQuietEvent (SetChar func value) = ⊥
-IsQuietEvent (Propose func value) = ⊥
-IsQuietEvent e = Unit {0}
+abbrev pub IsQuietEvent : World → Event → Type 0
+IsQuietEvent w (SetChar func value) = ⊥
+IsQuietEvent w (Propose func value) = ⊥
+IsQuietEvent w (Send command) = IsTypeable command (canon_of w).settings
+IsQuietEvent w e = Unit {0}
 
 -- the event is done, and quiet, or it is refused
 abbrev pub RunsQuietly : World → Event → World → Type 0
-RunsQuietly old e new = (IsQuietEvent e × RunsEvent old e new) ⊎ ((cause : Cause) × Refuses old e cause new)
+RunsQuietly old e new = (IsQuietEvent old e × RunsEvent old e new) ⊎ ((cause : Cause) × Refuses old e cause new)
 
 -- these events, each quiet where it is done, lead from one world to the other
 abbrev pub PassesQuietly : World → List Event → World → Type 0
@@ -120,12 +123,12 @@ PassesQuietly old (e ∷ events) new = (mid : World) × RunsQuietly old e mid ×
 -- the list is quiet, as far as its events are done
 abbrev pub IsQuiet : World → List Event → Type 0
 IsQuiet w [] = Unit {0}
-IsQuiet w (e ∷ events) = (mid : World) → RunsEvent w e mid → IsQuietEvent e × IsQuiet mid events
+IsQuiet w (e ∷ events) = (mid : World) → RunsEvent w e mid → IsQuietEvent w e × IsQuiet mid events
 
--- each of these events is quiet, done or not
+-- each of these events is quiet in every world, done or not
 abbrev pub AreQuietEvents : List Event → Type 0
 AreQuietEvents [] = Unit {0}
-AreQuietEvents (e ∷ events) = IsQuietEvent e × AreQuietEvents events
+AreQuietEvents (e ∷ events) = ((w : World) → IsQuietEvent w e) × AreQuietEvents events
 
 -- This world came from a beginning, at which the server had these settings and this limit, by a quiet list of
 -- events.

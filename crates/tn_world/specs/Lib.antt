@@ -1,3 +1,4 @@
+pub mod Commands
 pub mod Worlds
 pub mod Flight
 pub mod Past

@@ -14,10 +14,12 @@ use Rattle.tn_server.specs.declared.faults.ServerFault.{ServerFault}
 use Rattle.tn_server.specs.declared.faults.ServerFault.TheVariants as server_faults
 use Rattle.tn_client.specs.Events as client_calls
 use Rattle.tn_client.specs.Calls as client
+use Rattle.tn_client.specs.declared.commands.UserCommand.{UserCommand}
 use Rattle.tn_client.specs.declared.faults.ClientFault.{ClientFault}
 use Rattle.tn_client.specs.declared.faults.ClientFault.TheVariants as client_faults
+use Rattle.tn_world.specs.Commands.{key_for}
 use Rattle.tn_world.specs.declared.events.Event.{Event}
-use Rattle.tn_world.specs.declared.events.Event.TheVariants.{Key, ToServer, ToClient, Write, Pull, Take, Wish, Resize, SetChar, Propose, Echo, Mask, ServerStops, ClientStops}
+use Rattle.tn_world.specs.declared.events.Event.TheVariants.{Key, Send, ToServer, ToClient, Write, Pull, Take, Wish, Resize, SetChar, Propose, Echo, Mask, ServerStops, ClientStops}
 use Rattle.tn_world.specs.declared.faults.Cause.{Cause}
 use Rattle.tn_world.specs.declared.faults.Cause.TheVariants as cause
 
@@ -70,6 +72,23 @@ pub record TypesKey (old : World) (key : ℕ) (new : World) : Type 0 where
         to_server = new.to_server;
         echoed = new.echoed;
         typed = old.typed ++ key ∷ [];
+      }
+
+-- the key that a command stands for at the server's terminal now
+abbrev pub key_sent : World → UserCommand → Option ℕ
+key_sent w command = key_for command (canon_of w).settings
+
+-- A command is sent: it joins the flight, and counts as the key that it stands for.
+pub record SendsCommand (old : World) (command : UserCommand) (new : World) : Type 0 where
+  pub accepted : client_fault old.client (client_calls.sent command) ≡ None
+  pub goes : client.Advances old.client (client_calls.sent command) new.client
+  pub keeps : client.ReadsNothing old.client new.client
+  pub sends : client.Sends old.client (client_calls.sent command) old.to_server new.to_server
+  pub rest : new
+      ≡ record old {
+        client = new.client;
+        to_server = new.to_server;
+        typed = old.typed ++ option_to_list (key_sent old command);
       }
 
 -- Any other call of the client.
@@ -131,6 +150,8 @@ pub record TakesEntry (old : World) (new : World) : Type 0 where
 -- the event is done
 abbrev pub RunsEvent : World → Event → World → Type 0
 RunsEvent old (Key key) new = UnlessStopped old.client_stopped old new (TypesKey old key new)
+RunsEvent old (Send command) new =
+    UnlessStopped old.client_stopped old new (SendsCommand old command new)
 RunsEvent old (ToServer n) new = UnlessStopped old.server_stopped old new (DeliversToServer old n new)
 RunsEvent old (ToClient n) new = UnlessStopped old.client_stopped old new (DeliversToClient old n new)
 RunsEvent old (Write bytes) new =
@@ -214,16 +235,19 @@ ServerRefusesEvent w e fault = ⊥
 abbrev pub ClientRefusesEvent : World → Event → ClientFault → Type 0
 ClientRefusesEvent w (Key key) fault =
     (w.client_stopped ≡ false) × ClientRefusesCall w.client (client_calls.typed key) fault
+ClientRefusesEvent w (Send command) fault =
+    (w.client_stopped ≡ false) × ClientRefusesCall w.client (client_calls.sent command) fault
 ClientRefusesEvent w (Resize width height) fault =
     (w.client_stopped ≡ false) × ClientRefusesCall w.client (client_calls.resized width height) fault
 ClientRefusesEvent w (Propose func value) fault =
     (w.client_stopped ≡ false) × ClientRefusesCall w.client (client_calls.proposed func value) fault
 ClientRefusesEvent w e fault = ⊥
 
--- the world needs memory of its own: for a typed key, for the rest of a flight that is cut, for an entry that
+-- the world needs memory of its own: for a typed key and one that is counted, for the rest of a flight that is cut, for an entry that
 -- waits to be taken
 abbrev pub WantsMemory : World → Event → Type 0
 WantsMemory w (Key key) = w.client_stopped ≡ false
+WantsMemory w (Send command) = (w.client_stopped ≡ false) × (key_sent w command ≢ None)
 WantsMemory w (ToServer n) = (w.server_stopped ≡ false) × (n < length w.to_server)
 WantsMemory w (ToClient n) = (w.client_stopped ≡ false) × (n < length w.to_client)
 WantsMemory w Take = w.server.terminal.entries ≢ []

@@ -1,5 +1,6 @@
 //! What may happen in a world.
 
+use tn_client::UserCommand;
 use tn_codes::{Func, Mask};
 use tn_discipline::Text;
 use tn_server::Editing;
@@ -9,6 +10,8 @@ use tn_server::Editing;
 pub enum Event {
     /// The user types this key at the client.
     Key(u8),
+    /// The user sends this command, which counts as the key that it stands for at the server's terminal.
+    Send(UserCommand),
     /// The first bytes in flight to the server arrive, or all where there are fewer.
     ToServer(usize),
     /// The first bytes in flight to the client arrive, or all where there are fewer.

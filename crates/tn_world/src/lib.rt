@@ -18,6 +18,7 @@ pub use faults::{Cause, WorldFault};
 pub use world::World;
 
 mod agreeing;
+mod commands;
 mod events;
 mod faults;
 pub mod laws;

@@ -7,11 +7,13 @@ ghost use Rattle.tn_world.specs.Output.{IsOutput, OutputGrowsAll, OutputGrowsBef
 ghost use Rattle.tn_world.specs.Worlds.{RunsEvent, Refuses, Runs, StopsWithin, ShowsCause};
 ghost use Rattle.tn_world.specs.declared.events.Event.TheVariants as event;
 
+use crate::commands::key_for;
 use crate::events::Event;
 use crate::faults::{Cause, WorldFault};
 use crate::world::World;
 use std::alloc::{AllocError, Global};
 use std::mem;
+use tn_client::UserCommand;
 use tn_codes::{Func, Mask};
 use tn_discipline::Text;
 use tn_server::Editing;
@@ -51,6 +53,7 @@ impl World {
     {
         match event {
             Event::Key(key) => self.key(*key),
+            Event::Send(command) => self.send(*command),
             Event::ToServer(count) => self.reach_server(*count),
             Event::ToClient(count) => self.reach_client(*count),
             Event::Write(bytes) => {
@@ -85,6 +88,23 @@ impl World {
         }
         self.typed.reserve(1)?;
         self.client.key(key, &mut self.to_server, &mut self.echoed)?;
+        self.typed.push_reserved(key);
+        Ok(())
+    }
+
+    fn send(&mut self, command: UserCommand) -> Result<(), Cause>
+        ensures ok { OnOk result (RunsEvent self.old (event.Send command) self.new) }
+        ensures err { IfErr result (λ cause. Refuses self.old (event.Send command) cause self.new) }
+    {
+        if self.client_stopped {
+            return Ok(());
+        }
+        let Some(key) = key_for(command, &self.server.settings()) else {
+            self.client.send(command, &mut self.to_server)?;
+            return Ok(());
+        };
+        self.typed.reserve(1)?;
+        self.client.send(command, &mut self.to_server)?;
         self.typed.push_reserved(key);
         Ok(())
     }

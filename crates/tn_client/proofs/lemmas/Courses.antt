@@ -7,7 +7,7 @@ use Rattle.tn_nvt.specs.Stream.{Reading}
 use Rattle.tn_nvt.specs.declared.items.Item.{Item}
 use Rattle.tn_nvt.proofs.lemmas.Reading.{one_standing, reads_none}
 use Rattle.tn_wire.proofs.lemmas.Reading.{same_more, part_in_two}
-use Rattle.tn_client.specs.Events.{Event, typed, got, resized, proposed, History, next, items, gets}
+use Rattle.tn_client.specs.Events.{Event, typed, got, resized, proposed, sent, History, next, items, gets}
 use Rattle.tn_client.specs.Replies.{items_said}
 use Rattle.tn_client.specs.Screen.{text_shown}
 use Rattle.tn_client.specs.Calls.{End, LeadsTo, ReadsNothing, Advances, Feeds, IsStopCause, StopsWithin}
@@ -22,6 +22,7 @@ items-call h (typed key) call = refl
 items-call h (got item) call = absurd call
 items-call h (resized width height) call = refl
 items-call h (proposed func value) call = refl
+items-call h (sent command) call = refl
 
 -- the items of a course are those of its stream
 pub leads-read : (c : Course) (h : History) → ReadsAs c h → IsRead (stream c) (items h)

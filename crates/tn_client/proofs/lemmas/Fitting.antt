@@ -18,10 +18,10 @@ use Rattle.tn_nvt.specs.Spelling.{Fits}
 use Rattle.tn_nvt.specs.declared.items.Item.{Item}
 use Rattle.tn_nvt.specs.declared.items.Item.TheVariants.{Byte, Newline, Cmd, Neg, Sub}
 use Rattle.tn_option.specs.Options.{Options, reply_to}
-use Rattle.tn_client.specs.Events.{History, Event, typed, got, resized, proposed, begun, next}
+use Rattle.tn_client.specs.Events.{History, Event, typed, got, resized, proposed, sent, begun, next}
 use Rattle.tn_client.specs.Terms.{options, mode, forward, chars, size, linemode, tells_size, options_after, payload_at, mode_at}
 use Rattle.tn_client.specs.Lines.{role_at, sends_ahead, line}
-use Rattle.tn_client.specs.Replies.{byte_items, command_of, command_items, raw_key_items, edited_key_items, sent_ahead_items, key_items, size_items, new_size_items, payload_answers, answer_items, end_of_edit_items, is_same_size, replies, items_said}
+use Rattle.tn_client.specs.Replies.{byte_items, command_of, command_items, raw_key_items, edited_key_items, sent_ahead_items, key_items, size_items, new_size_items, payload_answers, answer_items, end_of_edit_items, is_same_size, command_sent, replies, items_said}
 use Rattle.tn_wire.specs.Words.{word_items}
 use Rattle.tn_linemode.proofs.lemmas.Answering.{length-answers_along}
 use Rattle.tn_wire.proofs.lemmas.Fitting.{Fit, none, one, both, unless, word-fits, mode-fits, list-fits}
@@ -103,6 +103,7 @@ replies-fit h (got item) =
     (ending-fits (edits (mode h)) (edits (mode_at (options h) (mode h) item)) (line h).held) (answer-fits (options h) (mode h) (chars h) (size h) item)
 replies-fit h (resized width height) = unless (tells_size (options h) && not (is_same_size (size h) (width, height))) (size_items (width, height)) (size-fits (width, height))
 replies-fit h (proposed func value) = list-fits (triple_of func value ∷ []) (omega arith)
+replies-fit h (sent command) = one (Cmd (command_sent command)) tt
 
 -- So does everything that was said.
 pub sent-fits : (h : History) → All Fits (items_said h)

@@ -13,7 +13,7 @@ use Rattle.tn_linemode.specs.Modes.{edits, traps, mode_of, is_acknowledged}
 use Rattle.tn_nvt.specs.declared.items.Item.{Item}
 use Rattle.tn_nvt.specs.declared.items.Item.TheVariants.{Byte, Newline, Cmd, Neg, Sub}
 use Rattle.tn_option.specs.Options.{Options, options_after_word}
-use Rattle.tn_client.specs.Events.{History, begun, next, typed, got, resized, proposed, items, keys, gets}
+use Rattle.tn_client.specs.Events.{History, begun, next, typed, got, resized, proposed, sent, items, keys, gets}
 use Rattle.tn_client.specs.Terms.{options, mode, forward, chars, linemode, payload_at, changes, mode_by, mode_at, forward_by}
 use Rattle.tn_wire.specs.Words.{payload_under, differ}
 use Rattle.tn_client.specs.Lines.{settings_by, role_at, role_under, isig_told, roles_under, line_limit, edited_roles, half_line, is_sent_ahead, lengths_with, lengths_kept, lengths_since_sent, least, ahead, held_bytes, count_under, line}
@@ -63,6 +63,7 @@ unsent (next h (typed key)) e = some_or_none (edits (mode h)) _ e
 unsent (next h (got item)) e = kept_or_none (edits (mode h)) (edits (mode (next h (got item)))) _ (lengths_since_sent h) e
 unsent (next h (resized width height)) e = unsent h e
 unsent (next h (proposed func value)) e = unsent h e
+unsent (next h (sent command)) e = unsent h e
 
 pub unedited-ahead : (h : History) → edits (mode h) ≡ false → ahead h ≡ 0
 unedited-ahead h e = ap least (unsent h e)
@@ -103,6 +104,7 @@ same_roles a b (next h (got item)) e = by_test (edits (mode h)) refl (λ f. same
     by_test false f before = ap (λ (x : Bool). roles_under x h) (told_by_test a b (edits (mode h)) (edits (mode (next h (got item)))) (mode (next h (got item))) f e)
 same_roles a b (next h (resized width height)) e = same_roles a b h e
 same_roles a b (next h (proposed func value)) e = same_roles a b h e
+same_roles a b (next h (sent command)) e = same_roles a b h e
 
 pub edited-is : (h : History) → edits (mode h) ≡ true → edited_roles h ≡ roles_under (traps (mode h)) h
 edited-is h e = ap (λ (b : Bool). if b then roles_under (traps (mode h)) h else []) e
@@ -172,6 +174,7 @@ some_lengths (next h (got item)) e = by_test (edits (mode h)) refl (length (half
         (n, [], ap (λ (b : Bool). lengths_kept b (edits (mode (next h (got item)))) n (lengths_since_sent h)) f ∙ ap (λ (b : Bool). lengths_kept false b n (lengths_since_sent h)) e)
 some_lengths (next h (resized width height)) e = some_lengths h e
 some_lengths (next h (proposed func value)) e = some_lengths h e
+some_lengths (next h (sent command)) e = some_lengths h e
 
 -- the least length since all was sent, after one more
 least-with : (b : Bool) (n m : ℕ) (ms : List ℕ) → least (lengths_with b n (m ∷ ms)) ≡ (if b then n else min n (least (m ∷ ms)))
@@ -223,6 +226,7 @@ ahead-within (next h (got item)) = by_test (edits (mode h)) (edits (mode (next h
     by_test edit false e f before = omega (arith, unedited-ahead (next h (got item)) f)
 ahead-within (next h (resized width height)) = ahead-within h
 ahead-within (next h (proposed func value)) = ahead-within h
+ahead-within (next h (sent command)) = ahead-within h
 
 pub parts-whole : (h : History) → half_line h ≡ take (ahead h) (half_line h) ++ held_bytes h
 parts-whole h = sym (take-append-drop (ahead h) (half_line h))
@@ -256,6 +260,7 @@ mode-off (next h (got (Sub option params))) e =
     ap (λ (p : Option Payload). mode_by (mode h) p) (payload_off (options h) option params e) ∙ mode-off h e
 mode-off (next h (resized width height)) e = mode-off h e
 mode-off (next h (proposed func value)) e = mode-off h e
+mode-off (next h (sent command)) e = mode-off h e
 
 changed_or_dropped : (was on : Bool) (f : Option Mask) → (was ≡ false → f ≡ None) → on ≡ false → (if differ was on then None else f) ≡ None
 changed_or_dropped true true f g e = cc
@@ -275,6 +280,7 @@ forward-off (next h (got (Sub option params))) e =
     ap (λ (p : Option Payload). forward_by (forward h) p) (payload_off (options h) option params e) ∙ forward-off h e
 forward-off (next h (resized width height)) e = forward-off h e
 forward-off (next h (proposed func value)) e = forward-off h e
+forward-off (next h (sent command)) e = forward-off h e
 
 pub unedited-held : (h : History) → edits (mode h) ≡ false → held_bytes h ≡ []
 unedited-held h e = ap (λ (bytes : List ℕ). drop (ahead h) bytes) (unedited_half h e) ∙ ap (λ (n : ℕ). drop {A = ℕ} n []) (unedited-ahead h e)
@@ -316,3 +322,4 @@ mode-small (next h (typed key)) = mode-small h
 mode-small (next h (got item)) = mode_at-small (options h) (mode h) item (mode-small h)
 mode-small (next h (resized width height)) = mode-small h
 mode-small (next h (proposed func value)) = mode-small h
+mode-small (next h (sent command)) = mode-small h

@@ -23,7 +23,7 @@ use Rattle.tn_wire.proofs.lemmas.OptionWords.{words_in-append, words_in-word, wo
 use Rattle.tn_wire.specs.Words.{word_items}
 use Rattle.tn_client.specs.Calls.{End, LeadsTo, Advances, Sends, Feeds}
 use Rattle.tn_client.specs.Course.{IsCall}
-use Rattle.tn_client.specs.Events.{Event, History, next, typed, got, resized, proposed, gets}
+use Rattle.tn_client.specs.Events.{Event, History, next, typed, got, resized, proposed, sent, gets}
 use Rattle.tn_client.specs.Lines.{role_at, sends_ahead, line}
 use Rattle.tn_client.specs.Replies.{byte_items, command_of, command_items, raw_key_items, edited_key_items, sent_ahead_items, key_items, size_items, new_size_items, payload_answers, answer_items, end_of_edit_items, is_same_size, replies, items_said}
 use Rattle.tn_client.specs.Terms.{options, mode, forward, chars, size, tells_size, payload_at, options_after, mode_at}
@@ -154,12 +154,14 @@ call_none h (typed key) is = key_none (edits (mode h)) (forward h) (role_at h ke
 call_none h (got item) is = absurd is
 call_none h (resized width height) is = if_none (tells_size (options h) && not (is_same_size (size h) (width, height))) (size_items (width, height)) refl
 call_none h (proposed func value) is = words_in-list (triple_of func value ∷ [])
+call_none h (sent command) is = refl
 
 call_keeps : (h : History) (e : Event) → IsCall e → options (next h e) ≡ options h
 call_keeps h (typed key) is = refl
 call_keeps h (got item) is = absurd is
 call_keeps h (resized width height) is = refl
 call_keeps h (proposed func value) is = refl
+call_keeps h (sent command) is = refl
 
 -- AN END, after a piece and after a call
 pub feeds_moves : (h : History) (old new : End) (piece before after seen now : List ℕ) (here : Options) (ws vs : List (Verb × ℕ)) → LeadsTo h old → (f : Feeds old piece before after seen now new) → Moves (pair here old.options ws (words_in f.items ++ vs)) (pair here new.options (ws ++ words_in f.said) vs)

@@ -5,9 +5,9 @@ use super::playing::{
 };
 use std::alloc::Global;
 use std::process::Abort;
-use tn_client::ClientFault;
+use tn_client::{ClientFault, UserCommand};
 use tn_codes::Func;
-use tn_discipline::{CharFault, Entry, Limit};
+use tn_discipline::{CharFault, Entry, Limit, Settings, Sig};
 use tn_plain::chance::Dice;
 use tn_server::{Editing, ServerFault};
 use tn_world::{Cause, Event, World, WorldFault};
@@ -174,6 +174,27 @@ fn types_once_stopped(world: &mut World) -> Result<(), WorldFault> {
 fn a_world_tells_what_was_typed_and_echoed(rt: HostRuntime) -> Result<(), WorldFault> {
     let mut world = open(rt.alloc(), Limit::standard())?;
     types_and_stops(&rt, &mut world)
+}
+
+// What BRK gives at a terminal that no key interrupts: a signal, and no key was typed.
+fn interrupts_by_no_key(world: &mut World) -> Result<bool, WorldFault> {
+    let events = [
+        Event::Send(UserCommand::Brk),
+        Event::ToServer(ALL),
+        Event::Take,
+    ];
+    play_all(world, &events)?;
+    let interrupted = matches!(world.taken().first(), Some(Entry::Signal(Sig::Int)));
+    Ok(interrupted && world.typed().is_empty())
+}
+
+#[test]
+fn a_terminal_without_isig_is_interrupted_by_brk(rt: HostRuntime) -> Result<(), WorldFault> {
+    let mut settings = Settings::standard();
+    settings.flags.isig = false;
+    let mut world = World::open(rt.alloc(), settings, 80, 24, Limit::standard())?;
+    assert!(&rt; interrupts_by_no_key(&mut world)?);
+    Ok(())
 }
 
 // Two keys are typed, or those before the one that is refused.

@@ -4,6 +4,7 @@ use super::playing::{agrees, open, play, rests, settle, types};
 use super::worlds::print_all;
 use std::alloc::Global;
 use std::process::Abort;
+use tn_client::UserCommand;
 use tn_discipline::Limit;
 use tn_plain::chance::Dice;
 use tn_plain::payloads::mask;
@@ -23,6 +24,12 @@ const SCRIPTS: &[(&str, &str)] = &[
         "settle\nmark\nkey 6103\nsettle\nwish local\nsettle\nkey 7f0d\nflight\nsettle\ntake\ntake\n",
         "mark true\nto-server fff70d0a\nto-client -\nsignal int\ntext 0a\n",
     ),
+    // BRK and IP interrupt wherever the line is, and leave it.
+    (
+        "settle\nkey 61\nsend brk\nsettle\ntake\nwish local\nsettle\nkey 62\nsend ip\nsend ayt\n\
+         flight\nkey 0d\nsettle\ntake\ntake\nshown\n",
+        "signal int\nto-server fff4fff6\nto-client -\nsignal int\ntext 61620a\nshown -\n",
+    ),
     // A full line changes hands.
     (
         "settle\nmark\nkey |254*61|\nsettle\nwish local\nsettle\nkey 627f0d\nflight\nsettle\ntake\n",
@@ -39,9 +46,19 @@ const KEYS: [u8; 14] = [
     b'a', b'b', b',', b',', 255, 3, 28, 26, 4, 127, 127, 21, 10, 13,
 ];
 
+// One of the commands that a user may send.
+fn command(dice: &mut Dice) -> UserCommand {
+    match dice.roll(4) {
+        0 => UserCommand::Brk,
+        1 => UserCommand::Ip,
+        2 => UserCommand::Ayt,
+        _ => UserCommand::Nop,
+    }
+}
+
 // Something that may happen: wishes anywhere, forward masks, deliveries cut anywhere.
 fn chance(dice: &mut Dice) -> Event {
-    match dice.roll(18) {
+    match dice.roll(19) {
         0 => Event::Wish(Editing::Local),
         1 => Event::Wish(Editing::Remote),
         2 => Event::Mask(Some(mask(&[0, 0, 0, 0, 0, 8]))),
@@ -52,6 +69,7 @@ fn chance(dice: &mut Dice) -> Event {
         9 => Event::Pull(dice.roll(9)),
         10 => Event::Echo(dice.flips()),
         11 => Event::Resize(80, 25),
+        12 => Event::Send(command(dice)),
         _ => Event::Key(dice.pick(&KEYS)),
     }
 }

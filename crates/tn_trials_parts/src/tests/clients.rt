@@ -2,7 +2,7 @@
 
 use super::play_all;
 use std::alloc::Global;
-use tn_client::{ClientEnd, ClientFault};
+use tn_client::{ClientEnd, ClientFault, UserCommand};
 use tn_discipline::Limit;
 use tn_option::Side;
 use tn_plain::page::{Page, Stage, Words, byte_of, bytes_of, size_of};
@@ -64,6 +64,7 @@ impl Client {
             "keys" => self.keys(words),
             "feed" => self.feed(words),
             "resize" => self.resize(words),
+            "send" => self.send(words),
             _ => self.propose(words),
         };
         page.tell("sent", &mut self.sent);
@@ -99,6 +100,20 @@ impl Client {
             return self.end.resize(width, height, &mut self.sent);
         }
         resized
+    }
+
+    fn send(&mut self, words: Words<'_>) -> Result<(), ClientFault> {
+        let command = match words.first {
+            "brk" => UserCommand::Brk,
+            "ip" => UserCommand::Ip,
+            "ayt" => UserCommand::Ayt,
+            _ => UserCommand::Nop,
+        };
+        let sent = self.end.send(command, &mut self.sent);
+        if sent == Err(ClientFault::Memory) {
+            return self.end.send(command, &mut self.sent);
+        }
+        sent
     }
 
     fn propose(&mut self, words: Words<'_>) -> Result<(), ClientFault> {
@@ -183,6 +198,12 @@ const TYPING: &[(&str, &str)] = &[
         "join; edit; keys 610304; keys 617f0d; keys 616215630a; keys 1c1a04; keys 254x78; keys 797a; half",
         "sent fff461ffec; shown 61; sent 0d0a; shown 610820080d0a; sent 630d0a; shown 61620d0a630d0a; \
          sent ffeeffedffec; shown 254x78.; shown 0707; half 254x78.",
+    ),
+    // A command goes at once, in each mode, before what is held, which stays.
+    (
+        "send brk; join; keys 61; send nop; edit; keys 62; send brk; send ip; send ayt; half; keys 630d",
+        "sent fff3; sent 61; sent fff1; shown 62; sent fff3; sent fff4; sent fff6; half 62; \
+         sent 62630d0a; shown 630d0a",
     ),
     // A client'shows what the server writes.
     // While the server echoes, a key shows nothing here.

@@ -4,9 +4,13 @@ use Rattle.tn_nvt.specs.declared.items.Item.{Item}
 use Rattle.tn_nvt.specs.Spelling.{spells, Fits}
 use Rattle.tn_nvt.specs.Feeding.{DecoderState, Advances}
 use Rattle.tn_discipline.specs.Canon.{Canon}
+use Rattle.tn_codes.specs.declared.codes.Command.TheVariants.{Ip}
+use Rattle.tn_discipline.specs.Keys.{role_of_key}
+use Rattle.tn_discipline.specs.declared.keys.Role.TheVariants as role
+use Rattle.tn_discipline.specs.declared.reads.Sig.TheVariants.{Int}
 use Rattle.tn_discipline.specs.declared.reads.Entry.{Entry}
 use Rattle.tn_world.specs.relation.Machine as machine
-use Rattle.tn_world.specs.relation.Machine.{Message, Server, read_all, Client, Sent, client_after_key, client_after_message}
+use Rattle.tn_world.specs.relation.Machine.{Message, command, Server, read_all, Client, Sent, client_after_key, client_after_message}
 use Rattle.tn_world.specs.relation.Calm.{IsCalmToServer, IsCalmToClient, server_item, client_message}
 
 pub record ServerEnd : Type 0 where
@@ -62,6 +66,13 @@ pub record ClientKeys (canon : Canon) (old : ClientEnd) (key : ℕ) (said : List
   pub core : new.core ≡ (client_after_key canon old.core.mask.edit old.core key).client
   pub writes : SaysItems canon (client_after_key canon old.core.mask.edit old.core key).items said
 
+-- a command that stands for this key, which interrupts: the client stays as it is
+pub record ClientInterrupts (canon : Canon) (old : ClientEnd) (key : ℕ) (said : List Item)
+    (new : ClientEnd) : Type 0 where
+  pub same : new ≡ old
+  pub interrupts : role_of_key canon.settings key ≡ role.Signal Int
+  pub writes : SaysItems canon (command Ip ∷ []) said
+
 -- the client after these messages
 abbrev pub client_after_messages : Canon → Client → List Message → Sent
 client_after_messages canon c [] = record { client = c; items = [] }
@@ -94,6 +105,7 @@ pub record World : Type 0 where
 
 pub data Event : Type 0 where
   key : ℕ → Event
+  interrupt : ℕ → Event
   to_server : ℕ → Event
   to_client : ℕ → Event
   take_entry : Event
@@ -104,6 +116,13 @@ pub data Event : Type 0 where
 abbrev pub Happens : Canon → World → Event → World → Type 0
 Happens canon w (key k) new =
     (client : ClientEnd) × (said : List Item) × ClientKeys canon w.client k said client
+    × (new ≡ record w {
+      typed = w.typed ++ k ∷ [];
+      client = client;
+      to_server = w.to_server ++ spells said;
+    })
+Happens canon w (interrupt k) new =
+    (client : ClientEnd) × (said : List Item) × ClientInterrupts canon w.client k said client
     × (new ≡ record w {
       typed = w.typed ++ k ∷ [];
       client = client;

@@ -1,0 +1,15 @@
+use Rattle.std.proofs.Common.{[], ◌∷◌, sym, ap}
+use Rattle.tn_codes.specs.declared.codes.Command.{Command}
+use Rattle.tn_nvt.specs.declared.items.Item.TheVariants.{Cmd}
+use Rattle.tn_client.proofs.end.ClientEnd.send.Goals as goal
+use Rattle.tn_client.proofs.end.ClientEnd.send.Goals.{in-Ok, in-Err}
+
+pub returns-clause-sends : goal.returns-clause-sends
+returns-clause-sends c = elim c.match-put_cmd.branch [
+  | in-Ok w ↦ rw w.result-is (record {
+    said = Cmd c.command.result ∷ [];
+    appended = w.in-Ok.ensures.ok;
+    replies = λ h s. ap (λ (x : Command). Cmd x ∷ []) (sym c.command.ensures);
+  })
+  | in-Err w ↦ rw w.result-is tt
+]

@@ -1,0 +1,36 @@
+-- The key that a command of the user stands for, at a terminal with these settings.
+use Rattle.std.specs.Prelude.{◌≡◌, ℕ, Option, Some, None}
+use Rattle.tn_discipline.specs.Keys.{role_of_key}
+use Rattle.tn_discipline.specs.declared.keys.Role.{Role}
+use Rattle.tn_discipline.specs.declared.keys.Role.TheVariants.{Signal}
+use Rattle.tn_discipline.specs.declared.reads.Sig.TheVariants.{Int}
+use Rattle.tn_discipline.specs.declared.termios.Settings.{Settings}
+use Rattle.tn_client.specs.declared.commands.UserCommand.{UserCommand}
+use Rattle.tn_client.specs.declared.commands.UserCommand.TheVariants.{Brk, Ip, Ayt, Nop}
+
+-- this key, where its role is to interrupt
+abbrev pub key_if : Role → ℕ → Option ℕ
+key_if (Signal Int) key = Some key
+key_if _ key = None
+
+-- XBD 11.1.9, INTR: the key that interrupts, where one does, which needs ISIG
+abbrev pub interrupt_at : Settings → Option ℕ → Option ℕ
+interrupt_at s None = None
+interrupt_at s (Some key) = key_if (role_of_key s key) key
+
+abbrev pub interrupt_key : Settings → Option ℕ
+interrupt_key s = interrupt_at s s.chars.intr
+
+-- BRK and IP interrupt; AYT and NOP are no input of the terminal
+abbrev pub key_for : UserCommand → Settings → Option ℕ
+key_for Brk s = interrupt_key s
+key_for Ip s = interrupt_key s
+key_for Ayt s = None
+key_for Nop s = None
+
+-- what the command does could be done by keys: it is no input, or there is a key that interrupts
+abbrev pub IsTypeable : UserCommand → Settings → Type 0
+IsTypeable Brk s = (key : ℕ) × (interrupt_key s ≡ Some key)
+IsTypeable Ip s = (key : ℕ) × (interrupt_key s ≡ Some key)
+IsTypeable Ayt s = Unit {0}
+IsTypeable Nop s = Unit {0}
