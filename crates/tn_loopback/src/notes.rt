@@ -102,6 +102,7 @@ fn cause(line: &mut Vec<u8>, passed: Passed, finished: &Finished) -> io::Result<
         Err(fault) => fault_cause(line, passed, *fault),
         Ok(report) => match report.ended {
             Ended::HangUp if finished.idle => write!(line, "idle"),
+            Ended::HangUp if finished.too_long => write!(line, "too long"),
             Ended::HangUp => write!(line, "hang-up"),
             Ended::Done => write!(line, "done"),
             Ended::Fault(fault) => fault_cause(line, passed, fault),

@@ -48,6 +48,11 @@ impl Traffic {
         }
     }
 
+    /// So many more bytes went.
+    pub(crate) fn count_went(&self, bytes: usize) {
+        let _ = self.went.fetch_add(bytes as u64, Ordering::SeqCst);
+    }
+
     // One that is only interrupted is asked again.
     fn fail(&self, error: &io::Error) {
         if error.kind() != ErrorKind::Interrupted {
@@ -107,9 +112,7 @@ impl<W: Finish> Drain for CountedWrites<W> {
     fn write_some(&mut self, buf: &[u8]) -> io::Result<usize> {
         let wrote = self.side.write_some(buf);
         match &wrote {
-            Ok(count) => {
-                let _ = self.traffic.went.fetch_add(*count as u64, Ordering::SeqCst);
-            },
+            Ok(count) => self.traffic.count_went(*count),
             Err(error) => self.traffic.fail(error),
         }
         wrote

@@ -1,16 +1,16 @@
-//! What a client sends, and how long a server bears its silence.
+//! What a client sends, how long a server bears its silence, and for how long it serves it.
 
 ghost use Rattle.std.specs.Prelude.{◌≡◌, ◌≤◌, ◌≢◌, length, take, IfOk, IfSome, None};
 ghost use Rattle.std.specs.Io.{ReadsAtMost};
 ghost use Rattle.std.specs.Io.KnownBytes.{Consumes, Keeps, ReadConsumes};
 ghost use Rattle.tn_sockets.specs.Passing.{GivesNext};
 
-use crate::connection::Closing;
+use crate::connection::{Closing, send_at_once};
 use std::alloc::{AllocError, Global};
 use std::io::{ErrorKind, Read};
 use std::net::{Shutdown, TcpStream};
-use std::sync::atomic::{AtomicBool, Ordering};
-use std::sync::{Arc, Wait};
+use std::sync::atomic::{AtomicBool, AtomicUsize, Ordering};
+use std::sync::{Arc, OnceLock, Wait};
 use std::time::{Clock, Duration, Instant};
 use std::{io, thread};
 
@@ -32,12 +32,18 @@ pub struct Standing {
     finished: AtomicBool,
     /// The peer sent nothing for too long.
     idle: AtomicBool,
+    /// The session lasted too long.
+    too_long: AtomicBool,
     /// A job of the session wants it to end as by a hang-up.
     hung_up: AtomicBool,
     /// A job of the session still has to write once nothing more comes from the peer.
     held: AtomicBool,
     /// Nothing more comes from the peer.
     gone: AtomicBool,
+    /// By it the peer is told why its session ends.
+    stream: OnceLock<TcpStream>,
+    /// How many bytes it was told so.
+    told: AtomicUsize,
 }
 
 impl Standing {
@@ -46,9 +52,12 @@ impl Standing {
         let standing = Standing {
             finished: AtomicBool::new(false),
             idle: AtomicBool::new(false),
+            too_long: AtomicBool::new(false),
             hung_up: AtomicBool::new(false),
             held: AtomicBool::new(false),
             gone: AtomicBool::new(false),
+            stream: OnceLock::new(),
+            told: AtomicUsize::new(0),
         };
         Ok(Arc::new(alloc, standing)?)
     }
@@ -73,14 +82,45 @@ impl Standing {
         self.idle.load(Ordering::SeqCst)
     }
 
+    /// Whether the session lasted too long.
+    pub fn is_too_long(&self) -> bool {
+        self.too_long.load(Ordering::SeqCst)
+    }
+
+    /// Whether the session was ended while its peer may still send: by `hang_up`, or since it lasted too long.
+    pub fn is_ended_here(&self) -> bool {
+        self.is_hung_up() || self.is_too_long()
+    }
+
     /// Whether nothing more comes from the peer: it has hung up, or was told that no more comes.
     pub fn is_over(&self) -> bool {
         self.is_finished() || self.gone.load(Ordering::SeqCst)
     }
 
-    /// The peer was told that no more comes.
+    /// How many bytes the peer was told of why its session ends.
+    pub fn told(&self) -> usize {
+        self.told.load(Ordering::SeqCst)
+    }
+
+    /// The peer is told that no more comes, and before it why, where that is neither its own wish nor a job's. What
+    /// the connection does not take at once is dropped.
     pub(crate) fn finish(&self) {
+        if let Some(stream) = self.stream.get() {
+            let count = send_at_once(stream, self.last_words());
+            self.told.store(count, Ordering::SeqCst);
+        }
         self.finished.store(true, Ordering::SeqCst);
+    }
+
+    // What the peer is told of why its session ends.
+    fn last_words(&self) -> &'static [u8] {
+        if self.is_idle() {
+            return b"idle\r\n";
+        }
+        if self.is_too_long() {
+            return b"too long\r\n";
+        }
+        b""
     }
 
     fn is_finished(&self) -> bool {
@@ -98,8 +138,9 @@ impl Standing {
     }
 }
 
-/// What a client sends. It ends, as by a hang-up, where the client sends nothing for too long, where a job of
-/// the session wants that, and where the client does not close in time after it was told that no more comes.
+/// What a client sends. It ends, as by a hang-up, where the client sends nothing for too long, where the
+/// session has lasted too long, where a job of it wants that, and where the client does not close in time after
+/// it was told that no more comes.
 #[derive(Drop)]
 pub struct Attended<H, S> {
     rt: H,
@@ -107,31 +148,42 @@ pub struct Attended<H, S> {
     standing: Arc<Standing, Global>,
     /// For how many seconds a client may send nothing, or 0 for ever.
     idle: u32,
+    /// After how many seconds the session ends, or 0 for never.
+    longest: u32,
+    began: Option<Instant>,
     heard: Option<Instant>,
     finished: Option<Instant>,
 }
 
-impl<H: Clock + Copy> Attended<H, TcpStream> {
-    /// The reading side of a connection, whose peer may send nothing for `idle` seconds, or for ever where
-    /// that is 0. A write to it that the peer does not take for so long fails: while it waits, nobody hears that the
-    /// peer is silent.
+impl<H: Clock + Copy + Wait> Attended<H, TcpStream> {
+    /// The reading side of a connection, whose peer may send nothing for `idle` seconds, and which ends after
+    /// `longest` seconds; 0 is for ever. A write to it that the peer does not take for the shorter of the two fails:
+    /// while it waits, nobody hears that the peer is silent. The peer is told `idle` or `too long` before the end.
     pub fn new(
         rt: H,
         stream: TcpStream,
         standing: Arc<Standing, Global>,
         idle: u32,
-    ) -> io::Result<Attended<H, TcpStream>> {
+        longest: u32,
+    ) -> io::Result<Attended<H, TcpStream>>
+        ensures idle { IfOk result (λ attended. attended.idle ≡ idle) }
+        ensures longest { IfOk result (λ attended. attended.longest ≡ longest) }
+    {
         stream.set_read_timeout(Some(Duration::from_millis(LOOK)))?;
-        if idle > 0 {
-            stream.set_write_timeout(Some(Duration::from_secs(u64::from(idle))))?;
+        let bound = shorter(idle, longest);
+        if bound > 0 {
+            stream.set_write_timeout(Some(Duration::from_secs(u64::from(bound))))?;
         }
-        let heard = Instant::now(&rt).ok();
+        let _ = standing.stream.set(&rt, stream.try_clone()?);
+        let now = Instant::now(&rt).ok();
         Ok(Attended {
             rt,
             stream,
             standing,
             idle,
-            heard,
+            longest,
+            began: now,
+            heard: now,
             finished: None,
         })
     }
@@ -160,6 +212,18 @@ impl<H: Clock + Copy, S: Drop> Attended<H, S> {
             return false;
         }
         self.standing.idle.store(true, Ordering::SeqCst);
+        true
+    }
+
+    // Whether no more is read since the session has lasted too long.
+    fn is_too_long(&self) -> bool {
+        if self.standing.is_finished() || self.longest == 0 {
+            return false;
+        }
+        if !self.is_past(self.began, u64::from(self.longest)) {
+            return false;
+        }
+        self.standing.too_long.store(true, Ordering::SeqCst);
         true
     }
 }
@@ -204,6 +268,9 @@ impl<H: Clock + Copy + Wait, S: Drop + Read + Closing> Attended<H, S> {
         let rt = self.rt;
         for _ in rt.forever() {
             if self.standing.is_to_end() {
+                return Ok(0);
+            }
+            if self.is_too_long() {
                 return Ok(0);
             }
             match self.read_once(buf) {
@@ -261,6 +328,17 @@ impl<H: Clock + Copy + Wait, S: Drop + Read + Closing> Read for Attended<H, S> {
         }
         read
     }
+}
+
+// The shorter of two times, of which 0 is for ever.
+fn shorter(one: u32, other: u32) -> u32 {
+    if one == 0 {
+        return other;
+    }
+    if other == 0 {
+        return one;
+    }
+    one.min(other)
 }
 
 // No more is read after this.
