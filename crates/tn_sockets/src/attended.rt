@@ -5,25 +5,27 @@ ghost use Rattle.std.specs.Io.{ReadsAtMost};
 ghost use Rattle.std.specs.Io.KnownBytes.{Consumes, Keeps, ReadConsumes};
 ghost use Rattle.tn_sockets.specs.Passing.{GivesNext};
 
+use crate::bell::Bell;
 use crate::connection::{Closing, send_at_once};
 use std::alloc::{AllocError, Global};
 use std::io::{ErrorKind, Read};
 use std::net::{Shutdown, TcpStream};
+use std::os::fd::AsRawFd;
 use std::sync::atomic::{AtomicBool, AtomicUsize, Ordering};
 use std::sync::{Arc, OnceLock, Wait};
 use std::time::{Clock, Duration, Instant};
 use std::{io, thread};
 
 /// How many milliseconds a read waits before it looks whether its session is over.
-const LOOK: u64 = 500;
+const LOOK: u16 = 500;
 
 /// How many seconds a peer has to close after it was told that no more comes.
 const LINGER: u64 = 5;
 
 /// How often it is looked at most whether a session is held still, and how many milliseconds lie between.
-const HOLDS: u8 = 40;
+const HOLDS: u8 = 200;
 
-const HOLD: u64 = 50;
+const HOLD: u64 = 10;
 
 /// What the two sides of a server's connection and its session know of each other.
 #[derive(Drop)]
@@ -36,6 +38,8 @@ pub struct Standing {
     too_long: AtomicBool,
     /// A job of the session wants it to end as by a hang-up.
     hung_up: AtomicBool,
+    /// It is rung where a job wants that.
+    bell: Bell,
     /// A job of the session still has to write once nothing more comes from the peer.
     held: AtomicBool,
     /// Nothing more comes from the peer.
@@ -54,6 +58,7 @@ impl Standing {
             idle: AtomicBool::new(false),
             too_long: AtomicBool::new(false),
             hung_up: AtomicBool::new(false),
+            bell: Bell::new(),
             held: AtomicBool::new(false),
             gone: AtomicBool::new(false),
             stream: OnceLock::new(),
@@ -62,9 +67,10 @@ impl Standing {
         Ok(Arc::new(alloc, standing)?)
     }
 
-    /// Ends the session as by a hang-up, within half a second.
+    /// Ends the session as by a hang-up, at once where the system has a bell to give, else within half a second.
     pub fn hang_up(&self) {
         self.hung_up.store(true, Ordering::SeqCst);
+        self.bell.ring();
     }
 
     /// Whether the session is to end, or ended, by `hang_up`.
@@ -169,7 +175,7 @@ impl<H: Clock + Copy + Wait> Attended<H, TcpStream> {
         ensures idle { IfOk result (λ attended. attended.idle ≡ idle) }
         ensures longest { IfOk result (λ attended. attended.longest ≡ longest) }
     {
-        stream.set_read_timeout(Some(Duration::from_millis(LOOK)))?;
+        stream.set_read_timeout(Some(Duration::from_millis(u64::from(LOOK))))?;
         let bound = shorter(idle, longest);
         if bound > 0 {
             stream.set_write_timeout(Some(Duration::from_secs(u64::from(bound))))?;
@@ -228,7 +234,16 @@ impl<H: Clock + Copy, S: Drop> Attended<H, S> {
     }
 }
 
-impl<H: Clock + Copy + Wait, S: Drop + Read + Closing> Attended<H, S> {
+impl<H: Clock + Copy + Wait, S: AsRawFd + Drop + Read + Closing> Attended<H, S> {
+    // Waits for what the client sends, for a short time, or until a job wants the session to end. Whether it is to be
+    // read; once a job wants that, the read waits itself, for the client to close.
+    fn comes(&self) -> bool {
+        if self.standing.is_hung_up() {
+            return true;
+        }
+        self.standing.bell.wait(self.stream.as_raw_fd(), LOOK)
+    }
+
     // Waits as long as the session is held, for two seconds at most.
     fn hold(&self) {
         for _ in 0..HOLDS {
@@ -247,6 +262,9 @@ impl<H: Clock + Copy + Wait, S: Drop + Read + Closing> Attended<H, S> {
         ensures none { IfOk result (λ some. some ≡ None →
             Keeps (S.remaining self.old.stream) (S.remaining self.new.stream)) }
     {
+        if !self.comes() {
+            return Ok(None);
+        }
         match self.stream.read(buf) {
             Ok(count) => {
                 self.heard = Instant::now(&self.rt).ok();
@@ -316,7 +334,7 @@ impl<H: Clock + Copy + Wait, S: Drop + Read + Closing> Attended<H, S> {
     }
 }
 
-impl<H: Clock + Copy + Wait, S: Drop + Read + Closing> Read for Attended<H, S> {
+impl<H: Clock + Copy + Wait, S: AsRawFd + Drop + Read + Closing> Read for Attended<H, S> {
     fn read(&mut self, buf: &mut [u8]) -> io::Result<usize>
         ensures bound { ReadsAtMost result buf.new }
         ensures bytes { ReadConsumes None None result buf.new }

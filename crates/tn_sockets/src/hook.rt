@@ -24,7 +24,7 @@ impl Hook {
         Hook::new(&self.standing)
     }
 
-    /// Ends the session within half a second, as if its client had hung up: what its jobs have written before
+    /// Ends the session at once, as if its client had hung up: what its jobs have written before
     /// is sent, the client is told that no more comes, and what it still sends is not read.
     pub fn hang_up(&self) {
         self.standing.hang_up();
