@@ -13,12 +13,11 @@ use crate::conversed::Ran;
 use crate::finished::Finished;
 use crate::served::Served;
 use crate::session::SessionSays;
-use crate::traffic::{Passed, Traffic};
+use crate::traffic::Noted;
 use std::alloc::Global;
 use std::io::Write;
 use std::marker::PhantomData;
 use std::net::{IpAddr, SocketAddr, TcpStream};
-use std::sync::Arc;
 use std::thread::{PromisedHandle, Threads};
 use tn_jobs::Job;
 use tn_roster::Roster;
@@ -28,7 +27,7 @@ use tn_session::Maker;
 #[derive(Drop)]
 pub(crate) struct Started<M: Maker, O: Asked<M>> {
     caller: Caller,
-    traffic: Arc<Traffic, Global>,
+    noted: Noted,
     session: PromisedHandle<Ran, SessionSays<M>>,
     under: PhantomData<O>,
     ghost asked: { session.promise.options ≡ O.options },
@@ -38,7 +37,7 @@ pub(crate) struct Started<M: Maker, O: Asked<M>> {
 impl<M: Maker, O: Asked<M>> Started<M, O> {
     pub(crate) fn new(
         caller: Caller,
-        traffic: Arc<Traffic, Global>,
+        noted: Noted,
         session: PromisedHandle<Ran, SessionSays<M>>,
     ) -> Started<M, O>
         requires asked { session.promise.options ≡ O.options }
@@ -47,7 +46,7 @@ impl<M: Maker, O: Asked<M>> Started<M, O> {
     {
         Started {
             caller,
-            traffic,
+            noted,
             session,
             under: PhantomData,
         }
@@ -78,7 +77,7 @@ fn count_of<M: Maker, O: Asked<M>>(started: &[Started<M, O>], address: &IpAddr) 
 pub(crate) struct Left {
     pub(crate) caller: Caller,
     pub(crate) finished: Finished,
-    pub(crate) passed: Passed,
+    pub(crate) noted: Noted,
 }
 
 /// The sessions that are started and not yet joined, and counts of how the other connections ended.
@@ -185,13 +184,12 @@ impl<J: Job, M: Maker<Job = J>, O: Asked<M>> Running<J, M, O> {
     {
         let Started {
             caller,
-            traffic,
+            noted,
             session,
             ..
         } = self.started.swap_remove(place);
         let ran = session.join(rt);
         let finished = ran.finished();
-        let passed = traffic.passed();
         if finished.is_whole() {
             self.whole += 1;
         } else {
@@ -200,7 +198,7 @@ impl<J: Job, M: Maker<Job = J>, O: Asked<M>> Running<J, M, O> {
         Left {
             caller,
             finished,
-            passed,
+            noted,
         }
     }
 

@@ -25,7 +25,7 @@ use crate::served::Served;
 use crate::service::Service;
 use crate::session::Session;
 use crate::settings::Serving;
-use crate::traffic::{Passed, Traffic};
+use crate::traffic::{Noted, Passed, Traffic};
 use crossbeam_channel::{Receiver, Sender};
 use std::alloc::Global;
 use std::collections::VecDeque;
@@ -174,8 +174,8 @@ struct Prepared {
     standing: Arc<Standing, Global>,
     hook: Hook,
     traffic: Arc<Traffic, Global>,
-    /// The same, for the note of its end.
-    noted: Arc<Traffic, Global>,
+    /// The two of them, for the note of its end.
+    noted: Noted,
 }
 
 /// A server that is open: which sessions run, by number, and how those before them ended.
@@ -378,6 +378,7 @@ impl<H: Host + Network, V: Service, O: Asked<V::Jobs>> Open<H, V, O> {
             caller,
             &Ran::unstarted().finished(),
             Passed::nothing(),
+            None,
             errors,
         );
     }
@@ -433,7 +434,10 @@ impl<H: Host + Network, V: Service, O: Asked<V::Jobs>> Open<H, V, O> {
         let standing = Standing::new(self.alloc).ok()?;
         let hook = Hook::new(&standing).ok()?;
         let traffic = Traffic::new(self.alloc).ok()?;
-        let noted = Arc::try_clone(&traffic).ok()?;
+        let noted = Noted {
+            traffic: Arc::try_clone(&traffic).ok()?,
+            standing: Arc::try_clone(&standing).ok()?,
+        };
         Some(Prepared {
             events,
             standing,
@@ -485,23 +489,40 @@ impl<H: Host + Network, V: Service, O: Asked<V::Jobs>> Open<H, V, O> {
         let left = self.running.join_at(&self.rt, place);
         self.service.ended(left.caller.number, &left.finished);
         self.roster.leave(left.caller.number);
-        self.tell_end(&left.caller, &left.finished, left.passed, errors);
+        let Noted { traffic, standing } = &left.noted;
+        self.tell_end(
+            &left.caller,
+            &left.finished,
+            traffic.passed(),
+            standing.unreached(),
+            errors,
+        );
     }
 
-    // Reports a session that ended in a fault, and notes its end, as that of any other where that is wanted.
+    // Reports a session that ended in a fault, or whose service was not reached for these causes, and notes its
+    // end, as that of any other where that is wanted.
     fn tell_end<E: Write>(
         &self,
         caller: &Caller,
         finished: &Finished,
         passed: Passed,
+        unreached: Option<&[u8]>,
         errors: &mut E,
     ) {
-        let is_whole = finished.is_whole();
-        if !is_whole {
+        let is_good = finished.is_whole() && unreached.is_none();
+        if !is_good {
             tell_fault(errors);
         }
-        if self.serving.verbose || !is_whole {
-            note_end(&self.rt, self.alloc, caller, passed, finished, errors);
+        if self.serving.verbose || !is_good {
+            note_end(
+                &self.rt,
+                self.alloc,
+                caller,
+                passed,
+                finished,
+                unreached.unwrap_or(b""),
+                errors,
+            );
         }
     }
 

@@ -5,6 +5,7 @@ use std::io;
 use std::io::{ErrorKind, Read};
 use std::sync::Arc;
 use std::sync::atomic::{AtomicI32, AtomicU64, Ordering};
+use tn_sockets::Standing;
 use tn_streams::{Drain, Finish};
 
 /// What has passed over a connection so far.
@@ -60,6 +61,13 @@ impl Traffic {
                 .store(error.raw_os_error().unwrap_or(0), Ordering::SeqCst);
         }
     }
+}
+
+/// What is known of a session for the note of its end.
+#[derive(Drop)]
+pub(crate) struct Noted {
+    pub(crate) traffic: Arc<Traffic, Global>,
+    pub(crate) standing: Arc<Standing, Global>,
 }
 
 impl Passed {

@@ -48,6 +48,8 @@ pub struct Standing {
     stream: OnceLock<TcpStream>,
     /// How many bytes it was told so.
     told: AtomicUsize,
+    /// Why what a job is joined to was not reached, in lines.
+    unreached: OnceLock<Vec<u8>>,
 }
 
 impl Standing {
@@ -63,6 +65,7 @@ impl Standing {
             gone: AtomicBool::new(false),
             stream: OnceLock::new(),
             told: AtomicUsize::new(0),
+            unreached: OnceLock::new(),
         };
         Ok(Arc::new(alloc, standing)?)
     }
@@ -106,6 +109,19 @@ impl Standing {
     /// How many bytes the peer was told of why its session ends.
     pub fn told(&self) -> usize {
         self.told.load(Ordering::SeqCst)
+    }
+
+    /// Keeps why what a job is joined to was not reached.
+    pub(crate) fn note_unreached<R: Wait>(&self, rt: &R, causes: Vec<u8>) {
+        let _ = self.unreached.set(rt, causes);
+    }
+
+    /// Why what a job is joined to was not reached, where it was not.
+    pub fn unreached(&self) -> Option<&[u8]> {
+        match self.unreached.get() {
+            Some(causes) => Some(causes.as_slice()),
+            None => None,
+        }
     }
 
     /// The peer is told that no more comes, and before it why, where that is neither its own wish nor a job's. What
