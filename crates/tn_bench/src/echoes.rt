@@ -143,6 +143,7 @@ fn answer<H: Host>(rt: H, alloc: Global, peer: TcpStream, who: Who) -> bool {
                 line_limit: Limit::standard(),
                 editing: Editing::Remote,
                 idle: 0,
+                longest: 0,
             };
             serve_connection(rt, alloc, peer, options, Answerers::new(0)).is_ok()
         },

@@ -88,8 +88,8 @@ impl<H> Joiner<H> {
 }
 
 impl<H: Copy + Network + Wait> Joiner<H> {
-    // Both halves of a connection to the service, or none where it is not reached.
-    fn dial(&self, alloc: Global) -> Option<(TcpStream, TcpStream)>
+    // Both halves of a connection to the service, or none where it is not reached; then it is noted why.
+    fn dial(&self, alloc: Global, hook: &Hook) -> Option<(TcpStream, TcpStream)>
         ensures { IsReached (Reaches (H.finds self.now.rt (string_bytes self.now.host) self.now.port)
             (H.dials self.now.rt)) (option_map (λ halves. halves.1) result) }
     {
@@ -102,7 +102,10 @@ impl<H: Copy + Network + Wait> Joiner<H> {
             &mut causes,
         ) {
             Ok(stream) => halves(stream).ok(),
-            Err(_) => None,
+            Err(_) => {
+                hook.note_unreached(&self.rt, causes);
+                None
+            },
         }
     }
 
@@ -118,7 +121,7 @@ impl<H: Copy + Network + Wait> Joiner<H> {
             told.stream)) }
     {
         let rt = self.rt;
-        let (heard, told) = match self.dial(alloc) {
+        let (heard, told) = match self.dial(alloc, &hook) {
             Some((heard, told)) => (Some(heard), Some(told)),
             None => (None, None),
         };

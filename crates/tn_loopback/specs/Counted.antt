@@ -15,7 +15,7 @@ use Rattle.tn_session.specs.Makers.{begins}
 
 -- what nobody asked for
 abbrev pub no_options : SessionOptions
-no_options = record { line_limit = standard_limit; editing = Remote; idle = 0 }
+no_options = record { line_limit = standard_limit; editing = Remote; idle = 0; longest = 0 }
 
 -- of makers of such jobs: what is known of the jobs of each
 abbrev pub facts_of : {M J : Type 0} → (J → Type 0) → (M → J → M → Type 0) → (J → Entry → Reaction → J → Type 0)

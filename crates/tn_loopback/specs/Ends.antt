@@ -19,11 +19,11 @@ report_told (Ok conversed) = Ok conversed.report
 report_told (Err fault) = Err fault
 
 abbrev pub finished_as : Ran → Finished
-finished_as ran = record { report = report_told ran.ended; idle = ran.idle }
+finished_as ran = record { report = report_told ran.ended; idle = ran.idle; too_long = ran.too_long }
 
 -- none of its threads could be started
 abbrev pub not_started : Finished
-not_started = record { report = Err Start; idle = false }
+not_started = record { report = Err Start; idle = false; too_long = false }
 
 -- as many connections were accepted as were asked for
 abbrev pub ServesAll : ℕ → Served → Type 0

@@ -24,6 +24,8 @@ pub(crate) struct Ran {
     pub(crate) ended: Result<Conversed, SessionFault>,
     // Its client sent nothing for too long.
     pub(crate) idle: bool,
+    // It lasted too long.
+    pub(crate) too_long: bool,
 }
 
 impl Ran {
@@ -34,6 +36,7 @@ impl Ran {
         Ran {
             ended: Err(SessionFault::Start),
             idle: false,
+            too_long: false,
         }
     }
 
@@ -48,6 +51,7 @@ impl Ran {
         Finished {
             report,
             idle: self.idle,
+            too_long: self.too_long,
         }
     }
 }

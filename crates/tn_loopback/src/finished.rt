@@ -12,6 +12,8 @@ pub struct Finished {
     pub report: Result<Report, SessionFault>,
     /// Its client sent nothing for too long.
     pub idle: bool,
+    /// It lasted too long.
+    pub too_long: bool,
 }
 
 impl Finished {

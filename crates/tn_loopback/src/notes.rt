@@ -5,7 +5,7 @@ use crate::caller::Caller;
 use crate::finished::Finished;
 use crate::times::stamp;
 use crate::traffic::Passed;
-use std::alloc::Global;
+use std::alloc::{AllocError, Global};
 use std::io;
 use std::io::Write;
 use std::net::SocketAddr;
@@ -60,19 +60,25 @@ pub(crate) fn note_refused_accept<C: Clock, E: Write>(
     let _ = errors.write_all(&line);
 }
 
-/// A session has ended so, and this passed over its connection.
+/// A session has ended so, and this passed over its connection. Where its service was not reached, the causes are
+/// lines that begin with `tn: `.
 pub(crate) fn note_end<C: Clock, E: Write>(
     clock: &C,
     alloc: Global,
     caller: &Caller,
     passed: Passed,
     finished: &Finished,
+    unreached: &[u8],
     errors: &mut E,
 ) {
     let mut line = stamp(clock, alloc);
     let _ = whose(&mut line, caller);
     let _ = write!(line, " ended: ");
-    let _ = cause(&mut line, passed, finished);
+    if unreached.is_empty() {
+        let _ = cause(&mut line, passed, finished);
+    } else {
+        let _ = write_unreached(&mut line, unreached);
+    }
     let lasted = caller.lasted(clock);
     let _ = write!(
         line,
@@ -102,11 +108,26 @@ fn cause(line: &mut Vec<u8>, passed: Passed, finished: &Finished) -> io::Result<
         Err(fault) => fault_cause(line, passed, *fault),
         Ok(report) => match report.ended {
             Ended::HangUp if finished.idle => write!(line, "idle"),
+            Ended::HangUp if finished.too_long => write!(line, "too long"),
             Ended::HangUp => write!(line, "hang-up"),
             Ended::Done => write!(line, "done"),
             Ended::Fault(fault) => fault_cause(line, passed, fault),
         },
     }
+}
+
+// Each address of the service, and why it was not reached.
+fn write_unreached(line: &mut Vec<u8>, causes: &[u8]) -> Result<(), AllocError> {
+    line.extend_from_slice(b"service not reached")?;
+    let mut before = b": ".as_slice();
+    for cause in causes.split(|byte| *byte == b'\n') {
+        if let Some(cause) = cause.strip_prefix(b"tn: ") {
+            line.extend_from_slice(before)?;
+            line.extend_from_slice(cause)?;
+            before = b"; ";
+        }
+    }
+    Ok(())
 }
 
 // Where the connection broke, the system says why.

@@ -1,9 +1,11 @@
 //! The sessions that are started and not yet joined, and how the earlier ones ended.
 
-ghost use Rattle.std.specs.Prelude.{◌≡◌, ◌<◌, ◌≤◌, ◌+◌, ◌-◌, ◌^◌, true, false, IfSome, vec_items, vec_len, vec_capacity};
+ghost use Rattle.std.specs.Net.Socket.{socket_ip};
+ghost use Rattle.std.specs.Prelude.{◌≡◌, ◌<◌, ◌≤◌, ◌+◌, ◌-◌, ◌^◌, true, false, IfSome, IfNone, vec_items, vec_len, vec_capacity};
 ghost use Rattle.tn_loopback.specs.Counted.{HasEnded, StillCounts, facts_of, server_of};
+ghost use Rattle.tn_loopback.specs.Places.{HasNoPlace, count_at, count_from, is_same};
 ghost use Rattle.tn_loopback.specs.Turns.{IsOneMore, live_of};
-ghost use Rattle.tn_roster.specs.Held.{held_count};
+ghost use Rattle.tn_roster.specs.Held.{Enters};
 
 use crate::asked::Asked;
 use crate::caller::Caller;
@@ -11,12 +13,11 @@ use crate::conversed::Ran;
 use crate::finished::Finished;
 use crate::served::Served;
 use crate::session::SessionSays;
-use crate::traffic::{Passed, Traffic};
+use crate::traffic::Noted;
 use std::alloc::Global;
 use std::io::Write;
 use std::marker::PhantomData;
-use std::net::TcpStream;
-use std::sync::Arc;
+use std::net::{IpAddr, SocketAddr, TcpStream};
 use std::thread::{PromisedHandle, Threads};
 use tn_jobs::Job;
 use tn_roster::Roster;
@@ -26,7 +27,7 @@ use tn_session::Maker;
 #[derive(Drop)]
 pub(crate) struct Started<M: Maker, O: Asked<M>> {
     caller: Caller,
-    traffic: Arc<Traffic, Global>,
+    noted: Noted,
     session: PromisedHandle<Ran, SessionSays<M>>,
     under: PhantomData<O>,
     ghost asked: { session.promise.options ≡ O.options },
@@ -36,7 +37,7 @@ pub(crate) struct Started<M: Maker, O: Asked<M>> {
 impl<M: Maker, O: Asked<M>> Started<M, O> {
     pub(crate) fn new(
         caller: Caller,
-        traffic: Arc<Traffic, Global>,
+        noted: Noted,
         session: PromisedHandle<Ran, SessionSays<M>>,
     ) -> Started<M, O>
         requires asked { session.promise.options ≡ O.options }
@@ -45,11 +46,30 @@ impl<M: Maker, O: Asked<M>> Started<M, O> {
     {
         Started {
             caller,
-            traffic,
+            noted,
             session,
             under: PhantomData,
         }
     }
+
+    fn is_from(&self, address: &IpAddr) -> bool
+        ensures { result ≡ is_same (socket_ip self.now.caller.peer) address.now }
+    {
+        self.caller.peer.ip() == *address
+    }
+}
+
+// How many of these sessions are from this address.
+fn count_of<M: Maker, O: Asked<M>>(started: &[Started<M, O>], address: &IpAddr) -> usize
+    ensures { result ≡ count_at (λ s. s.caller.peer) address.now started.now }
+{
+    let mut count = 0usize;
+    for one in started {
+        if one.is_from(address) {
+            count += 1;
+        }
+    }
+    count
 }
 
 /// A session that was joined.
@@ -57,7 +77,7 @@ impl<M: Maker, O: Asked<M>> Started<M, O> {
 pub(crate) struct Left {
     pub(crate) caller: Caller,
     pub(crate) finished: Finished,
-    pub(crate) passed: Passed,
+    pub(crate) noted: Noted,
 }
 
 /// The sessions that are started and not yet joined, and counts of how the other connections ended.
@@ -116,6 +136,37 @@ impl<J: Job, M: Maker<Job = J>, O: Asked<M>> Running<J, M, O> {
         None
     }
 
+    // How many sessions are from the address of this peer.
+    fn count_from(&self, peer: &SocketAddr) -> usize
+        ensures { result ≡ count_from (λ s. s.caller.peer) peer.now
+            (vec_items self.now.started) }
+    {
+        count_of(&self.started, &peer.ip())
+    }
+
+    /// Takes in a session with this peer, and gives its number, where there is a place for it.
+    pub(crate) fn enter(
+        &self,
+        roster: &mut Roster,
+        per_host: u16,
+        peer: &SocketAddr,
+    ) -> Option<usize>
+        ensures enters { IfSome result (Enters roster.old roster.new) }
+        ensures place { IfSome result (λ _. count_from (λ s. s.caller.peer) peer.now
+            (vec_items self.now.started) < per_host) }
+        ensures full { IfNone result (HasNoPlace roster.new per_host (count_from (λ s. s.caller.peer) peer.now
+            (vec_items self.now.started))) }
+        ensures same { IfNone result (roster.new ≡ roster.old) }
+    {
+        if self.count_from(peer) >= usize::from(per_host) {
+            return None;
+        }
+        match roster.enter() {
+            Ok(number) => Some(number),
+            Err(_) => None,
+        }
+    }
+
     /// Joins the session at this place, and counts how it ended.
     pub(crate) fn join_at<R: Threads>(&mut self, rt: &R, place: usize) -> Left
         requires { place < vec_len self.old.started }
@@ -133,13 +184,12 @@ impl<J: Job, M: Maker<Job = J>, O: Asked<M>> Running<J, M, O> {
     {
         let Started {
             caller,
-            traffic,
+            noted,
             session,
             ..
         } = self.started.swap_remove(place);
         let ran = session.join(rt);
         let finished = ran.finished();
-        let passed = traffic.passed();
         if finished.is_whole() {
             self.whole += 1;
         } else {
@@ -148,7 +198,7 @@ impl<J: Job, M: Maker<Job = J>, O: Asked<M>> Running<J, M, O> {
         Left {
             caller,
             finished,
-            passed,
+            noted,
         }
     }
 
@@ -183,8 +233,15 @@ impl<J: Job, M: Maker<Job = J>, O: Asked<M>> Running<J, M, O> {
     }
 
     /// Counts an accepted connection that got no session, and was told so.
-    pub(crate) fn refuse(&mut self, _roster: &Roster, _told: &TcpStream)
-        requires full { held_count _roster.now ≡ _roster.now.limit }
+    pub(crate) fn refuse(
+        &mut self,
+        _roster: &Roster,
+        _per_host: u16,
+        _peer: &SocketAddr,
+        _told: &TcpStream,
+    )
+        requires full { HasNoPlace _roster.now _per_host (count_from
+            (λ s. s.caller.peer) _peer.now (vec_items self.old.started)) }
         requires told { O.turned _told.now }
         requires more { self.old.accepted < 2 ^ 32 - 1 }
         ensures accepted { self.new.accepted ≡ self.old.accepted + 1 }

@@ -4,6 +4,7 @@ ghost use Rattle.std.specs.Prelude.{◌≡◌, ◌<◌, ◌≤◌, ◌+◌, ◌^
 ghost use Rattle.tn_loopback.specs.Causes.{IsCaused};
 ghost use Rattle.tn_loopback.specs.Counted.{CountsSessions, HasEnded, StillCounts, facts_of, server_of};
 ghost use Rattle.tn_loopback.specs.Ends.{ServesAll};
+ghost use Rattle.tn_loopback.specs.Places.{HasNoPlace, count_from};
 ghost use Rattle.tn_loopback.specs.Services.{MakesOnly, StillMakes, TurnsAway, WasTurnedAway};
 ghost use Rattle.tn_loopback.specs.Turns.{HearsAll, HearsOfJobs, HearsOfNone, StillHears, live_of};
 ghost use Rattle.tn_network.specs.Asked.{Accepts, Listens};
@@ -24,7 +25,7 @@ use crate::served::Served;
 use crate::service::Service;
 use crate::session::Session;
 use crate::settings::Serving;
-use crate::traffic::{Passed, Traffic};
+use crate::traffic::{Noted, Passed, Traffic};
 use crossbeam_channel::{Receiver, Sender};
 use std::alloc::Global;
 use std::collections::VecDeque;
@@ -46,7 +47,8 @@ const KEPT_OPEN: usize = 16;
 
 /// Serves an address, or a name that has one, until so many connections were accepted and all their
 /// sessions have ended. Each connection has a session in threads of its own, with the jobs that the service
-/// makes for it, as long as there are no more of them than the limit; one more is told `full` and closed.
+/// makes for it, as long as there are no more of them, and no more from its address, than there may be; one more
+/// is told `full` and closed.
 /// One that ends in a fault is reported in two lines on `errors`, the second a note of how it ended, and
 /// changes nothing else. Where it cannot listen, `causes` gets a line. Each session is a call of
 /// `serve_connection`; the clauses below count them, and say what the network was asked for.
@@ -172,8 +174,8 @@ struct Prepared {
     standing: Arc<Standing, Global>,
     hook: Hook,
     traffic: Arc<Traffic, Global>,
-    /// The same, for the note of its end.
-    noted: Arc<Traffic, Global>,
+    /// The two of them, for the note of its end.
+    noted: Noted,
 }
 
 /// A server that is open: which sessions run, by number, and how those before them ended.
@@ -275,10 +277,10 @@ impl<H: Host + Network, V: Service, O: Asked<V::Jobs>> Open<H, V, O> {
             return;
         }
         let serial = self.running.accepted + 1;
-        let entered = self.roster.enter();
-        let Ok(number) = entered else {
+        let per_host = self.serving.per_host;
+        let Some(number) = self.running.enter(&mut self.roster, per_host, peer) else {
             self.tell_full(serial, peer, errors);
-            return self.turn_away(stream);
+            return self.turn_away(stream, peer);
         };
         let caller = Caller {
             number,
@@ -286,10 +288,15 @@ impl<H: Host + Network, V: Service, O: Asked<V::Jobs>> Open<H, V, O> {
             peer: *peer,
             since: Instant::now(&self.rt).ok(),
         };
-        if self.serving.verbose {
-            note_began(&self.rt, self.alloc, &caller, errors);
-        }
+        self.tell_began(&caller, errors);
         self.take_in(stream, caller, errors);
+    }
+
+    // Notes that a session begins, where that is wanted.
+    fn tell_began<E: Write>(&self, caller: &Caller, errors: &mut E) {
+        if self.serving.verbose {
+            note_began(&self.rt, self.alloc, caller, errors);
+        }
     }
 
     // Notes that there was no room for a connection, where that is wanted.
@@ -300,9 +307,11 @@ impl<H: Host + Network, V: Service, O: Asked<V::Jobs>> Open<H, V, O> {
     }
 
     // Tells a connection that there is no room for it.
-    fn turn_away(&mut self, stream: TcpStream)
+    fn turn_away(&mut self, stream: TcpStream, peer: &SocketAddr)
         requires turns { TurnsAway (H.dismisses self.old.rt) O.turned }
-        requires full { held_count self.old.roster ≡ self.old.roster.limit }
+        requires full { HasNoPlace self.old.roster self.old.serving.per_host
+            (count_from (λ s. s.caller.peer) peer.now
+            (vec_items self.old.running.started)) }
         requires more { self.old.running.accepted < 2 ^ 32 - 1 }
         ensures each { StillCounts (server_of
             (facts_of V.Job.fresh V.Jobs.gives V.Job.reacts V.Job.steps V.Job.refuses) V.Jobs.left O.options O.made O.turned)
@@ -315,7 +324,8 @@ impl<H: Host + Network, V: Service, O: Asked<V::Jobs>> Open<H, V, O> {
         ensures rt { self.new.rt ≡ self.old.rt }
     {
         let told = self.rt.dismiss(stream, b"full\r\n");
-        self.running.refuse(&self.roster, &told);
+        self.running
+            .refuse(&self.roster, self.serving.per_host, peer, &told);
         self.keep_open(told);
     }
 
@@ -323,6 +333,8 @@ impl<H: Host + Network, V: Service, O: Asked<V::Jobs>> Open<H, V, O> {
     fn take_in<E: Write>(&mut self, stream: TcpStream, caller: Caller, errors: &mut E)
         requires makes { MakesOnly V.makes self.old.service O.made }
         requires held { vec_len self.old.running.started < held_count self.old.roster }
+        requires place { count_from (λ s. s.caller.peer) caller.peer
+            (vec_items self.old.running.started) < self.old.serving.per_host }
         requires more { self.old.running.accepted < 2 ^ 32 - 1 }
         ensures each { StillCounts (server_of
             (facts_of V.Job.fresh V.Jobs.gives V.Job.reacts V.Job.steps V.Job.refuses) V.Jobs.left O.options O.made O.turned)
@@ -366,6 +378,7 @@ impl<H: Host + Network, V: Service, O: Asked<V::Jobs>> Open<H, V, O> {
             caller,
             &Ran::unstarted().finished(),
             Passed::nothing(),
+            None,
             errors,
         );
     }
@@ -421,7 +434,10 @@ impl<H: Host + Network, V: Service, O: Asked<V::Jobs>> Open<H, V, O> {
         let standing = Standing::new(self.alloc).ok()?;
         let hook = Hook::new(&standing).ok()?;
         let traffic = Traffic::new(self.alloc).ok()?;
-        let noted = Arc::try_clone(&traffic).ok()?;
+        let noted = Noted {
+            traffic: Arc::try_clone(&traffic).ok()?,
+            standing: Arc::try_clone(&standing).ok()?,
+        };
         Some(Prepared {
             events,
             standing,
@@ -473,23 +489,40 @@ impl<H: Host + Network, V: Service, O: Asked<V::Jobs>> Open<H, V, O> {
         let left = self.running.join_at(&self.rt, place);
         self.service.ended(left.caller.number, &left.finished);
         self.roster.leave(left.caller.number);
-        self.tell_end(&left.caller, &left.finished, left.passed, errors);
+        let Noted { traffic, standing } = &left.noted;
+        self.tell_end(
+            &left.caller,
+            &left.finished,
+            traffic.passed(),
+            standing.unreached(),
+            errors,
+        );
     }
 
-    // Reports a session that ended in a fault, and notes its end, as that of any other where that is wanted.
+    // Reports a session that ended in a fault, or whose service was not reached for these causes, and notes its
+    // end, as that of any other where that is wanted.
     fn tell_end<E: Write>(
         &self,
         caller: &Caller,
         finished: &Finished,
         passed: Passed,
+        unreached: Option<&[u8]>,
         errors: &mut E,
     ) {
-        let is_whole = finished.is_whole();
-        if !is_whole {
+        let is_good = finished.is_whole() && unreached.is_none();
+        if !is_good {
             tell_fault(errors);
         }
-        if self.serving.verbose || !is_whole {
-            note_end(&self.rt, self.alloc, caller, passed, finished, errors);
+        if self.serving.verbose || !is_good {
+            note_end(
+                &self.rt,
+                self.alloc,
+                caller,
+                passed,
+                finished,
+                unreached.unwrap_or(b""),
+                errors,
+            );
         }
     }
 

@@ -102,15 +102,23 @@ where
             (M.left self.jobs) self.options) }
         ensures in_reach { IfOk result.ended (λ conversed. conversed.report.ended ≢ too_far_ahead) }
     {
-        match Arc::try_clone(&self.standing) {
-            Ok(standing) => {
+        match (
+            Arc::try_clone(&self.standing),
+            Arc::try_clone(&self.traffic),
+        ) {
+            (Ok(standing), Ok(traffic)) => {
                 let ended = self.converse();
-                let idle = standing.is_idle();
-                Ran { ended, idle }
+                traffic.count_went(standing.told());
+                Ran {
+                    ended,
+                    idle: standing.is_idle(),
+                    too_long: standing.is_too_long(),
+                }
             },
-            Err(_) => Ran {
+            _ => Ran {
                 ended: Err(SessionFault::Memory),
                 idle: false,
+                too_long: false,
             },
         }
     }
@@ -140,7 +148,7 @@ where
         let Ok((stream, writer)) = Connection::split(stream) else {
             return Err(SessionFault::Start);
         };
-        let Ok(reader) = Attended::new(rt, stream, theirs, options.idle) else {
+        let Ok(reader) = Attended::new(rt, stream, theirs, options.idle, options.longest) else {
             return Err(SessionFault::Start);
         };
         let reader = Counted {
@@ -153,7 +161,7 @@ where
         });
         let (report, ports) = talk(rt, alloc, reader, &mut writer, options, jobs)?;
         let (writer, log) = writer.into_parts();
-        if standing.is_hung_up() {
+        if standing.is_ended_here() {
             linger(rt, writer.side.into_stream(), standing);
         }
         Ok(Conversed { report, ports, log })
@@ -174,6 +182,8 @@ where
     M: Maker + Drop,
     M::Job: Send + 'static,
     requires new { logged writer.old.log ≡ [] }
+    requires idle { reader.side.idle ≡ options.idle }
+    requires longest { reader.side.longest ≡ options.longest }
     ensures fault { IfErr result IsRefusal }
     ensures ran { IfOk result (λ r. RunsServer
         (job_facts (begins M.Job.fresh M.gives jobs) M.Job.reacts M.Job.steps M.Job.refuses)
@@ -194,7 +204,7 @@ where
 // Reads what a peer still sends after it was told that no more comes, until it has closed or had its time to.
 // A connection that is closed here before that could lose what was sent last.
 fn linger<H: Host>(rt: H, stream: TcpStream, standing: Arc<Standing, Global>) {
-    if let Ok(mut rest) = Attended::new(rt, stream, standing, 0) {
+    if let Ok(mut rest) = Attended::new(rt, stream, standing, 0, 0) {
         let mut unread = [0; 512];
         let _ = rest.read(&mut unread);
     }

@@ -16,6 +16,8 @@ pub struct SessionOptions {
     /// After how many seconds in which the client sends nothing a session ends as by a hang-up, or 0 for
     /// never.
     pub idle: u32,
+    /// After how many seconds a session ends as by a hang-up, or 0 for never.
+    pub longest: u32,
 }
 
 impl SessionOptions {
@@ -24,11 +26,13 @@ impl SessionOptions {
         ensures line_limit { result.line_limit ≡ standard_limit }
         ensures editing { result.editing ≡ Editing.Remote }
         ensures idle { result.idle ≡ 0 }
+        ensures longest { result.longest ≡ 0 }
     {
         SessionOptions {
             line_limit: Limit::standard(),
             editing: Editing::Remote,
             idle: 0,
+            longest: 0,
         }
     }
 }
@@ -38,6 +42,8 @@ impl SessionOptions {
 pub struct Serving {
     /// How many sessions there may be at once, of 1 to 64.
     pub sessions: u16,
+    /// How many of them there may be from one address, of 1 to 64.
+    pub per_host: u16,
     /// After how many accepted connections to end.
     pub count: u32,
     pub options: SessionOptions,
@@ -45,21 +51,27 @@ pub struct Serving {
     pub verbose: bool,
 }
 
-/// How many sessions there may be at once where nothing else is asked for.
+/// How many sessions there may be at once where nothing else is asked for, and how many from one address: as
+/// many as there may be of all.
 const SESSIONS: u16 = 8;
+
+const PER_HOST: u16 = 64;
 
 impl Serving {
     /// One connection alone, with the standard options, of which nothing is noted.
     pub fn standard() -> Serving
         ensures sessions { result.sessions ≡ 8 }
+        ensures per_host { result.per_host ≡ 64 }
         ensures count { result.count ≡ 1 }
         ensures line_limit { result.options.line_limit ≡ standard_limit }
         ensures editing { result.options.editing ≡ Editing.Remote }
         ensures idle { result.options.idle ≡ 0 }
+        ensures longest { result.options.longest ≡ 0 }
         ensures verbose { result.verbose ≡ false }
     {
         Serving {
             sessions: SESSIONS,
+            per_host: PER_HOST,
             count: 1,
             options: SessionOptions::standard(),
             verbose: false,

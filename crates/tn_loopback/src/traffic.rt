@@ -5,6 +5,7 @@ use std::io;
 use std::io::{ErrorKind, Read};
 use std::sync::Arc;
 use std::sync::atomic::{AtomicI32, AtomicU64, Ordering};
+use tn_sockets::Standing;
 use tn_streams::{Drain, Finish};
 
 /// What has passed over a connection so far.
@@ -48,6 +49,11 @@ impl Traffic {
         }
     }
 
+    /// So many more bytes went.
+    pub(crate) fn count_went(&self, bytes: usize) {
+        let _ = self.went.fetch_add(bytes as u64, Ordering::SeqCst);
+    }
+
     // One that is only interrupted is asked again.
     fn fail(&self, error: &io::Error) {
         if error.kind() != ErrorKind::Interrupted {
@@ -55,6 +61,13 @@ impl Traffic {
                 .store(error.raw_os_error().unwrap_or(0), Ordering::SeqCst);
         }
     }
+}
+
+/// What is known of a session for the note of its end.
+#[derive(Drop)]
+pub(crate) struct Noted {
+    pub(crate) traffic: Arc<Traffic, Global>,
+    pub(crate) standing: Arc<Standing, Global>,
 }
 
 impl Passed {
@@ -107,9 +120,7 @@ impl<W: Finish> Drain for CountedWrites<W> {
     fn write_some(&mut self, buf: &[u8]) -> io::Result<usize> {
         let wrote = self.side.write_some(buf);
         match &wrote {
-            Ok(count) => {
-                let _ = self.traffic.went.fetch_add(*count as u64, Ordering::SeqCst);
-            },
+            Ok(count) => self.traffic.count_went(*count),
             Err(error) => self.traffic.fail(error),
         }
         wrote

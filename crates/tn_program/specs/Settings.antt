@@ -34,7 +34,12 @@ UnlessMemory (Err Memory) asked = Unit {0}
 
 abbrev pub options_as : Serving → SessionOptions
 options_as asked =
-    record { line_limit = asked.line_limit; editing = editing_as asked.local; idle = asked.idle }
+    record {
+      line_limit = asked.line_limit;
+      editing = editing_as asked.local;
+      idle = asked.idle;
+      longest = asked.longest;
+    }
 
 -- the jobs are still to be made, and the one in the background ticks so often
 pub record AnswersAsAsked (count : ℕ) (jobs : Answerers) : Type 0 where

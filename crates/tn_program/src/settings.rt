@@ -40,12 +40,14 @@ impl Service for Answering {
 // How it was asked to serve.
 pub(crate) fn serving_of(asked: &tn_words::Serving) -> Serving
     ensures sessions { result.sessions ≡ asked.now.sessions }
+    ensures per_host { result.per_host ≡ asked.now.per_host }
     ensures count { result.count ≡ count_as asked.now.count }
     ensures verbose { result.verbose ≡ asked.now.verbose }
     ensures options { result.options ≡ options_as asked.now }
 {
     Serving {
         sessions: asked.sessions,
+        per_host: asked.per_host,
         count: asked.count.unwrap_or(WITHOUT_END),
         options: options_of(asked),
         verbose: asked.verbose,
@@ -72,6 +74,7 @@ pub(crate) fn options_of(asked: &tn_words::Serving) -> SessionOptions
         line_limit: asked.line_limit,
         editing,
         idle: asked.idle,
+        longest: asked.longest,
     }
 }
 

@@ -1,29 +1,31 @@
-//! What a client sends, and how long a server bears its silence.
+//! What a client sends, how long a server bears its silence, and for how long it serves it.
 
 ghost use Rattle.std.specs.Prelude.{◌≡◌, ◌≤◌, ◌≢◌, length, take, IfOk, IfSome, None};
 ghost use Rattle.std.specs.Io.{ReadsAtMost};
 ghost use Rattle.std.specs.Io.KnownBytes.{Consumes, Keeps, ReadConsumes};
 ghost use Rattle.tn_sockets.specs.Passing.{GivesNext};
 
-use crate::connection::Closing;
+use crate::bell::Bell;
+use crate::connection::{Closing, send_at_once};
 use std::alloc::{AllocError, Global};
 use std::io::{ErrorKind, Read};
 use std::net::{Shutdown, TcpStream};
-use std::sync::atomic::{AtomicBool, Ordering};
-use std::sync::{Arc, Wait};
+use std::os::fd::AsRawFd;
+use std::sync::atomic::{AtomicBool, AtomicUsize, Ordering};
+use std::sync::{Arc, OnceLock, Wait};
 use std::time::{Clock, Duration, Instant};
 use std::{io, thread};
 
 /// How many milliseconds a read waits before it looks whether its session is over.
-const LOOK: u64 = 500;
+const LOOK: u16 = 500;
 
 /// How many seconds a peer has to close after it was told that no more comes.
 const LINGER: u64 = 5;
 
 /// How often it is looked at most whether a session is held still, and how many milliseconds lie between.
-const HOLDS: u8 = 40;
+const HOLDS: u8 = 200;
 
-const HOLD: u64 = 50;
+const HOLD: u64 = 10;
 
 /// What the two sides of a server's connection and its session know of each other.
 #[derive(Drop)]
@@ -32,12 +34,22 @@ pub struct Standing {
     finished: AtomicBool,
     /// The peer sent nothing for too long.
     idle: AtomicBool,
+    /// The session lasted too long.
+    too_long: AtomicBool,
     /// A job of the session wants it to end as by a hang-up.
     hung_up: AtomicBool,
+    /// It is rung where a job wants that.
+    bell: Bell,
     /// A job of the session still has to write once nothing more comes from the peer.
     held: AtomicBool,
     /// Nothing more comes from the peer.
     gone: AtomicBool,
+    /// By it the peer is told why its session ends.
+    stream: OnceLock<TcpStream>,
+    /// How many bytes it was told so.
+    told: AtomicUsize,
+    /// Why what a job is joined to was not reached, in lines.
+    unreached: OnceLock<Vec<u8>>,
 }
 
 impl Standing {
@@ -46,16 +58,22 @@ impl Standing {
         let standing = Standing {
             finished: AtomicBool::new(false),
             idle: AtomicBool::new(false),
+            too_long: AtomicBool::new(false),
             hung_up: AtomicBool::new(false),
+            bell: Bell::new(),
             held: AtomicBool::new(false),
             gone: AtomicBool::new(false),
+            stream: OnceLock::new(),
+            told: AtomicUsize::new(0),
+            unreached: OnceLock::new(),
         };
         Ok(Arc::new(alloc, standing)?)
     }
 
-    /// Ends the session as by a hang-up, within half a second.
+    /// Ends the session as by a hang-up, at once where the system has a bell to give, else within half a second.
     pub fn hang_up(&self) {
         self.hung_up.store(true, Ordering::SeqCst);
+        self.bell.ring();
     }
 
     /// Whether the session is to end, or ended, by `hang_up`.
@@ -73,14 +91,58 @@ impl Standing {
         self.idle.load(Ordering::SeqCst)
     }
 
+    /// Whether the session lasted too long.
+    pub fn is_too_long(&self) -> bool {
+        self.too_long.load(Ordering::SeqCst)
+    }
+
+    /// Whether the session was ended while its peer may still send: by `hang_up`, or since it lasted too long.
+    pub fn is_ended_here(&self) -> bool {
+        self.is_hung_up() || self.is_too_long()
+    }
+
     /// Whether nothing more comes from the peer: it has hung up, or was told that no more comes.
     pub fn is_over(&self) -> bool {
         self.is_finished() || self.gone.load(Ordering::SeqCst)
     }
 
-    /// The peer was told that no more comes.
+    /// How many bytes the peer was told of why its session ends.
+    pub fn told(&self) -> usize {
+        self.told.load(Ordering::SeqCst)
+    }
+
+    /// Keeps why what a job is joined to was not reached.
+    pub(crate) fn note_unreached<R: Wait>(&self, rt: &R, causes: Vec<u8>) {
+        let _ = self.unreached.set(rt, causes);
+    }
+
+    /// Why what a job is joined to was not reached, where it was not.
+    pub fn unreached(&self) -> Option<&[u8]> {
+        match self.unreached.get() {
+            Some(causes) => Some(causes.as_slice()),
+            None => None,
+        }
+    }
+
+    /// The peer is told that no more comes, and before it why, where that is neither its own wish nor a job's. What
+    /// the connection does not take at once is dropped.
     pub(crate) fn finish(&self) {
+        if let Some(stream) = self.stream.get() {
+            let count = send_at_once(stream, self.last_words());
+            self.told.store(count, Ordering::SeqCst);
+        }
         self.finished.store(true, Ordering::SeqCst);
+    }
+
+    // What the peer is told of why its session ends.
+    fn last_words(&self) -> &'static [u8] {
+        if self.is_idle() {
+            return b"idle\r\n";
+        }
+        if self.is_too_long() {
+            return b"too long\r\n";
+        }
+        b""
     }
 
     fn is_finished(&self) -> bool {
@@ -98,8 +160,9 @@ impl Standing {
     }
 }
 
-/// What a client sends. It ends, as by a hang-up, where the client sends nothing for too long, where a job of
-/// the session wants that, and where the client does not close in time after it was told that no more comes.
+/// What a client sends. It ends, as by a hang-up, where the client sends nothing for too long, where the
+/// session has lasted too long, where a job of it wants that, and where the client does not close in time after
+/// it was told that no more comes.
 #[derive(Drop)]
 pub struct Attended<H, S> {
     rt: H,
@@ -107,31 +170,42 @@ pub struct Attended<H, S> {
     standing: Arc<Standing, Global>,
     /// For how many seconds a client may send nothing, or 0 for ever.
     idle: u32,
+    /// After how many seconds the session ends, or 0 for never.
+    longest: u32,
+    began: Option<Instant>,
     heard: Option<Instant>,
     finished: Option<Instant>,
 }
 
-impl<H: Clock + Copy> Attended<H, TcpStream> {
-    /// The reading side of a connection, whose peer may send nothing for `idle` seconds, or for ever where
-    /// that is 0. A write to it that the peer does not take for so long fails: while it waits, nobody hears that the
-    /// peer is silent.
+impl<H: Clock + Copy + Wait> Attended<H, TcpStream> {
+    /// The reading side of a connection, whose peer may send nothing for `idle` seconds, and which ends after
+    /// `longest` seconds; 0 is for ever. A write to it that the peer does not take for the shorter of the two fails:
+    /// while it waits, nobody hears that the peer is silent. The peer is told `idle` or `too long` before the end.
     pub fn new(
         rt: H,
         stream: TcpStream,
         standing: Arc<Standing, Global>,
         idle: u32,
-    ) -> io::Result<Attended<H, TcpStream>> {
-        stream.set_read_timeout(Some(Duration::from_millis(LOOK)))?;
-        if idle > 0 {
-            stream.set_write_timeout(Some(Duration::from_secs(u64::from(idle))))?;
+        longest: u32,
+    ) -> io::Result<Attended<H, TcpStream>>
+        ensures idle { IfOk result (λ attended. attended.idle ≡ idle) }
+        ensures longest { IfOk result (λ attended. attended.longest ≡ longest) }
+    {
+        stream.set_read_timeout(Some(Duration::from_millis(u64::from(LOOK))))?;
+        let bound = shorter(idle, longest);
+        if bound > 0 {
+            stream.set_write_timeout(Some(Duration::from_secs(u64::from(bound))))?;
         }
-        let heard = Instant::now(&rt).ok();
+        let _ = standing.stream.set(&rt, stream.try_clone()?);
+        let now = Instant::now(&rt).ok();
         Ok(Attended {
             rt,
             stream,
             standing,
             idle,
-            heard,
+            longest,
+            began: now,
+            heard: now,
             finished: None,
         })
     }
@@ -162,9 +236,30 @@ impl<H: Clock + Copy, S: Drop> Attended<H, S> {
         self.standing.idle.store(true, Ordering::SeqCst);
         true
     }
+
+    // Whether no more is read since the session has lasted too long.
+    fn is_too_long(&self) -> bool {
+        if self.standing.is_finished() || self.longest == 0 {
+            return false;
+        }
+        if !self.is_past(self.began, u64::from(self.longest)) {
+            return false;
+        }
+        self.standing.too_long.store(true, Ordering::SeqCst);
+        true
+    }
 }
 
-impl<H: Clock + Copy + Wait, S: Drop + Read + Closing> Attended<H, S> {
+impl<H: Clock + Copy + Wait, S: AsRawFd + Drop + Read + Closing> Attended<H, S> {
+    // Waits for what the client sends, for a short time, or until a job wants the session to end. Whether it is to be
+    // read; once a job wants that, the read waits itself, for the client to close.
+    fn comes(&self) -> bool {
+        if self.standing.is_hung_up() {
+            return true;
+        }
+        self.standing.bell.wait(self.stream.as_raw_fd(), LOOK)
+    }
+
     // Waits as long as the session is held, for two seconds at most.
     fn hold(&self) {
         for _ in 0..HOLDS {
@@ -183,6 +278,9 @@ impl<H: Clock + Copy + Wait, S: Drop + Read + Closing> Attended<H, S> {
         ensures none { IfOk result (λ some. some ≡ None →
             Keeps (S.remaining self.old.stream) (S.remaining self.new.stream)) }
     {
+        if !self.comes() {
+            return Ok(None);
+        }
         match self.stream.read(buf) {
             Ok(count) => {
                 self.heard = Instant::now(&self.rt).ok();
@@ -204,6 +302,9 @@ impl<H: Clock + Copy + Wait, S: Drop + Read + Closing> Attended<H, S> {
         let rt = self.rt;
         for _ in rt.forever() {
             if self.standing.is_to_end() {
+                return Ok(0);
+            }
+            if self.is_too_long() {
                 return Ok(0);
             }
             match self.read_once(buf) {
@@ -249,7 +350,7 @@ impl<H: Clock + Copy + Wait, S: Drop + Read + Closing> Attended<H, S> {
     }
 }
 
-impl<H: Clock + Copy + Wait, S: Drop + Read + Closing> Read for Attended<H, S> {
+impl<H: Clock + Copy + Wait, S: AsRawFd + Drop + Read + Closing> Read for Attended<H, S> {
     fn read(&mut self, buf: &mut [u8]) -> io::Result<usize>
         ensures bound { ReadsAtMost result buf.new }
         ensures bytes { ReadConsumes None None result buf.new }
@@ -261,6 +362,17 @@ impl<H: Clock + Copy + Wait, S: Drop + Read + Closing> Read for Attended<H, S> {
         }
         read
     }
+}
+
+// The shorter of two times, of which 0 is for ever.
+fn shorter(one: u32, other: u32) -> u32 {
+    if one == 0 {
+        return other;
+    }
+    if other == 0 {
+        return one;
+    }
+    one.min(other)
 }
 
 // No more is read after this.

@@ -2,7 +2,7 @@
 
 use crate::attended::Standing;
 use std::alloc::{AllocError, Global};
-use std::sync::Arc;
+use std::sync::{Arc, Wait};
 
 /// How a job ends the connection of its session from outside of the session, and learns that it is over. A
 /// job in the background has no other way: its end ends no session.
@@ -24,7 +24,7 @@ impl Hook {
         Hook::new(&self.standing)
     }
 
-    /// Ends the session within half a second, as if its client had hung up: what its jobs have written before
+    /// Ends the session at once, as if its client had hung up: what its jobs have written before
     /// is sent, the client is told that no more comes, and what it still sends is not read.
     pub fn hang_up(&self) {
         self.standing.hang_up();
@@ -34,6 +34,12 @@ impl Hook {
     /// until it is hung up: a job may still have to write what that led to.
     pub fn hold(&self) {
         self.standing.hold();
+    }
+
+    /// What the job is joined to was not reached, for these causes, a line each. They are told with the session's
+    /// end.
+    pub fn note_unreached<R: Wait>(&self, rt: &R, causes: Vec<u8>) {
+        self.standing.note_unreached(rt, causes);
     }
 
     /// Whether nothing more comes from the session's client: it has hung up, or was told that no more comes.

@@ -32,6 +32,7 @@ pub use trace::Trace;
 pub use write_log::WriteLog;
 
 mod attended;
+mod bell;
 mod connection;
 mod console;
 mod deeds;

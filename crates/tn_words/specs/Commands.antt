@@ -77,11 +77,13 @@ serve = with_rules (codes "serve") (
     host_rule
     ∷ port_rule
     ∷ with_default (whole_rule (codes "limit") 1 64) (codes "8")
+    ∷ with_default (whole_rule (codes "per-host") 1 64) (codes "64")
     ∷ whole_rule (codes "count") 1 1000000
     ∷ flag_rule (codes "forever")
     ∷ with_default (whole_rule (codes "ticks") 0 1000) (codes "0")
     ∷ line_rule
     ∷ with_default (whole_rule (codes "idle") 0 86400) (codes "0")
+    ∷ with_default (whole_rule (codes "longest") 0 86400) (codes "0")
     ∷ flag_rule (codes "local")
     ∷ flag_rule (codes "verbose")
     ∷ text_rule (codes "to")

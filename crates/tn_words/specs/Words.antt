@@ -97,10 +97,12 @@ pub record AsksServe (rows : List Row) (asked : Serving) : Type 0 where
   pub host : HasText rows (codes "host") (string_bytes asked.host)
   pub port : HasNumber rows (codes "port") 1 65535 asked.port
   pub limit : HasNumber rows (codes "limit") 1 64 asked.sessions
+  pub per_host : HasNumber rows (codes "per-host") 1 64 asked.per_host
   pub count : AsksCount rows asked.count
   pub ticks : HasNumber rows (codes "ticks") 0 1000 asked.ticks
   pub line : HasNumber rows (codes "line") 255 4095 asked.line_limit
   pub idle : HasNumber rows (codes "idle") 0 86400 asked.idle
+  pub longest : HasNumber rows (codes "longest") 0 86400 asked.longest
   pub edited : HasFlag rows (codes "local") asked.local
   pub verbose : HasFlag rows (codes "verbose") asked.verbose
   pub to : MayHaveAddress rows asked.to

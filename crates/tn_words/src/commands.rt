@@ -44,6 +44,13 @@ pub(crate) const LIMIT: Whole = Whole {
     most: 64,
 };
 
+/// As many as there may be of all.
+pub(crate) const PER_HOST: Whole = Whole {
+    name: "per-host",
+    least: 1,
+    most: LIMIT.most,
+};
+
 pub(crate) const COUNT: Whole = Whole {
     name: "count",
     least: 1,
@@ -65,6 +72,13 @@ pub(crate) const LINE: Whole = Whole {
 /// At most a day.
 pub(crate) const IDLE: Whole = Whole {
     name: "idle",
+    least: 0,
+    most: 86_400,
+};
+
+/// At most a day.
+pub(crate) const LONGEST: Whole = Whole {
+    name: "longest",
     least: 0,
     most: 86_400,
 };
@@ -245,7 +259,7 @@ fn serve_command<'a>(alloc: Global) -> Result<Command<'a>, AllocError>
         "Listens on a port of 127.0.0.1, or of the address of `--host`, and gives each connection a \
          terminal with standard settings. Its job writes each line back; the line `exit` and the end of \
          file (^D on an empty line) end the session with `bye`, an interrupt (^C) writes `int`, a quit \
-         (^\\) `quit`, and a stop (^Z) `tstp`. One connection more than the limit is told `full` and \
+         (^\\) `quit`, and a stop (^Z) `tstp`. One connection more than a limit is told `full` and \
          closed.\n\n\
          It ends by itself, with status 0, once it has taken as many connections as were asked for and \
          each of their sessions has ended; with `--forever` it serves until it is stopped.",
@@ -260,9 +274,10 @@ fn serve_command<'a>(alloc: Global) -> Result<Command<'a>, AllocError>
 
 fn with_server_options<'a>(alloc: Global, command: Command<'a>) -> Result<Command<'a>, AllocError>
     requires { (out-Command command).has_globals ≡ false }
-    ensures app { IfOk result (λ new. app_of new ≡ with_rule (with_rule (with_rule (with_rule (with_rule
+    ensures app { IfOk result (λ new. app_of new ≡ with_rule (with_rule (with_rule (with_rule (with_rule (with_rule
         (app_of command.entry) host_rule) port_rule)
         (with_default (whole_rule (codes "limit") 1 64) (codes "8")))
+        (with_default (whole_rule (codes "per-host") 1 64) (codes "64")))
         (whole_rule (codes "count") 1 1000000)) (flag_rule (codes "forever"))) }
     ensures local { IfOk result (λ new. (out-Command new).has_globals ≡ false) }
 {
@@ -270,6 +285,12 @@ fn with_server_options<'a>(alloc: Global, command: Command<'a>) -> Result<Comman
         .arg(host_option(alloc))?
         .arg(required_port(alloc, "The port to listen on"))?
         .arg(whole_option(alloc, LIMIT, "8", "How many sessions there may be at once"))?
+        .arg(whole_option(
+            alloc,
+            PER_HOST,
+            "64",
+            "How many of them there may be from one address",
+        ))?
         .arg(optional_number(
             alloc,
             COUNT,
@@ -285,9 +306,10 @@ fn with_server_options<'a>(alloc: Global, command: Command<'a>) -> Result<Comman
 
 fn with_session_options<'a>(alloc: Global, command: Command<'a>) -> Result<Command<'a>, AllocError>
     requires { (out-Command command).has_globals ≡ false }
-    ensures app { IfOk result (λ new. app_of new ≡ with_rule (with_rule (with_rule (with_rule (with_rule
+    ensures app { IfOk result (λ new. app_of new ≡ with_rule (with_rule (with_rule (with_rule (with_rule (with_rule
         (app_of command.entry) (with_default (whole_rule (codes "ticks") 0 1000) (codes "0"))) line_rule)
-        (with_default (whole_rule (codes "idle") 0 86400) (codes "0"))) (flag_rule (codes "local")))
+        (with_default (whole_rule (codes "idle") 0 86400) (codes "0")))
+        (with_default (whole_rule (codes "longest") 0 86400) (codes "0"))) (flag_rule (codes "local")))
         (flag_rule (codes "verbose"))) }
     ensures local { IfOk result (λ new. (out-Command new).has_globals ≡ false) }
 {
@@ -304,6 +326,12 @@ fn with_session_options<'a>(alloc: Global, command: Command<'a>) -> Result<Comma
             IDLE,
             "0",
             "Ends a session whose client sends nothing for this many seconds; 0 never does",
+        ))?
+        .arg(whole_option(
+            alloc,
+            LONGEST,
+            "0",
+            "Ends each session after this many seconds; 0 never does",
         ))?
         .arg(flag_option(
             alloc,

@@ -123,6 +123,8 @@ pub struct Serving {
     pub port: u16,
     /// The most sessions at once, from 1 to 64.
     pub sessions: u16,
+    /// The most of them from one address, from 1 to 64.
+    pub per_host: u16,
     /// After how many accepted connections to end, from 1 to 1,000,000; `None` for never.
     pub count: Option<u32>,
     /// How often the job in the background ticks, from 0 to 1,000; at 0 there is no such job.
@@ -132,6 +134,8 @@ pub struct Serving {
     /// After how many seconds without a byte from the client a session ends, from 0 to 86,400; at 0 it never
     /// does.
     pub idle: u32,
+    /// After how many seconds a session ends, from 0 to 86,400; at 0 it never does for that.
+    pub longest: u32,
     /// Whether the client is asked to edit the lines.
     pub local: bool,
     /// Whether connections and the ends of their sessions are logged.

@@ -9,8 +9,8 @@ ghost use Rattle.tn_words.specs.Words.{is_flagged, is_given, line_end_in, one_po
 
 use crate::commands::{
     AT, CONNECT, COUNT, CR, CRLF, DECODE, ESCAPE, FOREVER, HEIGHT, HOST, IDLE, LF, LIMIT, LINE,
-    LOCAL, LOCALLY, PLAIN, PORT, QUIET, REPLAY, SERVE, TICKS, TO, TRACE, VERBOSE, VERSION_LINE,
-    WAIT, WIDTH, WORLD, Whole, tn_command,
+    LOCAL, LOCALLY, LONGEST, PER_HOST, PLAIN, PORT, QUIET, REPLAY, SERVE, TICKS, TO, TRACE,
+    VERBOSE, VERSION_LINE, WAIT, WIDTH, WORLD, Whole, tn_command,
 };
 use crate::settings::{Address, Connecting, Escape, Serving, place_in};
 use clap::error::ErrorKind;
@@ -253,10 +253,12 @@ fn serving_at(
         host,
         port: number(words, PORT)? as u16,
         sessions: number(words, LIMIT)? as u16,
+        per_host: number(words, PER_HOST)? as u16,
         count,
         ticks: number(words, TICKS)? as u16,
         line_limit: Limit::new(number(words, LINE)? as u16)?,
         idle: number(words, IDLE)?,
+        longest: number(words, LONGEST)?,
         local: words.get_flag(LOCALLY),
         verbose: words.get_flag(VERBOSE),
         to,

@@ -56,10 +56,12 @@ fn words_ask_for_a_server(rt: HostRuntime) -> Result<(), Fail> {
         host: String::from_str(rt.alloc(), "127.0.0.1")?,
         port: 2323,
         sessions: 8,
+        per_host: 64,
         count: Some(1),
         ticks: 0,
         line_limit: Limit::standard(),
         idle: 0,
+        longest: 0,
         local: false,
         verbose: false,
         to: None,
@@ -75,10 +77,12 @@ fn words_ask_for_all_of_a_server(rt: HostRuntime) -> Result<(), Fail> {
         host: String::from_str(rt.alloc(), "::1")?,
         port: 2323,
         sessions: 64,
+        per_host: 2,
         count: Some(1_000_000),
         ticks: 1_000,
         line_limit: Limit::new(4_095).unwrap_or(Limit::standard()),
         idle: 86_400,
+        longest: 3_600,
         local: true,
         verbose: true,
         to: Some(Address {
@@ -89,7 +93,7 @@ fn words_ask_for_all_of_a_server(rt: HostRuntime) -> Result<(), Fail> {
     });
     let line =
         "tn serve --limit=64 --count 1000000 --ticks=1000 --host ::1 --line 4095 --idle 86400 \
-                --local --verbose --port=2323 --to [::1]:7 --crlf";
+                --per-host 2 --longest=3600 --local --verbose --port=2323 --to [::1]:7 --crlf";
     asks(&rt, rt.alloc(), line, Some(asked));
     Ok(())
 }
@@ -100,10 +104,12 @@ fn words_ask_for_a_server_without_end(rt: HostRuntime) -> Result<(), Fail> {
         host: String::from_str(rt.alloc(), "127.0.0.1")?,
         port: 7,
         sessions: 8,
+        per_host: 64,
         count: None,
         ticks: 0,
         line_limit: Limit::standard(),
         idle: 0,
+        longest: 0,
         local: false,
         verbose: false,
         to: Some(Address {
@@ -201,6 +207,11 @@ const REFUSED: &[&str] = &[
     "tn serve --port 7 --port 65536",
     "tn serve --port 7 --limit 0",
     "tn serve --port 7 --limit 65",
+    "tn serve --port 7 --per-host 0",
+    "tn serve --port 7 --per-host 65",
+    "tn serve --port 7 --longest -1",
+    "tn serve --port 7 --longest 86401",
+    "tn serve --port 7 --longest 1 --longest 1",
     "tn serve --port 7 --count 0",
     "tn serve --port 7 --count 1000001",
     "tn serve --port 7 --ticks 1001",

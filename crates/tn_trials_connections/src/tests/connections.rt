@@ -62,12 +62,14 @@ fn options(idle: u32) -> SessionOptions {
         line_limit: Limit::standard(),
         editing: Editing::Remote,
         idle,
+        longest: 0,
     }
 }
 
 fn serving(sessions: u16, count: u32) -> Serving {
     Serving {
         sessions,
+        per_host: 64,
         count,
         options: options(0),
         verbose: false,

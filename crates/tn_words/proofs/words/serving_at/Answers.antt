@@ -13,25 +13,35 @@ returns-in_err-number-2-clause-none c none asked asks =
 
 pub returns-in_err-number-3-clause-none : goal.returns-in_err-number-3-clause-none
 returns-in_err-number-3-clause-none c none asked asks =
-    c.number-3.ensures.none c.in_err-number-3.was asked.ticks asks.ticks
+    c.number-3.ensures.none c.in_err-number-3.was asked.per_host asks.per_host
 
 pub returns-in_err-number-4-clause-none : goal.returns-in_err-number-4-clause-none
 returns-in_err-number-4-clause-none c none asked asks =
-    c.number-4.ensures.none c.in_err-number-4.was asked.line_limit asks.line
+    c.number-4.ensures.none c.in_err-number-4.was asked.ticks asks.ticks
 
 pub returns-in_err-number-5-clause-none : goal.returns-in_err-number-5-clause-none
 returns-in_err-number-5-clause-none c none asked asks =
-    c.number-5.ensures.none c.in_err-number-5.was asked.idle asks.idle
+    c.number-5.ensures.none c.in_err-number-5.was asked.line_limit asks.line
+
+pub returns-in_err-number-6-clause-none : goal.returns-in_err-number-6-clause-none
+returns-in_err-number-6-clause-none c none asked asks =
+    c.number-6.ensures.none c.in_err-number-6.was asked.idle asks.idle
+
+pub returns-in_err-number-7-clause-none : goal.returns-in_err-number-7-clause-none
+returns-in_err-number-7-clause-none c none asked asks =
+    c.number-7.ensures.none c.in_err-number-7.was asked.longest asks.longest
 
 pub returns-clause-asked : goal.returns-clause-asked
 returns-clause-asked c = record {
   host = c.requires.host;
   port = search rules;
   limit = search rules;
+  per_host = search rules;
   count = c.requires.count;
   ticks = search rules;
   line = search rules;
   idle = search rules;
+  longest = search rules;
   edited = record {
     given = λ is. c.get_flag.ensures.value (one_text-rows (found_of c.args.words.now) (codes "local") ∙ is);
     not_given = λ is. c.get_flag.ensures.other (one_text-rows (found_of c.args.words.now) (codes "local") ∙ is);

@@ -1,0 +1,53 @@
+//! A bell, which wakes the thread that waits for a connection.
+
+use libc::net as c;
+use libc::types::pollfd;
+use os::FromRawFd;
+use std::os::fd::{AsRawFd, OwnedFd, RawFd};
+
+/// A bell. Where the system can give none, it wakes nobody.
+#[derive(Drop)]
+pub(crate) struct Bell {
+    counter: Option<OwnedFd>,
+}
+
+impl Bell {
+    /// A bell that nobody has rung.
+    pub(crate) fn new() -> Bell {
+        let counter = c::eventfd(0, c::EFD_CLOEXEC | c::EFD_NONBLOCK);
+        if counter < 0 {
+            return Bell { counter: None };
+        }
+        // The descriptor is new, and nobody else has its number.
+        let counter = unsafe { OwnedFd::from_raw_fd(counter) };
+        Bell {
+            counter: Some(counter),
+        }
+    }
+
+    /// Wakes the thread that waits. From now on none waits.
+    pub(crate) fn ring(&self) {
+        if let Some(counter) = &self.counter {
+            let _ = libc::write(counter.as_raw_fd(), &1u64.to_ne_bytes());
+        }
+    }
+
+    /// Waits until something can be read from a descriptor, or the bell is rung, for so many milliseconds at
+    /// most. False where nothing can be read; without a bell that is for the read itself to find out.
+    pub(crate) fn wait(&self, fd: RawFd, milliseconds: u16) -> bool {
+        let Some(counter) = &self.counter else {
+            return true;
+        };
+        let mut ready = [awaited(fd), awaited(counter.as_raw_fd())];
+        let count = c::poll(&mut ready, i32::from(milliseconds));
+        count < 0 || ready[0].revents != 0
+    }
+}
+
+fn awaited(fd: RawFd) -> pollfd {
+    pollfd {
+        fd,
+        events: c::POLLIN,
+        revents: 0,
+    }
+}
