@@ -100,6 +100,7 @@ fn a_service_that_is_not_there_is_told(rt: HostRuntime) -> Result<(), Fail> {
     let (server, client) = join(rt, alloc, port)?;
     let screen = screen_of(alloc, client, b"")?;
     assert!(rt; shows(&screen, b"the service cannot be reached\r\n"));
-    assert!(rt; server.join(&rt));
+    // On standard error it is told, too, and why.
+    assert!(rt; !server.join(&rt));
     Ok(())
 }
