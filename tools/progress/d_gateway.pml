@@ -27,13 +27,13 @@ bool way_open = true, way_ended;
 #ifdef MUT_TOLD_WAITS
 #define GIVEN_UP false
 #else
-#ifdef FIX_SEES_PEER
-#define GIVEN_UP (IS_OVER_HOOK || hung_up || fin[C2S] || deaf[S2C])	/* the look asks the client's socket too */
+#ifdef MUT_TOLD_UNSEEN
+#define GIVEN_UP (IS_OVER_HOOK || hung_up)
 #else
 #ifdef MUT_TOLD_STAYS
 #define GIVEN_UP IS_OVER_HOOK
 #else
-#define GIVEN_UP (IS_OVER_HOOK || hung_up)
+#define GIVEN_UP (IS_OVER_HOOK || hung_up || fin[C2S] || deaf[S2C])	/* has_client_ended asks the client's socket too */
 #endif
 #endif
 #endif

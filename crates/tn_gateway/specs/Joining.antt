@@ -1,7 +1,7 @@
 -- The jobs of a session that is joined to a service.
 use Rattle.std.specs.Prelude.{◌≡◌, ℕ, ◌+◌, false, Option, Some, None, List}
 use Rattle.tn_discipline.specs.declared.reads.Entry.{Entry}
-use Rattle.tn_gateway.specs.Sending.{SendsEntry, silent}
+use Rattle.tn_gateway.specs.Sending.{SendsEntry, WantsMemory, silent}
 use Rattle.tn_gateway.specs.Showing.{Shows}
 use Rattle.tn_gateway.specs.declared.joining.Gateway.{Gateway}
 use Rattle.tn_gateway.specs.declared.joining.Gateway.TheVariants as side
@@ -56,6 +56,14 @@ Reacts contents told (side.Sends old) entry reaction (side.Sends new) =
 Reacts contents told (side.Sends old) entry reaction (side.Shows new) = ⊥
 Reacts contents told (side.Shows old) entry reaction new =
     (reaction ≡ silent Stay) × (new ≡ side.Shows old)
+
+-- memory may run out for a line, on its way to the service or as the word that none is sent any more; and for what is
+-- shown, at a step
+abbrev pub MayRefuse : {R W : Type 0} → Gateway R W → Option Entry → Type 0
+MayRefuse (side.Sends sending) (Some entry) = WantsMemory sending entry
+MayRefuse (side.Sends sending) None = ⊥
+MayRefuse (side.Shows showing) (Some entry) = ⊥
+MayRefuse (side.Shows showing) None = Unit {0}
 
 -- a step is one of the job in the background; the other one makes none
 abbrev pub Steps : {R W : Type 0} → (R → Option (List ℕ)) → (R → Option Failures)

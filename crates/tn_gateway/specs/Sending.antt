@@ -1,5 +1,5 @@
 -- What the job in the foreground sends to the service at an entry, and what it tells the user.
-use Rattle.std.specs.Prelude.{◌≡◌, ℕ, Bool, true, false, Option, List, [], codes}
+use Rattle.std.specs.Prelude.{◌≡◌, ◌≢◌, ℕ, Bool, true, false, Option, List, [], codes}
 use Rattle.std.specs.Io.KnownBytes.{Keeps}
 use Rattle.tn_discipline.specs.declared.reads.Entry.{Entry}
 use Rattle.tn_discipline.specs.declared.reads.Entry.TheVariants.{Text, Eof, Signal}
@@ -70,3 +70,8 @@ pub record SendsEntry {W : Type 0} (contents : W → Option (List ℕ)) (told : 
   pub says : reaction ≡ answer old.way entry
   pub goes : Goes old.line_end old.way entry (known_writing contents told old.writer new.writer) new.way
   pub line_end : new.line_end ≡ old.line_end
+
+-- memory may be wanted for a line that goes to the service, and for telling that one goes nowhere
+abbrev pub WantsMemory : {W : Type 0} → Sending W → Entry → Type 0
+WantsMemory sending (Text line) = sending.way ≢ Broken
+WantsMemory sending entry = ⊥

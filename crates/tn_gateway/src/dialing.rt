@@ -324,10 +324,10 @@ impl<H: Copy + Wait, S: Drop + Write + Closing> Finish for Told<H, S> {
     }
 }
 
-// Whether the service is to be told no more than it takes: nothing more comes from the user, or the service
-// has said all, which ends the session.
+// Whether the service is to be told no more than it takes: nothing more comes from the user than came by now, or the
+// service has said all, which ends the session.
 fn is_to_end(hook: &Hook, said_all: &AtomicBool) -> bool {
-    hook.is_over() || said_all.load(Ordering::SeqCst)
+    hook.is_over() || hook.has_client_ended() || said_all.load(Ordering::SeqCst)
 }
 
 // Whether a read gave bytes that end with a carriage return.

@@ -20,13 +20,15 @@ pub enum Gateway<R, W> {
 }
 
 impl<R: Source + Drop, W: Finish + Drop> Job for Gateway<R, W> {
-    ghost use Rattle.tn_gateway.specs.Joining.{IsFresh, Reacts, Steps};
+    ghost use Rattle.tn_gateway.specs.Joining.{IsFresh, MayRefuse, Reacts, Steps};
 
     ghost fresh = { λ job. IsFresh job };
 
     ghost reacts = { λ old entry reaction new. Reacts W.contents W.told old entry reaction new };
 
     ghost steps = { λ old reaction new. Steps R.remaining R.foretold R.sizes old reaction new };
+
+    ghost refuses = { λ job entry. MayRefuse job entry };
 
     // The job in the background is asked for none.
     fn entry(&mut self, alloc: Global, entry: Entry) -> Result<Reaction, AllocError> {

@@ -1,7 +1,7 @@
 //! The job in the foreground: each line that the user enters goes to the service.
 
-ghost use Rattle.std.specs.Prelude.{◌≡◌, IfOk, OnOk};
-ghost use Rattle.tn_gateway.specs.Sending.{SendsEntry, WritesBytes, WritesNothing, ended, say, silent, way_after};
+ghost use Rattle.std.specs.Prelude.{◌≡◌, IfErr, IfOk, OnOk};
+ghost use Rattle.tn_gateway.specs.Sending.{SendsEntry, WantsMemory, WritesBytes, WritesNothing, ended, say, silent, way_after};
 ghost use Rattle.tn_lines.specs.LineEnds.{line_said};
 ghost use Rattle.tn_streams.specs.Known.{known_writing};
 
@@ -35,7 +35,9 @@ impl<W: Finish> Sending<W> {
     /// Answers an entry: a line goes to the service, the end of file ends what goes there, an interrupt and a
     /// quit end the session too, and a stop does nothing. Out of memory nothing is sent.
     pub(crate) fn answer(&mut self, alloc: Global, entry: Entry) -> Result<Reaction, AllocError>
-        ensures { IfOk result (λ reaction. SendsEntry W.contents W.told self.old entry reaction self.new) }
+        ensures answers { IfOk result (λ reaction.
+            SendsEntry W.contents W.told self.old entry reaction self.new) }
+        ensures refused { IfErr result (λ _. WantsMemory self.old entry) }
     {
         match entry {
             Entry::Text(line) => self.answer_line(alloc, line),
@@ -52,8 +54,9 @@ impl<W: Finish> Sending<W> {
     }
 
     fn answer_line(&mut self, alloc: Global, line: Text) -> Result<Reaction, AllocError>
-        ensures { IfOk result (λ reaction.
+        ensures answers { IfOk result (λ reaction.
             SendsEntry W.contents W.told self.old (Entry.Text line) reaction self.new) }
+        ensures refused { IfErr result (λ _. WantsMemory self.old (Entry.Text line)) }
     {
         match self.way {
             Way::Open => {

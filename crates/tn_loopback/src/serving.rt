@@ -499,8 +499,8 @@ impl<H: Host + Network, V: Service, O: Asked<V::Jobs>> Open<H, V, O> {
         );
     }
 
-    // Reports a session that ended in a fault, or whose service was not reached for these causes, and notes its
-    // end, as that of any other where that is wanted.
+    // Reports a session that ended in a fault. Its end is noted, as that of one whose service was not reached for
+    // these causes, and of any other where that is wanted.
     fn tell_end<E: Write>(
         &self,
         caller: &Caller,
@@ -509,11 +509,11 @@ impl<H: Host + Network, V: Service, O: Asked<V::Jobs>> Open<H, V, O> {
         unreached: Option<&[u8]>,
         errors: &mut E,
     ) {
-        let is_good = finished.is_whole() && unreached.is_none();
-        if !is_good {
+        let is_whole = finished.is_whole();
+        if !is_whole {
             tell_fault(errors);
         }
-        if self.serving.verbose || !is_good {
+        if self.serving.verbose || !is_whole || unreached.is_some() {
             note_end(
                 &self.rt,
                 self.alloc,

@@ -5,7 +5,7 @@ ghost use Rattle.std.specs.Io.{ReadsAtMost};
 ghost use Rattle.std.specs.Io.KnownBytes.{Consumes, Keeps, ReadConsumes};
 ghost use Rattle.tn_sockets.specs.Passing.{GivesNext};
 
-use crate::bell::Bell;
+use crate::bell::{Bell, has_peer_ended};
 use crate::connection::{Closing, send_at_once};
 use std::alloc::{AllocError, Global};
 use std::io::{ErrorKind, Read};
@@ -104,6 +104,14 @@ impl Standing {
     /// Whether nothing more comes from the peer: it has hung up, or was told that no more comes.
     pub fn is_over(&self) -> bool {
         self.is_finished() || self.gone.load(Ordering::SeqCst)
+    }
+
+    /// Whether the peer has ended what it sends, or is gone, also where what it sent before is not read yet.
+    pub fn has_peer_ended(&self) -> bool {
+        match self.stream.get() {
+            Some(stream) => has_peer_ended(stream.as_raw_fd()),
+            None => false,
+        }
     }
 
     /// How many bytes the peer was told of why its session ends.

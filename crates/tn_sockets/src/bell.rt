@@ -44,6 +44,16 @@ impl Bell {
     }
 }
 
+/// Whether the peer of a connection has ended what it sends, or is gone. What it sent before may still wait.
+pub(crate) fn has_peer_ended(fd: RawFd) -> bool {
+    let mut seen = [pollfd {
+        fd,
+        events: c::POLLRDHUP,
+        revents: 0,
+    }];
+    c::poll(&mut seen, 0) > 0
+}
+
 fn awaited(fd: RawFd) -> pollfd {
     pollfd {
         fd,

@@ -46,4 +46,9 @@ impl Hook {
     pub fn is_over(&self) -> bool {
         self.standing.is_over()
     }
+
+    /// Whether the session's client has ended what it sends, also where what it sent before is not read yet.
+    pub fn has_client_ended(&self) -> bool {
+        self.standing.has_peer_ended()
+    }
 }
