@@ -19,6 +19,7 @@ bool way_open = true, way_ended;
 		:: atomic { !deaf[G2L] && nfull(wire[G2L]) -> wire[G2L]!e } \
 		:: atomic { deaf[G2L] -> struck[G2L] = true; way_open = false } \
 		:: atomic { GIVEN_UP && full(wire[G2L]) -> way_open = false } \
+		:: atomic { IS_LATE && full(wire[G2L]) -> way_open = false; hung_up = true } \
 		fi \
 	:: EOFS && e != RED -> way_ended = (way_open || way_ended); fin[G2L] = true; way_open = false \
 	:: INTERRUPTS && e != RED -> after = DONE; fin[G2L] = true; way_open = false \
@@ -36,6 +37,12 @@ bool way_open = true, way_ended;
 #define GIVEN_UP (IS_OVER_HOOK || hung_up || fin[C2S] || deaf[S2C])	/* has_client_ended asks the client's socket too */
 #endif
 #endif
+#endif
+/* the service takes nothing for the time of --idle */
+#if defined(IDLE) && !defined(MUT_TOLD_WAITS)
+#define IS_LATE true
+#else
+#define IS_LATE false
 #endif
 #ifndef EOFS
 #define EOFS false

@@ -28,6 +28,9 @@ const LOOK: u64 = 250;
 /// How often a write looks that at least, while the service takes nothing.
 const LOOKS: u32 = 20;
 
+/// How often it looks in a second.
+const LOOKS_A_SECOND: u32 = 4;
+
 /// How many milliseconds a read waits behind a carriage return, until that is shown by itself.
 const SOON: u64 = 20;
 
@@ -297,6 +300,10 @@ fn tell<H: Wait, S: Write>(
         if looks >= LOOKS && is_to_end(hook, said_all) {
             break;
         }
+        if is_late(looks, hook.patience()) {
+            hook.hang_up();
+            break;
+        }
     }
     Err(io::Error::from(ErrorKind::BrokenPipe))
 }
@@ -322,6 +329,12 @@ impl<H: Copy + Wait, S: Drop + Write + Closing> Finish for Told<H, S> {
             stream.close(Shutdown::Write);
         }
     }
+}
+
+// Whether the service has taken nothing for longer than it may: then the session ends. What its user may have left can't
+// be seen where what he sent before fills the connection.
+fn is_late(looks: u32, patience: usize) -> bool {
+    patience > 0 && (looks / LOOKS_A_SECOND) as usize >= patience
 }
 
 // Whether the service is to be told no more than it takes: nothing more comes from the user than came by now, or the

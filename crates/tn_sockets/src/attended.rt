@@ -44,6 +44,8 @@ pub struct Standing {
     held: AtomicBool,
     /// Nothing more comes from the peer.
     gone: AtomicBool,
+    /// For how many seconds nothing may pass, or 0 for ever.
+    patience: AtomicUsize,
     /// By it the peer is told why its session ends.
     stream: OnceLock<TcpStream>,
     /// How many bytes it was told so.
@@ -63,6 +65,7 @@ impl Standing {
             bell: Bell::new(),
             held: AtomicBool::new(false),
             gone: AtomicBool::new(false),
+            patience: AtomicUsize::new(0),
             stream: OnceLock::new(),
             told: AtomicUsize::new(0),
             unreached: OnceLock::new(),
@@ -104,6 +107,11 @@ impl Standing {
     /// Whether nothing more comes from the peer: it has hung up, or was told that no more comes.
     pub fn is_over(&self) -> bool {
         self.is_finished() || self.gone.load(Ordering::SeqCst)
+    }
+
+    /// For how many seconds nothing may pass on the way to the peer, nor on to what a job is joined to; 0 is for ever.
+    pub fn patience(&self) -> usize {
+        self.patience.load(Ordering::SeqCst)
     }
 
     /// Whether the peer has ended what it sends, or is gone, also where what it sent before is not read yet.
@@ -205,6 +213,7 @@ impl<H: Clock + Copy + Wait> Attended<H, TcpStream> {
             stream.set_write_timeout(Some(Duration::from_secs(u64::from(bound))))?;
         }
         let _ = standing.stream.set(&rt, stream.try_clone()?);
+        standing.patience.store(bound as usize, Ordering::SeqCst);
         let now = Instant::now(&rt).ok();
         Ok(Attended {
             rt,

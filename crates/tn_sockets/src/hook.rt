@@ -47,6 +47,11 @@ impl Hook {
         self.standing.is_over()
     }
 
+    /// For how many seconds a write of a job may wait, or 0 for ever.
+    pub fn patience(&self) -> usize {
+        self.standing.patience()
+    }
+
     /// Whether the session's client has ended what it sends, also where what it sent before is not read yet.
     pub fn has_client_ended(&self) -> bool {
         self.standing.has_peer_ended()

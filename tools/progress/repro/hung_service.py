@@ -3,8 +3,8 @@
 
     hung_service.py PROGRAM [MEGABYTES [SECONDS]]
 
-A user of `tn serve --to` pastes MEGABYTES (5) of lines, or as many as go, and closes. The service stays and reads nothing. Status 0
-where the session ends within SECONDS (12), 1 where it does not.
+A user of `tn serve --to --idle 3` pastes MEGABYTES (5) of lines, or as many as go, and closes. The service stays and reads nothing. What
+the user sent fills the connection, so that its end is not seen. Status 0 where the session ends within SECONDS (12), 1 where it does not.
 """
 import socket
 import subprocess
@@ -18,7 +18,7 @@ def main():
     program, megabytes, limit = words_of(__doc__, megabytes=5.0, limit=12.0)
     listener, port = narrow_listener(), free_port()
     to = "127.0.0.1:%d" % listener.getsockname()[1]
-    server = subprocess.Popen([program, "serve", "--port", str(port), "--to", to, "--verbose"], stderr=subprocess.PIPE,
+    server = subprocess.Popen([program, "serve", "--port", str(port), "--to", to, "--idle", "3", "--verbose"], stderr=subprocess.PIPE,
                               text=True)
     try:
         ended = threading.Event()
