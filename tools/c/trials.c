@@ -148,6 +148,8 @@ static void worked_spelling(void)
         SURE(tn_put_sub(1, zeros, 513, buf, sizeof buf, &count) == TN_TOO_LONG && count == 77);
         SURE(tn_put_sub(1, zeros, 512, buf, sizeof buf, &count) == TN_OK && count == 517);
         SURE(tn_version() == TN_VERSION_NUMBER && strcmp(tn_code_text(TN_TAKEN), "another function has this character") == 0);
+        SURE(strcmp(tn_code_text(TN_OK), "done") == 0 && strcmp(tn_code_text(TN_NO_COMMAND), "no such command") == 0);
+        SURE(strcmp(tn_code_text((tn_code)(TN_NO_COMMAND + 1)), "no code of this library") == 0);
     }
 }
 
