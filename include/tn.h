@@ -103,7 +103,7 @@ typedef enum tn_code TN_ENUM {
     TN_TAKEN = 12,        /* another function has this character */
     TN_NOT_ON = 13,       /* LINEMODE is not on */
     TN_TOO_LONG = 14,     /* a forward mask has at most 32 octets, a subnegotiation 512 parameters */
-    TN_NO_COMMAND = 15    /* no command, or no option word, has this byte */
+    TN_NO_COMMAND = 15    /* no command that the call takes, or no option word, has this number */
 } tn_code;
 
 /* A few words on a code. */
@@ -366,6 +366,18 @@ tn_code tn_client_resize(tn_client *client, uint16_t width, uint16_t height) TN_
 /* Proposes a special character to the server; nothing changes until it agrees. TN_NO_FUNCTION, TN_FAILED, TN_NOT_ON,
  * TN_NOT_SETTABLE, TN_RESERVED, TN_TAKEN, TN_MEMORY. */
 tn_code tn_client_propose(tn_client *client, uint8_t function, uint16_t value) TN_CALL((1));
+
+/* The commands that a client sends for its user (RFC 854, "Standard representation of control functions"). */
+typedef enum tn_command TN_ENUM {
+    TN_COMMAND_NOP = 241, /* nothing, which yet shows whether the connection stands */
+    TN_COMMAND_BRK = 243, /* the key BREAK */
+    TN_COMMAND_IP = 244,  /* interrupts the process at the server */
+    TN_COMMAND_AYT = 246  /* asks whether the server is there */
+} tn_command;
+
+/* Sends a command at once, before what is held of a line, which stays as it is. TN_NO_COMMAND: it is none of these four; TN_FAILED,
+ * TN_MEMORY. */
+tn_code tn_client_send(tn_client *client, tn_command command) TN_CALL((1));
 
 /* The mode in force. */
 tn_code tn_client_mode(tn_client *client, uint8_t *mode) TN_CALL((1, 2));

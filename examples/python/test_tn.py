@@ -36,6 +36,11 @@ def main():
         deliver(server, client)
         assert client.screen().endswith(b"x" * 10000 + b"\r\n")
         assert refusal(server.set_char, tn.CHAR_INTR, 10) == tn.RESERVED
+        client.keys(b"held")
+        client.send(tn.COMMAND_IP)
+        assert refusal(client.send, 245) == tn.NO_COMMAND and client.read() == tn.command(tn.COMMAND_IP)
+        server.feed(tn.command(tn.COMMAND_IP))
+        assert server.take() == (tn.INT, None)
     assert refusal(server.read) == tn.NOT_STARTED and refusal(tn.Line, None, 1) == tn.NO_LIMIT
     with tn.Line(tn.Flags(isig=False)) as line:
         assert [line.key(key)[0] for key in b"a\x03\x7f"] == [tn.KEPT, tn.KEPT, tn.ERASED] and line.half() == b"a"

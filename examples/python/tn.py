@@ -17,6 +17,7 @@ OK, MEMORY, FAILED, NOT_STARTED, STARTED, OTHER_KIND, NO_LIMIT, TOO_FAR_AHEAD, C
 NONE, TEXT, EOF, INT, QUIT, TSTP, KEPT, ERASED, ERASED_AHEAD, KILLED, DROPPED = range(11)
 NO_ITEM, BYTE, NEWLINE, COMMAND, WORD, SUBNEGOTIATION = range(6)
 CHAR_INTR, CHAR_QUIT, CHAR_EOF, CHAR_SUSP, CHAR_ERASE, CHAR_KILL, CHAR_EOL, CHAR_EOL2 = 3, 7, 8, 9, 10, 11, 17, 18
+COMMAND_NOP, COMMAND_BRK, COMMAND_IP, COMMAND_AYT = 241, 243, 244, 246
 NO_CHAR = 256
 MODE_EDIT, MODE_TRAPSIG = 1, 2
 OPTION_NO, OPTION_YES, OPTION_WANT_NO, OPTION_WANT_NO_THEN_YES, OPTION_WANT_YES, OPTION_WANT_YES_THEN_NO = range(6)
@@ -103,6 +104,7 @@ CALLS = {
     "client_screen": BUFFER,
     "client_resize": (c_uint16, c_uint16),
     "client_propose": (c_uint8, c_uint16),
+    "client_send": (c_uint32,),
     "client_mode": (POINTER(c_uint8),),
     "client_half": BUFFER,
     "client_ahead": (POINTER(c_uint16),),
@@ -309,3 +311,7 @@ class Client(_End):
 
     def resize(self, width, height):
         self._call("resize", width, height)
+
+    def send(self, command):
+        """Sends a command, before what is held of a line, which stays as it is."""
+        self._call("send", command)

@@ -148,6 +148,8 @@ static void worked_spelling(void)
         SURE(tn_put_sub(1, zeros, 513, buf, sizeof buf, &count) == TN_TOO_LONG && count == 77);
         SURE(tn_put_sub(1, zeros, 512, buf, sizeof buf, &count) == TN_OK && count == 517);
         SURE(tn_version() == TN_VERSION_NUMBER && strcmp(tn_code_text(TN_TAKEN), "another function has this character") == 0);
+        SURE(strcmp(tn_code_text(TN_OK), "done") == 0 && strcmp(tn_code_text(TN_NO_COMMAND), "no such command") == 0);
+        SURE(strcmp(tn_code_text((tn_code)(TN_NO_COMMAND + 1)), "no code of this library") == 0);
     }
 }
 
@@ -230,6 +232,13 @@ static void worked_client(void)
     CLIENT_SAYS(&client, "\xff\xfb\x1f\xff\xfa\x1f\0\x50\0\x18\xff\xf0", "hi\r\n");
     SURE(tn_client_resize(&client, 100, 24) == TN_OK);
     CLIENT_SAYS(&client, "\xff\xfa\x1f\0\x64\0\x18\xff\xf0", "");
+    SURE(tn_client_send(&client, TN_COMMAND_BRK) == TN_OK && tn_client_send(&client, TN_COMMAND_AYT) == TN_OK);
+    SURE(tn_client_send(&client, TN_COMMAND_IP) == TN_OK && tn_client_send(&client, TN_COMMAND_NOP) == TN_OK);
+    CLIENT_SAYS(&client, "\xff\xf3\xff\xf6\xff\xf4\xff\xf1", "");
+    for (uint32_t number = 0; number < 1024; number++) /* also what would be a command's byte if it were cut to one */
+        if (number != 241 && number != 243 && number != 244 && number != 246)
+            SURE(tn_client_send(&client, (tn_command)number) == TN_NO_COMMAND);
+    CLIENT_SAYS(&client, "", "");
     SURE(tn_client_mode(&client, &mode) == TN_OK && mode == 0);
     SURE(tn_client_half(&client, buf, sizeof buf, &count) == TN_OK && count == 0);
     SURE(tn_client_ahead(&client, &ahead) == TN_OK && ahead == 0);
@@ -299,6 +308,12 @@ static void worked_pair(void)
     CLIENT_SAYS(&client, "", "ab");
     SURE(tn_client_half(&client, buf, sizeof buf, &count) == TN_OK && count == 2 && memcmp(buf, "ab", 2) == 0);
     SURE(tn_client_counts(&client, &trapped, &plain) == TN_OK && trapped == 0 && plain == 0);
+    SURE(tn_client_send(&client, TN_COMMAND_IP) == TN_OK); /* before the line that is held, which stays */
+    CLIENT_SAYS(&client, "\xff\xf4", "");
+    SURE(tn_client_send(&client, TN_COMMAND_IP) == TN_OK);
+    deliver(&server, &client);
+    SURE(tn_server_take(&server, &kind) == TN_OK && kind == TN_INT);
+    SURE(tn_client_half(&client, buf, sizeof buf, &count) == TN_OK && count == 2 && memcmp(buf, "ab", 2) == 0);
     SURE(tn_client_char(&client, TN_CHAR_KILL, &value) == TN_OK && value == 21);
     SURE(tn_client_propose(&client, TN_CHAR_KILL, 24) == TN_OK);
     deliver(&server, &client);
@@ -339,6 +354,7 @@ static void session(void)
     deliver(&server, &client);
     may(tn_client_resize(&client, 90, 30));
     may(tn_client_propose(&client, TN_CHAR_KILL, 24));
+    may(tn_client_send(&client, TN_COMMAND_AYT));
     may(tn_server_set_char(&server, TN_CHAR_EOL, 7));
     may(tn_server_set_mask(&server, (const uint8_t *)"\0\0", 2));
     for (const char *key = "echo one\x7f" "e\r\x1cnothing\x18two\x07\x04"; *key; key++)

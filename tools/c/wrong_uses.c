@@ -75,6 +75,7 @@ static bool is_blank(const struct given *g)
     X(CLIENT, client_screen, (h, TO_BUF)) \
     X(CLIENT, client_resize, (h, 132, 50)) \
     X(CLIENT, client_propose, (h, TN_CHAR_EOL, 7)) \
+    X(CLIENT, client_send, (h, TN_COMMAND_AYT)) \
     X(CLIENT, client_mode, (h, &g->mode)) \
     X(CLIENT, client_half, (h, TO_BUF)) \
     X(CLIENT, client_ahead, (h, &g->width)) \
@@ -292,7 +293,7 @@ static bool is_refused_by_server(const char *name)
 
 static bool is_refused_by_client(const char *name)
 {
-    return strstr(name, "_feed") || strstr(name, "_key") || strstr(name, "_resize") || strstr(name, "_propose");
+    return strstr(name, "_feed") || strstr(name, "_key") || strstr(name, "_resize") || strstr(name, "_propose") || strstr(name, "_send");
 }
 
 static bool is_refused_by_decoder(const char *name)

@@ -3,6 +3,11 @@
 #include <stdio.h>
 #include <time.h>
 
+// What time is taken by: a program that never waits takes that of its thread, so that it can be run beside others.
+#ifndef MEASURE_BY
+#define MEASURE_BY CLOCK_MONOTONIC
+#endif
+
 // What was done: bytes handed in, and wholes that came out.
 struct done {
     double bytes, wholes;
@@ -10,7 +15,7 @@ struct done {
 
 static double seconds(void) {
     struct timespec now;
-    clock_gettime(CLOCK_MONOTONIC, &now);
+    clock_gettime(MEASURE_BY, &now);
     return now.tv_sec + now.tv_nsec / 1e9;
 }
 

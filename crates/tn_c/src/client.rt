@@ -3,7 +3,7 @@
 ghost use Rattle.std.specs.Prelude.{◌≡◌, None, length};
 ghost use Rattle.tn_discipline.specs.Limits.{is_limit};
 ghost use Rattle.tn_c_parts.specs.Calling.{Looks, Does, OfFunction, GivesChar};
-ghost use Rattle.tn_c_parts.specs.ClientCalls.{IsOpened, KeyCall, FeedCall, ResizeCall, ProposeCall, ReadCall, ScreenCall, GivesMode, GivesHalf, GivesAhead, GivesCounts, GivesOption, IsClientChar};
+ghost use Rattle.tn_c_parts.specs.ClientCalls.{IsOpened, KeyCall, FeedCall, ResizeCall, ProposeCall, SendNumberCall, ReadCall, ScreenCall, GivesMode, GivesHalf, GivesAhead, GivesCounts, GivesOption, IsClientChar};
 ghost use Rattle.tn_c_parts.specs.Readings.{char_given};
 ghost use Rattle.tn_c.specs.Holding.{HoldsClient, CallsClient, Starts, NoPointer};
 
@@ -91,6 +91,15 @@ pub extern "C" fn tn_client_propose(
         (OfFunction function (ProposeCall (char_given value))) }
 {
     call_held!(handle, alloc, Client, client => client.propose_function(function, value))
+}
+
+/// Sends the command with this number, before what is held of a line, which stays as it is.
+#[unsafe(no_mangle)]
+pub extern "C" fn tn_client_send(alloc: Global, handle: &mut Handle, command: u32) -> u32
+    ensures { CallsClient handle.old.held handle.new.held result NoPointer
+        (SendNumberCall command) }
+{
+    call_held!(handle, alloc, Client, client => client.send_command(command))
 }
 
 /// Says how many bytes wait to be sent.

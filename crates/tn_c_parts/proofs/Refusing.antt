@@ -8,6 +8,7 @@ use Rattle.tn_server.specs.Faults as server
 use Rattle.tn_server.specs.declared.faults.ServerFault.{ServerFault}
 use Rattle.tn_server.specs.declared.faults.ServerFault.TheVariants as fault
 use Rattle.tn_client.specs.Calls as client
+use Rattle.tn_client.specs.declared.commands.UserCommand.{UserCommand}
 use Rattle.tn_client.specs.declared.faults.ClientFault.{ClientFault}
 use Rattle.tn_c_parts.specs.ServerCalls.{SetMaskCall}
 use Rattle.tn_c_parts.specs.declared.codes.Code.{Code}
@@ -45,3 +46,7 @@ octets_told {answer} {before} {after} m n e told = subst (λ (mask : Mask). SetM
 pub is_done : {answer : Code} → (answer ≡ code.Done) ⊎ (answer ≡ code.NoFunction) → (answer ≡ code.NoFunction → ⊥) → answer ≡ code.Done
 is_done (inl done) other = done
 is_done (inr none) other = absurd (other none)
+
+-- a command that was found is the one that was found
+pub same_command : (c d : UserCommand) → Some c ≡ Some d → c ≡ d
+same_command c d e = cc

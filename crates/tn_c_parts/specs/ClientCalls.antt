@@ -1,18 +1,19 @@
 -- What each call of a held client end does.
-use Rattle.std.specs.Prelude.{◌≡◌, ◌≢◌, ◌⊎◌, ℕ, Bool, true, false, List, [], drop, Option, None}
+use Rattle.std.specs.Prelude.{◌≡◌, ◌≢◌, ◌↔◌, ◌⊎◌, ℕ, Bool, true, false, List, [], drop, Option, None}
 use Rattle.tn_codes.specs.declared.codes.Func.{Func}
 use Rattle.tn_discipline.specs.Characters.{slot}
 use Rattle.tn_option.specs.Options.{state_of}
 use Rattle.tn_client.specs.Calls.{End, LeadsTo, Advances, Sends, Shows, ReadsNothing, SaysOrShows, Feeds, StopsWithin, LacksRoomFor, LacksMemoryFor, call_fault, propose_fault}
 use Rattle.tn_nvt.specs.Feeding as nvt
-use Rattle.tn_client.specs.Events.{History, Event, begun, typed, resized, proposed}
+use Rattle.tn_client.specs.Events.{History, Event, begun, typed, resized, proposed, sent}
 use Rattle.tn_client.specs.Lines.{ahead, count_under, held_bytes}
 use Rattle.tn_client.specs.Replies.{replies}
 use Rattle.tn_client.specs.Terms.{chars, mode, options}
+use Rattle.tn_client.specs.declared.commands.UserCommand.{UserCommand}
 use Rattle.tn_client.specs.declared.faults.ClientFault.{ClientFault}
 use Rattle.tn_c_parts.specs.Bytes.{Copies, Gives}
 use Rattle.tn_c_parts.specs.Faults.{client_refusal}
-use Rattle.tn_c_parts.specs.Readings.{char_number, side_given, state_number}
+use Rattle.tn_c_parts.specs.Readings.{char_number, command_number, side_given, state_number}
 use Rattle.tn_c_parts.specs.declared.codes.Code.{Code}
 use Rattle.tn_c_parts.specs.declared.codes.Code.TheVariants as code
 use Rattle.tn_c_parts.specs.declared.client.HeldClient.{HeldClient}
@@ -51,6 +52,18 @@ pub record ProposeCall (value : Option ℕ) (func : Func) (answer : Code) (befor
   pub acts : Acts (proposed func value) (λ end. propose_fault end func value) answer before after
   pub full : answer ≡ code.Memory → LacksRoomFor before.end (proposed func value) before.pending
   pub shown : after.shown.items ≡ before.shown.items
+
+-- A command of the user is to be sent, before what is held of a line; nothing is shown.
+pub record SendCall (command : UserCommand) (answer : Code) (before after : HeldClient) : Type 0 where
+  pub acts : Acts (sent command) call_fault answer before after
+  pub full : answer ≡ code.Memory → LacksRoomFor before.end (sent command) before.pending
+  pub shown : after.shown.items ≡ before.shown.items
+
+-- The same of the command with this number, if a user sends one.
+pub record SendNumberCall (number : ℕ) (answer : Code) (before after : HeldClient) : Type 0 where
+  pub known : (command : UserCommand) → command_number command ≡ number → SendCall command answer before after
+  pub unknown : (answer ≡ code.NoCommand) ↔ ((command : UserCommand) → command_number command ≢ number)
+  pub stays : answer ≡ code.NoCommand → after ≡ before
 
 pub record FeedCall (piece : List ℕ) (answer : Code) (before after : HeldClient) : Type 0 where
   pub feeds : answer ≡ code.Done → Feeds before.end piece

@@ -1,5 +1,8 @@
 -- The numbers of what an end tells of itself.
 use Rattle.std.specs.Prelude.{ℕ, Bool, true, false, Option, Some, None, nat_lt, if◌then◌else◌}
+use Rattle.tn_client.specs.Replies.{command_sent}
+use Rattle.tn_client.specs.declared.commands.UserCommand.{UserCommand}
+use Rattle.tn_codes.specs.Codes.{command_code}
 use Rattle.tn_option.specs.declared.q_method.Side.{Side}
 use Rattle.tn_option.specs.declared.q_method.Side.TheVariants.{Us, Them}
 use Rattle.tn_option.specs.declared.q_method.QState.{QState}
@@ -29,6 +32,10 @@ char_number (Some byte) = byte
 -- the special character that C gives: none by what is no byte
 abbrev pub char_given : ℕ → Option ℕ
 char_given value = if nat_lt value no_char then Some value else None
+
+-- RFC 854, "TELNET COMMAND STRUCTURE": the byte of a command that a user sends
+abbrev pub command_number : UserCommand → ℕ
+command_number command = command_code (command_sent command)
 
 abbrev pub state_number : QState → ℕ
 state_number state.No = 0

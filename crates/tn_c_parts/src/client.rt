@@ -3,15 +3,15 @@
 ghost use Rattle.std.specs.Prelude.{◌≡◌, ◌≢◌, IfOk, IfErr};
 ghost use Rattle.tn_client.specs.declared.faults.ClientFault.TheVariants as fault;
 ghost use Rattle.tn_c_parts.specs.Calling.{OfFunction, GivesChar};
-ghost use Rattle.tn_c_parts.specs.ClientCalls.{KeyCall, FeedCall, ResizeCall, ProposeCall, ReadCall, ScreenCall, GivesHalf, GivesCounts, GivesOption, IsClientChar, IsOpened};
+ghost use Rattle.tn_c_parts.specs.ClientCalls.{KeyCall, FeedCall, ResizeCall, ProposeCall, SendCall, SendNumberCall, ReadCall, ScreenCall, GivesHalf, GivesCounts, GivesOption, IsClientChar, IsOpened};
 ghost use Rattle.tn_c_parts.specs.Readings.{char_given};
 ghost use Rattle.tn_c_parts.specs.declared.codes.Code.TheVariants as code;
 
 use crate::bytes::{give, move_front};
 use crate::codes::Code;
-use crate::readings::{char_given, give_char, side_given, state_number};
+use crate::readings::{char_given, command_given, give_char, side_given, state_number};
 use std::alloc::Global;
-use tn_client::{ClientEnd, ClientFault};
+use tn_client::{ClientEnd, ClientFault, UserCommand};
 use tn_codes::Func;
 use tn_discipline::{CharFault, Limit};
 
@@ -92,6 +92,24 @@ impl HeldClient {
         match Func::from_code(function) {
             Some(func) => self.propose(func, char_given(value)),
             None => Code::NoFunction,
+        }
+    }
+
+    /// Sends a command, before what is held of a line.
+    pub fn send(&mut self, command: UserCommand) -> Code
+        ensures call { SendCall command result self.old self.new }
+        ensures known { result ≢ code.NoCommand }
+    {
+        code_of!(self.end.send(command, &mut self.pending))
+    }
+
+    /// Sends the command with this number, as C gives it.
+    pub fn send_command(&mut self, number: u32) -> Code
+        ensures { SendNumberCall number result self.old self.new }
+    {
+        match command_given(number) {
+            Some(command) => self.send(command),
+            None => Code::NoCommand,
         }
     }
 

@@ -45,7 +45,7 @@ pub enum Code {
     NotOn,
     /// A forward mask has at most 32 octets, and a subnegotiation 512 parameters.
     TooLong,
-    /// No command, or no option word, has this byte.
+    /// No command that the call takes, or no option word, has this number.
     NoCommand,
 }
 

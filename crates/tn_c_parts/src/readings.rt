@@ -1,13 +1,15 @@
 //! The numbers of what an end tells of itself.
 
-ghost use Rattle.std.specs.Prelude.{◌≡◌, ◌≢◌, ◌↔◌, ◌⊎◌};
+ghost use Rattle.std.specs.Prelude.{◌≡◌, ◌≢◌, ◌↔◌, ◌⊎◌, Some};
+ghost use Rattle.tn_client.specs.declared.commands.UserCommand.{UserCommand};
 ghost use Rattle.tn_codes.specs.Codes.{func_code};
 ghost use Rattle.tn_codes.specs.declared.codes.Func.{Func};
 ghost use Rattle.tn_discipline.specs.Characters.{AreAllowed, slot};
-ghost use Rattle.tn_c_parts.specs.Readings.{char_number, char_given, editing_given, side_given, state_number};
+ghost use Rattle.tn_c_parts.specs.Readings.{char_number, char_given, command_number, editing_given, side_given, state_number};
 ghost use Rattle.tn_c_parts.specs.declared.codes.Code.TheVariants as code;
 
 use crate::codes::Code;
+use tn_client::UserCommand;
 use tn_codes::Func;
 use tn_discipline::Chars;
 use tn_option::{QState, Side};
@@ -52,6 +54,19 @@ pub(crate) fn give_char(chars: &Chars, function: u8, value: &mut u16) -> Code
             Code::Done
         },
         None => Code::NoFunction,
+    }
+}
+
+/// The command with the number that C gives, if a user sends one.
+pub(crate) fn command_given(number: u32) -> Option<UserCommand>
+    ensures { (command : UserCommand) → (result ≡ Some command) ↔ (command_number command ≡ number) }
+{
+    match number {
+        241 => Some(UserCommand::Nop),
+        243 => Some(UserCommand::Brk),
+        244 => Some(UserCommand::Ip),
+        246 => Some(UserCommand::Ayt),
+        _ => None,
     }
 }
 

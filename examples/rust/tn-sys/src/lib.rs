@@ -22,6 +22,7 @@ pub type tn_effect = u32;
 pub type tn_kind = u32;
 pub type tn_option_state = u32;
 pub type tn_item_kind = u32;
+pub type tn_command = u32;
 
 pub const TN_OK: tn_code = 0;
 pub const TN_MEMORY: tn_code = 1;
@@ -74,6 +75,11 @@ pub const TN_NEWLINE: tn_item_kind = 2;
 pub const TN_COMMAND: tn_item_kind = 3;
 pub const TN_WORD: tn_item_kind = 4;
 pub const TN_SUBNEGOTIATION: tn_item_kind = 5;
+
+pub const TN_COMMAND_NOP: tn_command = 241;
+pub const TN_COMMAND_BRK: tn_command = 243;
+pub const TN_COMMAND_IP: tn_command = 244;
+pub const TN_COMMAND_AYT: tn_command = 246;
 
 pub const TN_NO_CHAR: u16 = 256;
 pub const TN_MODE_EDIT: u8 = 1;
@@ -174,6 +180,7 @@ extern "C" {
     pub fn tn_client_screen(client: *mut tn_client, buf: *mut u8, size: usize, count: *mut usize) -> tn_code;
     pub fn tn_client_resize(client: *mut tn_client, width: u16, height: u16) -> tn_code;
     pub fn tn_client_propose(client: *mut tn_client, function: u8, value: u16) -> tn_code;
+    pub fn tn_client_send(client: *mut tn_client, command: tn_command) -> tn_code;
     pub fn tn_client_mode(client: *mut tn_client, mode: *mut u8) -> tn_code;
     pub fn tn_client_half(client: *mut tn_client, buf: *mut u8, size: usize, length: *mut usize) -> tn_code;
     pub fn tn_client_ahead(client: *mut tn_client, count: *mut u16) -> tn_code;

@@ -34,6 +34,15 @@ pub enum Entry {
     Tstp,
 }
 
+/// A command that a client sends for its user (RFC 854).
+#[derive(Clone, Copy, Debug, PartialEq, Eq)]
+pub enum Command {
+    Nop = raw::TN_COMMAND_NOP as isize,
+    Brk = raw::TN_COMMAND_BRK as isize,
+    Ip = raw::TN_COMMAND_IP as isize,
+    Ayt = raw::TN_COMMAND_AYT as isize,
+}
+
 /// A server end.
 pub struct Server {
     held: raw::tn_server,
@@ -169,6 +178,11 @@ impl Client {
     pub fn resize(&mut self, width: u16, height: u16) -> Result<()> {
         done(unsafe { raw::tn_client_resize(&mut self.0, width, height) })
     }
+
+    /// Sends a command, before what is held of a line, which stays as it is.
+    pub fn send(&mut self, command: Command) -> Result<()> {
+        done(unsafe { raw::tn_client_send(&mut self.0, command as raw::tn_command) })
+    }
 }
 
 impl Drop for Client {
@@ -200,6 +214,9 @@ mod tests {
         server.feed(&client.read()?)?;
         assert_eq!(server.take()?, Some(Entry::Text(b"hello\n".to_vec())));
         assert_eq!(server.take()?, None);
+        client.send(Command::Ip)?;
+        server.feed(&client.read()?)?;
+        assert_eq!(server.take()?, Some(Entry::Int));
         assert_eq!(Server::start(&STANDARD_FLAGS, 1).err(), Some(Refused(raw::TN_NO_LIMIT)));
         Ok(())
     }
