@@ -3,13 +3,13 @@ use Rattle.std.proofs.Common.{◌≡◌, ◌≤◌, ℕ, ◌+◌, List, [], ◌+
 use Rattle.std.specs.Io.KnownBytes.{Consumes, Keeps}
 use Rattle.tn_cli.specs.Streams.{KeepsPiece}
 
-consumes_both : (old mid new : Option (List ℕ)) (xs ys : List ℕ) → Consumes old mid xs → Consumes mid new ys → Consumes old new (xs ++ ys)
+pub consumes_both : (old mid new : Option (List ℕ)) (xs ys : List ℕ) → Consumes old mid xs → Consumes mid new ys → Consumes old new (xs ++ ys)
 consumes_both None mid new xs ys first then = tt
 consumes_both (Some o) None new xs ys first then = absurd first
 consumes_both (Some o) (Some m) None xs ys first then = absurd then
 consumes_both (Some o) (Some m) (Some n) xs ys first then = first ∙ ap (λ (zs : List ℕ). xs ++ zs) then ∙ sym (append_assoc xs ys n)
 
-consumes_none : (here : Option (List ℕ)) → Consumes here here []
+pub consumes_none : (here : Option (List ℕ)) → Consumes here here []
 consumes_none None = tt
 consumes_none (Some xs) = refl
 

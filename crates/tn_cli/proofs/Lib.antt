@@ -8,4 +8,5 @@ pub mod Numbers
 pub mod Outputs
 pub mod Pairs
 pub mod Played
+pub mod Watching
 pub mod Writing

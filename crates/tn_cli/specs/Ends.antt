@@ -1,14 +1,16 @@
 -- How a run of a subcommand ends: its outcome, its input, its output, and the calls that failed.
-use Rattle.std.specs.Prelude.{◌≡◌, ◌≢◌, ⊤, ℕ, ◌<◌, ◌≤◌, List, length, Option, IfSome, Result, Err, OnOk, OnErr, IsErrOf}
-use Rattle.tn_cli.specs.Decode.{Decodes, DecodesPrefix}
+use Rattle.std.specs.Prelude.{◌≡◌, ◌≢◌, ⊤, ℕ, ◌<◌, ◌≤◌, List, length, Option, IfSome, Result, Err, IfOk, OnOk, OnErr, IfErr, IsErrOf}
+use Rattle.tn_cli.specs.Decode.{Decodes, DecodesRead, DecodesSome}
 use Rattle.tn_cli.specs.Playing.{AppendsText, PlaysScript, PlaysScriptPrefix, StopsAtBadLine, StopsAtRefusedLine}
 use Rattle.tn_cli.specs.Replay.{Replays, ReplaysPrefix}
 use Rattle.tn_cli.specs.Scripts.{lines_of}
-use Rattle.tn_cli.specs.Streams.{max_input, max_reads, max_writes}
+use Rattle.tn_cli.specs.Streams.{max_input, max_pieces, max_reads, max_writes}
 use Rattle.tn_cli.specs.Typing.{PrintsKeys, PrintsKeysPrefix}
+use Rattle.tn_cli.specs.Unprinted.{LeavesUnprinted}
 use Rattle.tn_cli.specs.declared.fault.CliFault.{CliFault}
 use Rattle.tn_cli.specs.declared.fault.CliFault.TheVariants as fault
-use Rattle.tn_streams.specs.Telling.{Calls, HasFailed}
+use Rattle.tn_cli.specs.declared.unprinted.Unprinted.{Unprinted}
+use Rattle.tn_streams.specs.Telling.{Calls, HasFailed, SomeFailed}
 
 -- What every run promises, where its reader tells the bytes that it will give. `Prints` relates such an
 -- input and the output before and after a run that ends well, and `PrintsPrefix` does where a write fails.
@@ -45,9 +47,30 @@ EndsLocal = EndsPlainly PrintsKeys PrintsKeysPrefix
 abbrev pub EndsReplay : Result ⊤ CliFault → Option (List ℕ) → Option (List ℕ) → Option (List ℕ) → Type 0
 EndsReplay = EndsPlainly Replays ReplaysPrefix
 
--- how decoding a stream ends
-abbrev pub EndsDecode : Result ⊤ CliFault → Option (List ℕ) → Option (List ℕ) → Option (List ℕ) → Type 0
-EndsDecode = EndsPlainly Decodes DecodesPrefix
+-- what decoding a stream can fail by
+abbrev pub IsDecodeFault : CliFault → Type 0
+IsDecodeFault fault.Read = Unit {0}
+IsDecodeFault fault.Write = Unit {0}
+IsDecodeFault fault.Memory = Unit {0}
+IsDecodeFault fault.TooLong = ⊥
+IsDecodeFault (fault.Script line) = ⊥
+IsDecodeFault (fault.World line) = ⊥
+
+-- How decoding a stream ends, of whatever length, which is printed as it comes. All of it is printed, or
+-- after a read that failed, all that was read; after a write that failed, or out of memory, a beginning.
+pub record EndsDecode (ended : Result Unprinted CliFault) (input rest old new : Option (List ℕ)) : Type 0 where
+  pub ok : OnOk ended (IfSome input (λ stream. Decodes stream old new))
+  pub left : IfOk ended (λ unprinted. IfSome input (λ stream. LeavesUnprinted stream unprinted))
+  pub read : IsErrOf ended fault.Read → DecodesRead input rest old new
+  pub some : OnErr ended (DecodesSome input rest old new)
+  pub fault : IfErr ended IsDecodeFault
+
+-- `Read`: a read failed, or 2^64 - 1 were made. `Write`: some write failed, or took none of its bytes, or
+-- 2^64 - 1 were made.
+pub record EndsDecodeByCalls (ended : Result Unprinted CliFault) (reads reads_after writes writes_after : Option Calls)
+    : Type 0 where
+  pub read_failed : IsErrOf ended fault.Read → HasFailed max_pieces reads reads_after
+  pub write_failed : IsErrOf ended fault.Write → SomeFailed max_writes writes writes_after
 
 -- How a script ends. Where a line of it is no command, or is refused, the lines before it were done, and what
 -- they print was written.

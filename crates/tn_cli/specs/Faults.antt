@@ -1,5 +1,5 @@
 -- The status of a process that ended with a fault.
-use Rattle.std.specs.Prelude.{ℕ, ⊤, Result, Ok, Err}
+use Rattle.std.specs.Prelude.{ℕ, Result, Ok, Err}
 use Rattle.tn_cli.specs.declared.fault.CliFault.{CliFault}
 use Rattle.tn_cli.specs.declared.fault.CliFault.TheVariants.{Read, TooLong, Script, World, Write, Memory}
 
@@ -12,6 +12,6 @@ status_of Write = 1
 status_of Memory = 1
 
 -- the status after a run
-abbrev pub status_after : Result ⊤ CliFault → ℕ
+abbrev pub status_after : {A : Type 0} → Result A CliFault → ℕ
 status_after (Ok done) = 0
 status_after (Err fault) = status_of fault

@@ -7,3 +7,4 @@ pub mod Replay
 pub mod Scripts
 pub mod Streams
 pub mod Typing
+pub mod Unprinted

@@ -12,6 +12,10 @@ max_input = 1048576
 abbrev pub max_reads : ℕ
 max_reads = 2097152
 
+-- how many reads a stream may take that is printed as it comes
+abbrev pub max_pieces : ℕ
+max_pieces = 18446744073709551615
+
 -- how many writes an output may take
 abbrev pub max_writes : ℕ
 max_writes = 18446744073709551615
@@ -24,6 +28,15 @@ IsReadFault Memory = Unit {0}
 IsReadFault (Script line) = ⊥
 IsReadFault (World line) = ⊥
 IsReadFault Write = ⊥
+
+-- what writing lines as they come can fail by
+abbrev pub IsPrintFault : CliFault → Type 0
+IsPrintFault Write = Unit {0}
+IsPrintFault Memory = Unit {0}
+IsPrintFault Read = ⊥
+IsPrintFault TooLong = ⊥
+IsPrintFault (Script line) = ⊥
+IsPrintFault (World line) = ⊥
 
 -- Of an input of which so many bytes were read before, a piece more is kept after all of those; or fewer
 -- bytes are kept than were read.

@@ -4,8 +4,9 @@
 //! run_local(alloc, &mut b"ab\x7fc\r".as_slice(), &mut output)?; // text 61630a
 //! ```
 //!
-//! Each reads all of its input before it writes, so none can filter a pipe that never ends. `tn_loopback`
-//! serves, `tn_connect` connects, and `tn_program` is the program that runs what its words ask for.
+//! `run_decode` writes as it reads, and so filters a pipe that never ends; the others read all of their
+//! input first. `tn_loopback` serves, `tn_connect` connects, and `tn_program` is the program that runs what
+//! its words ask for.
 #![tactic(auto)]
 
 pub use decode::run_decode;
@@ -14,6 +15,7 @@ pub use local::run_local;
 pub use replay::run_replay;
 pub use tn_roster::note;
 pub use tn_words::{Address, Asked, Connecting, Escape, Serving, WordsFault, read_words};
+pub use unprinted::{Dropped, Left, Unprinted};
 pub use world::run_world;
 
 mod decode;
@@ -25,4 +27,5 @@ mod replay;
 mod scripts;
 mod streams;
 mod typing;
+mod unprinted;
 mod world;

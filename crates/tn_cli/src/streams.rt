@@ -1,8 +1,8 @@
 //! Reads an input to its end, and writes all of an output.
 
-ghost use Rattle.std.specs.Prelude.{◌≡◌, ◌+◌, ◌-◌, ◌<◌, ◌≤◌, ◌≢◌, ℕ, List, length, vec_len, IfOk, IfErr, IfSome, OnOk, OnErr, IsErrOf, Ok, Err, take, drop};
+ghost use Rattle.std.specs.Prelude.{◌≡◌, ◌+◌, ◌-◌, ◌<◌, ◌≤◌, ◌≢◌, ℕ, List, length, vec_len, is_ok, IfOk, IfErr, IfSome, OnOk, OnErr, IsErrOf, Ok, Err, take, drop};
 ghost use Rattle.std.specs.Io.KnownBytes.{Consumes, IsAtEnd, Appends, Keeps};
-ghost use Rattle.tn_streams.specs.Telling.{HasFailed};
+ghost use Rattle.tn_streams.specs.Telling.{AccountsFor, HasFailed};
 ghost use Rattle.tn_cli.specs.Streams.{AppendsPrefix, IsReadFault, KeepsPiece, max_input, max_reads, max_writes};
 
 use crate::fault::CliFault;
@@ -16,7 +16,7 @@ const MAX_BYTES: usize = 1_048_576;
 const MAX_READS: u32 = 2_097_152;
 
 /// How many bytes one read asks for.
-const PIECE_BYTES: usize = 32_768;
+pub(crate) const PIECE_BYTES: usize = 32_768;
 
 /// Reads to the end of the input. An input that is too long is reported as such even when out of memory.
 pub(crate) fn read_whole<R: Source>(alloc: Global, reader: &mut R) -> Result<Vec<u8>, CliFault>
@@ -87,6 +87,7 @@ pub(crate) fn write_whole<W: Drain>(writer: &mut W, output: &[u8]) -> Result<(),
     ensures err { OnErr result (AppendsPrefix (W.contents writer.old) (W.contents writer.new) output.now) }
     ensures fault { IfErr result (λ fault. fault ≡ CliFault.Write) }
     ensures failed { OnErr result (HasFailed max_writes (W.told writer.old) (W.told writer.new)) }
+    ensures accounts { AccountsFor max_writes (is_ok result) (W.told writer.old) (W.told writer.new) }
 {
     let mut written = 0;
     for _write in 0..u64::MAX {

@@ -71,7 +71,8 @@ pub record EndsVersion (ended : Result ⊤ CliFault) (old new : Option (List ℕ
 abbrev pub ComesOfRun : Asking → Asked → Origin → Option (List ℕ) → Option (List ℕ) → Option (List ℕ) → Outcome → Type 0
 ComesOfRun network a origin bytes old new (outcome.Local ended) = (a ≡ asked.Local) × EndsLocal ended bytes old new
 ComesOfRun network a origin bytes old new (outcome.Replay ended) = (a ≡ asked.Replay) × EndsReplay ended bytes old new
-ComesOfRun network a origin bytes old new (outcome.Decode ended) = (a ≡ asked.Decode) × EndsDecode ended bytes old new
+ComesOfRun network a origin bytes old new (outcome.Decode ended) =
+    (a ≡ asked.Decode) × ((rest : Option (List ℕ)) × EndsDecode ended bytes rest old new)
 ComesOfRun network a origin bytes old new (outcome.World ended) = (a ≡ asked.World) × EndsWorld ended bytes old new
 ComesOfRun network a origin bytes old new (outcome.Served ended) =
     (serving : Serving) × (a ≡ asked.Serve serving) × EndsServing network serving ended old new

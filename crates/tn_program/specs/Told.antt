@@ -1,7 +1,11 @@
 -- What is told on standard error of what came of the words.
-use Rattle.std.specs.Prelude.{◌≡◌, ◌≢◌, ◌⊎◌, ⊤, ℕ, decimal, Bool, Option, Some, None, List, [], ◌∷◌, ◌++◌, Result, Ok, Err, codes, string_bytes}
+use Rattle.std.specs.Prelude.{◌≡◌, ◌≢◌, ◌⊎◌, ⊤, ℕ, ◌==◌, ◌||◌, decimal, if◌then◌else◌, not, Bool, true, false, Option, Some, None, List, [], ◌∷◌, ◌++◌, Result, Ok, Err, codes, string_bytes}
 use Rattle.tn_cli.specs.declared.fault.CliFault.{CliFault}
 use Rattle.tn_cli.specs.declared.fault.CliFault.TheVariants as run
+use Rattle.tn_cli.specs.declared.unprinted.Dropped.{Dropped}
+use Rattle.tn_cli.specs.declared.unprinted.Left.{Left}
+use Rattle.tn_cli.specs.declared.unprinted.Left.TheVariants as left
+use Rattle.tn_cli.specs.declared.unprinted.Unprinted.{Unprinted}
 use Rattle.tn_connect.specs.declared.fault.ConnectFault.{ConnectFault}
 use Rattle.tn_connect.specs.declared.fault.ConnectFault.TheVariants as connect
 use Rattle.tn_loopback.specs.declared.fault.ServeFault.{ServeFault}
@@ -35,9 +39,40 @@ abbrev pub line : List ℕ → List ℕ
 line word = codes "tn: " ++ word ++ (10 ∷ [])
 
 -- the line for a fault of a run, and nothing where there was none
-abbrev pub text_of_run : Result ⊤ CliFault → List ℕ
+abbrev pub text_of_run : {A : Type 0} → Result A CliFault → List ℕ
 text_of_run (Ok done) = []
 text_of_run (Err fault) = line (word_of_run fault)
+
+-- a line with a count, if it is not 0
+abbrev pub text_of_count : List ℕ → ℕ → List ℕ
+text_of_count what count = if count == 0 then [] else line (what ++ decimal count)
+
+-- what is left unread at the end of a stream
+abbrev pub text_of_left : Left → List ℕ
+text_of_left left.Nothing = []
+text_of_left left.Cr = line (codes "left unread: a CR")
+text_of_left left.Iac = line (codes "left unread: an IAC")
+text_of_left left.OptionWord = line (codes "left unread: an option word")
+text_of_left left.Subnegotiation = line (codes "left unread: a subnegotiation")
+
+-- what of a stream is not printed, a line each
+abbrev pub text_of_unprinted : Unprinted → List ℕ
+text_of_unprinted unprinted =
+    text_of_count (codes "dropped escapes: ") unprinted.dropped.escapes
+    ++ text_of_count (codes "dropped subnegotiations: ") unprinted.dropped.subnegotiations
+    ++ text_of_left unprinted.left
+
+abbrev pub text_of_decoding : Result Unprinted CliFault → List ℕ
+text_of_decoding (Ok unprinted) = text_of_unprinted unprinted
+text_of_decoding (Err fault) = line (word_of_run fault)
+
+-- something was dropped, or is left unread
+abbrev pub is_some_left : Left → Dropped → Bool
+is_some_left left.Nothing dropped = not (dropped.escapes == 0) || not (dropped.subnegotiations == 0)
+is_some_left left.Cr dropped = true
+is_some_left left.Iac dropped = true
+is_some_left left.OptionWord dropped = true
+is_some_left left.Subnegotiation dropped = true
 
 abbrev pub text_of_serving : {A : Type 0} → Result A ServeFault → List ℕ
 text_of_serving (Ok done) = []
@@ -55,7 +90,7 @@ unread = codes "error: a word of the command line is not text\n\nFor more inform
 abbrev pub text_of : Outcome → List ℕ
 text_of (outcome.Local ended) = text_of_run ended
 text_of (outcome.Replay ended) = text_of_run ended
-text_of (outcome.Decode ended) = text_of_run ended
+text_of (outcome.Decode ended) = text_of_decoding ended
 text_of (outcome.World ended) = text_of_run ended
 text_of (outcome.Served ended) = text_of_serving ended
 text_of (outcome.Connected ended) = text_of_connecting ended
@@ -75,11 +110,27 @@ pub record TellsSome (came : Outcome) (causes : List ℕ) (writer : KnownWriting
   pub wrote : Writes whole writer.before.bytes writer.after.bytes said
   pub tells : Tells whole writer.before.calls writer.after.calls
 
--- where all went well and there is no cause to tell, nothing was told
+-- a stream was decoded, and had something that is no item
+abbrev pub has_unprinted : Outcome → Bool
+has_unprinted (outcome.Decode (Ok unprinted)) = is_some_left unprinted.left unprinted.dropped
+has_unprinted (outcome.Decode (Err fault)) = false
+has_unprinted (outcome.Local ended) = false
+has_unprinted (outcome.Replay ended) = false
+has_unprinted (outcome.World ended) = false
+has_unprinted (outcome.Served ended) = false
+has_unprinted (outcome.Connected ended) = false
+has_unprinted (outcome.Talked ended) = false
+has_unprinted outcome.Untraced = false
+has_unprinted (outcome.Help ended) = false
+has_unprinted (outcome.Version ended) = false
+has_unprinted (outcome.Usage detail) = false
+has_unprinted outcome.Memory = false
+
+-- where all went well, all of a stream was printed and there is no cause to tell, nothing was told
 abbrev pub TellsAll : Outcome → List ℕ → KnownWriting → Type 0
 TellsAll came causes writer =
-    ((status_of came ≡ 0) × (causes ≡ []) × (writer.after ≡ writer.before))
-    ⊎ (((status_of came ≢ 0) ⊎ (causes ≢ [])) × TellsSome came causes writer)
+    ((status_of came ≡ 0) × (has_unprinted came ≡ false) × (causes ≡ []) × (writer.after ≡ writer.before))
+    ⊎ (((status_of came ≢ 0) ⊎ (has_unprinted came ≡ true) ⊎ (causes ≢ [])) × TellsSome came causes writer)
 
 -- a server tells of its sessions meanwhile, and a client of its connection
 abbrev pub UnlessTelling : Outcome → Type 0 → Type 0

@@ -4,11 +4,12 @@ ghost use Rattle.std.specs.Prelude.{◌≡◌, ◌++◌, IfOk, codes, decimal};
 ghost use Rattle.tn_cli.specs.Faults.{status_after};
 ghost use Rattle.tn_program.specs.Statuses.{status_after_connecting, status_after_serving, status_after_talking};
 ghost use Rattle.tn_program.specs.Statuses.{status_of, status_of_connecting, status_of_over};
-ghost use Rattle.tn_program.specs.Told.{TellsAll, TellsSome, line, text_of, text_of_connecting, text_of_run, text_of_serving};
+ghost use Rattle.tn_program.specs.Told.{TellsAll, TellsSome, has_unprinted, is_some_left, line, text_of, text_of_connecting, text_of_count};
+ghost use Rattle.tn_program.specs.Told.{text_of_decoding, text_of_left, text_of_run, text_of_serving, text_of_unprinted};
 ghost use Rattle.tn_streams.specs.Known.{known_writing};
 
 use std::alloc::{AllocError, Global};
-use tn_cli::CliFault;
+use tn_cli::{CliFault, Dropped, Left, Unprinted};
 use tn_connect::{ConnectFault, Connected, Over, TalkReport};
 use tn_gateway::write_whole;
 use tn_loopback::{ServeFault, Served};
@@ -25,7 +26,8 @@ const INTERRUPTED: u8 = 130;
 pub enum Outcome {
     Local(Result<(), CliFault>),
     Replay(Result<(), CliFault>),
-    Decode(Result<(), CliFault>),
+    /// With what of the stream is not printed.
+    Decode(Result<Unprinted, CliFault>),
     World(Result<(), CliFault>),
     Served(Result<Served, ServeFault>),
     Connected(Result<Connected, ConnectFault>),
@@ -64,16 +66,30 @@ impl Outcome {
         }
     }
 
-    /// Tells a fault in one line on `errors`, behind it what is wrong with words, and then the causes; out of
-    /// memory for that, this is told. What cannot be written is dropped.
+    /// Tells a fault in one line on `errors`, behind it what is wrong with words, and then the causes; or what
+    /// of a decoded stream is not printed. Out of memory for that, this is told. What cannot be written is
+    /// dropped.
     pub(crate) fn tell<E: Drain>(&self, alloc: Global, causes: &[u8], errors: &mut E)
         ensures { TellsAll self.now causes.now (known_writing E.contents E.told errors.old errors.new) }
     {
         if self.status() != 0 {
             return self.tell_some(alloc, causes, errors);
         }
+        if self.has_unprinted() {
+            return self.tell_some(alloc, causes, errors);
+        }
         if !causes.is_empty() {
             self.tell_some(alloc, causes, errors);
+        }
+    }
+
+    // Whether a stream was decoded, and had something that is no item.
+    fn has_unprinted(&self) -> bool
+        ensures { result ≡ has_unprinted self.now }
+    {
+        match self {
+            Outcome::Decode(ended) => has_some(ended),
+            _ => false,
         }
     }
 
@@ -104,7 +120,7 @@ impl Outcome {
         match self {
             Outcome::Local(ended) => text_of_run(alloc, ended),
             Outcome::Replay(ended) => text_of_run(alloc, ended),
-            Outcome::Decode(ended) => text_of_run(alloc, ended),
+            Outcome::Decode(ended) => text_of_decoding(alloc, ended),
             Outcome::World(ended) => text_of_run(alloc, ended),
             Outcome::Served(ended) => text_of_serving(alloc, ended),
             Outcome::Connected(ended) => text_of_connecting(alloc, ended),
@@ -122,11 +138,11 @@ impl Outcome {
     }
 }
 
-fn after_run(ended: &Result<(), CliFault>) -> u8
+fn after_run<T>(ended: &Result<T, CliFault>) -> u8
     ensures { result ≡ status_after ended.now }
 {
     match ended {
-        Ok(()) => 0,
+        Ok(_) => 0,
         Err(fault) => fault.status(),
     }
 }
@@ -211,17 +227,85 @@ fn joined(alloc: Global, first: &[u8], second: &[u8], third: &[u8]) -> Result<Ve
     Ok(all)
 }
 
-fn text_of_run(alloc: Global, ended: &Result<(), CliFault>) -> Result<Vec<u8>, AllocError>
+fn text_of_run<T>(alloc: Global, ended: &Result<T, CliFault>) -> Result<Vec<u8>, AllocError>
     ensures { IfOk result (λ text. text.items ≡ text_of_run ended.now) }
 {
     match ended {
-        Ok(()) => Ok(Vec::new(alloc)),
+        Ok(_) => Ok(Vec::new(alloc)),
         Err(CliFault::Read) => line(alloc, b"read"),
         Err(CliFault::TooLong) => line(alloc, b"input too long"),
         Err(CliFault::Script(number)) => numbered(alloc, *number, b": bad command"),
         Err(CliFault::World(number)) => numbered(alloc, *number, b": refused"),
         Err(CliFault::Write) => line(alloc, b"write"),
         Err(CliFault::Memory) => line(alloc, b"memory"),
+    }
+}
+
+fn has_some(ended: &Result<Unprinted, CliFault>) -> bool
+    ensures { result ≡ has_unprinted (Outcome.Decode ended.now) }
+{
+    match ended {
+        Ok(unprinted) => is_some_left(unprinted.left, unprinted.dropped),
+        Err(_) => false,
+    }
+}
+
+fn is_some_left(left: Left, dropped: Dropped) -> bool
+    ensures { result ≡ is_some_left left dropped }
+{
+    match left {
+        Left::Nothing => dropped.escapes != 0 || dropped.subnegotiations != 0,
+        _ => true,
+    }
+}
+
+fn text_of_decoding(
+    alloc: Global,
+    ended: &Result<Unprinted, CliFault>,
+) -> Result<Vec<u8>, AllocError>
+    ensures { IfOk result (λ text. text.items ≡ text_of_decoding ended.now) }
+{
+    match ended {
+        Ok(unprinted) => text_of_unprinted(alloc, *unprinted),
+        Err(_) => text_of_run(alloc, ended),
+    }
+}
+
+fn text_of_unprinted(alloc: Global, unprinted: Unprinted) -> Result<Vec<u8>, AllocError>
+    ensures { IfOk result (λ text. text.items ≡ text_of_unprinted unprinted) }
+{
+    let dropped = unprinted.dropped;
+    let escapes = text_of_count(alloc, b"dropped escapes: ", dropped.escapes)?;
+    let subnegotiations = text_of_count(
+        alloc,
+        b"dropped subnegotiations: ",
+        dropped.subnegotiations,
+    )?;
+    let left = text_of_left(alloc, unprinted.left)?;
+    joined(alloc, &escapes, &subnegotiations, &left)
+}
+
+// A line with a count, if it is not 0.
+fn text_of_count(alloc: Global, what: &[u8], count: u64) -> Result<Vec<u8>, AllocError>
+    ensures { IfOk result (λ text. text.items ≡ text_of_count what.now count) }
+{
+    if count == 0 {
+        return Ok(Vec::new(alloc));
+    }
+    let number = count.to_string(alloc)?;
+    let word = joined(alloc, what, number.as_bytes(), b"")?;
+    line(alloc, &word)
+}
+
+fn text_of_left(alloc: Global, left: Left) -> Result<Vec<u8>, AllocError>
+    ensures { IfOk result (λ text. text.items ≡ text_of_left left) }
+{
+    match left {
+        Left::Nothing => Ok(Vec::new(alloc)),
+        Left::Cr => line(alloc, b"left unread: a CR"),
+        Left::Iac => line(alloc, b"left unread: an IAC"),
+        Left::OptionWord => line(alloc, b"left unread: an option word"),
+        Left::Subnegotiation => line(alloc, b"left unread: a subnegotiation"),
     }
 }
 

@@ -210,8 +210,9 @@ fn decode_command<'a>(alloc: Global) -> Command<'a>
         alloc,
         DECODE,
         "Reads one direction of a Telnet byte stream, and prints its items",
-        "Reads one direction of a Telnet byte stream from standard input, at most 1 MiB, and prints one \
-         line for each item: data, commands, option words and subnegotiations.",
+        "Reads one direction of a Telnet byte stream from standard input, and prints one line for each \
+         item as it comes: data, commands, option words and subnegotiations. What is dropped or left \
+         unread is told at the end, on standard error.",
         "Example:\n  printf 'ls\\377\\373\\042' | tn decode",
     )
 }

@@ -331,13 +331,13 @@ impl Read for Endless {
 
 /// Gives a key, and then fails; it tells how many of its calls failed.
 #[derive(Drop)]
-struct Broken {
+pub(crate) struct Broken {
     gave: bool,
-    tally: Tally,
+    pub(crate) tally: Tally,
 }
 
 impl Broken {
-    fn new() -> Broken {
+    pub(crate) fn new() -> Broken {
         Broken {
             gave: false,
             tally: Tally::new(),

@@ -111,3 +111,49 @@ fn the_line_of_a_fault_is_told(rt: HostRuntime) {
         assert!(rt; is_told(ended, &errors, *status, told));
     }
 }
+
+/// A stream, and what is told of what is not printed of it.
+const STREAMS: &[(&[u8], &[u8])] = &[
+    (b"a\r\n", b""),
+    (b"a\r", b"tn: left unread: a CR\n"),
+    (b"a\xff", b"tn: left unread: an IAC\n"),
+    (b"\xff\xfb", b"tn: left unread: an option word\n"),
+    (b"\xff\xfa\x22", b"tn: left unread: a subnegotiation\n"),
+    (
+        b"\xff\x01\xff\xfa\x22\xff\x01\r",
+        b"tn: dropped escapes: 2\ntn: dropped subnegotiations: 1\ntn: left unread: a CR\n",
+    ),
+];
+
+// Out of memory for the lines, this is told, and the status stays 0.
+fn is_unread_told(ended: u8, errors: &[u8], told: &[u8]) -> bool {
+    if ended == 0 && errors == b"tn: memory\n".as_slice() {
+        return !told.is_empty();
+    }
+    is_told(ended, errors, 0, told)
+}
+
+#[test]
+fn what_of_a_stream_is_not_printed_is_told(rt: HostRuntime) {
+    let alloc = rt.alloc();
+    for (stream, told) in STREAMS {
+        let Ok(words) = words_of(alloc, "decode") else {
+            return;
+        };
+        let Ok(link) = Arc::new(alloc, Link::new()) else {
+            return;
+        };
+        let mut output = Vec::new(alloc);
+        let mut errors = Vec::new(alloc);
+        let seat = Seat {
+            origin: Origin::Reader,
+            reader: *stream,
+            sizes: None,
+            stands: None,
+            terminal: None,
+            link,
+        };
+        let ended = run_words(rt, alloc, Ok(words), seat, &mut output, &mut errors);
+        assert!(rt; is_unread_told(ended, &errors, told));
+    }
+}
