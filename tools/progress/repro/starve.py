@@ -6,7 +6,7 @@
 A service of `tn serve --to` writes lines without end. Its user reads READ_SIZE bytes every PAUSE_MS (65536 and 0: as fast as it
 can), types KEYS keys (50), one after another, and waits for the echo of each among the flood. What both sockets held before the
 key is not counted: the rest passed it in the session, which has credits for 32 mails of 1,024 bytes. Status 0 where no key is passed
-by more than MOST mails (48), 1 where one is.
+by more than MOST mails (48), 1 where one is. It wants a quiet machine: where processors are busy, the thread that reads is late.
 """
 import socket
 import statistics
