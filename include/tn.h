@@ -4,7 +4,7 @@
  * of a connection). No call opens a socket, reads a file, starts a thread or waits: bytes go in, bytes come out.
  *
  * What the caller keeps to:
- *   - Each begins as TN_HANDLE and holds nothing. Its _start fills it, its _free frees what it holds, and it may be started anew.
+ *   - Each begins as TN_HANDLE and holds nothing. Its _start fills it, its _free frees what it holds, and it may be started again.
  *     It may be moved, never copied: of two copies only one is ever used again. Only these calls read or write what is in it.
  *   - One call at a time uses it, on any thread: a lock, a thread's start or join, or a sequentially consistent atomic orders the
  *     calls of two threads. Different ones are independent.
