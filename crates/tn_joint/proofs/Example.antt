@@ -30,7 +30,9 @@ use Rattle.tn_nvt.specs.declared.items.Item.TheVariants.{Byte}
 use Rattle.tn_option.specs.Options.{state_of, options_after_wish, new_options}
 use Rattle.tn_option.specs.QMethod.{cell}
 use Rattle.tn_server.specs.declared.wishes.Editing.{Editing}
-use Rattle.tn_session.proofs.lemmas.Sessions.{server_transcript, server_reads, client_transcript, client_reads}
+use Rattle.tn_session.proofs.lemmas.Sessions.{ServerTranscript, ClientTranscript, server_transcript, server_reads, server_noted, client_transcript, client_reads, client_noted}
+use Rattle.tn_session.specs.Notes.{Note, Noted, no_notes, notes}
+use Rattle.tn_session.specs.Transcripts.{exchange_of}
 use Rattle.tn_session.specs.Client as of_client
 use Rattle.tn_session.specs.CoreTurns.{all_told}
 use Rattle.tn_session.specs.Stops.{IsTold, LeavesAt, core_stops, term_stops}
@@ -229,6 +231,12 @@ module _ (editing : Editing) where
   is_piece : IsPiece bytes
   is_piece = (lit< tt, omega (arith))
 
+  abbrev server_said : ServerTranscript r0 marked r8 (of_server.says r8)
+  server_said = server_transcript r0 marked r8 (of_server.says r8) [] server_runs (sym (append-nil (of_server.says r8)))
+
+  abbrev server_notes : (noted : Noted) × of_server.IsNoted r0 marked r8 (of_server.says r8) handled noted server_said.transcript
+  server_notes = server_noted r0 marked r8 (of_server.says r8) handled server_said refl
+
   abbrev result : SessionResult
   result = record {
     report = report_of r8.progress;
@@ -241,6 +249,7 @@ module _ (editing : Editing) where
       took = taker taken;
       told = putter (word ∷ []);
     };
+    noted = server_notes.0;
   }
 
   read : ReaderSends who.Net false a_socket result.views.net
@@ -320,7 +329,7 @@ module _ (editing : Editing) where
   running : RunningSession example.any_jobs None settings a_socket writes_unknown result
   unfolding cell state_of options_after_wish new_options schedule
   running =
-      let said = server_transcript r0 marked r8 (of_server.says r8) [] server_runs (sym (append-nil (of_server.says r8))) in
+      let said = server_said in
       record {
         jobs = table;
         first = first_job;
@@ -342,7 +351,7 @@ module _ (editing : Editing) where
         was_read = (None, tt);
         came = server_reads r0 marked r8 (of_server.says r8) said;
         was_written = said.writes;
-        transcribed = said.transcribed;
+        noted = server_notes.1;
         heard_whole = λ e. sym (server_reads r0 marked r8 (of_server.says r8) said);
         caused = λ f e. absurd (not_fault f e);
         read_failed = λ e. absurd (not_fault _ e);
@@ -409,6 +418,12 @@ module _ (width height : ℕ) where
   short : IsPiece typed
   short = (lit< tt, omega (arith))
 
+  abbrev client_said : ClientTranscript c0 told_all c5 (of_client.says c5)
+  client_said = client_transcript width height example.canon.limit told_all c5 (of_client.says c5) [] client_runs (sym (append-nil (of_client.says c5)))
+
+  abbrev client_notes : (noted : Noted) × (steps : List Note) × (notes noted ≡ notes no_notes ++ steps) × (map (λ n. n.took) steps ≡ map (λ x. Some x) mails) × (client_said.transcript ≡ map (exchange_of of_client.brought_by) steps)
+  client_notes = client_noted width height example.canon.limit told_all c5 (of_client.says c5) mails client_said refl
+
   abbrev client_result : ClientResult
   client_result = record {
     report = of_client.client_report c5.progress;
@@ -416,6 +431,7 @@ module _ (width height : ℕ) where
     net = sender who.Net hung_up;
     core = record nobody { handled = Some mails };
     told = putter [];
+    noted = client_notes.0;
   }
 
   keys_left : LeavesAt who.Keys all_told (core.Runs c0) mails told_all
@@ -447,7 +463,7 @@ module _ (width height : ℕ) where
 
   conversing : RunningClient window keys_reader a_socket writes_unknown writes_unknown client_result
   conversing =
-      let said = client_transcript width height example.canon.limit told_all c5 (of_client.says c5) [] client_runs (sym (append-nil (of_client.says c5))) in
+      let said = client_said in
       record {
         from_keys = from_keys;
         from_net = hung_up;
@@ -478,6 +494,10 @@ module _ (width height : ℕ) where
         was_read = (None, tt);
         came = client_reads c0 told_all c5 (of_client.says c5) said;
         was_written = said.writes;
+        steps = client_notes.1;
+        noted = client_notes.2;
+        took = client_notes.3;
+        as_noted = client_notes.4;
         transcribed = said.transcribed;
         keys_read = typed;
         keys_were_read = (Some [], refl);
@@ -503,8 +523,8 @@ unfolding cell state_of options_after_wish new_options running conversing
 sessions_carry editing =
     let r = r8 editing in
     let c = c5 80 24 in
-    let s_said = server_transcript (r0 editing) marked r (of_server.says r) [] (server_runs editing) (sym (append-nil (of_server.says r))) in
-    let c_said = client_transcript 80 24 example.canon.limit (told_all 80 24) c (of_client.says c) [] (client_runs 80 24) (sym (append-nil (of_client.says c))) in
+    let s_said = server_said editing in
+    let c_said = client_said 80 24 in
     let s_reads : all_read s_said.transcript ≡ bytes = server_reads (r0 editing) marked r (of_server.says r) s_said in
     let c_reads : all_read c_said.transcript ≡ [] = client_reads (c0 80 24) (told_all 80 24) c (of_client.says c) c_said in
     let whole : all_read s_said.transcript ≡ all_wrote c_said.transcript = s_reads ∙ sym (c_said.writes ∙ client_says 80 24) in

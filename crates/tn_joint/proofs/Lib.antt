@@ -9,3 +9,4 @@ pub mod Keys
 pub mod Example
 pub mod Whole
 pub mod Seen
+pub mod Answers

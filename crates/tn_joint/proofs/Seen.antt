@@ -42,7 +42,7 @@ module _ {J : Type 0} (facts : JobFacts J) (canon : Canon) (s : Served facts can
       let schedule = s.ran.schedule in
       let Tied : server.History → client.History → Type 0 = λ h k. TiedHistories canon h k in
       let tied = ties canon s.editing c.width c.height standard in
-      let at = holds canon s.editing c.width c.height schedule.wrote_opening s.ran.jobs Tied tied (None ∷ map (λ m. Some m) schedule.marked) c.ran.marked last schedule.written c.ran.written s.ran.transcript c.ran.transcript s.ran.transcribed c.ran.transcribed carried in
+      let at = holds canon s.editing c.width c.height schedule.wrote_opening s.ran.jobs Tied tied (None ∷ map (λ m. Some m) schedule.marked) c.ran.marked last schedule.written c.ran.written s.ran.transcript c.ran.transcript s.ran.noted.transcribed c.ran.transcribed carried in
       record {
         prefix = tied.prefix last.server.history last.client.sent at.tied;
         complete = λ all. tied.complete last.server.history last.client.sent at.tied

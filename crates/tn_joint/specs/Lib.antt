@@ -1,2 +1,3 @@
 pub mod Example
 pub mod Transcripts
+pub mod Answers

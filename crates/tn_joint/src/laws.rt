@@ -1,7 +1,10 @@
 //! The headline over two running sessions, as laws over the definitions alone.
 
+ghost use Rattle.std.specs.Prelude.{ℕ};
+ghost use Rattle.tn_discipline.specs.Canon.{Canon};
+ghost use Rattle.tn_joint.specs.Answers.{AnswersOfServer, AnswersOfClient};
 ghost use Rattle.tn_joint.specs.Example.{SessionsCarryALine};
-ghost use Rattle.tn_joint.specs.Transcripts.{Headline};
+ghost use Rattle.tn_joint.specs.Transcripts.{Headline, Served, Connected};
 ghost use Rattle.tn_session.specs.Facts.{job_facts};
 ghost use Rattle.tn_session.specs.Makers.{begins};
 ghost use Rattle.tn_server.specs.declared.wishes.Editing.{Editing};
@@ -15,6 +18,15 @@ use tn_session::Maker;
 pub fn what_you_type_is_what_the_job_reads<M: Maker>()
     ensures { (maker : M) →
         Headline (job_facts (begins M.Job.fresh M.gives maker) M.Job.reacts M.Job.steps M.Job.refuses) }
+{}
+
+/// No answer comes late: before its core takes the next mail, each session has written all that its run says by then,
+/// or all that it ever wrote, as a write failed. What a client writes it puts into the queue of its connection.
+pub fn no_answer_comes_late<M: Maker>()
+    ensures server { (maker : M) (canon : Canon)
+        (s : Served (job_facts (begins M.Job.fresh M.gives maker) M.Job.reacts M.Job.steps M.Job.refuses) canon) →
+        AnswersOfServer s }
+    ensures client { (limit : ℕ) (c : Connected limit) → AnswersOfClient c }
 {}
 
 /// What that asks of two sessions can be met, and both can run to the end: a line is typed at the client, and

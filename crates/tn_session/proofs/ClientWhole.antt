@@ -1,10 +1,11 @@
 -- A whole client session: its passes joined, and what its threads did.
-use Rattle.std.proofs.Common.{◌≡◌, ℕ, Bool, true, false, refl, List, [], ◌++◌, Some, None, sym, ap, ◌∙◌, subst, append-nil, arith}
+use Rattle.std.proofs.Common.{◌≡◌, ℕ, Bool, true, false, refl, inl, List, [], ◌∷◌, ◌++◌, map, Some, None, sym, ap, ◌∙◌, subst, append-nil, arith}
 use Rattle.tn_client_core.proofs.lemmas.Bringing.{in_order}
 use Rattle.tn_client_core.proofs.lemmas.Ending.{fault_cause}
-use Rattle.tn_client_core.specs.Bringing.{TakesInOrder, brought}
-use Rattle.tn_client_core.specs.Marks.{all_written, all_whole}
-use Rattle.tn_client_core.specs.Run.{start}
+use Rattle.std.specs.List.{FoldsTo}
+use Rattle.tn_client_core.specs.Bringing.{TakesInOrder, brought, brought_from}
+use Rattle.tn_client_core.specs.Marks.{Turns, all_written, all_whole}
+use Rattle.tn_client_core.specs.Run.{Run, start}
 use Rattle.tn_client_core.specs.declared.machine.Core.{Core}
 use Rattle.tn_client_core.specs.declared.messages.Mark.{Mark}
 use Rattle.tn_client_core.specs.declared.messages.Origin.TheVariants as origin
@@ -18,15 +19,17 @@ use Rattle.tn_session.proofs.Lefts.{none_over}
 use Rattle.tn_session.proofs.Mailbox.{all_woven}
 use Rattle.tn_session.proofs.Sent.{reader_sent}
 use Rattle.tn_session.proofs.Stopped.{was_left, stopped_told}
-use Rattle.tn_session.proofs.lemmas.Sessions.{client_transcript, client_reads, as_read}
+use Rattle.tn_session.proofs.lemmas.Sessions.{client_said, client_reads, as_read}
 use Rattle.tn_queue.specs.Queue.{putter}
-use Rattle.tn_session.specs.Client.{core_view, AreTwoSettled, IsClientRun, client_report}
-use Rattle.tn_session.specs.CoreTurns.{CoreHandles, all_told}
+use Rattle.tn_session.proofs.Noting.{exchanged, same_steps, step_of}
+use Rattle.tn_session.specs.Client.{core_view, AreTwoSettled, IsClientRun, brings, brought_by, client_report}
+use Rattle.tn_session.specs.CoreTurns.{CoreHandles, all_told, is_marked_written, is_over, says, told_of}
 use Rattle.tn_session.specs.Facts.{ClientResult}
 use Rattle.tn_session.specs.Mailbox.{Interleaves, from, four, sender, union, nobody, everyone, with_handled, Total}
 use Rattle.tn_session.specs.Reader.{ReaderSends}
 use Rattle.tn_session.specs.Stops.{IsTold}
-use Rattle.tn_session.specs.Transcripts.{bytes_sent, came_by}
+use Rattle.tn_session.specs.Notes.{Noted, NotesAll, no_notes}
+use Rattle.tn_session.specs.Transcripts.{Exchange, IsStep, Transcribes, bytes_sent, came_by, exchange_of, total}
 use Rattle.tn_session.specs.declared.channels.View.{View}
 use Rattle.tn_session.specs.declared.mail.Mail.{Mail}
 use Rattle.tn_session.specs.declared.mail.Sender.TheVariants.{Net, Desk, Back, Keys}
@@ -69,9 +72,37 @@ all_out marked rest all never = by (all_written marked) refl
     by true e = all e
     by false e = absurd (false_true (never (unwritten marked e)))
 
+-- the transcript, as it was noted
+client_noted : (begin last : Run) (steps : List ((Told × Mark) × List ℕ)) (marked : List (Told × Mark)) (handled : List Mail) (bytes : List ℕ) (noted : Noted) → FoldsTo (IsStep Turns says is_over is_marked_written) begin steps last → map (λ s. s.0) steps ≡ marked → map (λ m. m.0) marked ≡ all_told handled → bytes ≡ total steps → says begin ≡ [] → (all : NotesAll handled (map (λ s. s.1) steps) no_notes noted)
+    → (transcript : List Exchange) × (transcript ≡ map (exchange_of brought_by) all.more) × Transcribes Turns brings says begin marked last bytes transcript
+client_noted begin last steps marked handled bytes noted goes of_steps messages whole silent all =
+    let step = step_of Turns says is_over is_marked_written (λ (m : Told × Mark). m) Turns (λ p q m t. t) brings in
+    let of_message : Told × Mark → Told = λ m. m.0 in (
+      map (λ s. record { read = brings s.0; wrote = s.1 }) steps,
+      same_steps of_message told_of (λ (t : Told). brought_from origin.Net t.from t.message) steps all.more handled (mapped of_message steps ∙ ap (map of_message) of_steps ∙ messages) all.took all.wrote,
+      record {
+        steps = map step steps;
+        of_messages = firsts steps ∙ of_steps;
+        of_steps = seconds steps;
+        goes = exchanged Turns says is_over is_marked_written (λ (m : Told × Mark). m) Turns (λ p q m t. t) brings steps begin last bytes [] goes ((says begin, refl), inl (sym silent)) whole;
+      },
+    )
+  where
+    mapped : (f : Told × Mark → Told) (ss : List ((Told × Mark) × List ℕ)) → map (λ s. f s.0) ss ≡ map f (map (λ s. s.0) ss)
+    mapped f [] = refl
+    mapped f (s ∷ ss) = ap (λ (l : List Told). f s.0 ∷ l) (mapped f ss)
+
+    firsts : (ss : List ((Told × Mark) × List ℕ)) → map (λ s. s.0) (map (step_of Turns says is_over is_marked_written (λ (m : Told × Mark). m) Turns (λ p q m t. t) brings) ss) ≡ map (λ s. s.0) ss
+    firsts [] = refl
+    firsts (s ∷ ss) = ap (λ (l : List (Told × Mark)). s.0 ∷ l) (firsts ss)
+
+    seconds : (ss : List ((Told × Mark) × List ℕ)) → map (λ s. s.1) (map (step_of Turns says is_over is_marked_written (λ (m : Told × Mark). m) Turns (λ p q m t. t) brings) ss) ≡ map (λ s. record { read = brings s.0; wrote = s.1 }) ss
+    seconds [] = refl
+    seconds (s ∷ ss) = ap (λ (l : List Exchange). record { read = brings s.0; wrote = s.1 } ∷ l) (seconds ss)
+
 -- all of a client's session that ran
 pub client_ran : (core last : Core) (stopped : Bool) (keys_reader net_reader : KnownReader) (writer screen : KnownWriting) (pass₀ pass₁ net keys : View) (result : ClientResult)
-    → pass₀ ≡ core_view [] → (acted : CoreHandles core pass₀ pass₁ writer screen result.told last) → ReaderSends Net false net_reader net → ReaderSends Keys stopped keys_reader keys
+    → pass₀ ≡ core_view [] → (acted : CoreHandles core pass₀ pass₁ writer screen result.noted result.told last) → ReaderSends Net false net_reader net → ReaderSends Keys stopped keys_reader keys
     → (stopped ≡ true → result.told ≡ putter [] → ⊥)
     → AreTwoSettled pass₁ net keys result.net result.keys result.core → result.report ≡ client_report last.progress
     → IsClientRun core keys_reader net_reader writer screen result
@@ -86,7 +117,8 @@ client_ran core last stopped keys_reader net_reader writer screen pass₀ pass�
     let woven : Interleaves acted.handled (four ns.mails [] [] ks.mails) = λ w. ap (from w) (sym (append-nil acted.handled) ∙ ap (λ (l : List Mail). acted.handled ++ l) (sym none)) ∙ s.3.1 w in
     let typed : ReaderSends Keys stopped keys_reader result.keys = subst (λ (w : View). ReaderSends Keys stopped keys_reader w) (ks.is ∙ sym s.1) sk in
     let read : ReaderSends Net false net_reader result.net = subst (λ (w : View). ReaderSends Net false net_reader w) (ns.is ∙ sym s.0) sn in
-    let said = client_transcript window.width window.height window.limit acted.goes.marked g.0 acted.goes.bytes g.3.0 g.1 g.3.1 in
+    let noted = client_noted begin g.0 acted.goes.steps acted.goes.marked acted.handled acted.goes.bytes result.noted g.5 acted.goes.of_steps acted.goes.whole acted.goes.all_bytes refl acted.noted in
+    let said = client_said window.width window.height window.limit acted.goes.marked g.0 acted.goes.bytes noted.0 noted.2 in
     let net_first = net_brought net_reader net acted.handled ns.mails sn ns.is (woven Net) (woven Desk) (woven Back) in
     let keys_first = keys_brought stopped keys_reader keys acted.handled ks.mails sk ks.is (woven Keys) in
     let left = (acted.stands begin at).gone (was_left Keys acted.handled ks.mails (woven Keys) ks.one) in
@@ -122,7 +154,11 @@ client_ran core last stopped keys_reader net_reader writer screen pass₀ pass�
       was_read = as_read net_reader.bytes _ _ (client_reads begin acted.goes.marked g.0 acted.goes.bytes said ∙ ap (brought origin.Net) acted.goes.whole) net_first;
       came = client_reads begin acted.goes.marked g.0 acted.goes.bytes said ∙ ap (brought origin.Net) acted.goes.whole ∙ net_all acted.handled (woven Desk) (woven Back) ∙ ap bytes_sent (woven Net) ∙ sym (ap (λ (w : View). came_by w.net) s.0);
       was_written = said.writes;
-      transcribed = said.transcribed;
+      steps = acted.noted.more;
+      noted = acted.noted.noted;
+      took = acted.noted.took;
+      as_noted = noted.1;
+      transcribed = noted.2;
       keys_read = brought origin.Keys (all_told acted.handled);
       keys_were_read = keys_first;
       keys_are = refl;

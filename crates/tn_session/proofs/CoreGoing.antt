@@ -1,5 +1,5 @@
 -- What the core's thread wrote and showed, one message after another.
-use Rattle.std.proofs.Common.{◌≡◌, ℕ, Bool, true, false, not, ◌||◌, ◌&&◌, ◌⊎◌, ⊎_elim, inl, inr, List, [], ◌∷◌, ◌++◌, Option, refl, sym, ap, ◌∙◌, subst, append_assoc, append-nil}
+use Rattle.std.proofs.Common.{◌≡◌, ℕ, Bool, true, false, not, ◌||◌, ◌&&◌, ◌⊎◌, ⊎_elim, inl, inr, List, [], ◌∷◌, ◌++◌, map, Option, refl, sym, ap, ◌∙◌, subst, append_assoc, append-nil}
 use Rattle.std.proofs.lemmas.Bool.{false_from_ne_true}
 use Rattle.std.proofs.lemmas.Fn.{FoldsTo-push}
 use Rattle.std.proofs.lemmas.List.{map-append}
@@ -16,10 +16,13 @@ use Rattle.tn_client_core.specs.declared.messages.Told.{Told}
 use Rattle.tn_client_core.specs.declared.progress.Progress.{Progress}
 use Rattle.tn_nvt.specs.Spelling.{spells}
 use Rattle.tn_session.proofs.Going.{true_false, false_true, appends_more, appends_kept, appends_none, from_to, left_over}
+use Rattle.tn_session.proofs.Noting.{total-push}
 use Rattle.tn_session.proofs.Stopped.{stands_more}
 use Rattle.tn_session.proofs.Stopping.{core_stays}
-use Rattle.tn_session.specs.CoreTurns.{TurnsTold, ToldAll, told_of, all_told}
+use Rattle.tn_session.specs.CoreTurns.{TurnsTold, ToldAll, told_of, all_told, says, is_over, is_marked_written}
+use Rattle.tn_session.specs.Notes.{Noted, NotesWrite, NotesAll, no_notes}
 use Rattle.tn_session.specs.Stops.{StandsTold, core_stops, has_left}
+use Rattle.tn_session.specs.Transcripts.{IsStep}
 use Rattle.tn_session.specs.Turns.{Writes, Tells, max_writes}
 use Rattle.tn_session.specs.declared.mail.Mail.{Mail}
 use Rattle.tn_session.specs.declared.mail.Sender.TheVariants.{Keys}
@@ -28,7 +31,7 @@ use Rattle.tn_streams.specs.Known.{KnownWriter, KnownWriting}
 use Rattle.tn_streams.specs.Telling.{Calls}
 use Rattle.tn_messages.specs.declared.faults.SessionFault.TheVariants as fault
 
--- a front was written, and all where no write failed
+-- a front was shown, and all where no write failed
 record Written (b : Bool) (x y : Option (List ℕ)) (bytes : List ℕ) : Type 0 where
   front : List ℕ
   back : List ℕ
@@ -72,13 +75,14 @@ goes_well : (w well : Bool) (a b : Option Calls) → well ≡ true → Tells w a
 goes_well w well a b is told = subst (λ (v : Bool). Tells v a b) (sym is) (accounts_well max_writes w a b told)
 
 -- all was written and shown, or the message was refused
-turn_on : (w s : Bool) (m : Mark) (old new : Core) (told : Told) (bytes text : List ℕ) (writer screen : KnownWriting) → ((w && s) || not (is_whole m)) ≡ true → no_write_failed m ≡ true → no_show_failed m ≡ true → Written w writer.before.bytes writer.after.bytes bytes → Tells w writer.before.calls writer.after.calls → Written s screen.before.bytes screen.after.bytes text → Tells s screen.before.calls screen.after.calls → IsTurn m old told bytes text new → TurnsTold old told writer screen new
-turn_on w s m old new told bytes text writer screen e well clear a tells b shows t = record {
+turn_on : (w s : Bool) (m : Mark) (old new : Core) (told : Told) (bytes text : List ℕ) (writer screen : KnownWriting) (n o : Noted) → ((w && s) || not (is_whole m)) ≡ true → no_write_failed m ≡ true → no_show_failed m ≡ true → NotesWrite w writer.before.bytes writer.after.bytes bytes n o → Tells w writer.before.calls writer.after.calls → Written s screen.before.bytes screen.after.bytes text → Tells s screen.before.calls screen.after.calls → IsTurn m old told bytes text new → TurnsTold old told writer screen n o new
+turn_on w s m old new told bytes text writer screen n o e well clear a tells b shows t = record {
   mark = m;
   bytes = a.front;
   text = b.front;
   wrote = a.wrote;
   showed = b.wrote;
+  noted = a.noted;
   tells = goes_well w (no_write_failed m) writer.before.calls writer.after.calls well tells;
   tells_shown = goes_well s (no_show_failed m) screen.before.calls screen.after.calls clear shows;
   turn = record {
@@ -139,13 +143,14 @@ writes_failed true k l told = told
 writes_failed false k l told = told
 
 -- a write failed after a message that was done wholly
-turn_off : (w s : Bool) (old mid new : Core) (told : Told) (bytes text : List ℕ) (writer screen : KnownWriting) → (old.progress.over ≡ true → ⊥) → (w && s) ≡ false → Written w writer.before.bytes writer.after.bytes bytes → Tells w writer.before.calls writer.after.calls → Written s screen.before.bytes screen.after.bytes text → Tells s screen.before.calls screen.after.calls → IsTurn mark.Whole old told bytes text mid → ((c : Run) → LeadsTo c mid → LeadsTo (fail fault.Write c) new) → new.progress.over ≡ true → TurnsTold old told writer screen new
-turn_off w s old mid new told bytes text writer screen on broken a tells b shows t leads over = record {
+turn_off : (w s : Bool) (old mid new : Core) (told : Told) (bytes text : List ℕ) (writer screen : KnownWriting) (n o : Noted) → (old.progress.over ≡ true → ⊥) → (w && s) ≡ false → NotesWrite w writer.before.bytes writer.after.bytes bytes n o → Tells w writer.before.calls writer.after.calls → Written s screen.before.bytes screen.after.bytes text → Tells s screen.before.calls screen.after.calls → IsTurn mark.Whole old told bytes text mid → ((c : Run) → LeadsTo c mid → LeadsTo (fail fault.Write c) new) → new.progress.over ≡ true → TurnsTold old told writer screen n o new
+turn_off w s old mid new told bytes text writer screen n o on broken a tells b shows t leads over = record {
   mark = failed_mark w;
   bytes = a.front;
   text = b.front;
   wrote = a.wrote;
   showed = b.wrote;
+  noted = a.noted;
   tells = writes_failed w writer.before.calls writer.after.calls tells;
   tells_shown = shows_failed w s screen.before.calls screen.after.calls broken shows;
   turn = record {
@@ -164,15 +169,15 @@ turn_off w s old mid new told bytes text writer screen on broken a tells b shows
   };
 }
 
-pub turned_on : (w s : Bool) (m : Mark) (old new : Core) (told : Told) (bytes text : List ℕ) (writer screen : KnownWriting) → ((w && s) || not (is_whole m)) ≡ true → no_write_failed m ≡ true → no_show_failed m ≡ true → Writes w writer.before.bytes writer.after.bytes bytes → Tells w writer.before.calls writer.after.calls → Writes s screen.before.bytes screen.after.bytes text → Tells s screen.before.calls screen.after.calls → IsTurn m old told bytes text new → TurnsTold old told writer screen new
-turned_on w s m old new told bytes text writer screen e well clear a tells b shows t = turn_on w s m old new told bytes text writer screen e well clear (written w writer.before.bytes writer.after.bytes bytes a) tells (written s screen.before.bytes screen.after.bytes text b) shows t
+pub turned_on : (w s : Bool) (m : Mark) (old new : Core) (told : Told) (bytes text : List ℕ) (writer screen : KnownWriting) (n o : Noted) → ((w && s) || not (is_whole m)) ≡ true → no_write_failed m ≡ true → no_show_failed m ≡ true → NotesWrite w writer.before.bytes writer.after.bytes bytes n o → Tells w writer.before.calls writer.after.calls → Writes s screen.before.bytes screen.after.bytes text → Tells s screen.before.calls screen.after.calls → IsTurn m old told bytes text new → TurnsTold old told writer screen n o new
+turned_on w s m old new told bytes text writer screen n o e well clear a tells b shows t = turn_on w s m old new told bytes text writer screen n o e well clear a tells (written s screen.before.bytes screen.after.bytes text b) shows t
 
-pub turned_off : (w s : Bool) (m : Mark) (old mid new : Core) (told : Told) (bytes text : List ℕ) (writer screen : KnownWriting) → ((w && s) || not (is_whole m)) ≡ false → Writes w writer.before.bytes writer.after.bytes bytes → Tells w writer.before.calls writer.after.calls → Writes s screen.before.bytes screen.after.bytes text → Tells s screen.before.calls screen.after.calls → (bytes ≡ [] → w ≡ true) → (text ≡ [] → s ≡ true) → IsTurn m old told bytes text mid → ((c : Run) → LeadsTo c mid → LeadsTo (fail fault.Write c) new) → new.progress.over ≡ true → TurnsTold old told writer screen new
-turned_off w s m old mid new told bytes text writer screen e a tells b shows some_bytes some_text t leads over =
+pub turned_off : (w s : Bool) (m : Mark) (old mid new : Core) (told : Told) (bytes text : List ℕ) (writer screen : KnownWriting) (n o : Noted) → ((w && s) || not (is_whole m)) ≡ false → NotesWrite w writer.before.bytes writer.after.bytes bytes n o → Tells w writer.before.calls writer.after.calls → Writes s screen.before.bytes screen.after.bytes text → Tells s screen.before.calls screen.after.calls → (bytes ≡ [] → w ≡ true) → (text ≡ [] → s ≡ true) → IsTurn m old told bytes text mid → ((c : Run) → LeadsTo c mid → LeadsTo (fail fault.Write c) new) → new.progress.over ≡ true → TurnsTold old told writer screen n o new
+turned_off w s m old mid new told bytes text writer screen n o e a tells b shows some_bytes some_text t leads over =
     let broken = by_test w s (is_whole m) e in
     let M : Mark → Type 0 = λ n. IsTurn n old told bytes text mid in
     let on : old.progress.over ≡ true → ⊥ = λ off. let n = t.idle off in true_false (sym (both w s (some_bytes n.0) (some_text n.1)) ∙ broken.1) in
-    turn_off w s old mid new told bytes text writer screen on broken.1 (written w writer.before.bytes writer.after.bytes bytes a) tells (written s screen.before.bytes screen.after.bytes text b) shows (subst M (whole_mark m broken.0) t) leads over
+    turn_off w s old mid new told bytes text writer screen n o on broken.1 a tells (written s screen.before.bytes screen.after.bytes text b) shows (subst M (whole_mark m broken.0) t) leads over
   where
     by_test : (w s k : Bool) → ((w && s) || not k) ≡ false → (k ≡ true) × ((w && s) ≡ false)
     by_test true true k f = absurd (true_false f)
@@ -215,15 +220,28 @@ whole_written mark.WriteFailed e = e
 whole_written mark.ShowFailed e = refl
 whole_written (mark.Refused f) e = e
 
-going_on : (a b d : Core) (ms : List Told) (m : Told) (x y z u v w : KnownWriter) → (one : ToldAll a ms (from_to x y) (from_to u v) b) → (t : TurnsTold b m (from_to y z) (from_to v w) d) → (next : ToldAll a (ms ++ m ∷ []) (from_to x z) (from_to u w) d) × (next.marked ≡ one.marked ++ (m, t.mark) ∷ [])
-going_on a b d ms m x y z u v w one t =
+-- what goes on by one message more: it, its mark, and what was written after it
+abbrev pub MovesOn : {a b d : Core} {ms ns : List Told} {w s w₁ s₁ : KnownWriting} → ToldAll a ms w s b → ToldAll a ns w₁ s₁ d → Told × Mark → List ℕ → Type 0
+MovesOn one next m bytes = (next.marked ≡ one.marked ++ m ∷ []) × (next.steps ≡ one.steps ++ (m, bytes) ∷ [])
+
+unwritten_one : (m : Mark) → is_written m ≡ false → is_whole m ≡ false
+unwritten_one mark.Whole e = e
+unwritten_one mark.WriteFailed e = refl
+unwritten_one mark.ShowFailed e = refl
+unwritten_one (mark.Refused f) e = refl
+
+going_on : (a b d : Core) (ms : List Told) (m : Told) (x y z u v w : KnownWriter) (n o : Noted) → (one : ToldAll a ms (from_to x y) (from_to u v) b) → (t : TurnsTold b m (from_to y z) (from_to v w) n o d) → (next : ToldAll a (ms ++ m ∷ []) (from_to x z) (from_to u w) d) × MovesOn one next (m, t.mark) t.bytes
+going_on a b d ms m x y z u v w n o one t =
     let marked : List (Told × Mark) = one.marked ++ (m, t.mark) ∷ [] in
     let written-push : all_written marked ≡ (all_written one.marked && is_written t.mark) = by-push is_written one.marked m t.mark in
     let whole-push : all_whole marked ≡ (all_whole one.marked && is_whole t.mark) = by-push is_whole one.marked m t.mark in (
       record {
         marked = marked;
         whole = map-append (λ (k : Told × Mark). k.0) one.marked ((m, t.mark) ∷ []) ∙ ap (λ (ks : List Told). ks ++ m ∷ []) one.whole;
+        steps = one.steps ++ ((m, t.mark), t.bytes) ∷ [];
+        of_steps = map-append (λ (k : (Told × Mark) × List ℕ). k.0) one.steps (((m, t.mark), t.bytes) ∷ []) ∙ ap (λ (ks : List (Told × Mark)). ks ++ (m, t.mark) ∷ []) one.of_steps;
         bytes = one.bytes ++ t.bytes;
+        all_bytes = ap (λ (l : List ℕ). l ++ t.bytes) one.all_bytes ∙ sym (total-push one.steps ((m, t.mark), t.bytes));
         text = one.text ++ t.text;
         wrote = appends_more x.bytes y.bytes z.bytes one.bytes t.bytes one.wrote t.wrote;
         showed = appends_more u.bytes v.bytes w.bytes one.text t.text one.showed t.showed;
@@ -239,18 +257,30 @@ going_on a b d ms m x y z u v w one t =
               q.2,
               (sent.0, sent.1, λ k. sent.2 (sym written-push ∙ k)),
               (shown.0, shown.1, λ k. shown.2 (sym whole-push ∙ k)),
+              FoldsTo-push (IsStep Turns says is_over is_marked_written) c one.steps p.0 ((m, t.mark), t.bytes) q.0 p.5 (record {
+                turn = q.1;
+                rest = q.3.0;
+                said = q.3.1;
+                all = q.3.2;
+                over = λ k. sym (ap (λ (r : Progress). r.over) q.2.progress) ∙ t.turn.over (unwritten_one t.mark k);
+                stays = λ off. sym (ap (λ (r : Progress). r.over) q.2.progress) ∙ t.turn.stays (ap (λ (r : Progress). r.over) p.2.progress ∙ off);
+                idle = λ off. (t.turn.idle (ap (λ (r : Progress). r.over) p.2.progress ∙ off)).0;
+              }),
             );
         over = λ k. ⊎_elim (λ n. t.turn.stays (one.over n)) (λ n. t.turn.over n) (and_false (all_whole one.marked) (is_whole t.mark) (sym whole-push ∙ k));
         stays = λ off. t.turn.stays (one.stays off);
       },
-      refl,
+      (refl, refl),
     )
 
 pub told_none : (a : Core) (x u : KnownWriter) → ToldAll a [] (from_to x x) (from_to u u) a
 told_none a x u = record {
   marked = [];
   whole = refl;
+  steps = [];
+  of_steps = refl;
   bytes = [];
+  all_bytes = refl;
   text = [];
   wrote = appends_none x.bytes;
   showed = appends_none u.bytes;
@@ -262,17 +292,21 @@ told_none a x u = record {
     at,
     ([], sym (append-nil (spells (items_said c.sent))), λ e. refl),
     ([], sym (append-nil (text_shown c.history)), λ e. refl),
+    refl,
   );
   over = λ e. absurd (true_false e);
   stays = λ off. off;
 }
 
-pub told_kept : (a b : Core) (ms : List Told) (x y z u v : KnownWriter) → Keeps y.bytes z.bytes → z.calls ≡ y.calls → (g : ToldAll a ms (from_to x y) (from_to u v) b) → (same : ToldAll a ms (from_to x z) (from_to u v) b) × (same.marked ≡ g.marked)
+pub told_kept : (a b : Core) (ms : List Told) (x y z u v : KnownWriter) → Keeps y.bytes z.bytes → z.calls ≡ y.calls → (g : ToldAll a ms (from_to x y) (from_to u v) b) → (same : ToldAll a ms (from_to x z) (from_to u v) b) × (same.marked ≡ g.marked) × (same.steps ≡ g.steps)
 told_kept a b ms x y z u v k same g = (
   record {
     marked = g.marked;
     whole = g.whole;
+    steps = g.steps;
+    of_steps = g.of_steps;
     bytes = g.bytes;
+    all_bytes = g.all_bytes;
     text = g.text;
     wrote = appends_kept x.bytes y.bytes z.bytes g.bytes g.wrote k;
     showed = g.showed;
@@ -283,20 +317,26 @@ told_kept a b ms x y z u v k same g = (
     stays = g.stays;
   },
   refl,
+  refl,
 )
 
-pub told_next : (a b d : Core) (xs : List Mail) (m : Mail) (x y z k u v w : KnownWriter) → Keeps z.bytes k.bytes → k.calls ≡ z.calls → (one : ToldAll a (all_told xs) (from_to x y) (from_to u v) b) → (t : TurnsTold b (told_of m) (from_to y z) (from_to v w) d) → (next : ToldAll a (all_told (xs ++ m ∷ [])) (from_to x k) (from_to u w) d) × (next.marked ≡ one.marked ++ (told_of m, t.mark) ∷ [])
-told_next a b d xs m x y z k u v w keeps same one t =
-    let P : List Told → Type 0 = λ ms. (next : ToldAll a ms (from_to x k) (from_to u w) d) × (next.marked ≡ one.marked ++ (told_of m, t.mark) ∷ []) in
-    let on = going_on a b d (all_told xs) (told_of m) x y z u v w one t in
+-- before the first mail
+pub told_first : (a : Core) (x u : KnownWriter) → (goes : ToldAll a [] (from_to x x) (from_to u u) a) × NotesAll [] (map (λ s. s.1) goes.steps) no_notes no_notes
+unfolding told_none
+told_first a x u = (told_none a x u, record { more = []; noted = refl; took = refl; wrote = refl })
+
+pub told_next : (a b d : Core) (xs : List Mail) (m : Mail) (x y z k u v w : KnownWriter) (n o : Noted) → Keeps z.bytes k.bytes → k.calls ≡ z.calls → (one : ToldAll a (all_told xs) (from_to x y) (from_to u v) b) → (t : TurnsTold b (told_of m) (from_to y z) (from_to v w) n o d) → (next : ToldAll a (all_told (xs ++ m ∷ [])) (from_to x k) (from_to u w) d) × MovesOn one next (told_of m, t.mark) t.bytes
+told_next a b d xs m x y z k u v w n o keeps same one t =
+    let P : List Told → Type 0 = λ ms. (next : ToldAll a ms (from_to x k) (from_to u w) d) × MovesOn one next (told_of m, t.mark) t.bytes in
+    let on = going_on a b d (all_told xs) (told_of m) x y z u v w n o one t in
     let kept = told_kept a d _ x z k u w keeps same on.0 in
-    subst P (sym (map-append told_of xs (m ∷ []))) (kept.0, kept.1 ∙ on.1)
+    subst P (sym (map-append told_of xs (m ∷ []))) (kept.0, (kept.1 ∙ on.1.0, kept.2 ∙ on.1.1))
 
 -- whether it was told to stop, after one mail more
-pub core_told : (a b d : Core) (xs : List Mail) (x : Mail) (w s w₁ s₁ w₂ s₂ : KnownWriting) (told due now gone : Bool) (one : ToldAll a (all_told xs) w s b) (t : TurnsTold b (told_of x) w₁ s₁ d) (next : ToldAll a (all_told (xs ++ x ∷ [])) w₂ s₂ d) → next.marked ≡ one.marked ++ (told_of x, t.mark) ∷ [] → gone ≡ has_left Keys (xs ++ x ∷ []) → due ≡ (core_stops d.progress && not gone) → now ≡ (told || due)
+pub core_told : (a b d : Core) (xs : List Mail) (x : Mail) (w s w₁ s₁ w₂ s₂ : KnownWriting) (o r : Noted) (told due now gone : Bool) (one : ToldAll a (all_told xs) w s b) (t : TurnsTold b (told_of x) w₁ s₁ o r d) (next : ToldAll a (all_told (xs ++ x ∷ [])) w₂ s₂ d) → next.marked ≡ one.marked ++ (told_of x, t.mark) ∷ [] → gone ≡ has_left Keys (xs ++ x ∷ []) → due ≡ (core_stops d.progress && not gone) → now ≡ (told || due)
     → ((c : Run) → LeadsTo c a → StandsTold Keys all_told (Runs c) (λ r. core_stops r.progress) xs one.marked (core_stops b.progress) told)
     → (c : Run) → LeadsTo c a → StandsTold Keys all_told (Runs c) (λ r. core_stops r.progress) (xs ++ x ∷ []) next.marked (core_stops d.progress) now
-core_told a b d xs x w s w₁ s₁ w₂ s₂ told due now gone one t next marks left is_due tells stands c at =
+core_told a b d xs x w s w₁ s₁ w₂ s₂ o r told due now gone one t next marks left is_due tells stands c at =
     let p = one.leads c at in
     let q = t.turn.leads p.0 p.2 in
     let B : Bool → Type 0 = λ n. StandsTold Keys all_told (Runs c) (λ r. core_stops r.progress) xs one.marked n told in

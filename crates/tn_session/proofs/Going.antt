@@ -1,15 +1,19 @@
 -- What was written, and one message after another.
-use Rattle.std.proofs.Common.{◌≡◌, ℕ, ◌+◌, ◌≤◌, nat_le, Bool, true, false, not, ◌||◌, ◌&&◌, ◌⊎◌, ⊎_elim, inl, inr, map, List, [], ◌∷◌, ◌++◌, Option, Some, None, Result, Ok, refl, sym, ap, ◌∙◌, subst, append_assoc, append-nil, take-append-drop, arith, length, take, drop, zero, suc}
+use Rattle.std.proofs.Common.{◌≡◌, ℕ, ◌+◌, ◌≤◌, nat_le, Bool, true, false, not, ◌||◌, ◌&&◌, ◌⊎◌, ⊎_elim, inl, inr, map, List, [], ◌∷◌, ◌++◌, Option, Some, None, Result, Ok, refl, sym, ap, ◌∙◌, subst, append_assoc, append-nil, take-append-drop, arith, length, take, drop, zero, suc, ◌==◌, nat_eq}
 use Rattle.std.proofs.lemmas.Bool.{false_from_ne_true, not-false, not-true}
 use Rattle.std.proofs.lemmas.Fn.{FoldsTo-push}
+use Rattle.std.proofs.lemmas.List.{map-append}
 use Rattle.std.specs.Io.KnownBytes.{Appends, Keeps, WriteAppends}
 use Rattle.tn_discipline.specs.declared.reads.Entry.{Entry}
 use Rattle.tn_nvt.specs.Spelling.{spells}
 use Rattle.tn_server.specs.Replies.{items_said}
+use Rattle.tn_session.proofs.Noting.{total-push}
 use Rattle.tn_session.proofs.Stopped.{stands_more}
 use Rattle.tn_session.proofs.Stopping.{term_stays}
+use Rattle.tn_session.specs.Notes.{Note, Noted, NotesWrite, NotesAll, notes, takes, writes}
 use Rattle.tn_session.specs.Stops.{StandsTold, has_left, term_stops}
-use Rattle.tn_session.specs.Turns.{Writes, Tells, max_writes, TurnsMessage, GoesOn, left_one, lefts_of, messages_of}
+use Rattle.tn_session.specs.Transcripts.{IsStep}
+use Rattle.tn_session.specs.Turns.{Writes, Tells, max_writes, TurnsMessage, GoesOn, left_one, lefts_of, messages_of, says, is_over, is_marked_whole}
 use Rattle.tn_queue.specs.Queue.{putter}
 use Rattle.tn_session.specs.EntryChannel.{EntryHand}
 use Rattle.tn_session.specs.declared.mail.Mail.{Mail}
@@ -64,16 +68,47 @@ stops_at a b n bytes h = (take n bytes, drop n bytes, sym (take-append-drop n by
 pub writes_all : (a b : Option (List ℕ)) (n : ℕ) (bytes : List ℕ) → length bytes ≤ n → Appends a b (take n bytes) → Writes true a b bytes
 writes_all a b n bytes all h = rw (take_all n bytes all) at h
 
-pub stops_now : (a b c : Option (List ℕ)) (n k : ℕ) (bytes rest : List ℕ) → k ≡ 0 → Appends a b (take n bytes) → Appends b c (take k rest) → Writes false a c bytes
-stops_now a b c n k bytes rest e one two =
+-- where nothing more was taken
+pub stays_at : (a b c : Option (List ℕ)) (n k : ℕ) (bytes rest : List ℕ) → k ≡ 0 → Appends a b (take n bytes) → Appends b c (take k rest) → Appends a c (take n bytes)
+stays_at a b c n k bytes rest e one two =
     let P : ℕ → Type 0 = λ m. Appends b c (take m rest) in
     let Q : List ℕ → Type 0 = λ zs. Appends a c zs in
-    stops_at a c n bytes (subst Q (append-nil (take n bytes)) (appends_more a b c (take n bytes) [] one (subst P e two)))
+    subst Q (append-nil (take n bytes)) (appends_more a b c (take n bytes) [] one (subst P e two))
+
+pub all_taken : (n k : ℕ) → n ≤ k → k ≤ n → (n == k) ≡ true
+all_taken n k a b = grind arith
 
 -- so many of the bytes were written
-pub writes_so_many : (b : Bool) (x y : Option (List ℕ)) (n : ℕ) (bytes : List ℕ) → nat_le (length bytes) n ≡ b → Appends x y (take n bytes) → Writes b x y bytes
+pub writes_so_many : (w : Bool) (x y : Option (List ℕ)) (n : ℕ) (bytes : List ℕ) → nat_eq n (length bytes) ≡ w → Appends x y (take n bytes) → Writes w x y bytes
 writes_so_many true x y n bytes e h = let all : length bytes ≤ n = grind arith in writes_all x y n bytes all h
 writes_so_many false x y n bytes e h = stops_at x y n bytes h
+
+no_rest : (n : ℕ) (bytes : List ℕ) → length bytes ≤ n → drop n bytes ≡ []
+no_rest zero [] h = refl
+no_rest (suc n) [] h = refl
+no_rest zero (x ∷ xs) h = absurd (omega arith)
+no_rest (suc n) (x ∷ xs) h = no_rest n xs (omega arith)
+
+-- and noted
+pub notes_so_many : (x y : Option (List ℕ)) (n : ℕ) (bytes : List ℕ) (t u : Noted) → Appends x y (take n bytes) → u ≡ writes t (take n bytes) → NotesWrite (nat_eq n (length bytes)) x y bytes t u
+notes_so_many x y n bytes t u h e = record {
+  front = take n bytes;
+  back = drop n bytes;
+  whole = sym (take-append-drop n bytes);
+  all = λ w. let all : length bytes ≤ n = grind arith in no_rest n bytes all;
+  wrote = h;
+  noted = e;
+}
+
+-- where it went well, the front is all of it
+pub whole_front : (w : Bool) (x y : Option (List ℕ)) (bytes : List ℕ) (t u : Noted) (h : NotesWrite w x y bytes t u) → w ≡ true → h.front ≡ bytes
+whole_front w x y bytes t u h well = sym (append-nil h.front) ∙ ap (λ (l : List ℕ). h.front ++ l) (sym (h.all well)) ∙ sym h.whole
+
+pub notes_as : (w v : Bool) (x y : Option (List ℕ)) (bytes others : List ℕ) (t u : Noted) → w ≡ v → bytes ≡ others → NotesWrite w x y bytes t u → NotesWrite v x y others t u
+notes_as w v x y bytes others t u f e h =
+    let P : List ℕ → Type 0 = λ bs. NotesWrite v x y bs t u in
+    let Q : Bool → Type 0 = λ b. NotesWrite b x y bytes t u in
+    subst P e (subst Q f h)
 
 -- where less was written than is to be, as if the rest had not been sent
 turn_front : (m : Mark) (old new : Term) (message : Message) (front back bytes : List ℕ) (put last : Put) → bytes ≡ front ++ back → is_whole m ≡ false → IsTurn m old message bytes put last new → IsTurn m old message front put last new
@@ -127,18 +162,22 @@ all_told : (written : Bool) (m : Mark) (a b : Option Calls) → no_write_failed 
 all_told written m a b well told = subst (λ (w : Bool). Tells w a b) (sym well) (accounts_well max_writes written a b told)
 
 -- all was written, or the message was refused
-pub turned_on : (written : Bool) (m : Mark) (old new : Term) (message : Message) (bytes : List ℕ) (writer : KnownWriting) (v w : EntryHand) (put last : Put) → (written || not (is_whole m)) ≡ true → no_write_failed m ≡ true → Writes written writer.before.bytes writer.after.bytes bytes → Tells written writer.before.calls writer.after.calls → IsTurn m old message bytes put last new → Puts v (puts_of put ++ puts_of last) w → TurnsMessage old message writer v w new
-turned_on true m old new message bytes writer v w put last e well h told t p = record { mark = m; bytes = bytes; put = put; last = last; wrote = h; tells = all_told true m writer.before.calls writer.after.calls well told; turn = t; puts = p }
-turned_on false m old new message bytes writer v w put last e well h told t p = record {
+pub turned_on : (written : Bool) (m : Mark) (old new : Term) (message : Message) (bytes : List ℕ) (writer : KnownWriting) (t u : Noted) (v w : EntryHand) (put last : Put) → (written || not (is_whole m)) ≡ true → no_write_failed m ≡ true → NotesWrite written writer.before.bytes writer.after.bytes bytes t u → Tells written writer.before.calls writer.after.calls → IsTurn m old message bytes put last new → Puts v (puts_of put ++ puts_of last) w → TurnsMessage old message writer t u v w new
+turned_on written m old new message bytes writer t u v w put last e well h told turn p = record {
   mark = m;
-  bytes = h.0;
+  bytes = h.front;
   put = put;
   last = last;
-  wrote = h.3;
-  tells = all_told false m writer.before.calls writer.after.calls well told;
-  turn = turn_front m old new message h.0 h.1 bytes put last h.2 (not-true (is_whole m) e) t;
+  wrote = h.wrote;
+  noted = h.noted;
+  tells = all_told written m writer.before.calls writer.after.calls well told;
+  turn = by written e h.all;
   puts = p;
 }
+  where
+    by : (b : Bool) → (b || not (is_whole m)) ≡ true → (b ≡ true → h.back ≡ []) → IsTurn m old message h.front put last new
+    by true f all = subst (λ (bs : List ℕ). IsTurn m old message bs put last new) (h.whole ∙ ap (λ (l : List ℕ). h.front ++ l) (all refl) ∙ append-nil h.front) turn
+    by false f all = turn_front m old new message h.front h.back bytes put last h.whole (not-true (is_whole m) f) turn
 
 whole_mark : (m : Mark) → is_whole m ≡ true → m ≡ mark.Whole
 whole_mark mark.Whole e = refl
@@ -146,21 +185,22 @@ whole_mark mark.WriteFailed e = absurd (false_true e)
 whole_mark (mark.Refused f put) e = absurd (false_true e)
 
 -- a write failed
-pub turned_off : (written : Bool) (m : Mark) (old mid new : Term) (message : Message) (bytes : List ℕ) (writer : KnownWriting) (v w : EntryHand) (put other last : Put) → (written || not (is_whole m)) ≡ false → Writes written writer.before.bytes writer.after.bytes bytes → Tells written writer.before.calls writer.after.calls → (bytes ≡ [] → written ≡ true) → IsTurn m old message bytes put other mid → (is_whole m ≡ true → other ≡ Nothing) → ((c : Run) → LeadsTo c mid → LeadsTo (fail fault.Write c) new) → ((c : Run) → LeadsTo c mid → (fail fault.Write c).puts ≡ c.puts ++ puts_of last) → new.progress.over ≡ true → Puts v (puts_of put ++ puts_of last) w → TurnsMessage old message writer v w new
-turned_off true m old mid new message bytes writer v w put other last e h told some t unsaid leads puts over p = absurd (true_false e)
-turned_off false m old mid new message bytes writer v w put other last e h told some t unsaid leads puts over p =
+pub turned_off : (written : Bool) (m : Mark) (old mid new : Term) (message : Message) (bytes : List ℕ) (writer : KnownWriting) (t u : Noted) (v w : EntryHand) (put other last : Put) → (written || not (is_whole m)) ≡ false → NotesWrite written writer.before.bytes writer.after.bytes bytes t u → Tells written writer.before.calls writer.after.calls → (bytes ≡ [] → written ≡ true) → IsTurn m old message bytes put other mid → (is_whole m ≡ true → other ≡ Nothing) → ((c : Run) → LeadsTo c mid → LeadsTo (fail fault.Write c) new) → ((c : Run) → LeadsTo c mid → (fail fault.Write c).puts ≡ c.puts ++ puts_of last) → new.progress.over ≡ true → Puts v (puts_of put ++ puts_of last) w → TurnsMessage old message writer t u v w new
+turned_off true m old mid new message bytes writer t u v w put other last e h told some turn unsaid leads puts over p = absurd (true_false e)
+turned_off false m old mid new message bytes writer t u v w put other last e h told some turn unsaid leads puts over p =
     let is_all = not-false (is_whole m) e in
     let M : Mark → Type 0 = λ n. IsTurn n old message bytes put other mid in
     let L : Put → Type 0 = λ o. IsTurn mark.Whole old message bytes put o mid in
-    let t' = subst L (unsaid is_all) (subst M (whole_mark m is_all) t) in
+    let whole = subst L (unsaid is_all) (subst M (whole_mark m is_all) turn) in
     record {
       mark = mark.WriteFailed;
-      bytes = h.0;
+      bytes = h.front;
       put = put;
       last = last;
-      wrote = h.3;
+      wrote = h.wrote;
+      noted = h.noted;
       tells = told;
-      turn = turn_unwritten old mid new message h.0 h.1 bytes put last h.2 (λ off. false_true (some (t.idle off).0)) t' leads puts over;
+      turn = turn_unwritten old mid new message h.front h.back bytes put last h.whole (λ off. false_true (some (turn.idle off).0)) whole leads puts over;
       puts = p;
     }
 
@@ -206,12 +246,19 @@ and_false false b e = inl refl
 abbrev pub from_to : KnownWriter → KnownWriter → KnownWriting
 from_to x y = record { before = x; after = y }
 
-pub going_on : (a b d : Term) (ms : List Message) (m : Message) (x y z : KnownWriter) (puts : List (Option Entry)) (v w : EntryHand) → (one : GoesOn a ms (from_to x y) puts b) → (t : TurnsMessage b m (from_to y z) v w d) → (next : GoesOn a (ms ++ m ∷ []) (from_to x z) (puts ++ (puts_of t.put ++ puts_of t.last)) d) × (next.marked ≡ one.marked ++ (m, t.mark) ∷ [])
-going_on a b d ms m x y z puts v w one t = (
+-- what goes on by one message more: it, its mark, and what was written after it
+abbrev pub MovesOn : {a d : Term} {ms ns : List Message} {w w₁ : KnownWriting} {puts later : List (Option Entry)} {b : Term} → GoesOn a ms w puts b → GoesOn a ns w₁ later d → Message × Mark → List ℕ → Type 0
+MovesOn one next m bytes = (next.marked ≡ one.marked ++ m ∷ []) × (next.steps ≡ one.steps ++ (m, bytes) ∷ [])
+
+pub going_on : (a b d : Term) (ms : List Message) (m : Message) (x y z : KnownWriter) (puts : List (Option Entry)) (n o : Noted) (v w : EntryHand) → (one : GoesOn a ms (from_to x y) puts b) → (t : TurnsMessage b m (from_to y z) n o v w d) → (next : GoesOn a (ms ++ m ∷ []) (from_to x z) (puts ++ (puts_of t.put ++ puts_of t.last)) d) × MovesOn one next (m, t.mark) t.bytes
+going_on a b d ms m x y z puts n o v w one t = (
   record {
     marked = one.marked ++ (m, t.mark) ∷ [];
     whole = map-push one.marked (m, t.mark) ms one.whole;
+    steps = one.steps ++ ((m, t.mark), t.bytes) ∷ [];
+    of_steps = map-append (λ (s : (Message × Mark) × List ℕ). s.0) one.steps (((m, t.mark), t.bytes) ∷ []) ∙ ap (λ (l : List (Message × Mark)). l ++ (m, t.mark) ∷ []) one.of_steps;
     bytes = one.bytes ++ t.bytes;
+    all_bytes = ap (λ (l : List ℕ). l ++ t.bytes) one.all_bytes ∙ sym (total-push one.steps ((m, t.mark), t.bytes));
     wrote = appends_more x.bytes y.bytes z.bytes one.bytes t.bytes one.wrote t.wrote;
     tells = subst (λ (well : Bool). Tells well x.calls z.calls) (sym (well-push one.marked m t.mark)) (accounts_both max_writes (no_writes_failed one.marked) (no_write_failed t.mark) x.calls y.calls z.calls one.tells t.tells);
     leads = λ c at.
@@ -225,33 +272,48 @@ going_on a b d ms m x y z puts v w one t = (
           rest.0,
           rest.1,
           λ e. rest.2 (sym (whole-push one.marked m t.mark) ∙ e),
+          FoldsTo-push (IsStep Turns says is_over is_marked_whole) c one.steps p.0 ((m, t.mark), t.bytes) q.0 p.7 (record {
+            turn = q.1;
+            rest = q.4;
+            said = q.5;
+            all = q.6;
+            over = λ e. sym (ap (λ (r : Progress). r.over) q.2.progress) ∙ t.turn.over e;
+            stays = λ off. sym (ap (λ (r : Progress). r.over) q.2.progress) ∙ t.turn.stays (ap (λ (r : Progress). r.over) p.2.progress ∙ off);
+            idle = λ off. (t.turn.idle (ap (λ (r : Progress). r.over) p.2.progress ∙ off)).0;
+          }),
         );
     over = λ e. ⊎_elim (λ f. t.turn.stays (one.over f)) (λ f. t.turn.over f) (and_false (all_whole one.marked) (is_whole t.mark) (sym (whole-push one.marked m t.mark) ∙ e));
     stays = λ off. t.turn.stays (one.stays off);
     idle = λ off. ap (λ (bs : List ℕ). bs ++ t.bytes) (one.idle off) ∙ (t.turn.idle (one.stays off)).0;
   },
-  refl,
+  (refl, refl),
 )
 
 pub going_none : (a : Term) (x : KnownWriter) → GoesOn a [] (from_to x x) [] a
 going_none a x = record {
   marked = [];
   whole = refl;
+  steps = [];
+  of_steps = refl;
   bytes = [];
+  all_bytes = refl;
   wrote = appends_none x.bytes;
   tells = accounts_none max_writes x.calls;
-  leads = λ c at. (c, refl, at, sym (append-nil c.puts), [], sym (append-nil (spells (items_said c.history))), λ w. refl);
+  leads = λ c at. (c, refl, at, sym (append-nil c.puts), [], sym (append-nil (spells (items_said c.history))), λ w. refl, refl);
   over = λ e. absurd (true_false e);
   stays = λ off. off;
   idle = λ off. refl;
 }
 
-pub going_kept : (a b : Term) (ms : List Message) (x y z : KnownWriter) (puts : List (Option Entry)) → Keeps y.bytes z.bytes → z.calls ≡ y.calls → (g : GoesOn a ms (from_to x y) puts b) → (same : GoesOn a ms (from_to x z) puts b) × (same.marked ≡ g.marked)
+pub going_kept : (a b : Term) (ms : List Message) (x y z : KnownWriter) (puts : List (Option Entry)) → Keeps y.bytes z.bytes → z.calls ≡ y.calls → (g : GoesOn a ms (from_to x y) puts b) → (same : GoesOn a ms (from_to x z) puts b) × (same.marked ≡ g.marked) × (same.steps ≡ g.steps)
 going_kept a b ms x y z puts k told g = (
   record {
     marked = g.marked;
     whole = g.whole;
+    steps = g.steps;
+    of_steps = g.of_steps;
     bytes = g.bytes;
+    all_bytes = g.all_bytes;
     wrote = appends_kept x.bytes y.bytes z.bytes g.bytes g.wrote k;
     tells = subst (λ (v : Option Calls). Tells (no_writes_failed g.marked) x.calls v) (sym told) g.tells;
     leads = g.leads;
@@ -259,6 +321,7 @@ going_kept a b ms x y z puts k told g = (
     stays = g.stays;
     idle = g.idle;
   },
+  refl,
   refl,
 )
 
@@ -274,19 +337,44 @@ messages-push : (xs : List Mail) (x : Mail) → messages_of (xs ++ x ∷ []) ≡
 messages-push [] x = refl
 messages-push (y ∷ ys) x = ap (λ (ms : List Message). y.message ∷ ms) (messages-push ys x)
 
-pub going_next : (a b d : Term) (xs : List Mail) (x : Mail) (u y w z : KnownWriter) (puts : List (Option Entry)) (v h : EntryHand) → Keeps w.bytes z.bytes → z.calls ≡ w.calls → (one : GoesOn a (messages_of xs) (from_to u y) puts b) → (t : TurnsMessage b x.message (from_to y w) v h d) → (next : GoesOn a (messages_of (xs ++ x ∷ [])) (from_to u z) (puts ++ (puts_of t.put ++ puts_of t.last)) d) × (next.marked ≡ one.marked ++ (x.message, t.mark) ∷ [])
-going_next a b d xs x u y w z puts v h k told one t =
+pub going_next : (a b d : Term) (xs : List Mail) (x : Mail) (u y w z : KnownWriter) (puts : List (Option Entry)) (n o : Noted) (v h : EntryHand) → Keeps w.bytes z.bytes → z.calls ≡ w.calls → (one : GoesOn a (messages_of xs) (from_to u y) puts b) → (t : TurnsMessage b x.message (from_to y w) n o v h d) → (next : GoesOn a (messages_of (xs ++ x ∷ [])) (from_to u z) (puts ++ (puts_of t.put ++ puts_of t.last)) d) × MovesOn one next (x.message, t.mark) t.bytes
+going_next a b d xs x u y w z puts n o v h k told one t =
     let more = puts ++ (puts_of t.put ++ puts_of t.last) in
-    let P : List Message → Type 0 = λ ms. (next : GoesOn a ms (from_to u z) more d) × (next.marked ≡ one.marked ++ (x.message, t.mark) ∷ []) in
-    let on = going_on a b d (messages_of xs) x.message u y w puts v h one t in
+    let P : List Message → Type 0 = λ ms. (next : GoesOn a ms (from_to u z) more d) × MovesOn one next (x.message, t.mark) t.bytes in
+    let on = going_on a b d (messages_of xs) x.message u y w puts n o v h one t in
     let kept = going_kept a d _ u w z more k told on.0 in
-    subst P (sym (messages-push xs x)) (kept.0, kept.1 ∙ on.1)
+    subst P (sym (messages-push xs x)) (kept.0, (kept.1 ∙ on.1.0, kept.2 ∙ on.1.1))
+
+-- before the first mail
+pub going_first : (a : Term) (x y : KnownWriter) (t : Noted) → Keeps x.bytes y.bytes → y.calls ≡ x.calls → (goes : GoesOn a [] (from_to x y) [] a) × NotesAll [] (map (λ s. s.1) goes.steps) t t
+unfolding going_kept going_none
+going_first a x y t k told = ((going_kept a a [] x x y [] k told (going_none a x)).0, record { more = []; noted = sym (append-nil (notes t)); took = refl; wrote = refl })
+
+-- what was noted, after one mail more
+pub notes_more : (xs : List Mail) (x : Mail) (ws : List (List ℕ)) (bytes : List ℕ) (t u v w : Noted) → NotesAll xs ws t u → v ≡ takes u x → w ≡ writes v bytes → NotesAll (xs ++ x ∷ []) (ws ++ bytes ∷ []) t w
+notes_more xs x ws bytes t u v w one took wrote =
+    let note : Note = record { took = Some x; wrote = bytes } in
+    record {
+      more = one.more ++ note ∷ [];
+      noted = ap notes (wrote ∙ ap (λ (n : Noted). writes n bytes) took) ∙ ap (λ (l : List Note). l ++ note ∷ []) one.noted ∙ append_assoc (notes t) one.more (note ∷ []);
+      took = map-append (λ (n : Note). n.took) one.more (note ∷ []) ∙ ap (λ (l : List (Option Mail)). l ++ Some x ∷ []) one.took ∙ sym (map-append (λ (y : Mail). Some y) xs (x ∷ []));
+      wrote = map-append (λ (n : Note). n.wrote) one.more (note ∷ []) ∙ ap (λ (l : List (List ℕ)). l ++ bytes ∷ []) one.wrote;
+    }
+
+-- the same of what goes on
+pub notes_next : {S : Type 0} (xs : List Mail) (x : Mail) (steps next : List (S × List ℕ)) (m : S) (bytes : List ℕ) (t u v w : Noted) → NotesAll xs (map (λ s. s.1) steps) t u → next ≡ steps ++ (m, bytes) ∷ [] → v ≡ takes u x → w ≡ writes v bytes → NotesAll (xs ++ x ∷ []) (map (λ s. s.1) next) t w
+notes_next {S} xs x steps next m bytes t u v w one is took wrote =
+    let P : List (List ℕ) → Type 0 = λ ws. NotesAll (xs ++ x ∷ []) ws t w in
+    subst P (sym (ap (map (λ (s : S × List ℕ). s.1)) is ∙ map-append (λ (s : S × List ℕ). s.1) steps ((m, bytes) ∷ []))) (notes_more xs x (map (λ (s : S × List ℕ). s.1) steps) bytes t u v w one took wrote)
+
+pub notes_kept : {S : Type 0} (xs : List Mail) (steps same : List (S × List ℕ)) (t u : Noted) → same ≡ steps → NotesAll xs (map (λ s. s.1) steps) t u → NotesAll xs (map (λ s. s.1) same) t u
+notes_kept {S} xs steps same t u is one = subst (λ (l : List (S × List ℕ)). NotesAll xs (map (λ s. s.1) l) t u) (sym is) one
 
 -- whether Back was told to stop, after one mail more
-pub term_told : (a b d : Term) (xs : List Mail) (x : Mail) (w w₁ w₂ : KnownWriting) (puts later : List (Option Entry)) (v h : EntryHand) (told due now gone : Bool) (one : GoesOn a (messages_of xs) w puts b) (t : TurnsMessage b x.message w₁ v h d) (next : GoesOn a (messages_of (xs ++ x ∷ [])) w₂ later d) → next.marked ≡ one.marked ++ (x.message, t.mark) ∷ [] → gone ≡ has_left Back (xs ++ x ∷ []) → due ≡ (term_stops d.progress && not gone) → now ≡ (told || due)
+pub term_told : (a b d : Term) (xs : List Mail) (x : Mail) (w w₁ w₂ : KnownWriting) (puts later : List (Option Entry)) (r o : Noted) (v h : EntryHand) (told due now gone : Bool) (one : GoesOn a (messages_of xs) w puts b) (t : TurnsMessage b x.message w₁ r o v h d) (next : GoesOn a (messages_of (xs ++ x ∷ [])) w₂ later d) → next.marked ≡ one.marked ++ (x.message, t.mark) ∷ [] → gone ≡ has_left Back (xs ++ x ∷ []) → due ≡ (term_stops d.progress && not gone) → now ≡ (told || due)
     → ((c : Run) → LeadsTo c a → StandsTold Back messages_of (Runs c) (λ r. term_stops r.progress) xs one.marked (term_stops b.progress) told)
     → (c : Run) → LeadsTo c a → StandsTold Back messages_of (Runs c) (λ r. term_stops r.progress) (xs ++ x ∷ []) next.marked (term_stops d.progress) now
-term_told a b d xs x w w₁ w₂ puts later v h told due now gone one t next marks left is_due tells stands c at =
+term_told a b d xs x w w₁ w₂ puts later r o v h told due now gone one t next marks left is_due tells stands c at =
     let p = one.leads c at in
     let q = t.turn.leads p.0 p.2 in
     let B : Bool → Type 0 = λ n. StandsTold Back messages_of (Runs c) (λ r. term_stops r.progress) xs one.marked n told in

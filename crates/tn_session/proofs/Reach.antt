@@ -1,5 +1,5 @@
 -- A session whose messages are welcome doesn't end because too many entries wait.
-use Rattle.std.proofs.Common.{◌≡◌, ℕ, Bool, true, false, List, sym, ap, ◌∙◌}
+use Rattle.std.proofs.Common.{◌≡◌, ℕ, Bool, true, false, List, sym, ap, ◌∙◌, subst}
 use Rattle.tn_messages.specs.Counting.{first_end}
 use Rattle.tn_messages.specs.declared.faults.Ended.{Ended}
 use Rattle.tn_messages.specs.declared.faults.Ended.TheVariants.{HangUp, Done, Fault}
@@ -7,6 +7,7 @@ use Rattle.tn_messages.specs.declared.faults.SessionFault.TheVariants as fault
 use Rattle.tn_messages.specs.declared.messages.Message.{Message}
 use Rattle.tn_discipline.specs.declared.reads.Entry.{Entry}
 use Rattle.std.specs.Prelude.{Option}
+use Rattle.tn_session.specs.Notes.{Noted, no_notes}
 use Rattle.tn_session.specs.Session.{IsOpening}
 use Rattle.tn_session.specs.Turns.{GoesOn, TurnsMessage, StaysInReach}
 use Rattle.tn_session.specs.EntryChannel.{EntryHand}
@@ -25,8 +26,8 @@ ended_as c t at = ap (λ (p : Progress). p.ended) at.progress
 pub reach_start : (t : Term) → StaysInReach t t.progress.ended
 reach_start t c at e = sym (ended_as c t at) ∙ e
 
-pub reach_next : (a b d : Term) (ms : List Message) (m : Message) (w u : KnownWriting) (puts : List (Option Entry)) (v h : EntryHand) → GoesOn a ms w puts b → TurnsMessage b m u v h d → ((c : Run) → LeadsTo c b → IsWelcome c m) → StaysInReach a b.progress.ended → StaysInReach a d.progress.ended
-reach_next a b d ms m w u puts v h goes turn welcome reach c at e =
+pub reach_next : (a b d : Term) (ms : List Message) (m : Message) (w u : KnownWriting) (puts : List (Option Entry)) (n o : Noted) (v h : EntryHand) → GoesOn a ms w puts b → TurnsMessage b m u n o v h d → ((c : Run) → LeadsTo c b → IsWelcome c m) → StaysInReach a b.progress.ended → StaysInReach a d.progress.ended
+reach_next a b d ms m w u puts n o v h goes turn welcome reach c at e =
     let p = goes.leads c at in
     let q = turn.turn.leads p.0 p.2 in
     let before = stays_in_reach p.0 q.0 b m turn.mark p.2 (welcome p.0 p.2) q.1 (sym (ended_as q.0 d q.2) ∙ e) in
@@ -45,8 +46,12 @@ opened_was true c e = e
 opened_was false c e = first_was c.progress.ended e
 
 -- the opening words
-pub reach_opened : (old new : Term) (words : List ℕ) (w : KnownWriting) (ended : Ended) → IsOpening old words w new → StaysInReach new ended → StaysInReach old ended
-reach_opened old new words w ended o reach c at e = opened_was o.written c (reach (run_after_opening o.written c) (o.leads c at) e)
+pub reach_opened : (old new : Term) (words : List ℕ) (w : KnownWriting) (n t : Noted) (ended : Ended) → IsOpening old words w n t new → StaysInReach new ended → StaysInReach old ended
+reach_opened old new words w n t ended o reach c at e = opened_was o.written c (reach (run_after_opening o.written c) (o.leads c at) e)
 
 pub never_begun : HangUp ≡ too_far_ahead → ⊥
 never_begun e = cc
+
+-- from no notes
+pub opened_as : (old new : Term) (words : List ℕ) (w : KnownWriting) (n t : Noted) → n ≡ no_notes → IsOpening old words w n t new → IsOpening old words w no_notes t new
+opened_as old new words w n t e o = subst (λ (m : Noted). IsOpening old words w m t new) e o

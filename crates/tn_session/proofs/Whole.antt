@@ -1,6 +1,7 @@
 -- A whole session: its passes joined, and what its threads did.
-use Rattle.std.proofs.Common.{◌≡◌, ℕ, Bool, true, false, ◌&&◌, List, [], ◌∷◌, ◌++◌, Option, Some, None, refl, sym, ap, ◌∙◌, ⊎_elim, map, subst, append-nil, append_assoc, arith}
+use Rattle.std.proofs.Common.{◌≡◌, ℕ, Bool, true, false, ◌&&◌, List, [], ◌∷◌, ◌++◌, Option, Some, None, refl, sym, ap, ◌∙◌, ⊎_elim, inl, inr, map, subst, append-nil, append_assoc, arith}
 use Rattle.std.specs.Io.KnownBytes.{Appends}
+use Rattle.std.specs.List.{FoldsTo}
 use Rattle.tn_discipline.specs.Canon.{Canon}
 use Rattle.tn_discipline.specs.declared.reads.Entry.{Entry}
 use Rattle.tn_jobs.specs.Jobs.{Jobs}
@@ -20,21 +21,27 @@ use Rattle.tn_session.specs.Joining.{handler, AreSettled}
 use Rattle.tn_session.specs.Mailbox.{Interleaves, from, four, sender, union, nobody, everyone, with_handled, mail, Total}
 use Rattle.tn_queue.specs.Queue.{putter, taker, joined_hands, both_hands, no_hand, LeftOver}
 use Rattle.tn_session.specs.Reader.{ReaderSends}
-use Rattle.tn_session.specs.Session.{IsOpening, IsRun, report_of}
+use Rattle.tn_session.proofs.Noting.{IsUpTo, exchanged, same_steps, step_of, whole_by}
+use Rattle.tn_session.specs.Notes.{Note, Noted, NotesAll, no_notes, notes}
+use Rattle.tn_session.specs.Session.{IsNoted, IsOpening, IsRun, OpensOrTurns, brings, brought_by, report_of}
+use Rattle.tn_session.specs.Transcripts.{Exchange, IsStep, exchange_of, total}
 use Rattle.tn_session.specs.Stepping.{BackJobs, AreSteps, step_said}
 use Rattle.tn_session.proofs.Turning.{is_close}
 use Rattle.tn_session.specs.Stops.{StopHand, IsTold, term_stops}
 use Rattle.tn_session.specs.Talk.{IsJob, IsTalk, Closes, turns_said}
 use Rattle.tn_session.specs.Turning.{Holds, queue_of}
-use Rattle.tn_session.specs.Turns.{HandlesAll, Writes, max_writes}
+use Rattle.tn_session.specs.Turns.{HandlesAll, is_marked_whole, is_over, max_writes, messages_of, says}
 use Rattle.tn_session.specs.declared.channels.View.{View}
 use Rattle.tn_session.specs.EntryChannel.{EntryHand}
 use Rattle.tn_session.specs.declared.mail.Mail.{Mail}
 use Rattle.tn_session.specs.declared.mail.Sender.TheVariants.{Net, Desk, Back}
 use Rattle.tn_streams.proofs.lemmas.Telling.{accounts_both}
 use Rattle.tn_streams.specs.Known.{KnownReader, KnownWriter}
-use Rattle.tn_term.specs.Marks.{run_after_opening, all_whole, no_writes_failed}
-use Rattle.tn_term.specs.Run.{start, opening}
+use Rattle.tn_term.specs.Marks.{Turns, run_after_opening, all_whole, no_writes_failed}
+use Rattle.tn_term.specs.Run.{Run, start, opening}
+use Rattle.tn_term.specs.declared.messages.Mark.{Mark}
+use Rattle.tn_term.specs.declared.progress.Progress.{Progress}
+use Rattle.tn_messages.specs.Pieces.{bytes_in}
 use Rattle.tn_messages.specs.declared.messages.Message.{Message}
 use Rattle.tn_messages.specs.declared.messages.Message.TheVariants.{Take, Refused, Left}
 use Rattle.tn_term.specs.declared.terminal.Term.{Term}
@@ -113,16 +120,63 @@ back_sent began acts jobs stopped v s =
     (is_close began acts stopped s.0 s.1 s.6 s.8)
 
 -- what was written, with the opening words
-wrote_all : (b : Bool) (words bytes rest sends : List ℕ) (x y z : Option (List ℕ)) (whole : Bool) → Writes b x y words → Appends y z bytes → (b ≡ false → bytes ≡ []) → sends ≡ words ++ (bytes ++ rest) → (whole ≡ true → rest ≡ []) → (written : List ℕ) × (unwritten : List ℕ) × Appends x z written × (sends ≡ written ++ unwritten) × ((b && whole) ≡ true → unwritten ≡ [])
-wrote_all true words bytes rest sends x y z whole one two idle is all = (words ++ bytes, rest, appends_more x y z words bytes one two, is ∙ sym (append_assoc words bytes rest), all)
-wrote_all false words bytes rest sends x y z whole one two idle is all = (
-  one.0 ++ bytes,
-  one.1 ++ rest,
-  appends_more x y z one.0 bytes one.3 two,
-  is ∙ ap (λ (bs : List ℕ). words ++ (bs ++ rest)) (idle refl) ∙ ap (λ (bs : List ℕ). bs ++ rest) one.2 ∙ append_assoc one.0 one.1 rest
-      ∙ ap (λ (bs : List ℕ). bs ++ (one.1 ++ rest)) (sym (append-nil one.0) ∙ ap (λ (bs : List ℕ). one.0 ++ bs) (sym (idle refl))),
+wrote_all : (b : Bool) (words front back bytes rest sends : List ℕ) (x y z : Option (List ℕ)) (whole : Bool) → words ≡ front ++ back → (b ≡ true → back ≡ []) → Appends x y front → Appends y z bytes → (b ≡ false → bytes ≡ []) → sends ≡ words ++ (bytes ++ rest) → (whole ≡ true → rest ≡ []) → (unwritten : List ℕ) × Appends x z (front ++ bytes) × (sends ≡ (front ++ bytes) ++ unwritten) × ((b && whole) ≡ true → unwritten ≡ [])
+wrote_all true words front back bytes rest sends x y z whole split none one two idle is all =
+    let same : words ≡ front = split ∙ ap (λ (bs : List ℕ). front ++ bs) (none refl) ∙ append-nil front in
+    (rest, appends_more x y z front bytes one two, is ∙ ap (λ (bs : List ℕ). bs ++ (bytes ++ rest)) same ∙ sym (append_assoc front bytes rest), all)
+wrote_all false words front back bytes rest sends x y z whole split none one two idle is all = (
+  back ++ rest,
+  appends_more x y z front bytes one two,
+  is ∙ ap (λ (bs : List ℕ). words ++ (bs ++ rest)) (idle refl) ∙ ap (λ (bs : List ℕ). bs ++ rest) split ∙ append_assoc front back rest
+      ∙ ap (λ (bs : List ℕ). bs ++ (back ++ rest)) (sym (append-nil front) ∙ ap (λ (bs : List ℕ). front ++ bs) (sym (idle refl))),
   λ e. absurd (false_true e),
 )
+
+-- the run as it begins, and what was written by then
+opened_up : (b : Bool) (begin : Run) (words front back : List ℕ) (x y : Option (List ℕ)) → says begin ≡ words → words ≡ front ++ back → (b ≡ true → back ≡ []) → (b ≡ false → is_over begin ≡ true) → IsUpTo Turns says is_over is_marked_whole begin front
+opened_up true begin words front back x y is split none off =
+    let same : front ≡ says begin = sym (append-nil front) ∙ ap (λ (bs : List ℕ). front ++ bs) (sym (none refl)) ∙ sym split ∙ sym is in
+    (([], append-nil front ∙ same), inl same)
+opened_up false begin words front back x y is split none off = ((back, sym split ∙ sym is), inr (off refl))
+
+-- the transcript, as it was noted
+noted_all : (begin last : Run) (steps : List ((Message × Mark) × List ℕ)) (marked : List (Message × Mark)) (handled : List Mail) (opened : Noted) (front : List ℕ) (noted : Noted) → FoldsTo (IsStep Turns says is_over is_marked_whole) begin steps last → map (λ s. s.0) steps ≡ marked → map (λ m. m.0) marked ≡ messages_of handled → IsUpTo Turns says is_over is_marked_whole begin front → notes opened ≡ record { took = None; wrote = front } ∷ [] → NotesAll handled (map (λ s. s.1) steps) opened noted
+    → (transcript : List Exchange) × IsNoted begin marked last (front ++ total steps) handled noted transcript
+noted_all begin last steps marked handled opened front noted goes of_steps messages up first all =
+    let step = step_of Turns says is_over is_marked_whole (λ (m : Message × Mark). Some m) OpensOrTurns (λ p q m t. t) brings in
+    let opening : Option (Message × Mark) × Exchange = (None, record { read = []; wrote = front }) in
+    let later = exchanged Turns says is_over is_marked_whole (λ (m : Message × Mark). Some m) OpensOrTurns (λ p q m t. t) brings steps begin last (front ++ total steps) front goes up refl in
+    let of_message : Message × Mark → Message = λ m. m.0 in
+    let mails = ap (map of_message) of_steps ∙ messages in
+    let noted_steps = same_steps of_message (λ (x : Mail). x.message) bytes_in steps all.more handled (mapped of_message steps ∙ mails) all.took all.wrote in (
+      record { read = []; wrote = front } ∷ map (λ s. record { read = bytes_in s.0.0; wrote = s.1 }) steps,
+      record {
+        as_noted = ap (λ (l : List Exchange). record { read = []; wrote = front } ∷ l) noted_steps ∙ sym (ap (map (exchange_of brought_by)) (all.noted ∙ ap (λ (l : List Note). l ++ all.more) first));
+        took = ap (map (λ (n : Note). n.took)) (all.noted ∙ ap (λ (l : List Note). l ++ all.more) first) ∙ ap (λ (l : List (Option Mail)). None ∷ l) all.took;
+        transcribed = record {
+          steps = opening ∷ map step steps;
+          of_messages = ap (λ (l : List (Option (Message × Mark))). None ∷ l) (firsts steps ∙ ap (map (λ (m : Message × Mark). Some m)) of_steps);
+          of_steps = ap (λ (l : List Exchange). record { read = []; wrote = front } ∷ l) (seconds steps);
+          goes = (
+            record { run = begin; wrote = front },
+            record { turn = refl; read = refl; wrote = refl; said = up.0; whole = whole_by Turns says is_over is_marked_whole steps begin last (front ++ total steps) front goes refl up.1 },
+            later,
+          );
+        };
+      },
+    )
+  where
+    mapped : (f : Message × Mark → Message) (ss : List ((Message × Mark) × List ℕ)) → map (λ s. f s.0) ss ≡ map f (map (λ s. s.0) ss)
+    mapped f [] = refl
+    mapped f (s ∷ ss) = ap (λ (l : List Message). f s.0 ∷ l) (mapped f ss)
+
+    firsts : (ss : List ((Message × Mark) × List ℕ)) → map (λ s. s.0) (map (step_of Turns says is_over is_marked_whole (λ (m : Message × Mark). Some m) OpensOrTurns (λ p q m t. t) brings) ss) ≡ map (λ m. Some m) (map (λ s. s.0) ss)
+    firsts [] = refl
+    firsts (s ∷ ss) = ap (λ (l : List (Option (Message × Mark))). Some s.0 ∷ l) (firsts ss)
+
+    seconds : (ss : List ((Message × Mark) × List ℕ)) → map (λ s. s.1) (map (step_of Turns says is_over is_marked_whole (λ (m : Message × Mark). Some m) OpensOrTurns (λ p q m t. t) brings) ss) ≡ map (λ s. record { read = bytes_in s.0.0; wrote = s.1 }) ss
+    seconds [] = refl
+    seconds (s ∷ ss) = ap (λ (l : List Exchange). record { read = bytes_in s.0.0; wrote = s.1 } ∷ l) (seconds ss)
 
 no_puts : (b : Bool) (canon : Canon) (editing : Editing) (jobs : Jobs) → (run_after_opening b (start canon editing jobs)).puts ≡ []
 no_puts true canon editing jobs = refl
@@ -133,12 +187,12 @@ same_history true canon editing jobs = refl
 same_history false canon editing jobs = refl
 
 -- all of a session that ran
-pub scheduled : {J : Type 0} (facts : JobActs J) (jobs : SessionJobs J) (stopped : Bool) (words : List ℕ) (reader : KnownReader) (x y z : KnownWriter) (term mid last : Term) (pass₀ : View) (hand₀ : EntryHand) (ended : SessionViews) (result : SessionResult)
-    → pass₀ ≡ handler [] → hand₀ ≡ putter [] → IsOpening term words (from_to x y) mid → HandlesAll mid pass₀ ended.term hand₀ ended.put (from_to y z) ended.told last
+pub scheduled : {J : Type 0} (facts : JobActs J) (jobs : SessionJobs J) (stopped : Bool) (words : List ℕ) (reader : KnownReader) (x y z : KnownWriter) (noted₀ : Noted) (term mid last : Term) (pass₀ : View) (hand₀ : EntryHand) (ended : SessionViews) (result : SessionResult)
+    → pass₀ ≡ handler [] → hand₀ ≡ putter [] → IsOpening term words (from_to x y) no_notes noted₀ mid → HandlesAll mid pass₀ ended.term hand₀ ended.put (from_to y z) noted₀ result.noted ended.told last
     → ReaderSends Net false reader ended.net → IsTalk {J = J} jobs.first (IsJob jobs.job) facts ended.desk ended.took → AreSteps {J = J} (Holds jobs.queue) facts (queue_of jobs.tostop jobs.queue) stopped ended.back → (stopped ≡ true → ended.told ≡ putter [] → ⊥)
     → AreSettled ended result.views → result.report ≡ report_of last.progress
     → IsRun {J = J} facts jobs term words reader (from_to x z) result
-scheduled {J} facts jobs stopped words reader x y z term mid last pass₀ hand₀ ended result ep eh o acted sn talked stepped never settled er settings table at ew =
+scheduled {J} facts jobs stopped words reader x y z noted₀ term mid last pass₀ hand₀ ended result ep eh o acted sn talked stepped never settled er settings table at ew =
     let canon = settings.canon in
     let editing = settings.editing in
     let begin = run_after_opening o.written (start canon editing table) in
@@ -151,47 +205,54 @@ scheduled {J} facts jobs stopped words reader x y z term mid last pass₀ hand�
     let all = settled acted.handled ns.mails ds.sent.mails bs.mails acted.puts ds.taken view ns.is ds.sent.is bs.is (acted.hand [] eh) ds.took in
     let none = none_over acted.handled all.6.0 ns.mails ds.sent.mails bs.mails [] all.6.1 ns.ends ds.sent.ends bs.ends tt (omega (arith, ns.one, ds.sent.one, bs.one, acted.lefts)) in
     let sends : spells (items_said g.0.history) ≡ words ++ (acted.goes.bytes ++ g.4) = g.5 ∙ ap (λ (bytes : List ℕ). bytes ++ (acted.goes.bytes ++ g.4)) (ap (λ h. spells (items_said h)) (same_history o.written canon editing table) ∙ sym ew) in
-    let w = wrote_all o.written words acted.goes.bytes g.4 (spells (items_said g.0.history)) x.bytes y.bytes z.bytes (all_whole acted.goes.marked) o.wrote acted.goes.wrote (λ e. acted.goes.idle (o.over e)) sends g.6 in
+    let w = wrote_all o.written words o.wrote.front o.wrote.back acted.goes.bytes g.4 (spells (items_said g.0.history)) x.bytes y.bytes z.bytes (all_whole acted.goes.marked) o.wrote.whole o.wrote.all o.wrote.wrote acted.goes.wrote (λ e. acted.goes.idle (o.over e)) sends g.6 in
+    let at_first : says begin ≡ words = ap (λ h. spells (items_said h)) (same_history o.written canon editing table) ∙ sym ew in
+    let up = opened_up o.written begin words o.wrote.front o.wrote.back x.bytes y.bytes at_first o.wrote.whole o.wrote.all (λ e. sym (ap (λ (p : Progress). p.over) (o.leads (start canon editing table) at).progress) ∙ o.over e) in
+    let transcript = noted_all begin g.0 acted.goes.steps acted.goes.marked acted.handled noted₀ o.wrote.front result.noted g.7 acted.goes.of_steps acted.goes.whole up (ap notes o.wrote.noted) acted.noted in
+    let all_bytes : acted.goes.bytes ≡ total acted.goes.steps = acted.goes.all_bytes in
     let N : View → Type 0 = λ v. ReaderSends Net false reader v in
     let B : View → Type 0 = λ v. AreSteps {J = J} (Holds jobs.queue) facts (queue_of jobs.tostop jobs.queue) stopped v in
     let woven : Interleaves acted.handled (four ns.mails ds.sent.mails bs.mails []) = λ r. ap (from r) (sym (append-nil acted.handled) ∙ ap (λ (l : List Mail). acted.handled ++ l) (sym none)) ∙ all.6.1 r in
     let stands = acted.stands begin (o.leads (start canon editing table) at) in
     let left = stands.gone (was_left Back acted.handled bs.mails (woven Back) bs.one) in
-    let T : Bool → StopHand → Type 0 = λ b v. IsTold b v in
-    record {
-      from_net = ns.mails;
-      from_desk = ds.sent.mails;
-      from_back = bs.mails;
-      handled = acted.handled;
-      net_is = all.0;
-      desk_is = all.1;
-      back_is = all.2;
-      term_is = ap (λ (v : View). v.handled) all.3;
-      woven = woven;
-      read = subst N (ns.is ∙ sym all.0) sn;
-      wrote_opening = o.written;
-      marked = acted.goes.marked;
-      messages = acted.goes.whole;
-      run = g.0;
-      runs = g.1;
-      written = w.0;
-      unwritten = w.1;
-      appended = w.2;
-      sends = w.3;
-      all_written = w.4;
-      tells = accounts_both max_writes o.written (no_writes_failed acted.goes.marked) x.calls y.calls z.calls o.tells acted.goes.tells;
-      put_is = all.4 ∙ ap putter (sym puts);
-      taken = ds.taken;
-      took_is = all.5;
-      took_first = (all.7.0, all.7.1 ∙ sym puts);
-      talked = subst (λ (u : View × EntryHand). IsTalk {J = J} jobs.first (IsJob jobs.job) facts u.0 u.1) (λ i. ((ds.sent.is ∙ sym all.1) i, (ds.took ∙ sym all.5) i)) talked;
-      stopped = stopped;
-      stepped = subst B (bs.is ∙ sym all.2) stepped;
-      back_left = left.0;
-      told = subst (λ (v : StopHand). T (term_stops left.0.by_then.progress) v) (sym all.8) (subst (λ (b : Bool). T b ended.told) left.1 acted.word);
-      stopped_for = λ on. sym left.1 ∙ stopped_told acted.told stopped ended.told acted.word never on;
-      report_is = er ∙ ap report_of g.2.progress;
-    }
+    let T : Bool → StopHand → Type 0 = λ b v. IsTold b v in (
+      record {
+        from_net = ns.mails;
+        from_desk = ds.sent.mails;
+        from_back = bs.mails;
+        handled = acted.handled;
+        net_is = all.0;
+        desk_is = all.1;
+        back_is = all.2;
+        term_is = ap (λ (v : View). v.handled) all.3;
+        woven = woven;
+        read = subst N (ns.is ∙ sym all.0) sn;
+        wrote_opening = o.written;
+        marked = acted.goes.marked;
+        messages = acted.goes.whole;
+        run = g.0;
+        runs = g.1;
+        written = o.wrote.front ++ acted.goes.bytes;
+        unwritten = w.0;
+        appended = w.1;
+        sends = w.2;
+        all_written = w.3;
+        tells = accounts_both max_writes o.written (no_writes_failed acted.goes.marked) x.calls y.calls z.calls o.tells acted.goes.tells;
+        put_is = all.4 ∙ ap putter (sym puts);
+        taken = ds.taken;
+        took_is = all.5;
+        took_first = (all.7.0, all.7.1 ∙ sym puts);
+        talked = subst (λ (u : View × EntryHand). IsTalk {J = J} jobs.first (IsJob jobs.job) facts u.0 u.1) (λ i. ((ds.sent.is ∙ sym all.1) i, (ds.took ∙ sym all.5) i)) talked;
+        stopped = stopped;
+        stepped = subst B (bs.is ∙ sym all.2) stepped;
+        back_left = left.0;
+        told = subst (λ (v : StopHand). T (term_stops left.0.by_then.progress) v) (sym all.8) (subst (λ (b : Bool). T b ended.told) left.1 acted.word);
+        stopped_for = λ on. sym left.1 ∙ stopped_told acted.told stopped ended.told acted.word never on;
+        report_is = er ∙ ap report_of g.2.progress;
+      },
+      transcript.0,
+      subst (λ (bytes : List ℕ). IsNoted begin acted.goes.marked g.0 (o.wrote.front ++ bytes) acted.handled result.noted transcript.0) (sym all_bytes) transcript.1,
+    )
 
 -- the passes before anything was sent
 pub ready_views : (v₀ v₁ v₂ v₃ n d k : View) → v₀ ≡ everyone → v₁ ≡ record v₀ { net = None } → n ≡ record nobody { net = v₀.net } → v₂ ≡ record v₁ { desk = None } → d ≡ record nobody { desk = v₁.desk } → v₃ ≡ record v₂ { back = None } → k ≡ record nobody { back = v₂.back } → (v₃ ≡ handler []) × (n ≡ sender Net []) × (d ≡ sender Desk []) × (k ≡ sender Back [])

@@ -16,13 +16,15 @@ use Rattle.tn_client_core.specs.declared.messages.Origin.TheVariants as origin
 use Rattle.tn_client_core.specs.declared.messages.Told.{Told}
 use Rattle.tn_client_core.specs.declared.progress.Progress.{Progress}
 use Rattle.tn_nvt.specs.Spelling.{spells}
-use Rattle.tn_session.specs.CoreTurns.{all_told}
+use Rattle.tn_session.specs.CoreTurns as turns
+use Rattle.tn_session.specs.CoreTurns.{all_told, origin_of}
+use Rattle.tn_session.specs.Notes.{Note, notes, no_notes}
 use Rattle.tn_session.specs.Facts.{ClientResult, Window}
 use Rattle.tn_session.specs.Mailbox.{Interleaves, four, sender}
 use Rattle.tn_session.specs.Reader.{ReaderSends}
 use Rattle.tn_session.specs.Reading.{max_reads, pieces_in}
 use Rattle.tn_session.specs.Stops.{IsTold, LeavesAt, core_stops}
-use Rattle.tn_session.specs.Transcripts.{Exchange, ReadsPrefix, Transcribes, all_read, all_wrote, came_by}
+use Rattle.tn_session.specs.Transcripts.{Exchange, ReadsPrefix, Transcribes, all_read, all_wrote, came_by, exchange_of}
 use Rattle.tn_session.specs.Turns.{Tells, max_writes}
 use Rattle.tn_session.specs.declared.channels.View.{View}
 use Rattle.tn_session.specs.declared.client.Mailbox.{Mailbox}
@@ -64,12 +66,15 @@ AreTwoSettled pass net keys net' keys' core' =
 abbrev pub client_report : Progress → Report
 client_report p = record { ended = p.ended; pieces = p.pieces; entries = 0; stops = 0 }
 
--- what a message brings from the network, and what the client says on it by now
+-- what a mail brings from the network, and a message with its mark, and what the client says on it by now
+abbrev pub brought_by : Mail → List ℕ
+brought_by x = brought_from origin.Net (origin_of x.from) x.message
+
 abbrev pub brings : Told × Mark → List ℕ
 brings m = brought_from origin.Net m.0.from m.0.message
 
 abbrev pub says : Run → List ℕ
-says c = spells (items_said c.sent)
+says c = turns.says c
 
 -- Of what Keys and Net sent, in the order that these passes know, and of what the core handled,
 -- wrote and showed.
@@ -114,7 +119,11 @@ pub record RunningClient (window : Window) (keys net : KnownReader) (writer scre
   pub was_read : ReadsPrefix net.bytes (all_read transcript)
   pub came : all_read transcript ≡ came_by result.net.net
   pub was_written : all_wrote transcript ≡ written
-  -- a step for each message
+  -- a step for each message, as the core noted it when it did it; it wrote nothing before the first
+  pub steps : List Note
+  pub noted : notes result.noted ≡ notes no_notes ++ steps
+  pub took : map (λ n. n.took) steps ≡ map (λ x. Some x) handled
+  pub as_noted : transcript ≡ map (exchange_of brought_by) steps
   pub transcribed : Transcribes Turns brings says (start window.width window.height window.limit) marked run
       written transcript
   -- and the keys that it read from the user

@@ -1,7 +1,9 @@
 -- The messages that the core of a client's session handled, and what was written and shown.
 use Rattle.std.specs.Prelude.{◌≡◌, ℕ, ◌≤◌, Bool, true, false, List, map}
+use Rattle.std.specs.List.{FoldsTo}
 use Rattle.std.specs.Io.KnownBytes.{Appends}
-use Rattle.tn_client_core.specs.Marks.{Runs, no_write_failed, no_show_failed, all_by, all_written, all_whole}
+use Rattle.tn_client.specs.Replies.{items_said}
+use Rattle.tn_client_core.specs.Marks.{Turns, Runs, is_written, no_write_failed, no_show_failed, all_by, all_written, all_whole}
 use Rattle.tn_client_core.specs.Reaching.{LeadsTo, IsTurn, SendsPrefix, ShowsPrefix}
 use Rattle.tn_client_core.specs.Run.{Run}
 use Rattle.tn_client_core.specs.declared.machine.Core.{Core}
@@ -9,8 +11,11 @@ use Rattle.tn_client_core.specs.declared.messages.Mark.{Mark}
 use Rattle.tn_client_core.specs.declared.messages.Origin.{Origin}
 use Rattle.tn_client_core.specs.declared.messages.Origin.TheVariants as origin
 use Rattle.tn_client_core.specs.declared.messages.Told.{Told}
+use Rattle.tn_nvt.specs.Spelling.{spells}
 use Rattle.tn_session.specs.Mailbox.{with_handled}
+use Rattle.tn_session.specs.Notes.{Noted, NotesAll, no_notes, writes}
 use Rattle.tn_session.specs.Stops.{StopHand, IsTold, StandsTold, core_stops}
+use Rattle.tn_session.specs.Transcripts.{IsStep, total}
 use Rattle.tn_session.specs.Turns.{Tells, lefts_of}
 use Rattle.tn_session.specs.declared.channels.View.{View}
 use Rattle.tn_session.specs.declared.mail.Mail.{Mail}
@@ -29,14 +34,26 @@ told_of mail = record { from = origin_of mail.from; message = mail.message }
 abbrev pub all_told : List Mail → List Told
 all_told mails = map told_of mails
 
--- one message with its mark: what was written and shown of what it sends and shows,
+-- what is said on the network by now
+abbrev pub says : Run → List ℕ
+says c = spells (items_said c.sent)
+
+abbrev pub is_over : Run → Bool
+is_over c = c.progress.over
+
+abbrev pub is_marked_written : Told × Mark → Bool
+is_marked_written m = is_written m.1
+
+-- one message with its mark: what was written and shown of what it sends and shows, what was noted,
 -- and what the writer and the screen told
-pub record TurnsTold (old : Core) (told : Told) (writer screen : KnownWriting) (new : Core) : Type 0 where
+pub record TurnsTold (old : Core) (told : Told) (writer screen : KnownWriting) (before after : Noted) (new : Core)
+    : Type 0 where
   pub mark : Mark
   pub bytes : List ℕ
   pub text : List ℕ
   pub wrote : Appends writer.before.bytes writer.after.bytes bytes
   pub showed : Appends screen.before.bytes screen.after.bytes text
+  pub noted : after ≡ writes before bytes
   pub tells : Tells (no_write_failed mark) writer.before.calls writer.after.calls
   pub tells_shown : Tells (no_show_failed mark) screen.before.calls screen.after.calls
   pub turn : IsTurn mark old told bytes text new
@@ -47,7 +64,11 @@ pub record ToldAll (old : Core) (messages : List Told) (writer screen : KnownWri
     : Type 0 where
   pub marked : List (Told × Mark)
   pub whole : map (λ m. m.0) marked ≡ messages
+  -- each with what was written after it
+  pub steps : List ((Told × Mark) × List ℕ)
+  pub of_steps : map (λ s. s.0) steps ≡ marked
   pub bytes : List ℕ
+  pub all_bytes : bytes ≡ total steps
   pub text : List ℕ
   pub wrote : Appends writer.before.bytes writer.after.bytes bytes
   pub showed : Appends screen.before.bytes screen.after.bytes text
@@ -56,17 +77,19 @@ pub record ToldAll (old : Core) (messages : List Told) (writer screen : KnownWri
   pub leads : (c : Run) → LeadsTo c old →
       (next : Run) × Runs c marked next × LeadsTo next new
       × SendsPrefix c next bytes (all_written marked) × ShowsPrefix c next text (all_whole marked)
+      × FoldsTo (IsStep Turns says is_over is_marked_written) c steps next
   pub over : all_whole marked ≡ false → new.progress.over ≡ true
   pub stays : old.progress.over ≡ true → new.progress.over ≡ true
 
--- what the core did: of the views before and after, of the writer to the network and of the screen, and of the
--- word to stop
-pub record CoreHandles (old : Core) (v w : View) (writer screen : KnownWriting) (stop : StopHand) (new : Core)
-    : Type 0 where
+-- what the core did: of the views before and after, of the writer to the network and of the screen, of what it noted
+-- from its beginning, and of the word to stop
+pub record CoreHandles (old : Core) (v w : View) (writer screen : KnownWriting) (after : Noted) (stop : StopHand)
+    (new : Core) : Type 0 where
   pub handled : List Mail
   pub view : w ≡ with_handled v handled
   pub lefts : 2 ≤ lefts_of handled
   pub goes : ToldAll old (all_told handled) writer screen new
+  pub noted : NotesAll handled (map (λ s. s.1) goes.steps) no_notes after
   pub told : Bool
   pub word : IsTold told stop
   pub stands : (c : Run) → LeadsTo c old

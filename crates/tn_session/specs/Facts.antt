@@ -7,6 +7,7 @@ use Rattle.tn_jobs.specs.declared.held_jobs.JobId.{JobId}
 use Rattle.tn_jobs.specs.declared.reactions.Reaction.{Reaction}
 use Rattle.tn_server.specs.declared.wishes.Editing.{Editing}
 use Rattle.tn_session.specs.Acts.{JobActs, job_acts}
+use Rattle.tn_session.specs.Notes.{Noted}
 use Rattle.tn_session.specs.declared.back.Runner.{Runner}
 use Rattle.tn_session.specs.declared.channels.View.{View}
 use Rattle.tn_session.specs.EntryChannel.{EntryHand}
@@ -60,13 +61,14 @@ views_of ports =
       told = view ports.told;
     }
 
--- the report of a session, and the views of its passes
+-- the report of a session, the views of its passes, and what its terminal did, in order
 pub record SessionResult : Type 0 where
   pub report : Report
   pub views : SessionViews
+  pub noted : Noted
 
 abbrev pub session_result : Report → Ports → SessionResult
-session_result report ports = record { report = report; views = views_of ports }
+session_result report ports = record { report = report; views = views_of ports; noted = ports.transcript }
 
 -- the size of a client's window, and the limit of its lines
 pub record Window : Type 0 where
@@ -74,14 +76,15 @@ pub record Window : Type 0 where
   pub height : ℕ
   pub limit : ℕ
 
--- the report of a client's session, what its threads sent and its core handled, and whether the thread that reads the
--- keys was told to stop
+-- the report of a client's session, what its threads sent and its core handled, whether the thread that reads the keys
+-- was told to stop, and what the core did, in order
 pub record ClientResult : Type 0 where
   pub report : Report
   pub keys : View
   pub net : View
   pub core : View
   pub told : StopHand
+  pub noted : Noted
 
 abbrev pub client_result : Report → ClientPorts → ClientResult
 client_result report ports =
@@ -91,4 +94,5 @@ client_result report ports =
       net = view ports.net;
       core = view ports.core;
       told = view ports.told;
+      noted = ports.transcript;
     }

@@ -1,4 +1,5 @@
 pub mod Mailbox
+pub mod Notes
 pub mod EntryChannel
 pub mod Credits
 pub mod Acts

@@ -12,6 +12,7 @@ use Rattle.tn_server.specs.Replies.{items_said}
 use Rattle.tn_session.specs.Acts.{JobActs}
 use Rattle.tn_session.specs.Facts.{JobFacts, SessionJobs, SessionResult, TermSettings}
 use Rattle.tn_session.specs.Jobs.{Numbered}
+use Rattle.tn_session.specs.Notes.{Noted, NotesWrite, no_notes, notes}
 use Rattle.tn_streams.specs.Prefixes.{IsPrefixOf}
 use Rattle.tn_session.specs.Mailbox.{Interleaves, four, sender}
 use Rattle.tn_queue.specs.Queue.{putter, taker}
@@ -21,10 +22,11 @@ use Rattle.tn_session.specs.Reading.{max_reads, pieces_in}
 use Rattle.tn_session.specs.Stepping.{AreSteps}
 use Rattle.tn_session.specs.Stops.{IsTold, LeavesAt, term_stops}
 use Rattle.tn_session.specs.Talk.{IsJob, IsTalk}
-use Rattle.tn_session.specs.Transcripts.{Exchange, ReadsPrefix, Transcribes, all_read, all_wrote, came_by}
+use Rattle.tn_session.specs.Transcripts.{Exchange, ReadsPrefix, Transcribes, all_read, all_wrote, came_by, exchange_of}
 use Rattle.tn_session.specs.Turning.{Holds, IsQueue, ids_of, jobs_of, queue_of}
 use Rattle.tn_session.specs.declared.back.Runner.{Runner}
-use Rattle.tn_session.specs.Turns.{Writes, Tells, max_writes, messages_of}
+use Rattle.tn_session.specs.Turns as turns
+use Rattle.tn_session.specs.Turns.{Tells, max_writes, messages_of}
 use Rattle.tn_session.specs.declared.mail.Mail.{Mail}
 use Rattle.tn_session.specs.declared.mail.Sender.TheVariants.{Net, Desk, Back}
 use Rattle.tn_session.specs.declared.parties.Report.{Report}
@@ -67,10 +69,11 @@ IsRefusal (fault.Client f) = ⊥
 abbrev pub IsOfThreads : SessionFault → Type 0
 IsOfThreads f = (f ≡ fault.Start) ⊎ (f ≡ fault.Channel)
 
--- the opening words were written, or the first of them
-pub record IsOpening (old : Term) (words : List ℕ) (writer : KnownWriting) (new : Term) : Type 0 where
+-- the opening words were written, or the first of them, and noted
+pub record IsOpening (old : Term) (words : List ℕ) (writer : KnownWriting) (before after : Noted) (new : Term)
+    : Type 0 where
   pub written : Bool
-  pub wrote : Writes written writer.before.bytes writer.after.bytes words
+  pub wrote : NotesWrite written writer.before.bytes writer.after.bytes words before after
   pub tells : Tells written writer.before.calls writer.after.calls
   pub leads : (c : Run) → LeadsTo c old → LeadsTo (run_after_opening written c) new
   pub over : written ≡ false → new.progress.over ≡ true
@@ -121,13 +124,40 @@ pub record Schedule {J : Type 0} (acts : JobActs J) (jobs : SessionJobs J) (sett
   -- six: the report
   pub report_is : result.report ≡ report_of run.progress
 
+-- A step of its transcript writes the opening words, or handles a message; what that brings from the network, and
+-- what the server says on it by now.
+abbrev pub OpensOrTurns : Run → Option (Message × Mark) → Run → Type 0
+OpensOrTurns c None new = new ≡ c
+OpensOrTurns c (Some m) new = Turns c m new
+
+abbrev pub brings : Option (Message × Mark) → List ℕ
+brings None = []
+brings (Some m) = bytes_in m.0
+
+abbrev pub says : Run → List ℕ
+says c = turns.says c
+
+-- what a mail brings
+abbrev pub brought_by : Mail → List ℕ
+brought_by x = bytes_in x.message
+
+-- Step by step as the terminal noted it: what it wrote before it took the first of these mails, and after each; and the
+-- run goes by these steps.
+pub record IsNoted (first : Run) (marked : List (Message × Mark)) (last : Run) (written : List ℕ) (handled : List Mail)
+    (noted : Noted) (transcript : List Exchange) : Type 0 where
+  pub as_noted : transcript ≡ map (exchange_of brought_by) (notes noted)
+  pub took : map (λ n. n.took) (notes noted) ≡ None ∷ map (λ x. Some x) handled
+  pub transcribed : Transcribes OpensOrTurns brings says first (None ∷ map (λ m. Some m) marked) last written transcript
+
 -- wherever the terminal is at first
 abbrev pub IsRun : {J : Type 0} → JobActs J → SessionJobs J → Term → List ℕ → KnownReader → KnownWriting
     → SessionResult → Type 0
 IsRun acts jobs term words reader writer result =
     (settings : TermSettings) (table : Jobs) → LeadsTo (start settings.canon settings.editing table) term
     → words ≡ spells (items_said (opening settings.canon settings.editing))
-    → Schedule acts jobs settings table reader writer result
+    → (s : Schedule acts jobs settings table reader writer result) × (transcript : List Exchange)
+    × IsNoted (run_after_opening s.wrote_opening (start settings.canon settings.editing table)) s.marked s.run s.written
+    s.handled result.noted transcript
 
 -- the jobs were made, and the terminal is started with them
 pub record IsBegun {J : Type 0} (fresh : J → Type 0) (settings : TermSettings) (b : Begun J) : Type 0 where
@@ -137,14 +167,15 @@ pub record IsBegun {J : Type 0} (fresh : J → Type 0) (settings : TermSettings)
   pub tostop : b.posts.tostop ≡ settings.canon.settings.flags.tostop
   pub job : fresh b.posts.job
   pub at : LeadsTo (start settings.canon settings.editing jobs) b.term
-  pub words : b.out.items ≡ spells (items_said (opening settings.canon settings.editing))
+  pub words : b.output.out.items ≡ spells (items_said (opening settings.canon settings.editing))
+  pub noted : b.output.transcript ≡ no_notes
 
 -- from after the opening words on, whatever these were
-abbrev pub RunsOn : {J : Type 0} → JobActs J → SessionJobs J → KnownReader → KnownWriting → Term
+abbrev pub RunsOn : {J : Type 0} → JobActs J → SessionJobs J → KnownReader → KnownWriting → Noted → Term
     → SessionResult → Type 0
-RunsOn acts jobs reader writer term result =
+RunsOn acts jobs reader writer noted term result =
     (began : Term) (words : List ℕ) (first : KnownWriter)
-    → IsOpening began words (record { before = first; after = writer.before }) term
+    → IsOpening began words (record { before = first; after = writer.before }) no_notes noted term
     → IsRun acts jobs began words reader (record { before = first; after = writer.after }) result
 
 -- The stream of the run is the first of the bytes that the reader gave, and all of them where a hang-up ended
@@ -162,19 +193,6 @@ TakesEntries settings given ended taken =
     (bytes : List ℕ) (xs : List Item) → given ≡ Some bytes → IsRead bytes xs
     → IsPrefixOf (entries_put taken) (entries_by settings.canon settings.editing xs)
     × (ended ≡ HangUp → entries_put taken ≡ entries_by settings.canon settings.editing xs)
-
--- A step of its transcript writes the opening words, or handles a message; what that brings from the network, and
--- what the server says on it by now.
-abbrev pub OpensOrTurns : Run → Option (Message × Mark) → Run → Type 0
-OpensOrTurns c None new = new ≡ c
-OpensOrTurns c (Some m) new = Turns c m new
-
-abbrev pub brings : Option (Message × Mark) → List ℕ
-brings None = []
-brings (Some m) = bytes_in m.0
-
-abbrev pub says : Run → List ℕ
-says c = spells (items_said c.history)
 
 -- The whole of it, for the jobs that were made. `to_make` is how many jobs the maker tells are to come.
 pub record RunningSession {J : Type 0} (facts : JobFacts J) (to_make : Option ℕ) (settings : TermSettings)
@@ -207,10 +225,10 @@ pub record RunningSession {J : Type 0} (facts : JobFacts J) (to_make : Option �
   pub was_read : ReadsPrefix reader.bytes (all_read transcript)
   pub came : all_read transcript ≡ came_by result.views.net.net
   pub was_written : all_wrote transcript ≡ schedule.written
-  -- a step for the opening words, and one for each message; it was heard whole where a hang-up ended the session
-  pub transcribed : Transcribes OpensOrTurns brings says
-      (run_after_opening schedule.wrote_opening (start settings.canon settings.editing jobs))
-      (None ∷ map (λ m. Some m) schedule.marked) schedule.run schedule.written transcript
+  -- a step for the opening words, and one for each message, as the terminal noted it when it did it; it was heard whole
+  -- where a hang-up ended the session
+  pub noted : IsNoted (run_after_opening schedule.wrote_opening (start settings.canon settings.editing jobs))
+      schedule.marked schedule.run schedule.written schedule.handled result.noted transcript
   pub heard_whole : result.report.ended ≡ HangUp → schedule.run.stream ≡ all_read transcript
   -- six: a fault is told only where its cause was there
   pub caused : (f : SessionFault) → result.report.ended ≡ Fault f

@@ -1,9 +1,10 @@
 -- What can be seen of a session on its connection: step by step, which bytes it read and which it wrote. Read
 -- `Exchange`, `all_read`, `all_wrote` and `came_by`; what follows ties them to a run.
-use Rattle.std.specs.Prelude.{◌≡◌, ◌⊎◌, ℕ, Option, Some, None, List, [], ◌∷◌, ◌++◌, map}
+use Rattle.std.specs.Prelude.{◌≡◌, ◌⊎◌, ℕ, Bool, true, false, Option, Some, None, List, [], ◌∷◌, ◌++◌, map}
 use Rattle.std.specs.Io.KnownBytes.{Consumes}
 use Rattle.std.specs.List.{FoldsTo}
 use Rattle.tn_messages.specs.Pieces.{bytes_in}
+use Rattle.tn_session.specs.Notes.{Note, Noted, notes}
 use Rattle.tn_session.specs.declared.mail.Mail.{Mail}
 use Rattle.tn_streams.specs.Prefixes.{IsPrefixOf}
 
@@ -49,6 +50,32 @@ pub record IsExchange {R M : Type 0} (turns : R → M → R → Type 0) (brings 
   pub wrote : new.wrote ≡ old.wrote ++ step.1.wrote
   pub said : IsPrefixOf new.wrote (says new.run)
   pub whole : (new.wrote ≡ says new.run) ⊎ (new.wrote ≡ written)
+
+-- One step of a run, and what was written in it: the first of what it says more, all of that where the message was done
+-- and written wholly, and none once nothing has any effect.
+pub record IsStep {R M : Type 0} (turns : R → M → R → Type 0) (says : R → List ℕ) (is_over : R → Bool)
+    (is_whole : M → Bool) (old : R) (step : M × List ℕ) (new : R) : Type 0 where
+  pub turn : turns old step.0 new
+  pub rest : List ℕ
+  pub said : says new ≡ says old ++ (step.1 ++ rest)
+  pub all : is_whole step.0 ≡ true → rest ≡ []
+  pub over : is_whole step.0 ≡ false → is_over new ≡ true
+  pub stays : is_over old ≡ true → is_over new ≡ true
+  pub idle : is_over old ≡ true → step.1 ≡ []
+
+-- all that was written in these steps
+abbrev pub total : {M : Type 0} → List (M × List ℕ) → List ℕ
+total [] = []
+total (s ∷ ss) = s.1 ++ total ss
+
+-- what a mail brings, if one was taken
+abbrev pub came_in : (Mail → List ℕ) → Option Mail → List ℕ
+came_in brings None = []
+came_in brings (Some mail) = brings mail
+
+-- the steps as the core noted them
+abbrev pub exchange_of : (Mail → List ℕ) → Note → Exchange
+exchange_of brings note = record { read = came_in brings note.took; wrote = note.wrote }
 
 -- a step for each message of a run, in which all was written that was
 pub record Transcribes {R M : Type 0} (turns : R → M → R → Type 0) (brings : M → List ℕ)

@@ -1,19 +1,22 @@
 -- The messages that were handled, and what was put and written.
 use Rattle.std.specs.Prelude.{◌≡◌, ℕ, ◌+◌, ◌≤◌, Bool, true, false, Option, List, [], ◌∷◌, ◌++◌, map}
+use Rattle.std.specs.List.{FoldsTo}
 use Rattle.std.specs.Io.KnownBytes.{Appends}
 use Rattle.tn_discipline.specs.declared.reads.Entry.{Entry}
 use Rattle.tn_nvt.specs.Spelling.{spells}
 use Rattle.tn_server.specs.Replies.{items_said}
 use Rattle.tn_session.specs.Mailbox.{with_handled}
+use Rattle.tn_session.specs.Notes.{Noted, NotesAll, writes}
 use Rattle.tn_queue.specs.Queue.{putter}
 use Rattle.tn_session.specs.Stops.{StopHand, IsTold, StandsTold, term_stops}
+use Rattle.tn_session.specs.Transcripts.{IsStep, total}
 use Rattle.tn_session.specs.declared.channels.View.{View}
 use Rattle.tn_session.specs.EntryChannel.{EntryHand}
 use Rattle.tn_session.specs.declared.mail.Mail.{Mail}
 use Rattle.tn_session.specs.declared.mail.Sender.TheVariants.{Back}
 use Rattle.tn_streams.specs.Known.{KnownWriting}
 use Rattle.tn_streams.specs.Telling.{Calls, AccountsFor}
-use Rattle.tn_term.specs.Marks.{Runs, all_whole, no_write_failed, no_writes_failed}
+use Rattle.tn_term.specs.Marks.{Turns, Runs, is_whole, all_whole, no_write_failed, no_writes_failed}
 use Rattle.tn_term.specs.Reaching.{LeadsTo, IsTurn}
 use Rattle.tn_term.specs.Run.{Run, puts_of}
 use Rattle.tn_term.specs.Welcoming.{too_far_ahead}
@@ -38,14 +41,25 @@ max_writes = 18446744073709551615
 abbrev pub Tells : Bool → Option Calls → Option Calls → Type 0
 Tells well before after = AccountsFor max_writes well before after
 
--- one message with its mark: what was written of what it sends, and what was put
-pub record TurnsMessage (old : Term) (message : Message) (writer : KnownWriting) (v w : EntryHand) (new : Term)
-    : Type 0 where
+-- what is said on the network by now
+abbrev pub says : Run → List ℕ
+says c = spells (items_said c.history)
+
+abbrev pub is_over : Run → Bool
+is_over c = c.progress.over
+
+abbrev pub is_marked_whole : Message × Mark → Bool
+is_marked_whole m = is_whole m.1
+
+-- one message with its mark: what was written of what it sends, and noted, and what was put
+pub record TurnsMessage (old : Term) (message : Message) (writer : KnownWriting) (before after : Noted)
+    (v w : EntryHand) (new : Term) : Type 0 where
   pub mark : Mark
   pub bytes : List ℕ
   pub put : Put
   pub last : Put
   pub wrote : Appends writer.before.bytes writer.after.bytes bytes
+  pub noted : after ≡ writes before bytes
   pub tells : Tells (no_write_failed mark) writer.before.calls writer.after.calls
   pub turn : IsTurn mark old message bytes put last new
   pub puts : (l : List (Option Entry)) → v ≡ putter l
@@ -57,7 +71,11 @@ pub record GoesOn (old : Term) (messages : List Message) (writer : KnownWriting)
     (puts : List (Option Entry)) (new : Term) : Type 0 where
   pub marked : List (Message × Mark)
   pub whole : map (λ m. m.0) marked ≡ messages
+  -- each with what was written after it
+  pub steps : List ((Message × Mark) × List ℕ)
+  pub of_steps : map (λ s. s.0) steps ≡ marked
   pub bytes : List ℕ
+  pub all_bytes : bytes ≡ total steps
   pub wrote : Appends writer.before.bytes writer.after.bytes bytes
   pub tells : Tells (no_writes_failed marked) writer.before.calls writer.after.calls
   pub leads : (c : Run) → LeadsTo c old →
@@ -65,6 +83,7 @@ pub record GoesOn (old : Term) (messages : List Message) (writer : KnownWriting)
       × (rest : List ℕ)
       × (spells (items_said next.history) ≡ spells (items_said c.history) ++ (bytes ++ rest))
       × (all_whole marked ≡ true → rest ≡ [])
+      × FoldsTo (IsStep Turns says is_over is_marked_whole) c steps next
   pub over : all_whole marked ≡ false → new.progress.over ≡ true
   pub stays : old.progress.over ≡ true → new.progress.over ≡ true
   pub idle : old.progress.over ≡ true → bytes ≡ []
@@ -85,15 +104,17 @@ abbrev pub StaysInReach : Term → Ended → Type 0
 StaysInReach old ended =
     (c : Run) → LeadsTo c old → ended ≡ too_far_ahead → c.progress.ended ≡ too_far_ahead
 
--- what the terminal did: of the views and the writer before and after, and of the word to stop
+-- what the terminal did: of the views, the writer and its notes before and after, and of the word to stop. It takes
+-- ten, since each is seen before and after.
 pub record HandlesAll (old : Term) (v w : View) (before_hand after_hand : EntryHand) (writer : KnownWriting)
-    (stop : StopHand) (new : Term) : Type 0 where
+    (before after : Noted) (stop : StopHand) (new : Term) : Type 0 where
   pub handled : List Mail
   pub puts : List (Option Entry)
   pub view : w ≡ with_handled v handled
   pub hand : (l : List (Option Entry)) → before_hand ≡ putter l → after_hand ≡ putter (l ++ puts)
   pub lefts : 3 ≤ lefts_of handled
   pub goes : GoesOn old (messages_of handled) writer puts new
+  pub noted : NotesAll handled (map (λ s. s.1) goes.steps) before after
   pub told : Bool
   pub word : IsTold told stop
   pub stands : (c : Run) → LeadsTo c old

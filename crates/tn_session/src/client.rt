@@ -21,6 +21,7 @@ use crate::parties::{ClientPorts, Gate, Place, Report};
 use crate::session::MAILS;
 use crate::stops::{StopPass, StopSeat, Watched, make_stops};
 use crate::threads::{ClientReturned, ClientStarted, ThreadLeft, start_reader};
+use crate::transcript::Transcript;
 use crossbeam_channel::bounded_with;
 use std::alloc::{AllocError, Global};
 use std::sync::{Arc, Wait};
@@ -113,12 +114,14 @@ fn settle(
     net: MailPass,
     keys: MailPass,
     told: StopPass,
+    transcript: Transcript,
 ) -> ClientPorts
     requires { IsSeatAt (sends_on to.now) pass × IsSeatAt (sends_on to.now) net ×
         IsSeatAt (sends_on to.now) keys }
     ensures settled { AreTwoSettled (view pass) (view net) (view keys) (view result.net) (view result.keys)
         (view result.core) }
     ensures told { result.told ≡ told }
+    ensures transcript { result.transcript ≡ transcript }
 {
     to.absorb::<Union>(&mut pass, net);
     to.absorb::<Union>(&mut pass, keys);
@@ -130,6 +133,7 @@ fn settle(
         net,
         core: pass,
         told,
+        transcript,
     }
 }
 
@@ -181,7 +185,7 @@ where
         (known_writing S.contents S.told screen.old screen.new) (client_result r.0 r.1)) }
     ensures finished { IfOk result (λ r. IsFinished (W.sending writer.old) (W.sending writer.new)) }
 {
-    let Some(pass) = run_core(
+    let Some((pass, transcript)) = run_core(
         rt,
         alloc,
         &ends.from,
@@ -202,7 +206,7 @@ where
     let ClientReturned { net, keys } = returned;
     let ThreadLeft { pass: keys, stops } = keys;
     let told = watched.stops.settle(stops);
-    let ports = settle(&ends.to, pass, net, keys, told);
+    let ports = settle(&ends.to, pass, net, keys, told, transcript);
     Ok((report(core.progress()), ports))
 }
 

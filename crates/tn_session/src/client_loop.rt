@@ -11,12 +11,13 @@ ghost use Rattle.tn_session.specs.declared.mail.Sender.TheVariants.{Keys};
 ghost use Rattle.tn_streams.specs.Known.{known_writing};
 ghost use Rattle.tn_streams.specs.Sending.{StaysOpen, IsFinished};
 
-use crate::channels::{Handles, MailPass, MailReceiver};
+use crate::channels::{MailPass, MailReceiver};
 use crate::closing::finish_once;
 use crate::mail::{Mail, Sender};
 use crate::parties::Gate;
 use crate::stops::Watched;
 use crate::term::{finish_unless, leaves};
+use crate::transcript::{Output, Transcript};
 use crate::writing::write_out;
 use std::alloc::Global;
 use std::sync::Wait;
@@ -69,28 +70,27 @@ fn tell<G: Gate>(gate: &G, core: &Core) {
 fn turn<W: Finish, S: Drain, G: Gate>(
     core: &mut Core,
     told: Told,
-    out: &mut Vec<u8>,
+    output: &mut Output,
     text: &mut Vec<u8>,
     writer: &mut W,
     screen: &mut S,
     gate: &G,
 )
-    requires out { out.old.items ≡ [] }
+    requires out { output.old.out.items ≡ [] }
     requires text { text.old.items ≡ [] }
-    ensures out { out.new.items ≡ [] }
+    ensures out { output.new.out.items ≡ [] }
     ensures text { text.new.items ≡ [] }
     ensures turned { TurnsTold core.old told (known_writing W.contents W.told writer.old writer.new)
-        (known_writing S.contents S.told screen.old screen.new) core.new }
+        (known_writing S.contents S.told screen.old screen.new) output.old.transcript output.new.transcript core.new }
     ensures going { StaysOpen (W.sending writer.old) (W.sending writer.new) }
     ensures silent { (core.old.progress.over || core.old.progress.closed) ≡ true →
         W.sending writer.new ≡ W.sending writer.old }
     ensures closed { core.old.progress.closed ≡ true → core.new.progress.closed ≡ true }
 {
-    let mark = core.handle(told, out, text);
+    let mark = core.handle(told, &mut output.out, text);
     tell(gate, core);
-    let written = write_out(writer, out);
+    let written = output.write_out(writer);
     let shown = write_out(screen, text);
-    out.clear();
     text.clear();
     if is_done(written, shown, mark) {
         return;
@@ -141,19 +141,19 @@ pub(crate) fn run_core<R: Wait, W: Finish, S: Drain, G: Gate>(
     writer: &mut W,
     screen: &mut S,
     watched: &mut Watched<G>,
-) -> Option<MailPass>
+) -> Option<(MailPass, Transcript)>
     requires mailbox { IsSeatAt (receives_on from.now) pass × ((view pass).handled ≡ Some []) }
     requires stops { IsSeatAt (sends_on watched.old.stops.to) watched.old.stops.pass ×
         (view watched.old.stops.pass ≡ putter []) }
-    ensures mailbox { IfSome result (λ p. IsSeatAt (receives_on from.now) p) }
-    ensures acted { IfSome result (λ p.
-        CoreHandles core.old (view pass) (view p) (known_writing W.contents W.told writer.old writer.new)
-        (known_writing S.contents S.told screen.old screen.new) (view watched.new.stops.pass) core.new) }
+    ensures mailbox { IfSome result (λ r. IsSeatAt (receives_on from.now) r.0) }
+    ensures acted { IfSome result (λ r.
+        CoreHandles core.old (view pass) (view r.0) (known_writing W.contents W.told writer.old writer.new)
+        (known_writing S.contents S.told screen.old screen.new) r.1 (view watched.new.stops.pass) core.new) }
     ensures finished { IfSome result (λ p. IsFinished (W.sending writer.old) (W.sending writer.new)) }
     ensures stops { IfSome result (λ p. (watched.new.stops.to ≡ watched.old.stops.to) ×
         IsSeatAt (sends_on watched.new.stops.to) watched.new.stops.pass) }
 {
-    let mut out = Vec::new(alloc);
+    let mut output = Output::new(alloc);
     let mut text = Vec::new(alloc);
     let mut lefts = 0u64;
     let mut closed = false;
@@ -162,17 +162,15 @@ pub(crate) fn run_core<R: Wait, W: Finish, S: Drain, G: Gate>(
     for _ in rt.forever() {
         if lefts >= SENDERS {
             finish_unless(closed, writer);
-            return Some(pass);
+            return Some((pass, output.transcript));
         }
-        let Ok(mail) = from.recv_as::<Handles, R>(rt, &mut pass) else {
-            return None;
-        };
+        let mail = output.transcript.take(rt, from, &mut pass)?;
         let left = leaves(&mail.message);
         keys_left = has_left(keys_left, &mail);
         turn(
             core,
             told_of(mail),
-            &mut out,
+            &mut output,
             &mut text,
             writer,
             screen,

@@ -15,9 +15,16 @@ use crate::parties::Ports;
 use crate::stops::StopTeller;
 use crate::term::{Ends, Passes};
 use crate::threads::{Returned, ThreadLeft};
+use crate::transcript::Transcript;
 
 /// Joins the passes, so that their lists are compared, and splits them again.
-pub(crate) fn settle(ends: &Ends, passes: Passes, returned: Returned, teller: StopTeller) -> Ports
+pub(crate) fn settle(
+    ends: &Ends,
+    passes: Passes,
+    returned: Returned,
+    teller: StopTeller,
+    transcript: Transcript,
+) -> Ports
     requires mailbox { IsSeatAt (sends_on ends.now.to) passes.mails ×
         IsSeatAt (sends_on ends.now.to) returned.net × IsSeatAt (sends_on ends.now.to) returned.desk ×
         IsSeatAt (sends_on ends.now.to) returned.back.pass }
@@ -36,6 +43,7 @@ pub(crate) fn settle(ends: &Ends, passes: Passes, returned: Returned, teller: St
       told = view teller.pass;
     })
         (views_of result) }
+    ensures transcript { result.transcript ≡ transcript }
     ensures stopped { has_stopped returned.back.stops ≡ true → view teller.pass ≢ putter [] }
 {
     let Passes {
@@ -69,5 +77,6 @@ pub(crate) fn settle(ends: &Ends, passes: Passes, returned: Returned, teller: St
         put: hand,
         took,
         told,
+        transcript,
     }
 }

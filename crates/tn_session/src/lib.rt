@@ -12,6 +12,7 @@ pub use stops::{Stop, StopPass};
 pub use tn_client_core::Terms;
 pub use tn_messages::{Ended, Message, SessionFault};
 pub use tn_streams::Finish;
+pub use transcript::Transcript;
 
 mod back;
 mod channels;
@@ -31,4 +32,5 @@ mod session;
 mod stops;
 mod term;
 mod threads;
+mod transcript;
 mod writing;

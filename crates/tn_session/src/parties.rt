@@ -6,6 +6,7 @@ ghost use Rattle.tn_session.specs.Makers.{MakesJob};
 use crate::channels::MailPass;
 use crate::entries::EntryPass;
 use crate::stops::StopPass;
+use crate::transcript::Transcript;
 use std::alloc::{AllocError, Global};
 use tn_client_core::Terms;
 use tn_jobs::{Job, JobId};
@@ -81,7 +82,7 @@ pub struct Report {
 }
 
 /// The passes of the channels, in which contracts see what was sent and handled, and whether the thread of the
-/// background jobs was told to stop.
+/// background jobs was told to stop; and what the terminal did, in order.
 #[derive(Drop)]
 pub struct Ports {
     pub net: MailPass,
@@ -91,14 +92,16 @@ pub struct Ports {
     pub put: EntryPass,
     pub took: EntryPass,
     pub told: StopPass,
+    pub transcript: Transcript,
 }
 
 /// The passes of a client session's channels, in which contracts see what was sent and handled, and whether the
-/// thread that reads the keys was told to stop.
+/// thread that reads the keys was told to stop; and what the core did, in order.
 #[derive(Drop)]
 pub struct ClientPorts {
     pub keys: MailPass,
     pub net: MailPass,
     pub core: MailPass,
     pub told: StopPass,
+    pub transcript: Transcript,
 }

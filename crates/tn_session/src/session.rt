@@ -7,6 +7,7 @@ ghost use Rattle.tn_session.specs.Acts.{job_acts};
 ghost use Rattle.tn_session.specs.Facts.{job_facts, session_result};
 ghost use Rattle.tn_session.specs.Joining.{IsReady, handler};
 ghost use Rattle.tn_session.specs.Makers.{AreAll, GivesJobs, IsMakerFault, begins};
+ghost use Rattle.tn_session.specs.Notes.{no_notes};
 ghost use Rattle.tn_queue.specs.Queue.{putter};
 ghost use Rattle.tn_session.specs.Session.{IsBegun, IsOpening, IsRun, IsRefusal, IsOfThreads, RunsOn, RunningSession, report_of};
 ghost use Rattle.tn_session.specs.Stops.{AreNewStops};
@@ -30,7 +31,7 @@ use crate::parties::{Gate, Maker, Place, Ports, Report};
 use crate::stops::{StopSeat, Watched, make_stops};
 use crate::term::{Ends, Passes, run_term};
 use crate::threads::{BackSeats, Started, start_back, start_desk, start_reader};
-use crate::writing::write_out;
+use crate::transcript::Output;
 use crossbeam_channel::bounded_with;
 use std::alloc::{AllocError, Global};
 use std::collections::VecDeque;
@@ -134,7 +135,7 @@ struct Posts<J> {
 struct Begun<J> {
     posts: Posts<J>,
     term: Term,
-    out: Vec<u8>,
+    output: Output,
 }
 
 // Makes the jobs and starts the terminal.
@@ -160,8 +161,8 @@ fn begin<M: Maker + Drop>(
         job,
         queue,
     } = make_jobs(alloc, &mut maker)?;
-    let mut out = Vec::new(alloc);
-    let Ok(term) = Term::start(alloc, settings, limit, editing, table, &mut out) else {
+    let mut output = Output::new(alloc);
+    let Ok(term) = Term::start(alloc, settings, limit, editing, table, &mut output.out) else {
         return Err(SessionFault::Memory);
     };
     let posts = Posts {
@@ -170,19 +171,21 @@ fn begin<M: Maker + Drop>(
         queue,
         tostop,
     };
-    Ok(Begun { posts, term, out })
+    Ok(Begun {
+        posts,
+        term,
+        output,
+    })
 }
 
 // Writes the opening words. Where that fails, nothing has any effect from there on.
-fn open<W: Finish>(term: &mut Term, out: &mut Vec<u8>, writer: &mut W)
-    ensures out { out.new.items ≡ [] }
-    ensures opened { IsOpening term.old out.old.items
-        (known_writing W.contents W.told writer.old writer.new) term.new }
+fn open<W: Finish>(term: &mut Term, output: &mut Output, writer: &mut W)
+    ensures out { output.new.out.items ≡ [] }
+    ensures opened { IsOpening term.old output.old.out.items
+        (known_writing W.contents W.told writer.old writer.new) output.old.transcript output.new.transcript term.new }
     ensures going { StaysOpen (W.sending writer.old) (W.sending writer.new) }
 {
-    let written = write_out(writer, out);
-    out.clear();
-    if written {
+    if output.write_out(writer) {
         return;
     }
     term.write_failed();
@@ -207,7 +210,7 @@ fn run_beside<R, Rd, W, J, G>(
     ends: Ends,
     passes: Passes,
     term: &mut Term,
-    out: &mut Vec<u8>,
+    mut output: Output,
     writer: &mut W,
     mut watched: Watched<G>,
 ) -> Result<(Report, Ports), SessionFault>
@@ -227,7 +230,7 @@ where
     requires desk { (sends_on started.desk.promise.to.value ≡ sends_on ends.to) ×
         (receives_on started.desk.promise.from.value ≡ sends_on ends.put) }
     requires back { sends_on started.back.promise.to.value ≡ sends_on ends.to }
-    requires out { out.old.items ≡ [] }
+    requires out { output.out.items ≡ [] }
     requires stops { IfSome started.back.promise.stops.value (λ seat. AreNewStops watched.stops seat) }
     requires teller { IsSeatAt (sends_on watched.stops.to) watched.stops.pass ×
         (view watched.stops.pass ≡ putter []) }
@@ -241,11 +244,11 @@ where
           tostop = started.back.promise.tostop;
         })
         (known_reader Rd.remaining Rd.foretold Rd.sizes started.net.promise.reader.value)
-        (known_writing W.contents W.told writer.old writer.new) term.old (session_result r.0 r.1)) }
+        (known_writing W.contents W.told writer.old writer.new) output.transcript term.old (session_result r.0 r.1)) }
     ensures in_reach { IfOk result (λ r. StaysInReach term.old r.0.ended) }
     ensures finished { IfOk result (λ r. IsFinished (W.sending writer.old) (W.sending writer.new)) }
 {
-    let Some(passes) = run_term(rt, &ends, passes, term, out, writer, &mut watched) else {
+    let Some(passes) = run_term(rt, &ends, passes, term, &mut output, writer, &mut watched) else {
         writer.finish();
         drop(ends);
         started.join(rt);
@@ -254,7 +257,7 @@ where
     let Some(returned) = started.join(rt) else {
         return Err(SessionFault::Channel);
     };
-    let ports = settle(&ends, passes, returned, watched.stops);
+    let ports = settle(&ends, passes, returned, watched.stops, output.transcript);
     Ok((report(term.progress()), ports))
 }
 
@@ -265,7 +268,7 @@ fn run<R, Rd, W, J, G>(
     alloc: Global,
     reader: Rd,
     writer: &mut W,
-    mut begun: Begun<J>,
+    begun: Begun<J>,
     outfit: Outfit<G>,
 ) -> Result<(Report, Ports), SessionFault>
 where
@@ -277,7 +280,7 @@ where
     requires ready { IsReady outfit.channels }
     requires stops { AreNewStops outfit.watched.stops outfit.stops }
     requires fresh { J.fresh begun.posts.job × IsQueue J.fresh begun.posts.queue.items }
-    requires out { begun.out.items ≡ [] }
+    requires out { begun.output.out.items ≡ [] }
     ensures fault { IfErr result IsOfThreads }
     ensures ran { IfOk result (λ r.
         RunsOn (job_acts J.reacts J.steps J.refuses)
@@ -288,7 +291,8 @@ where
           tostop = begun.posts.tostop;
         })
         (known_reader Rd.remaining Rd.foretold Rd.sizes reader)
-        (known_writing W.contents W.told writer.old writer.new) begun.term (session_result r.0 r.1)) }
+        (known_writing W.contents W.told writer.old writer.new) begun.output.transcript begun.term
+        (session_result r.0 r.1)) }
     ensures in_reach { IfOk result (λ r. StaysInReach begun.term r.0.ended) }
     ensures finished { IfOk result (λ r. IsFinished (W.sending writer.old) (W.sending writer.new)) }
 {
@@ -302,12 +306,17 @@ where
         credits,
         step_credits,
     } = outfit.channels;
+    let Begun {
+        posts,
+        mut term,
+        output,
+    } = begun;
     let Posts {
         first,
         job,
         queue,
         tostop,
-    } = begun.posts;
+    } = posts;
     let part = ReaderPart {
         who: Sender::Net,
         place: Place::NetPiece,
@@ -340,8 +349,8 @@ where
         started,
         ends,
         passes,
-        &mut begun.term,
-        &mut begun.out,
+        &mut term,
+        output,
         writer,
         outfit.watched,
     )
@@ -396,6 +405,7 @@ where
     J: Job + Send + 'static,
     G: Gate + Drop + Send + Sync + 'static,
     requires fresh { J.fresh begun.posts.job × IsQueue J.fresh begun.posts.queue.items }
+    requires transcript { begun.output.transcript ≡ no_notes }
     ensures fault { IfErr result IsRefusal }
     ensures ran { IfOk result (λ r.
         IsRun (job_acts J.reacts J.steps J.refuses)
@@ -405,7 +415,7 @@ where
           queue = begun.posts.queue.items;
           tostop = begun.posts.tostop;
         })
-        begun.term begun.out.items (known_reader Rd.remaining Rd.foretold Rd.sizes reader)
+        begun.term begun.output.out.items (known_reader Rd.remaining Rd.foretold Rd.sizes reader)
         (known_writing W.contents W.told writer.old writer.new) (session_result r.0 r.1)) }
     ensures in_reach { IfOk result (λ r. StaysInReach begun.term r.0.ended) }
     ensures finished { IfOk result (λ r. IsFinished (W.sending writer.old) (W.sending writer.new)) }
@@ -413,7 +423,7 @@ where
     let Ok(outfit) = equip(alloc, gate) else {
         return Err(SessionFault::Memory);
     };
-    open(&mut begun.term, &mut begun.out, writer);
+    open(&mut begun.term, &mut begun.output, writer);
     run(rt, alloc, reader, writer, begun, outfit)
 }
 

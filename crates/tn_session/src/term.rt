@@ -16,14 +16,14 @@ ghost use Rattle.tn_streams.specs.Sending.{StaysOpen, IsFinished};
 ghost use Rattle.tn_term.specs.Marks.{is_whole};
 ghost use Rattle.tn_term.specs.Run.{puts_of};
 
-use crate::channels::{Handles, MailPass, MailReceiver, MailSender};
+use crate::channels::{MailPass, MailReceiver, MailSender};
 use crate::closing::finish_once;
 use crate::credit::{CreditGiver, CreditPass, CreditSender, give_credit, is_piece};
 use crate::entries::{EntryPass, EntrySender, Puts};
 use crate::mail::{Mail, Sender};
 use crate::parties::{Gate, Place};
 use crate::stops::Watched;
-use crate::writing::write_out;
+use crate::transcript::Output;
 use std::sync::Wait;
 use tn_discipline::Entry;
 use tn_jobs::JobId;
@@ -141,24 +141,23 @@ fn turn<R: Wait, W: Finish>(
     hand: EntryPass,
     term: &mut Term,
     message: Message,
-    out: &mut Vec<u8>,
+    output: &mut Output,
     writer: &mut W,
 ) -> Option<EntryPass>
     requires seat { IsSeatAt (sends_on entries.now) hand }
     requires role { (l : List (Option EntryT)) × (view hand ≡ putter l) }
-    requires out { out.old.items ≡ [] }
+    requires out { output.old.out.items ≡ [] }
     ensures seat { IfSome result (λ h. IsSeatAt (sends_on entries.now) h) }
-    ensures out { out.new.items ≡ [] }
+    ensures out { output.new.out.items ≡ [] }
     ensures turned { IfSome result (λ h.
-        TurnsMessage term.old message (known_writing W.contents W.told writer.old writer.new) (view hand)
-        (view h) term.new) }
+        TurnsMessage term.old message (known_writing W.contents W.told writer.old writer.new)
+        output.old.transcript output.new.transcript (view hand) (view h) term.new) }
     ensures going { StaysOpen (W.sending writer.old) (W.sending writer.new) }
     ensures silent { term.old.progress.over ≡ true → W.sending writer.new ≡ W.sending writer.old }
 {
-    let Outcome { put, last, mark } = term.handle(message, out);
+    let Outcome { put, last, mark } = term.handle(message, &mut output.out);
     let hand = put_if(rt, entries, hand, put);
-    let written = write_out(writer, out);
-    out.clear();
+    let written = output.write_out(writer);
     let hand = hand?;
     if is_done(written, mark) {
         return put_if(rt, entries, hand, last);
@@ -212,7 +211,7 @@ pub(crate) fn run_term<R: Wait, W: Finish, G: Gate>(
     ends: &Ends,
     passes: Passes,
     term: &mut Term,
-    out: &mut Vec<u8>,
+    output: &mut Output,
     writer: &mut W,
     watched: &mut Watched<G>,
 ) -> Option<Passes>
@@ -222,14 +221,15 @@ pub(crate) fn run_term<R: Wait, W: Finish, G: Gate>(
         (view passes.hand ≡ putter l) }
     requires credits { IsSeatAt (sends_on ends.now.give) passes.give }
     requires step_credits { IsSeatAt (sends_on passes.step_credits.to) passes.step_credits.pass }
-    requires out { out.old.items ≡ [] }
+    requires out { output.old.out.items ≡ [] }
     requires stops { IsSeatAt (sends_on watched.old.stops.to) watched.old.stops.pass ×
         (view watched.old.stops.pass ≡ putter []) }
     ensures mailbox { IfSome result (λ p. IsSeatAt (receives_on ends.now.from) p.mails) }
     ensures entries { IfSome result (λ p. IsSeatAt (sends_on ends.now.put) p.hand) }
     ensures acted { IfSome result (λ p.
         HandlesAll term.old (view passes.mails) (view p.mails) (view passes.hand) (view p.hand)
-        (known_writing W.contents W.told writer.old writer.new) (view watched.new.stops.pass) term.new) }
+        (known_writing W.contents W.told writer.old writer.new) output.old.transcript output.new.transcript
+        (view watched.new.stops.pass) term.new) }
     ensures credits { IfSome result (λ p. GivesCredits (view passes.mails) (view p.mails) (view passes.give) (view p.give)) }
     ensures step_credits { IfSome result (λ p. GivesStepCredits (view passes.mails) (view p.mails)
         (view passes.step_credits.pass) (view p.step_credits.pass)) }
@@ -259,9 +259,7 @@ pub(crate) fn run_term<R: Wait, W: Finish, G: Gate>(
                 step_credits,
             });
         }
-        let Ok(mail) = ends.from.recv_as::<Handles, R>(rt, &mut mails) else {
-            return None;
-        };
+        let mail = output.transcript.take(rt, &ends.from, &mut mails)?;
         back_left = has_left(back_left, &mail);
         step_credits.give_for(rt, &mail);
         let Mail { from: _, message } = mail;
@@ -272,7 +270,7 @@ pub(crate) fn run_term<R: Wait, W: Finish, G: Gate>(
         let job = job_of(&message);
         let piece = is_piece(&message);
         let before = term.progress().entries;
-        hand = turn(rt, &ends.put, hand, term, message, out, writer)?;
+        hand = turn(rt, &ends.put, hand, term, message, output, writer)?;
         tell_took(&*watched.gate, before, term.progress().entries);
         tell_said(&*watched.gate, job);
         closed = finish_once(writer, term.progress().over, closed);

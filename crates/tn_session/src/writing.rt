@@ -1,30 +1,42 @@
 //! What the terminal appends is written out, as far as the writer takes it.
 
-ghost use Rattle.std.specs.Prelude.{◌≡◌, [], true};
+ghost use Rattle.std.specs.Prelude.{◌≡◌, ◌≤◌, ◌==◌, [], take, length, true};
+ghost use Rattle.std.specs.Io.KnownBytes.{Appends};
 ghost use Rattle.tn_session.specs.Turns.{Tells, Writes};
 ghost use Rattle.tn_streams.specs.Sending.{StaysOpen};
 
 use tn_streams::{Drain, is_interrupted};
 
-/// Writes these bytes, or the first of them where a write fails. A write that takes none has failed.
-pub(crate) fn write_out<W: Drain>(writer: &mut W, bytes: &[u8]) -> bool
-    ensures writes { Writes result (W.contents writer.old) (W.contents writer.new) bytes.now }
-    ensures tells { Tells result (W.told writer.old) (W.told writer.new) }
-    ensures none { bytes.now ≡ [] → result ≡ true }
+/// Writes these bytes, or the first of them where a write fails, and answers how many it wrote. A write that takes none
+/// has failed.
+pub(crate) fn write_front<W: Drain>(writer: &mut W, bytes: &[u8]) -> usize
+    ensures bound { result ≤ length bytes.now }
+    ensures writes { Appends (W.contents writer.old) (W.contents writer.new) (take result bytes.now) }
+    ensures tells { Tells (result == length bytes.now) (W.told writer.old) (W.told writer.new) }
+    ensures none { bytes.now ≡ [] → result ≡ 0 }
     ensures going { StaysOpen (W.sending writer.old) (W.sending writer.new) }
     ensures silent { bytes.now ≡ [] → W.sending writer.new ≡ W.sending writer.old }
 {
     let mut at = 0;
     for _write in 0..u64::MAX {
         if at >= bytes.len() {
-            return true;
+            return at;
         }
         match writer.write_some(&bytes[at..]) {
-            Ok(0) => return false,
+            Ok(0) => return at,
             Ok(n) => at += n,
             Err(error) if is_interrupted(&error) => continue,
-            Err(_) => return false,
+            Err(_) => return at,
         }
     }
-    at >= bytes.len()
+    at
+}
+
+/// Writes these bytes, or the first of them where a write fails, and answers whether it wrote all.
+pub(crate) fn write_out<W: Drain>(writer: &mut W, bytes: &[u8]) -> bool
+    ensures writes { Writes result (W.contents writer.old) (W.contents writer.new) bytes.now }
+    ensures tells { Tells result (W.told writer.old) (W.told writer.new) }
+    ensures none { bytes.now ≡ [] → result ≡ true }
+{
+    write_front(writer, bytes) == bytes.len()
 }

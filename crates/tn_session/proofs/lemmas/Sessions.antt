@@ -3,7 +3,7 @@ use Rattle.std.proofs.Common.{◌≡◌, inl, ℕ, false, Option, Some, None, Li
 use Rattle.std.specs.List.{FoldsTo}
 use Rattle.tn_client.specs.Events as client
 use Rattle.tn_client.specs.Replies as client_says
-use Rattle.tn_client_core.specs.Bringing.{brought}
+use Rattle.tn_client_core.specs.Bringing.{brought, brought_from}
 use Rattle.tn_client_core.specs.Marks as core
 use Rattle.tn_client_core.specs.Run as core_run
 use Rattle.tn_client_core.specs.declared.messages.Mark as core_mark
@@ -21,7 +21,11 @@ use Rattle.tn_session.proofs.lemmas.ServerTurns.{server_turns}
 use Rattle.tn_session.proofs.lemmas.Transcribing.{prefix_self, on_to, all_grow, transcribes_on, reads_all, wrote_all}
 use Rattle.tn_session.specs.Client as of_client
 use Rattle.tn_session.specs.Session as of_server
-use Rattle.tn_session.specs.Transcripts.{Exchange, ReadsPrefix, Transcribes, IsExchange, all_read, all_wrote}
+use Rattle.tn_session.specs.CoreTurns.{all_told, told_of}
+use Rattle.tn_session.specs.Notes.{Note, Noted, no_notes, notes}
+use Rattle.tn_session.specs.Transcripts.{Exchange, Point, ReadsPrefix, Transcribes, IsExchange, all_read, all_wrote, exchange_of}
+use Rattle.tn_session.specs.Turns.{messages_of}
+use Rattle.tn_session.specs.declared.mail.Mail.{Mail}
 use Rattle.tn_streams.specs.Prefixes.{IsPrefixOf}
 use Rattle.tn_term.specs.Hearing.{heard}
 use Rattle.tn_term.specs.Marks as term
@@ -51,6 +55,15 @@ finished turns brings says first messages last written steps is goes = record {
   writes = sym (wrote_all turns brings says written steps _ _ goes);
 }
 
+-- the same of a transcript that is there
+abbrev saying : {R M : Type 0} (turns : R → M → R → Type 0) (brings : M → List ℕ) (says : R → List ℕ) (first : R) (messages : List M) (last : R) (written : List ℕ) (transcript : List Exchange) → Transcribes turns brings says first messages last written transcript → Transcript turns brings says first messages last written
+saying turns brings says first messages last written transcript t = record {
+  transcript = transcript;
+  transcribed = t;
+  reads = ap all_read (sym t.of_steps) ∙ reads_all turns brings says written t.steps _ _ t.goes ∙ ap (flat_map brings) t.of_messages;
+  writes = ap all_wrote (sym t.of_steps) ∙ sym (wrote_all turns brings says written t.steps _ _ t.goes);
+}
+
 -- THE SERVER'S
 server_grows : (p q : term_run.Run) (m : Option (Message × term_mark.Mark)) → Unit {0} → of_server.OpensOrTurns p m q → Unit {0} × IsPrefixOf (of_server.says p) (of_server.says q)
 server_grows p q None g t = (tt, ([], append-nil (of_server.says p) ∙ ap of_server.says (sym t)))
@@ -72,7 +85,7 @@ brings_heard : (ms : List (Message × term_mark.Mark)) → flat_map of_server.br
 brings_heard [] = refl
 brings_heard (m ∷ ms) = ap (λ (l : List ℕ). bytes_in m.0 ++ l) (brings_heard ms)
 
-abbrev ServerTranscript : term_run.Run → List (Message × term_mark.Mark) → term_run.Run → List ℕ → Type 0
+abbrev pub ServerTranscript : term_run.Run → List (Message × term_mark.Mark) → term_run.Run → List ℕ → Type 0
 ServerTranscript first marked last written = Transcript of_server.OpensOrTurns of_server.brings of_server.says first (None ∷ map (λ m. Some m) marked) last written
 
 pub server_transcript : (first : term_run.Run) (marked : List (Message × term_mark.Mark)) (last : term_run.Run) (written unwritten : List ℕ) → term.Runs first marked last → of_server.says last ≡ written ++ unwritten → ServerTranscript first marked last written
@@ -88,6 +101,10 @@ server_transcript first marked last written unwritten r said =
       record { turn = refl; read = refl; wrote = refl; said = next.1.is.said; whole = next.1.whole },
       later.2,
     )
+
+-- of a transcript that is there
+abbrev pub server_said : (first : term_run.Run) (marked : List (Message × term_mark.Mark)) (last : term_run.Run) (written : List ℕ) (transcript : List Exchange) → Transcribes of_server.OpensOrTurns of_server.brings of_server.says first (None ∷ map (λ m. Some m) marked) last written transcript → ServerTranscript first marked last written
+server_said first marked last written transcript t = saying of_server.OpensOrTurns of_server.brings of_server.says first (None ∷ map (λ m. Some m) marked) last written transcript t
 
 pub server_reads : (first : term_run.Run) (marked : List (Message × term_mark.Mark)) (last : term_run.Run) (written : List ℕ) (t : ServerTranscript first marked last written) → all_read t.transcript ≡ heard (map (λ m. m.0) marked)
 server_reads first marked last written t = t.reads ∙ brings_heard marked
@@ -110,7 +127,7 @@ brings_brought : (ms : List (Told × core_mark.Mark)) → flat_map of_client.bri
 brings_brought [] = refl
 brings_brought (m ∷ ms) = ap (λ (l : List ℕ). of_client.brings m ++ l) (brings_brought ms)
 
-abbrev ClientTranscript : core_run.Run → List (Told × core_mark.Mark) → core_run.Run → List ℕ → Type 0
+abbrev pub ClientTranscript : core_run.Run → List (Told × core_mark.Mark) → core_run.Run → List ℕ → Type 0
 ClientTranscript first marked last written = Transcript core.Turns of_client.brings of_client.says first marked last written
 
 pub client_transcript : (width height limit : ℕ) (marked : List (Told × core_mark.Mark)) (last : core_run.Run) (written unwritten : List ℕ) → core.Runs (core_run.start width height limit) marked last → of_client.says last ≡ written ++ unwritten → ClientTranscript (core_run.start width height limit) marked last written
@@ -119,9 +136,99 @@ client_transcript width height limit marked last written unwritten r said =
     let later = transcribes_on core.Turns of_client.brings of_client.says IsLatest client_grows marked first last written [] (λ o. refl) r (unwritten, sym said) (record { is = record { said = ([], refl); written = (written, refl) }; whole = inl refl }) in
     finished core.Turns of_client.brings of_client.says first marked last written later.0 later.1 later.2
 
+-- of a transcript that is there
+abbrev pub client_said : (width height limit : ℕ) (marked : List (Told × core_mark.Mark)) (last : core_run.Run) (written : List ℕ) (transcript : List Exchange) → Transcribes core.Turns of_client.brings of_client.says (core_run.start width height limit) marked last written transcript → ClientTranscript (core_run.start width height limit) marked last written
+client_said width height limit marked last written transcript t = saying core.Turns of_client.brings of_client.says (core_run.start width height limit) marked last written transcript t
+
 pub client_reads : (first : core_run.Run) (marked : List (Told × core_mark.Mark)) (last : core_run.Run) (written : List ℕ) (t : ClientTranscript first marked last written) → all_read t.transcript ≡ brought origin.Net (map (λ m. m.0) marked)
 client_reads first marked last written t = t.reads ∙ brings_brought marked
 
 -- what was read of what a reader gives
 pub as_read : (given : Option (List ℕ)) (bytes all : List ℕ) → all ≡ bytes → ReadsPrefix given bytes → ReadsPrefix given all
 as_read given bytes all e r = subst (λ (l : List ℕ). ReadsPrefix given l) (sym e) r
+
+-- EACH TRANSCRIPT CAN BE NOTED
+abbrev noted_from : Note → List Note → Noted
+noted_from n [] = record { done = []; last = n }
+noted_from n (m ∷ ms) = let later = noted_from m ms in record { done = n ∷ later.done; last = later.last }
+
+all_noted : (n : Note) (ns : List Note) → notes (noted_from n ns) ≡ n ∷ ns
+all_noted n [] = refl
+all_noted n (m ∷ ms) = ap (λ (l : List Note). n ∷ l) (all_noted m ms)
+
+each_read : {R M : Type 0} (turns : R → M → R → Type 0) (brings : M → List ℕ) (says : R → List ℕ) (written : List ℕ) (steps : List (M × Exchange)) (p q : Point R) → FoldsTo (IsExchange turns brings says written) p steps q → map (λ s. s.1.read) steps ≡ map (λ s. brings s.0) steps
+each_read turns brings says written [] p q goes = refl
+each_read turns brings says written (s ∷ ss) p q goes = λ i. goes.1.read i ∷ each_read turns brings says written ss goes.0 q goes.2 i
+
+parts : {A : Type 0} (a b : A) (us vs : List A) → a ∷ us ≡ b ∷ vs → (a ≡ b) × (us ≡ vs)
+parts a b us vs e = (cc, cc)
+
+none_some : {A : Type 0} {x : A} {xs : List A} → [] ≡ x ∷ xs → ⊥
+none_some e = cc
+
+some_none : {A : Type 0} {x : A} {xs : List A} → x ∷ xs ≡ [] → ⊥
+some_none e = cc
+
+noted_steps : (brought_by : Mail → List ℕ) (exchanges : List Exchange) (mails : List Mail) → map (λ x. x.read) exchanges ≡ map brought_by mails → (ns : List Note) × (exchanges ≡ map (exchange_of brought_by) ns) × (map (λ n. n.took) ns ≡ map (λ x. Some x) mails)
+noted_steps brought_by [] [] e = ([], refl, refl)
+noted_steps brought_by [] (m ∷ ms) e = absurd (none_some e)
+noted_steps brought_by (x ∷ xs) [] e = absurd (some_none e)
+noted_steps brought_by (x ∷ xs) (m ∷ ms) e =
+    let p = parts x.read (brought_by m) (map (λ (y : Exchange). y.read) xs) (map brought_by ms) e in
+    let later = noted_steps brought_by xs ms p.1 in
+    let first : x ≡ record { read = brought_by m; wrote = x.wrote } = λ i. record { read = p.0 i; wrote = x.wrote } in
+    (record { took = Some m; wrote = x.wrote } ∷ later.0, λ i. first i ∷ later.1 i, ap (λ (l : List (Option Mail)). Some m ∷ l) later.2)
+
+reads_of : {R M : Type 0} (turns : R → M → R → Type 0) (brings : M → List ℕ) (says : R → List ℕ) (first : R) (messages : List M) (last : R) (written : List ℕ) (transcript : List Exchange) → Transcribes turns brings says first messages last written transcript → map (λ x. x.read) transcript ≡ map brings messages
+reads_of {R} {M} turns brings says first messages last written transcript t =
+    ap (map (λ (x : Exchange). x.read)) (sym t.of_steps) ∙ reads t.steps ∙ each_read turns brings says written t.steps _ _ t.goes ∙ brought_in t.steps ∙ ap (map brings) t.of_messages
+  where
+    reads : (ss : List (M × Exchange)) → map (λ x. x.read) (map (λ s. s.1) ss) ≡ map (λ s. s.1.read) ss
+    reads [] = refl
+    reads (s ∷ ss) = ap (λ (l : List (List ℕ)). s.1.read ∷ l) (reads ss)
+
+    brought_in : (ss : List (M × Exchange)) → map (λ s. brings s.0) ss ≡ map brings (map (λ s. s.0) ss)
+    brought_in [] = refl
+    brought_in (s ∷ ss) = ap (λ (l : List (List ℕ)). brings s.0 ∷ l) (brought_in ss)
+
+pub server_noted : (first : term_run.Run) (marked : List (Message × term_mark.Mark)) (last : term_run.Run) (written : List ℕ) (handled : List Mail) (t : ServerTranscript first marked last written) → map (λ m. m.0) marked ≡ messages_of handled → (noted : Noted) × of_server.IsNoted first marked last written handled noted t.transcript
+server_noted first marked last written handled t messages =
+    go t.transcript t.transcribed (reads_of of_server.OpensOrTurns of_server.brings of_server.says first (None ∷ map (λ (m : Message × term_mark.Mark). Some m) marked) last written t.transcript t.transcribed)
+  where
+    some_brought : (ms : List (Message × term_mark.Mark)) (xs : List Mail) → map (λ m. m.0) ms ≡ messages_of xs → map of_server.brings (map (λ m. Some m) ms) ≡ map of_server.brought_by xs
+    some_brought [] [] e = refl
+    some_brought [] (x ∷ xs) e = absurd (none_some e)
+    some_brought (m ∷ ms) [] e = absurd (some_none e)
+    some_brought (m ∷ ms) (x ∷ xs) e =
+        let p = parts m.0 x.message (map (λ (k : Message × term_mark.Mark). k.0) ms) (messages_of xs) e in
+        λ i. bytes_in (p.0 i) ∷ some_brought ms xs p.1 i
+
+    go : (transcript : List Exchange) → Transcribes of_server.OpensOrTurns of_server.brings of_server.says first (None ∷ map (λ m. Some m) marked) last written transcript → map (λ x. x.read) transcript ≡ [] ∷ map of_server.brings (map (λ m. Some m) marked) → (noted : Noted) × of_server.IsNoted first marked last written handled noted transcript
+    go [] transcribed read = absurd (none_some read)
+    go (x ∷ xs) transcribed read =
+        let p = parts x.read [] (map (λ (y : Exchange). y.read) xs) (map of_server.brings (map (λ (m : Message × term_mark.Mark). Some m) marked)) read in
+        let later = noted_steps of_server.brought_by xs handled (p.1 ∙ some_brought marked handled messages) in
+        let opening : Note = record { took = None; wrote = x.wrote } in
+        let all = all_noted opening later.0 in
+        let same : x ≡ record { read = []; wrote = x.wrote } = λ i. record { read = p.0 i; wrote = x.wrote } in (
+          noted_from opening later.0,
+          record {
+            as_noted = (λ i. same i ∷ later.1 i) ∙ ap (map (exchange_of of_server.brought_by)) (sym all);
+            took = ap (map (λ (n : Note). n.took)) all ∙ ap (λ (l : List (Option Mail)). None ∷ l) later.2;
+            transcribed = transcribed;
+          },
+        )
+
+pub client_noted : (width height limit : ℕ) (marked : List (Told × core_mark.Mark)) (last : core_run.Run) (written : List ℕ) (handled : List Mail) (t : ClientTranscript (core_run.start width height limit) marked last written) → map (λ m. m.0) marked ≡ all_told handled → (noted : Noted) × (steps : List Note) × (notes noted ≡ notes no_notes ++ steps) × (map (λ n. n.took) steps ≡ map (λ x. Some x) handled) × (t.transcript ≡ map (exchange_of of_client.brought_by) steps)
+client_noted width height limit marked last written handled t messages =
+    let read = reads_of core.Turns of_client.brings of_client.says (core_run.start width height limit) marked last written t.transcript t.transcribed in
+    let steps = noted_steps of_client.brought_by t.transcript handled (read ∙ all_brought marked handled messages) in
+    (noted_from no_notes.last steps.0, steps.0, all_noted no_notes.last steps.0, steps.2, steps.1)
+  where
+    all_brought : (ms : List (Told × core_mark.Mark)) (xs : List Mail) → map (λ m. m.0) ms ≡ all_told xs → map of_client.brings ms ≡ map of_client.brought_by xs
+    all_brought [] [] e = refl
+    all_brought [] (x ∷ xs) e = absurd (none_some e)
+    all_brought (m ∷ ms) [] e = absurd (some_none e)
+    all_brought (m ∷ ms) (x ∷ xs) e =
+        let p = parts m.0 (told_of x) (map (λ (k : Told × core_mark.Mark). k.0) ms) (all_told xs) e in
+        λ i. brought_from origin.Net (p.0 i).from (p.0 i).message ∷ all_brought ms xs p.1 i

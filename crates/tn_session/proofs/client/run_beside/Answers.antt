@@ -23,7 +23,7 @@ returns-clause-ran g c =
     let screen = known_writing g.S.Drain.contents g.S.Drain.told c.args.screen.now c.run_core.new.screen in
     let same = ap (λ p. view p) c.settle-ports.ensures.told ∙ c.settle-told.ensures.same in
     client_ran c.args.core.now c.run_core.new.core (has_stopped returned.keys.stops) keys_reader net_reader writer screen (view c.args.pass) (view ended.pass) (view returned.net) (view returned.keys.pass) (client_result c.report.result ports)
-    c.requires.mailbox.2 (subst (λ v. CoreHandles c.args.core.now (view c.args.pass) (view ended.pass) writer screen v c.run_core.new.core) (sym same) ended.ensures.acted)
+    c.requires.mailbox.2 (subst (λ n. CoreHandles c.args.core.now (view c.args.pass) (view ended.pass) writer screen n (view ports.told) c.run_core.new.core) (sym c.settle-ports.ensures.transcript) (subst (λ v. CoreHandles c.args.core.now (view c.args.pass) (view ended.pass) writer screen ended.transcript v c.run_core.new.core) (sym same) ended.ensures.acted))
     (subst (λ s. ReaderSends s false net_reader (view returned.net)) c.requires.net.1 (join.ensures.net.1 c.requires.net.2))
     (subst (λ s. ReaderSends s (has_stopped returned.keys.stops) keys_reader (view returned.keys.pass)) c.requires.keys.1 join.ensures.keys.1)
     (λ on none. c.settle-told.ensures.told on (sym same ∙ none))

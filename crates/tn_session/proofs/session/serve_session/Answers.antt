@@ -12,7 +12,7 @@ use Rattle.tn_session.proofs.Ending.{may_come, all_pieces, came_by_net, heard_of
 use Rattle.tn_session.proofs.Makers.{all_fresh, some_are, no_first}
 use Rattle.std.proofs.lemmas.Result.{IfOk-weaker}
 use Rattle.tn_session.proofs.Reach.{never_begun}
-use Rattle.tn_session.proofs.lemmas.Sessions.{server_transcript, server_reads, as_read}
+use Rattle.tn_session.proofs.lemmas.Sessions.{server_said, server_reads, as_read}
 use Rattle.tn_session.proofs.session.serve_session.Goals as goal
 
 pub returns-clause-ran : goal.returns-clause-ran
@@ -22,7 +22,9 @@ returns-clause-ran g c = IfOk-weaker c.run_begun.result _ _ (λ r ran.
     let is = c.in_ok-begun.ensures.begun in
     let jobs = is.jobs in
     let posts = begun.posts in
-    let s = ran (record { canon = canon; editing = c.args.editing }) jobs is.at is.words in
+    let whole = ran (record { canon = canon; editing = c.args.editing }) jobs is.at is.words in
+    let s = whole.0 in
+    let noted = whole.2 in
     let report = r.0 in
     let front = taken_are_front s.taken s.took_first.0 s.run.puts s.run.history s.took_first.1 (puts_are_front s.wrote_opening canon c.args.editing jobs s.marked s.run s.runs) in
     let hears = c.pieces_are_heard.ensures s.wrote_opening canon c.args.editing jobs s.marked s.run s.runs in
@@ -30,7 +32,7 @@ returns-clause-ran g c = IfOk-weaker c.run_begun.result _ _ (λ r ran.
     let heard = heard_of_reader s hears hung in
     let all = λ (e : report.ended ≡ HangUp). took_all s (hung e) in
     let begin = run_after_opening s.wrote_opening (start canon c.args.editing jobs) in
-    let said = server_transcript begin s.marked s.run s.written s.unwritten s.runs s.sends in
+    let said = server_said begin s.marked s.run s.written whole.1 noted.transcribed in
     let reads = server_reads begin s.marked s.run s.written said in
     let caused = λ (f : SessionFault) (e : report.ended ≡ Fault f). c.faults_have_causes.ensures s.wrote_opening canon c.args.editing jobs s.marked s.run f s.runs (sym (ap (λ (r : Report). r.ended) s.report_is) ∙ e) in
     record {
@@ -50,11 +52,11 @@ returns-clause-ran g c = IfOk-weaker c.run_begun.result _ _ (λ r ran.
       by_bytes = takes_entries s hears heard front all;
       entries_taken = entries_put s.taken;
       entries_are = refl;
-      transcript = said.transcript;
+      transcript = whole.1;
       was_read = as_read _ _ _ (reads ∙ all_pieces s) (s.read.1, s.read.3);
       came = reads ∙ came_by_net s;
       was_written = said.writes;
-      transcribed = said.transcribed;
+      noted = noted;
       heard_whole = λ e. (hung e).all_heard ∙ sym reads;
       caused = caused;
       read_failed = λ e. read_cause s begin (caused fault.Read e);

@@ -1,0 +1,52 @@
+-- What the core of a session did, in the order in which it did it: which mail it took, and which bytes it wrote to the
+-- network before it took the next.
+use Rattle.std.specs.Prelude.{◌≡◌, ℕ, Bool, true, Option, Some, None, List, [], ◌∷◌, ◌++◌, map}
+use Rattle.std.specs.Io.KnownBytes.{Appends}
+use Rattle.tn_session.specs.declared.mail.Mail.{Mail}
+use Rattle.tn_session.specs.declared.transcript.Log.{Log, Begun, Took', Wrote'}
+
+-- the mail that was taken, none before the first, and what was written from there on
+pub record Note : Type 0 where
+  pub took : Option Mail
+  pub wrote : List ℕ
+
+-- the notes that are done, and the one that goes on
+pub record Noted : Type 0 where
+  pub done : List Note
+  pub last : Note
+
+abbrev pub no_notes : Noted
+no_notes = record { done = []; last = record { took = None; wrote = [] } }
+
+abbrev pub notes : Noted → List Note
+notes n = n.done ++ n.last ∷ []
+
+-- a mail was taken
+abbrev pub takes : Noted → Mail → Noted
+takes n mail = record { done = notes n; last = record { took = Some mail; wrote = [] } }
+
+-- these bytes were written
+abbrev pub writes : Noted → List ℕ → Noted
+writes n bytes = record { done = n.done; last = record { took = n.last.took; wrote = n.last.wrote ++ bytes } }
+
+-- the front of these bytes was written and noted, all of them where it went well
+pub record NotesWrite (well : Bool) (old new : Option (List ℕ)) (bytes : List ℕ) (before after : Noted) : Type 0 where
+  pub front : List ℕ
+  pub back : List ℕ
+  pub whole : bytes ≡ front ++ back
+  pub all : well ≡ true → back ≡ []
+  pub wrote : Appends old new front
+  pub noted : after ≡ writes before front
+
+-- of these mails, in order, it took each, and wrote these bytes after it
+pub record NotesAll (handled : List Mail) (written : List (List ℕ)) (before after : Noted) : Type 0 where
+  pub more : List Note
+  pub noted : notes after ≡ notes before ++ more
+  pub took : map (λ n. n.took) more ≡ map (λ x. Some x) handled
+  pub wrote : map (λ n. n.wrote) more ≡ written
+
+-- what a log says
+abbrev pub noted_of : Log → Noted
+noted_of Begun = no_notes
+noted_of (Took' marker before mail) = takes (noted_of before) mail.value
+noted_of (Wrote' marker before byte) = writes (noted_of before) (byte ∷ [])

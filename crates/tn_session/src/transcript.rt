@@ -1,0 +1,149 @@
+//! What the core of a session does, noted as it does it.
+
+ghost use Rattle.std.specs.Prelude.{◌≡◌, ◌∷◌, [], List, Some, IfSome, true};
+ghost use Rattle.crossbeam_channel.specs.Claims.{view, IsSeatAt};
+ghost use Rattle.crossbeam_channel.specs.Ends.{receives_on};
+ghost use Rattle.tn_session.specs.Mailbox.{handed};
+ghost use Rattle.tn_session.specs.Notes.{Noted, NotesWrite, no_notes, noted_of, takes, writes};
+ghost use Rattle.tn_session.specs.Turns.{Tells};
+ghost use Rattle.tn_session.specs.declared.mail.Mail.{Mail as MailT};
+ghost use Rattle.tn_streams.specs.Sending.{StaysOpen};
+
+use crate::channels::{Handles, MailPass, MailReceiver};
+use crate::mail::Mail;
+use crate::writing::write_front;
+use std::alloc::Global;
+use std::marker::Model;
+use std::mem;
+use std::snapshot::Snapshot;
+use std::sync::Wait;
+use tn_streams::Drain;
+
+// When it runs, it holds none of this but the last byte.
+#[derive(Drop)]
+enum Log {
+    Begun,
+    Took(Snapshot<Log>, Snapshot<Mail>),
+    Wrote(Snapshot<Log>, u8),
+}
+
+/// What the core of a session did, for contracts: which mails it took, and what it wrote to the network before it took
+/// the next. Only a call that takes a mail, or writes, notes it.
+#[derive(Drop)]
+pub struct Transcript {
+    log: Log,
+}
+
+impl Model for Transcript {
+    ghost Value = { Noted };
+
+    ghost view = { λ t. noted_of t.log };
+}
+
+impl Transcript {
+    /// Nothing was taken or written.
+    pub(crate) fn new() -> Transcript
+        ensures { result ≡ no_notes }
+    {
+        Transcript { log: Log::Begun }
+    }
+
+    // The same, and this mail was taken.
+    fn taking(self, mail: &Mail) -> Transcript
+        ensures { result ≡ takes self mail.now }
+    {
+        let before = Snapshot::of(&self.log);
+        Transcript {
+            log: Log::Took(before, Snapshot::of(mail)),
+        }
+    }
+
+    // The same, and this byte was written.
+    fn writing_one(self, byte: u8) -> Transcript
+        ensures { result ≡ writes self (byte ∷ []) }
+    {
+        let before = Snapshot::of(&self.log);
+        Transcript {
+            log: Log::Wrote(before, byte),
+        }
+    }
+
+    // The same, and these bytes were written.
+    fn writing(self, bytes: &[u8]) -> Transcript
+        ensures { result ≡ writes self bytes.now }
+    {
+        let mut transcript = self;
+        for byte in bytes {
+            transcript = transcript.writing_one(*byte);
+        }
+        transcript
+    }
+
+    /// Takes the next mail. `None` where the other end of the mailbox is gone.
+    pub(crate) fn take<R: Wait>(
+        &mut self,
+        rt: &R,
+        from: &MailReceiver,
+        pass: &mut MailPass,
+    ) -> Option<Mail>
+        requires seat { IsSeatAt (receives_on from.now) pass.old }
+        requires role { (l : List MailT) × ((view pass.old).handled ≡ Some l) }
+        ensures seat { IsSeatAt (receives_on from.now) pass.new }
+        ensures handled { IfSome result (λ mail. view pass.new ≡ handed (view pass.old) mail) }
+        ensures noted { IfSome result (λ mail. self.new ≡ takes self.old mail) }
+    {
+        let Ok(mail) = from.recv_as::<Handles, R>(rt, pass) else {
+            return None;
+        };
+        *self = mem::replace(self, Transcript::new()).taking(&mail);
+        Some(mail)
+    }
+
+    /// Writes these bytes, or the first of them where a write fails. A write that takes none has failed.
+    pub(crate) fn write_out<W: Drain>(&mut self, writer: &mut W, bytes: &[u8]) -> bool
+        ensures writes { NotesWrite result (W.contents writer.old) (W.contents writer.new) bytes.now self.old self.new }
+        ensures tells { Tells result (W.told writer.old) (W.told writer.new) }
+        ensures none { bytes.now ≡ [] → result ≡ true }
+        ensures going { StaysOpen (W.sending writer.old) (W.sending writer.new) }
+        ensures silent { bytes.now ≡ [] → W.sending writer.new ≡ W.sending writer.old }
+    {
+        let count = write_front(writer, bytes);
+        *self = mem::replace(self, Transcript::new()).writing(&bytes[..count]);
+        count == bytes.len()
+    }
+}
+
+/// What the core of a session is to write, and the transcript of what it did.
+#[derive(Drop)]
+pub(crate) struct Output {
+    pub(crate) out: Vec<u8>,
+    pub(crate) transcript: Transcript,
+}
+
+impl Output {
+    /// Nothing is to be written, and nothing was done.
+    pub(crate) fn new(alloc: Global) -> Output
+        ensures out { result.out.items ≡ [] }
+        ensures transcript { result.transcript ≡ no_notes }
+    {
+        Output {
+            out: Vec::new(alloc),
+            transcript: Transcript::new(),
+        }
+    }
+
+    /// Writes what is to be written, or the first of it where a write fails. The rest is dropped.
+    pub(crate) fn write_out<W: Drain>(&mut self, writer: &mut W) -> bool
+        ensures out { self.new.out.items ≡ [] }
+        ensures writes { NotesWrite result (W.contents writer.old) (W.contents writer.new) self.old.out.items
+            self.old.transcript self.new.transcript }
+        ensures tells { Tells result (W.told writer.old) (W.told writer.new) }
+        ensures none { self.old.out.items ≡ [] → result ≡ true }
+        ensures going { StaysOpen (W.sending writer.old) (W.sending writer.new) }
+        ensures silent { self.old.out.items ≡ [] → W.sending writer.new ≡ W.sending writer.old }
+    {
+        let written = self.transcript.write_out(writer, &self.out);
+        self.out.clear();
+        written
+    }
+}
