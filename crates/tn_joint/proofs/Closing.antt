@@ -34,11 +34,11 @@ LeftLast [] = Unit {0}
 LeftLast (Left ∷ ms) = NoPiece ms
 LeftLast (_ ∷ ms) = LeftLast ms
 
-abbrev keys_cons : Origin → Message → List Message → List Message
+abbrev pub keys_cons : Origin → Message → List Message → List Message
 keys_cons Keys m ms = m ∷ ms
 keys_cons Net m ms = ms
 
-abbrev keys_messages : List Told → List Message
+abbrev pub keys_messages : List Told → List Message
 keys_messages [] = []
 keys_messages (t ∷ ts) = keys_cons t.from t.message (keys_messages ts)
 
@@ -58,9 +58,9 @@ may_always closed Keys Left e = tt
 may_always closed Keys (Resized size) e = tt
 may_always closed Net m e = tt
 
-record Typed (c : Run) : Type 0 where
-  latest : c.progress.closed ≡ false → c.sent ≡ c.history
-  same : keys c.sent ≡ keys c.history
+pub record Typed (c : Run) : Type 0 where
+  pub latest : c.progress.closed ≡ false → c.sent ≡ c.history
+  pub same : keys c.sent ≡ keys c.history
 
 same_sent : (b : Bool) (sent h later : History) → keys sent ≡ keys h → keys later ≡ keys h → keys (sent_after b sent later) ≡ keys later
 same_sent true sent h later e f = e ∙ sym f
@@ -143,7 +143,7 @@ turn_open c new x mark.WriteFailed is a = ap (λ (r : Run). r.progress.closed) a
 turn_open c new x mark.ShowFailed is a = ap (λ (r : Run). r.progress.closed) a.3 ∙ handles_open c.progress.over c a.1 x is a.2
 turn_open c new x (mark.Refused f) is a = ap (λ (r : Run). r.progress.closed) a.3 ∙ handles_open c.progress.over c a.1 x is a.2
 
-abbrev tolds : List (Told × Mark) → List Told
+abbrev pub tolds : List (Told × Mark) → List Told
 tolds ms = map (λ m. m.0) ms
 
 typed_as : (c new : Run) → c ≡ new → Typed c → Typed new
@@ -187,7 +187,7 @@ first_of_keys Keys Refused ms l = more tt l
 first_of_keys Keys Left ms l = last l
 first_of_keys Keys (Resized size) ms l = more tt l
 
-run_typed : (marked : List (Told × Mark)) (c new : Run) → Runs c marked new → c.progress.closed ≡ false → LeftLast (keys_messages (tolds marked)) → Typed c → Typed new
+pub run_typed : (marked : List (Told × Mark)) (c new : Run) → Runs c marked new → c.progress.closed ≡ false → LeftLast (keys_messages (tolds marked)) → Typed c → Typed new
 run_typed [] c new r open_now l t = typed_as c new r t
 run_typed ((x, k) ∷ marked) c new r open_now l t = go (first_of_keys x.from x.message (keys_messages (tolds marked)) l) (turn_typed c r.0 x k r.1 (may_always c.progress.closed x.from x.message open_now) t) (run_typed marked r.0 new r.2)
   where

@@ -1,5 +1,5 @@
 -- Two sessions whose transcripts a socket carries: a line is typed, heard and taken, and both hang up.
-use Rattle.std.proofs.Common.{◌≡◌, ℕ, zero, suc, inl, inr, true, false, Option, Some, None, List, [], ◌∷◌, ◌++◌, refl, sym, ap, ◌∙◌, subst, map, append-nil, append_assoc, arith, lit<}
+use Rattle.std.proofs.Common.{◌≡◌, ℕ, zero, suc, inl, true, false, Option, Some, None, List, [], ◌∷◌, ◌++◌, refl, sym, ap, ◌∙◌, subst, map, append-nil, append_assoc, arith, lit<}
 use Rattle.std.proofs.lemmas.List.Elements.{All-nil, All-cons}
 use Rattle.tn_client.specs.Screen.{text_shown}
 use Rattle.tn_client_core.proofs.lemmas.Bringing.{in_order}

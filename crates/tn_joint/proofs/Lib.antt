@@ -10,3 +10,4 @@ pub mod Example
 pub mod Whole
 pub mod Seen
 pub mod Answers
+pub mod Looping

@@ -5,7 +5,6 @@ use Rattle.tn_client.specs.Events as client
 use Rattle.tn_client.specs.Events.{keys}
 use Rattle.tn_client.specs.Replies as client_says
 use Rattle.tn_client.proofs.lemmas.Fitting.{sent-fits}
-use Rattle.tn_client_core.specs.Marks as core
 use Rattle.tn_discipline.specs.Canon.{Canon, typed_entries}
 use Rattle.tn_discipline.specs.Characters.{standard_characters}
 use Rattle.tn_discipline.specs.declared.reads.Entry.{Entry}
@@ -20,8 +19,7 @@ use Rattle.tn_joint.specs.Transcripts.{Served, Connected, IsCarried, RanToTheEnd
 use Rattle.tn_messages.specs.declared.faults.Ended.TheVariants.{HangUp}
 use Rattle.tn_server.specs.Events as server
 use Rattle.tn_server.specs.Lines.{entries}
-use Rattle.tn_session.proofs.lemmas.Transcribing.{prefix_trans, wrote_all}
-use Rattle.tn_session.specs.Client as of_client
+use Rattle.tn_session.proofs.lemmas.Transcribing.{prefix_trans}
 use Rattle.tn_session.specs.Facts.{JobFacts}
 use Rattle.tn_session.specs.Mailbox.{mail}
 use Rattle.tn_session.specs.Reading.{told_messages}

@@ -30,20 +30,20 @@ use Rattle.tn_term.specs.Run as term_run
 use Rattle.tn_term.specs.declared.messages.Mark as term_mark
 
 -- THE STEPS SO FAR, AND ONE MORE
-server-append : (xs ys : List Step) → server_steps (xs ++ ys) ≡ server_steps xs ++ server_steps ys
+pub server-append : (xs ys : List Step) → server_steps (xs ++ ys) ≡ server_steps xs ++ server_steps ys
 server-append [] ys = refl
 server-append (served x ∷ xs) ys = ap (λ (l : List Exchange). x ∷ l) (server-append xs ys)
 server-append (told x ∷ xs) ys = server-append xs ys
 
-client-append : (xs ys : List Step) → client_steps (xs ++ ys) ≡ client_steps xs ++ client_steps ys
+pub client-append : (xs ys : List Step) → client_steps (xs ++ ys) ≡ client_steps xs ++ client_steps ys
 client-append [] ys = refl
 client-append (served x ∷ xs) ys = client-append xs ys
 client-append (told x ∷ xs) ys = ap (λ (l : List Exchange). x ∷ l) (client-append xs ys)
 
-one_read : (xs : List Exchange) (x : Exchange) → all_read (xs ++ x ∷ []) ≡ all_read xs ++ x.read
+pub one_read : (xs : List Exchange) (x : Exchange) → all_read (xs ++ x ∷ []) ≡ all_read xs ++ x.read
 one_read xs x = all_read-append xs (x ∷ []) ∙ ap (λ (l : List ℕ). all_read xs ++ l) (append-nil x.read)
 
-one_wrote : (xs : List Exchange) (x : Exchange) → all_wrote (xs ++ x ∷ []) ≡ all_wrote xs ++ x.wrote
+pub one_wrote : (xs : List Exchange) (x : Exchange) → all_wrote (xs ++ x ∷ []) ≡ all_wrote xs ++ x.wrote
 one_wrote xs x = all_wrote-append xs (x ∷ []) ∙ ap (λ (l : List ℕ). all_wrote xs ++ l) (append-nil x.wrote)
 
 abbrev ServerMarked : Type 0
@@ -95,7 +95,7 @@ ClientGoes written p steps q = FoldsTo (IsExchange core.Turns of_client.brings o
 no_step : (x : Exchange) (xs : List Exchange) → [] ≡ x ∷ xs → ⊥
 no_step x xs e = cc
 
-heads : (x y : Exchange) (xs ys : List Exchange) → x ∷ xs ≡ y ∷ ys → (x ≡ y) × (xs ≡ ys)
+pub heads : (x y : Exchange) (xs ys : List Exchange) → x ∷ xs ≡ y ∷ ys → (x ≡ y) × (xs ≡ ys)
 heads x y xs ys e = (cc, cc)
 
 module _ (canon : Canon) (editing : Editing) (width height : ℕ) (opens : Bool) (jobs : Jobs) (Tied : server.History → client.History → Type 0) (ties : Ties canon editing width height Tied) where

@@ -1,5 +1,5 @@
 -- A relation of two histories is kept by each step of two runs.
-use Rattle.std.proofs.Common.{◌≡◌, ℕ, Bool, true, false, List, [], ◌∷◌, ◌++◌, refl, sym, ◌∙◌, subst, append_assoc, append-nil}
+use Rattle.std.proofs.Common.{◌≡◌, ℕ, Bool, true, false, List, [], ◌∷◌, ◌++◌, refl, sym, ◌∙◌, subst, append-nil}
 use Rattle.std.specs.List.{FoldsTo}
 use Rattle.tn_client.proofs.lemmas.Fitting.{sent-fits}
 use Rattle.tn_client.specs.Events as client

@@ -1,8 +1,5 @@
 -- Where a client's session ends without a fault, nothing stopped having its effect.
-use Rattle.std.proofs.Common.{◌≡◌, ℕ, Bool, true, false, Option, Some, None, List, [], ◌∷◌, ◌++◌, refl, sym, ap, ◌∙◌, subst, map, ⊎_elim, append-nil, append_assoc}
-use Rattle.std.specs.Io.KnownBytes.{Consumes, IsAtEnd}
-use Rattle.std.specs.List.{concat}
-use Rattle.tn_client_core.specs.Bringing.{brought_from, brought}
+use Rattle.std.proofs.Common.{◌≡◌, ℕ, Bool, true, false, List, [], ◌∷◌, refl, sym, ap, ◌∙◌, subst}
 use Rattle.tn_client_core.specs.Marks.{Turns, Runs}
 use Rattle.tn_client_core.specs.Run.{Run, Acts, ActsUnless, start}
 use Rattle.tn_client_core.specs.declared.messages.Mark.{Mark}
@@ -10,13 +7,6 @@ use Rattle.tn_client_core.specs.declared.messages.Mark.TheVariants as mark
 use Rattle.tn_client_core.specs.declared.messages.Origin.{Origin}
 use Rattle.tn_client_core.specs.declared.messages.Origin.TheVariants.{Keys, Net}
 use Rattle.tn_client_core.specs.declared.messages.Told.{Told}
-use Rattle.tn_session.specs.CoreTurns.{all_told}
-use Rattle.tn_session.specs.Mailbox.{from, mail}
-use Rattle.tn_session.specs.Reader.{Closes}
-use Rattle.tn_session.specs.Reading.{IsEnding, Telling, piece_told, size_told, told_messages, pieces_in}
-use Rattle.tn_session.specs.declared.mail.Mail.{Mail}
-use Rattle.tn_session.specs.declared.mail.Sender.TheVariants as sender
-use Rattle.tn_streams.specs.Foretelling.{Failures}
 use Rattle.tn_messages.specs.Counting.{first_end}
 use Rattle.tn_messages.specs.declared.faults.Ended.{Ended}
 use Rattle.tn_messages.specs.declared.faults.Ended.TheVariants as ended

@@ -1,3 +1,4 @@
 pub mod Example
 pub mod Transcripts
 pub mod Answers
+pub mod OneLoop

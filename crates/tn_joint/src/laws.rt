@@ -1,9 +1,15 @@
 //! The headline over two running sessions, as laws over the definitions alone.
 
-ghost use Rattle.std.specs.Prelude.{ℕ};
+ghost use Rattle.std.specs.Prelude.{◌≡◌, ℕ, List};
+ghost use Rattle.std.specs.List.{FoldsTo};
+ghost use Rattle.tn_discipline.specs.Characters.{standard_characters};
+ghost use Rattle.tn_jobs.specs.Jobs.{Jobs};
 ghost use Rattle.tn_discipline.specs.Canon.{Canon};
 ghost use Rattle.tn_joint.specs.Answers.{AnswersOfServer, AnswersOfClient};
 ghost use Rattle.tn_joint.specs.Example.{SessionsCarryALine};
+ghost use Rattle.tn_joint.specs.OneLoop.{Happens, IsStart, ReadsAll, keys_in};
+ghost use Rattle.tn_joint.specs.declared.one_loop.Event.{Event};
+ghost use Rattle.tn_joint.specs.declared.one_loop.Joined.{Joined};
 ghost use Rattle.tn_joint.specs.Transcripts.{Headline, Served, Connected};
 ghost use Rattle.tn_session.specs.Facts.{job_facts};
 ghost use Rattle.tn_session.specs.Makers.{begins};
@@ -27,6 +33,15 @@ pub fn no_answer_comes_late<M: Maker>()
         (s : Served (job_facts (begins M.Job.fresh M.gives maker) M.Job.reacts M.Job.steps M.Job.refuses) canon) →
         AnswersOfServer s }
     ensures client { (limit : ℕ) (c : Connected limit) → AnswersOfClient c }
+{}
+
+/// Where both machines are run by one loop, with nothing between them but two lists of bytes, what you type is what
+/// the job reads, whatever happens and however the bytes are cut: that they are carried is proved, and no premise.
+pub fn one_loop_reads_what_is_typed()
+    ensures { (canon : Canon) (editing : Editing) (jobs : Jobs) (width height : ℕ) (first last : Joined)
+        (script : List Event) → canon.settings.chars ≡ standard_characters →
+        IsStart canon editing jobs width height first → FoldsTo Happens first script last →
+        ReadsAll canon (keys_in script) last }
 {}
 
 /// What that asks of two sessions can be met, and both can run to the end: a line is typed at the client, and

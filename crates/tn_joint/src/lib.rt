@@ -2,4 +2,7 @@
 //! It has no handle, and holds no code: what it says is said of what the sessions' contracts tell.
 #![tactic(auto)]
 
+pub use one_loop::{Event, Joined};
+
 pub mod laws;
+mod one_loop;

@@ -1,5 +1,5 @@
 -- A whole client session: its passes joined, and what its threads did.
-use Rattle.std.proofs.Common.{◌≡◌, ℕ, Bool, true, false, refl, inl, List, [], ◌∷◌, ◌++◌, map, Some, None, sym, ap, ◌∙◌, subst, append-nil, arith}
+use Rattle.std.proofs.Common.{◌≡◌, ℕ, Bool, true, false, refl, List, [], ◌∷◌, ◌++◌, map, Some, None, sym, ap, ◌∙◌, subst, append-nil, arith}
 use Rattle.tn_client_core.proofs.lemmas.Bringing.{in_order}
 use Rattle.tn_client_core.proofs.lemmas.Ending.{fault_cause}
 use Rattle.std.specs.List.{FoldsTo}
@@ -19,9 +19,10 @@ use Rattle.tn_session.proofs.Lefts.{none_over}
 use Rattle.tn_session.proofs.Mailbox.{all_woven}
 use Rattle.tn_session.proofs.Sent.{reader_sent}
 use Rattle.tn_session.proofs.Stopped.{was_left, stopped_told}
-use Rattle.tn_session.proofs.lemmas.Sessions.{client_said, client_reads, as_read}
+use Rattle.tn_session.proofs.lemmas.Sessions.{client_said, client_stepped, client_reads, as_read}
 use Rattle.tn_queue.specs.Queue.{putter}
-use Rattle.tn_session.proofs.Noting.{exchanged, same_steps, step_of}
+use Rattle.tn_session.proofs.lemmas.Noting.{same_steps}
+use Rattle.tn_session.specs.Client as of_client
 use Rattle.tn_session.specs.Client.{core_view, AreTwoSettled, IsClientRun, brings, brought_by, client_report}
 use Rattle.tn_session.specs.CoreTurns.{CoreHandles, all_told, is_marked_written, is_over, says, told_of}
 use Rattle.tn_session.specs.Facts.{ClientResult}
@@ -76,29 +77,18 @@ all_out marked rest all never = by (all_written marked) refl
 client_noted : (begin last : Run) (steps : List ((Told × Mark) × List ℕ)) (marked : List (Told × Mark)) (handled : List Mail) (bytes : List ℕ) (noted : Noted) → FoldsTo (IsStep Turns says is_over is_marked_written) begin steps last → map (λ s. s.0) steps ≡ marked → map (λ m. m.0) marked ≡ all_told handled → bytes ≡ total steps → says begin ≡ [] → (all : NotesAll handled (map (λ s. s.1) steps) no_notes noted)
     → (transcript : List Exchange) × (transcript ≡ map (exchange_of brought_by) all.more) × Transcribes Turns brings says begin marked last bytes transcript
 client_noted begin last steps marked handled bytes noted goes of_steps messages whole silent all =
-    let step = step_of Turns says is_over is_marked_written (λ (m : Told × Mark). m) Turns (λ p q m t. t) brings in
-    let of_message : Told × Mark → Told = λ m. m.0 in (
-      map (λ s. record { read = brings s.0; wrote = s.1 }) steps,
+    let of_message : Told × Mark → Told = λ m. m.0 in
+    let transcript : List Exchange = map (λ s. record { read = brings s.0; wrote = s.1 }) steps in
+    let by_marks : List (Told × Mark) → Type 0 = λ ms. Transcribes Turns brings of_client.says begin ms last (total steps) transcript in
+    let by_bytes : List ℕ → Type 0 = λ bs. Transcribes Turns brings of_client.says begin marked last bs transcript in (
+      transcript,
       same_steps of_message told_of (λ (t : Told). brought_from origin.Net t.from t.message) steps all.more handled (mapped of_message steps ∙ ap (map of_message) of_steps ∙ messages) all.took all.wrote,
-      record {
-        steps = map step steps;
-        of_messages = firsts steps ∙ of_steps;
-        of_steps = seconds steps;
-        goes = exchanged Turns says is_over is_marked_written (λ (m : Told × Mark). m) Turns (λ p q m t. t) brings steps begin last bytes [] goes ((says begin, refl), inl (sym silent)) whole;
-      },
+      subst by_bytes (sym whole) (subst by_marks of_steps (client_stepped begin last steps goes silent)),
     )
   where
     mapped : (f : Told × Mark → Told) (ss : List ((Told × Mark) × List ℕ)) → map (λ s. f s.0) ss ≡ map f (map (λ s. s.0) ss)
     mapped f [] = refl
     mapped f (s ∷ ss) = ap (λ (l : List Told). f s.0 ∷ l) (mapped f ss)
-
-    firsts : (ss : List ((Told × Mark) × List ℕ)) → map (λ s. s.0) (map (step_of Turns says is_over is_marked_written (λ (m : Told × Mark). m) Turns (λ p q m t. t) brings) ss) ≡ map (λ s. s.0) ss
-    firsts [] = refl
-    firsts (s ∷ ss) = ap (λ (l : List (Told × Mark)). s.0 ∷ l) (firsts ss)
-
-    seconds : (ss : List ((Told × Mark) × List ℕ)) → map (λ s. s.1) (map (step_of Turns says is_over is_marked_written (λ (m : Told × Mark). m) Turns (λ p q m t. t) brings) ss) ≡ map (λ s. record { read = brings s.0; wrote = s.1 }) ss
-    seconds [] = refl
-    seconds (s ∷ ss) = ap (λ (l : List Exchange). record { read = brings s.0; wrote = s.1 } ∷ l) (seconds ss)
 
 -- all of a client's session that ran
 pub client_ran : (core last : Core) (stopped : Bool) (keys_reader net_reader : KnownReader) (writer screen : KnownWriting) (pass₀ pass₁ net keys : View) (result : ClientResult)

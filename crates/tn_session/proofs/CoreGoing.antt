@@ -16,7 +16,7 @@ use Rattle.tn_client_core.specs.declared.messages.Told.{Told}
 use Rattle.tn_client_core.specs.declared.progress.Progress.{Progress}
 use Rattle.tn_nvt.specs.Spelling.{spells}
 use Rattle.tn_session.proofs.Going.{true_false, false_true, appends_more, appends_kept, appends_none, from_to, left_over}
-use Rattle.tn_session.proofs.Noting.{total-push}
+use Rattle.tn_session.proofs.lemmas.Noting.{total-push}
 use Rattle.tn_session.proofs.Stopped.{stands_more}
 use Rattle.tn_session.proofs.Stopping.{core_stays}
 use Rattle.tn_session.specs.CoreTurns.{TurnsTold, ToldAll, told_of, all_told, says, is_over, is_marked_written}

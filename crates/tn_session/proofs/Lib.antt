@@ -15,7 +15,6 @@ pub mod Stopping
 pub mod Numbering
 pub mod Makers
 pub mod lemmas
-pub mod Noting
 pub mod Whole
 pub mod Causes
 pub mod Ending

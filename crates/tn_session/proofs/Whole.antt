@@ -21,10 +21,12 @@ use Rattle.tn_session.specs.Joining.{handler, AreSettled}
 use Rattle.tn_session.specs.Mailbox.{Interleaves, from, four, sender, union, nobody, everyone, with_handled, mail, Total}
 use Rattle.tn_queue.specs.Queue.{putter, taker, joined_hands, both_hands, no_hand, LeftOver}
 use Rattle.tn_session.specs.Reader.{ReaderSends}
-use Rattle.tn_session.proofs.Noting.{IsUpTo, exchanged, same_steps, step_of, whole_by}
+use Rattle.tn_session.proofs.lemmas.Noting.{IsUpTo, same_steps}
+use Rattle.tn_session.proofs.lemmas.Sessions.{server_stepped}
 use Rattle.tn_session.specs.Notes.{Note, Noted, NotesAll, no_notes, notes}
+use Rattle.tn_session.specs.Session as of_server
 use Rattle.tn_session.specs.Session.{IsNoted, IsOpening, IsRun, OpensOrTurns, brings, brought_by, report_of}
-use Rattle.tn_session.specs.Transcripts.{Exchange, IsStep, exchange_of, total}
+use Rattle.tn_session.specs.Transcripts.{Exchange, IsStep, Transcribes, exchange_of, total}
 use Rattle.tn_session.specs.Stepping.{BackJobs, AreSteps, step_said}
 use Rattle.tn_session.proofs.Turning.{is_close}
 use Rattle.tn_session.specs.Stops.{StopHand, IsTold, term_stops}
@@ -143,40 +145,21 @@ opened_up false begin words front back x y is split none off = ((back, sym split
 noted_all : (begin last : Run) (steps : List ((Message × Mark) × List ℕ)) (marked : List (Message × Mark)) (handled : List Mail) (opened : Noted) (front : List ℕ) (noted : Noted) → FoldsTo (IsStep Turns says is_over is_marked_whole) begin steps last → map (λ s. s.0) steps ≡ marked → map (λ m. m.0) marked ≡ messages_of handled → IsUpTo Turns says is_over is_marked_whole begin front → notes opened ≡ record { took = None; wrote = front } ∷ [] → NotesAll handled (map (λ s. s.1) steps) opened noted
     → (transcript : List Exchange) × IsNoted begin marked last (front ++ total steps) handled noted transcript
 noted_all begin last steps marked handled opened front noted goes of_steps messages up first all =
-    let step = step_of Turns says is_over is_marked_whole (λ (m : Message × Mark). Some m) OpensOrTurns (λ p q m t. t) brings in
-    let opening : Option (Message × Mark) × Exchange = (None, record { read = []; wrote = front }) in
-    let later = exchanged Turns says is_over is_marked_whole (λ (m : Message × Mark). Some m) OpensOrTurns (λ p q m t. t) brings steps begin last (front ++ total steps) front goes up refl in
     let of_message : Message × Mark → Message = λ m. m.0 in
-    let mails = ap (map of_message) of_steps ∙ messages in
-    let noted_steps = same_steps of_message (λ (x : Mail). x.message) bytes_in steps all.more handled (mapped of_message steps ∙ mails) all.took all.wrote in (
-      record { read = []; wrote = front } ∷ map (λ s. record { read = bytes_in s.0.0; wrote = s.1 }) steps,
+    let noted_steps = same_steps of_message (λ (x : Mail). x.message) bytes_in steps all.more handled (mapped of_message steps ∙ ap (map of_message) of_steps ∙ messages) all.took all.wrote in
+    let transcript : List Exchange = record { read = []; wrote = front } ∷ map (λ s. record { read = bytes_in s.0.0; wrote = s.1 }) steps in
+    let by_marks : List (Message × Mark) → Type 0 = λ ms. Transcribes OpensOrTurns brings of_server.says begin (None ∷ map (λ m. Some m) ms) last (front ++ total steps) transcript in (
+      transcript,
       record {
         as_noted = ap (λ (l : List Exchange). record { read = []; wrote = front } ∷ l) noted_steps ∙ sym (ap (map (exchange_of brought_by)) (all.noted ∙ ap (λ (l : List Note). l ++ all.more) first));
         took = ap (map (λ (n : Note). n.took)) (all.noted ∙ ap (λ (l : List Note). l ++ all.more) first) ∙ ap (λ (l : List (Option Mail)). None ∷ l) all.took;
-        transcribed = record {
-          steps = opening ∷ map step steps;
-          of_messages = ap (λ (l : List (Option (Message × Mark))). None ∷ l) (firsts steps ∙ ap (map (λ (m : Message × Mark). Some m)) of_steps);
-          of_steps = ap (λ (l : List Exchange). record { read = []; wrote = front } ∷ l) (seconds steps);
-          goes = (
-            record { run = begin; wrote = front },
-            record { turn = refl; read = refl; wrote = refl; said = up.0; whole = whole_by Turns says is_over is_marked_whole steps begin last (front ++ total steps) front goes refl up.1 },
-            later,
-          );
-        };
+        transcribed = subst by_marks of_steps (server_stepped begin last steps front goes up);
       },
     )
   where
     mapped : (f : Message × Mark → Message) (ss : List ((Message × Mark) × List ℕ)) → map (λ s. f s.0) ss ≡ map f (map (λ s. s.0) ss)
     mapped f [] = refl
     mapped f (s ∷ ss) = ap (λ (l : List Message). f s.0 ∷ l) (mapped f ss)
-
-    firsts : (ss : List ((Message × Mark) × List ℕ)) → map (λ s. s.0) (map (step_of Turns says is_over is_marked_whole (λ (m : Message × Mark). Some m) OpensOrTurns (λ p q m t. t) brings) ss) ≡ map (λ m. Some m) (map (λ s. s.0) ss)
-    firsts [] = refl
-    firsts (s ∷ ss) = ap (λ (l : List (Option (Message × Mark))). Some s.0 ∷ l) (firsts ss)
-
-    seconds : (ss : List ((Message × Mark) × List ℕ)) → map (λ s. s.1) (map (step_of Turns says is_over is_marked_whole (λ (m : Message × Mark). Some m) OpensOrTurns (λ p q m t. t) brings) ss) ≡ map (λ s. record { read = bytes_in s.0.0; wrote = s.1 }) ss
-    seconds [] = refl
-    seconds (s ∷ ss) = ap (λ (l : List Exchange). record { read = bytes_in s.0.0; wrote = s.1 } ∷ l) (seconds ss)
 
 no_puts : (b : Bool) (canon : Canon) (editing : Editing) (jobs : Jobs) → (run_after_opening b (start canon editing jobs)).puts ≡ []
 no_puts true canon editing jobs = refl

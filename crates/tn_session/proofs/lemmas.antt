@@ -2,3 +2,4 @@ pub mod ServerTurns
 pub mod ClientTurns
 pub mod Transcribing
 pub mod Sessions
+pub mod Noting

@@ -47,11 +47,12 @@ AllKeepOn id (m ∷ messages) = KeepsOn id m × AllKeepOn id messages
 abbrev pub entries_by : Canon → Editing → List Item → List Entry
 entries_by canon editing xs = entries (gets (opening canon editing) xs)
 
--- The stream is the first bytes of the pieces, its items are read by the definitions of the stream, and the
--- entries are theirs.
+-- The stream is the first bytes of the pieces, and all of them while messages have their effect; its items are read by
+-- the definitions of the stream, and the entries are theirs.
 pub record Hears (canon : Canon) (editing : Editing) (messages : List Message) (c : Run) : Type 0 where
   pub unheard : List ℕ
   pub stream_first : heard messages ≡ c.stream ++ unheard
+  pub all : c.progress.over ≡ false → unheard ≡ []
   pub read : IsRead c.stream (items c.history)
   pub entries_are : entries c.history ≡ entries_by canon editing (items c.history)
 

@@ -17,13 +17,16 @@ use Rattle.tn_nvt.specs.declared.items.Item.{Item}
 use Rattle.tn_server.specs.Events as server
 use Rattle.tn_server.specs.Replies as server_says
 use Rattle.tn_session.proofs.lemmas.ClientTurns.{client_turns}
+use Rattle.tn_session.proofs.lemmas.Noting.{IsUpTo, exchanged, whole_by}
 use Rattle.tn_session.proofs.lemmas.ServerTurns.{server_turns}
 use Rattle.tn_session.proofs.lemmas.Transcribing.{prefix_self, on_to, all_grow, transcribes_on, reads_all, wrote_all}
 use Rattle.tn_session.specs.Client as of_client
 use Rattle.tn_session.specs.Session as of_server
+use Rattle.tn_session.specs.CoreTurns as cores
 use Rattle.tn_session.specs.CoreTurns.{all_told, told_of}
 use Rattle.tn_session.specs.Notes.{Note, Noted, no_notes, notes}
-use Rattle.tn_session.specs.Transcripts.{Exchange, Point, ReadsPrefix, Transcribes, IsExchange, all_read, all_wrote, exchange_of}
+use Rattle.tn_session.specs.Transcripts.{Exchange, Point, ReadsPrefix, Transcribes, IsExchange, IsStep, all_read, all_wrote, exchange_of, total}
+use Rattle.tn_session.specs.Turns as terms
 use Rattle.tn_session.specs.Turns.{messages_of}
 use Rattle.tn_session.specs.declared.mail.Mail.{Mail}
 use Rattle.tn_streams.specs.Prefixes.{IsPrefixOf}
@@ -146,6 +149,55 @@ client_reads first marked last written t = t.reads ∙ brings_brought marked
 -- what was read of what a reader gives
 pub as_read : (given : Option (List ℕ)) (bytes all : List ℕ) → all ≡ bytes → ReadsPrefix given bytes → ReadsPrefix given all
 as_read given bytes all e r = subst (λ (l : List ℕ). ReadsPrefix given l) (sym e) r
+
+-- FROM THE STEPS OF A RUN
+-- with what was written in each, and before the first
+abbrev server_step_of : (Message × term_mark.Mark) × List ℕ → Option (Message × term_mark.Mark) × Exchange
+server_step_of s = (Some s.0, record { read = bytes_in s.0.0; wrote = s.1 })
+
+abbrev client_step_of : (Told × core_mark.Mark) × List ℕ → (Told × core_mark.Mark) × Exchange
+client_step_of s = (s.0, record { read = of_client.brings s.0; wrote = s.1 })
+
+pub server_stepped : (begin last : term_run.Run) (steps : List ((Message × term_mark.Mark) × List ℕ)) (front : List ℕ) → FoldsTo (IsStep term.Turns terms.says terms.is_over terms.is_marked_whole) begin steps last → IsUpTo term.Turns terms.says terms.is_over terms.is_marked_whole begin front
+    → Transcribes of_server.OpensOrTurns of_server.brings of_server.says begin (None ∷ map (λ m. Some m) (map (λ s. s.0) steps)) last (front ++ total steps) (record { read = []; wrote = front } ∷ map (λ s. record { read = bytes_in s.0.0; wrote = s.1 }) steps)
+server_stepped begin last steps front goes up =
+    let some : Message × term_mark.Mark → Option (Message × term_mark.Mark) = λ m. Some m in
+    record {
+      steps = (None, record { read = []; wrote = front }) ∷ map server_step_of steps;
+      of_messages = ap (λ (l : List (Option (Message × term_mark.Mark))). None ∷ l) (firsts steps);
+      of_steps = ap (λ (l : List Exchange). record { read = []; wrote = front } ∷ l) (seconds steps);
+      goes = (
+        record { run = begin; wrote = front },
+        record { turn = refl; read = refl; wrote = refl; said = up.0; whole = whole_by term.Turns terms.says terms.is_over terms.is_marked_whole steps begin last (front ++ total steps) front goes refl up.1 },
+        exchanged term.Turns terms.says terms.is_over terms.is_marked_whole some of_server.OpensOrTurns (λ p q m t. t) of_server.brings steps begin last (front ++ total steps) front goes up refl,
+      );
+    }
+  where
+    firsts : (ss : List ((Message × term_mark.Mark) × List ℕ)) → map (λ s. s.0) (map server_step_of ss) ≡ map (λ m. Some m) (map (λ s. s.0) ss)
+    firsts [] = refl
+    firsts (s ∷ ss) = ap (λ (l : List (Option (Message × term_mark.Mark))). Some s.0 ∷ l) (firsts ss)
+
+    seconds : (ss : List ((Message × term_mark.Mark) × List ℕ)) → map (λ s. s.1) (map server_step_of ss) ≡ map (λ s. record { read = bytes_in s.0.0; wrote = s.1 }) ss
+    seconds [] = refl
+    seconds (s ∷ ss) = ap (λ (l : List Exchange). record { read = bytes_in s.0.0; wrote = s.1 } ∷ l) (seconds ss)
+
+-- a client says nothing at first
+pub client_stepped : (begin last : core_run.Run) (steps : List ((Told × core_mark.Mark) × List ℕ)) → FoldsTo (IsStep core.Turns cores.says cores.is_over cores.is_marked_written) begin steps last → cores.says begin ≡ []
+    → Transcribes core.Turns of_client.brings of_client.says begin (map (λ s. s.0) steps) last (total steps) (map (λ s. record { read = of_client.brings s.0; wrote = s.1 }) steps)
+client_stepped begin last steps goes silent = record {
+  steps = map client_step_of steps;
+  of_messages = firsts steps;
+  of_steps = seconds steps;
+  goes = exchanged core.Turns cores.says cores.is_over cores.is_marked_written (λ (m : Told × core_mark.Mark). m) core.Turns (λ p q m t. t) of_client.brings steps begin last (total steps) [] goes ((cores.says begin, refl), inl (sym silent)) refl;
+}
+  where
+    firsts : (ss : List ((Told × core_mark.Mark) × List ℕ)) → map (λ s. s.0) (map client_step_of ss) ≡ map (λ s. s.0) ss
+    firsts [] = refl
+    firsts (s ∷ ss) = ap (λ (l : List (Told × core_mark.Mark)). s.0 ∷ l) (firsts ss)
+
+    seconds : (ss : List ((Told × core_mark.Mark) × List ℕ)) → map (λ s. s.1) (map client_step_of ss) ≡ map (λ s. record { read = of_client.brings s.0; wrote = s.1 }) ss
+    seconds [] = refl
+    seconds (s ∷ ss) = ap (λ (l : List Exchange). record { read = of_client.brings s.0; wrote = s.1 } ∷ l) (seconds ss)
 
 -- EACH TRANSCRIPT CAN BE NOTED
 abbrev noted_from : Note → List Note → Noted

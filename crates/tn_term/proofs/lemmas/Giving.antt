@@ -294,6 +294,10 @@ started_in_order false canon editing jobs = failed_in_order fault.Write (start c
 pub puts_are_front : (b : Bool) (canon : Canon) (editing : Editing) (jobs : Jobs) (marked : List (Message × Mark)) (new : Run) → Runs (run_after_opening b (start canon editing jobs)) marked new → GivesPrefix new.puts new.history
 puts_are_front b canon editing jobs marked new r = (run_keeps Turns InOrder turned_in_order marked (run_after_opening b (start canon editing jobs)) new r (started_in_order b canon editing jobs)).front
 
+-- while messages have their effect, what was put and what waits are all
+pub puts_are_given : (b : Bool) (canon : Canon) (editing : Editing) (jobs : Jobs) (marked : List (Message × Mark)) (new : Run) → Runs (run_after_opening b (start canon editing jobs)) marked new → new.progress.over ≡ false → Gives new.puts new.history
+puts_are_given b canon editing jobs marked new r = (run_keeps Turns InOrder turned_in_order marked (run_after_opening b (start canon editing jobs)) new r (started_in_order b canon editing jobs)).gives
+
 -- what was taken of what was put
 pub taken_are_front : (taken_count rest puts : List (Option Entry)) (h : History) → taken_count ++ rest ≡ puts → GivesPrefix puts h → GivesPrefix taken_count h
 taken_are_front taken_count rest puts h e (others, f) = (

@@ -213,6 +213,7 @@ hears b canon editing jobs marked new runs =
     record {
       unheard = r.0.rest;
       stream_first = ap (λ (bs : List ℕ). bs ++ heard (map (λ m. m.0) marked)) (sym begun) ∙ r.0.front;
+      all = r.0.whole;
       read = r.1.read;
       entries_are = same_entries new.history (gets o (items new.history)) r.1.lines;
     }

@@ -1,4 +1,4 @@
-use Rattle.std.proofs.Common.{ℕ, List, [], ◌∷◌, ◌++◌, ◌+◌, map, length, length-append, refl, sym, ap, subst}
+use Rattle.std.proofs.Common.{ℕ, [], ◌∷◌, ◌++◌, map, length, length-append, refl, sym, subst}
 use Rattle.std.proofs.lemmas.Option.{IfSome_then}
 use Rattle.crossbeam_channel.specs.Claims.{view}
 use Rattle.tn_jobs.specs.declared.held_jobs.JobId.{JobId}

@@ -1,9 +1,9 @@
 -- The steps that a core noted are those of its run's transcript.
-use Rattle.std.proofs.Common.{◌≡◌, ◌⊎◌, inl, inr, ℕ, Bool, true, false, Option, Some, List, [], ◌∷◌, ◌++◌, refl, sym, ap, ◌∙◌, subst, map, append_assoc, append-nil}
+use Rattle.std.proofs.Common.{◌≡◌, ◌⊎◌, inl, inr, ℕ, Bool, true, false, Some, List, [], ◌∷◌, ◌++◌, refl, sym, ap, ◌∙◌, subst, map, append_assoc, append-nil}
 use Rattle.std.specs.List.{FoldsTo}
-use Rattle.tn_session.proofs.lemmas.Transcribing.{prefix_self, prefix_trans}
+use Rattle.tn_session.proofs.lemmas.Transcribing.{prefix_trans}
 use Rattle.tn_session.specs.Notes.{Note}
-use Rattle.tn_session.specs.Transcripts.{Exchange, Point, IsExchange, IsStep, exchange_of, total}
+use Rattle.tn_session.specs.Transcripts.{Exchange, IsExchange, IsStep, exchange_of, total}
 use Rattle.tn_session.specs.declared.mail.Mail.{Mail}
 use Rattle.tn_streams.specs.Prefixes.{IsPrefixOf}
 
