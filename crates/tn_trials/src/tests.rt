@@ -7,6 +7,7 @@ mod decoding;
 mod forward;
 mod keys;
 mod midline;
+mod one_loop;
 mod playing;
 mod programs;
 mod refusals;
