@@ -1,5 +1,5 @@
-//! Two running sessions at once, a server's and a client's, with a socket between them.
-//! It has no handle, and holds no code: what it says is said of what the sessions' contracts tell.
+//! Two sessions at once, a server's and a client's: in threads, with a socket between them, as their contracts tell,
+//! and their machines in one loop, with nothing between them but two lists of bytes. It has no handle.
 #![tactic(auto)]
 
 pub use one_loop::{Event, Joined};
