@@ -2,6 +2,7 @@
 
 mod cores;
 mod gates;
+mod makers;
 mod refusals;
 mod sessions;
 mod sizes;
