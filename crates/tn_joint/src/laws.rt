@@ -9,9 +9,9 @@ ghost use Rattle.tn_server.specs.declared.wishes.Editing.{Editing};
 use tn_session::Maker;
 
 /// What you type is what the job reads, of what can be seen of two sessions: where the server's special
-/// characters are the standard ones and both have lines of one limit, and a socket carries what each wrote,
-/// what the job took is a prefix of the entries of the keys that the client read, and all of them where both
-/// sessions ran to the end.
+/// characters are the standard ones and both have lines of one limit, each command that was sent stands for a key
+/// there, and a socket carries what each wrote, what the job took is a prefix of the entries of the keys that the
+/// client read, with the commands between them, and all of them where both sessions ran to the end.
 pub fn what_you_type_is_what_the_job_reads<M: Maker>()
     ensures { (maker : M) →
         Headline (job_facts (begins M.Job.fresh M.gives maker) M.Job.reacts M.Job.steps M.Job.refuses) }
