@@ -122,7 +122,7 @@ proctype ClientKeys() {
 	do
 	::
 #ifdef SIZES
-		/* tell_size: what the last read took from the pipe of sizes */
+		/* tell_beside: what the last read took from the pipe of sizes, or a control function; either is one mail */
 		if
 		:: !has_size
 		:: atomic { has_size -> has_size = false; say(CLI, KEYS, Resized, 0, 0, 0, ok);

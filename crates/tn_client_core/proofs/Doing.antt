@@ -5,19 +5,22 @@ use Rattle.tn_client.proofs.lemmas.Histories.{items-gets, gets-append, sent-gets
 use Rattle.tn_client.specs.Calls.{End, IsStopCause, IsFault, call_fault}
 use Rattle.tn_client.specs.Calls as client
 use Rattle.tn_client.specs.Events.{History, begun, next, got, resized, gets, items}
+use Rattle.tn_client.specs.Events as client_events
 use Rattle.tn_client.specs.Replies.{items_said, replies}
 use Rattle.tn_client.specs.Screen.{text_shown}
 use Rattle.tn_client.specs.declared.faults.ClientFault.{ClientFault}
 use Rattle.tn_client.specs.declared.faults.ClientFault.TheVariants as client_fault
 use Rattle.tn_client_core.proofs.Typing.{items-types, said_front, shown_front}
+use Rattle.tn_client_core.specs.Commands.{command_of}
 use Rattle.tn_client_core.specs.Counting.{nothing_yet, after_piece, after_message}
 use Rattle.tn_client_core.specs.Reaching.{LeadsTo, TypesAll, TypesPrefix, DoesWhole, StopsWithin}
-use Rattle.tn_client_core.specs.Run.{Run, resize, Reads, Acts, ActsUnless, Handles, types, type_keys, feed, turns, start, sent_after}
+use Rattle.tn_client_core.specs.Run.{Run, resize, send, Reads, Acts, ActsUnless, Handles, types, type_keys, feed, turns, start, sent_after}
 use Rattle.tn_client_core.specs.declared.machine.Core.{Core}
 use Rattle.tn_client_core.specs.declared.messages.Origin.{Origin}
 use Rattle.tn_client_core.specs.declared.messages.Origin.TheVariants.{Keys, Net}
 use Rattle.tn_client_core.specs.declared.messages.Told.{Told}
 use Rattle.tn_client_core.specs.declared.progress.Progress.{Progress}
+use Rattle.tn_streams.specs.declared.control.Control.{Control}
 use Rattle.tn_streams.specs.declared.window.WindowSize.{WindowSize}
 use Rattle.tn_messages.proofs.lemmas.Pieces.{read_on, read_as}
 use Rattle.tn_nvt.proofs.lemmas.Reading.{spells-append}
@@ -26,7 +29,7 @@ use Rattle.tn_nvt.specs.Feeding as nvt
 use Rattle.tn_nvt.specs.Spelling.{spells}
 use Rattle.tn_nvt.specs.declared.items.Item.{Item}
 use Rattle.tn_messages.specs.declared.messages.Message.{Message}
-use Rattle.tn_messages.specs.declared.messages.Message.TheVariants.{Piece, HangUp, ReadFailed, Take, Said, Refused, Left, Resized}
+use Rattle.tn_messages.specs.declared.messages.Message.TheVariants.{Piece, HangUp, ReadFailed, Take, Said, Refused, Left, Resized, Asked}
 
 -- the core is over: nothing is known of its end
 pub is_over : (c : Run) (core : Core) → core.progress.over ≡ true → core.progress ≡ c.progress → LeadsTo c core
@@ -256,6 +259,75 @@ stops_resize from size old new x y u on is same = record {
       );
 }
 
+-- A COMMAND
+pub does_send : (control : Control) (old new : Core) (x y u : List ℕ) → old.progress.over ≡ false → new ≡ record old { end = new.end } → client.Advances old.end (client_events.sent (command_of control)) new.end → client.Sends old.end (client_events.sent (command_of control)) x y → client.ReadsNothing old.end new.end → DoesWhole old (record { from = Keys; message = Asked control }) x y u u new
+does_send control old new x y u on is goes sends keeps = record {
+  said = sends.said;
+  text = [];
+  appended = sends.appended;
+  displayed = sym (append-nil u);
+  leads = λ c at.
+      let told : Told = record { from = Keys; message = Asked control } in
+      let h = c.history in
+      let later = next h (client_events.sent (command_of control)) in
+      let l = at.live on in
+      let whole = send control c in
+      let leads : LeadsTo whole new = record {
+        live = λ _. record {
+          leads = goes.leads h l.leads;
+          read = read_as old.end.decoder new.end.decoder c.stream (items h) (items later) keeps.decoder refl l.read;
+          bytes = l.bytes;
+          failed = keeps.failed ∙ l.failed;
+          latest = λ e. sent_open c.progress.closed c.sent later e;
+        };
+        progress = ap (λ (core : Core). core.progress) is ∙ at.progress;
+      } in (
+        whole,
+        handled c whole old told on at refl,
+        leads,
+        refl,
+        ap (λ (xs : List Item). items_said h ++ xs) (sends.replies h l.leads),
+        refl,
+      );
+}
+
+pub stops_send : (control : Control) (old new : Core) (x y u : List ℕ) → old.progress.over ≡ false → new ≡ record old { end = new.end } → y ≡ x → StopsWithin old (record { from = Keys; message = Asked control }) x y u u new
+stops_send control old new x y u on is same = record {
+  part = [];
+  text = [];
+  appended = same ∙ sym (append-nil x);
+  displayed = sym (append-nil u);
+  leads = λ c at.
+      let told : Told = record { from = Keys; message = Asked control } in
+      let h = c.history in
+      let said = replies h (client_events.sent (command_of control)) in (
+        send control c,
+        handled c (send control c) old told on at refl,
+        ap (λ (core : Core). core.progress) is ∙ at.progress,
+        refl,
+        (spells said, spells-append (items_said h) said),
+        ([], refl),
+      );
+}
+
+-- the network has no user who asks
+pub does_not_send : (control : Control) (old : Core) (x u : List ℕ) → old.progress.over ≡ false → DoesWhole old (record { from = Net; message = Asked control }) x x u u old
+does_not_send control old x u on = record {
+  said = [];
+  text = [];
+  appended = sym (append-nil x);
+  displayed = sym (append-nil u);
+  leads = λ c at.
+      let told : Told = record { from = Net; message = Asked control } in (
+        c,
+        handled c c old told on at refl,
+        at,
+        sent_kept c.progress.closed c.sent c.history (at.live on).latest,
+        sym (append-nil (items_said c.history)),
+        sym (append-nil (text_shown c.history)),
+      );
+}
+
 -- where it shows nothing, whatever was shown before
 pub shows_ok : {T E : Type 0} (r : Result T E) (P : List ℕ → Type 0) (seen : List ℕ) → OnOk r ((u : List ℕ) → P u) → OnOk r (P seen)
 shows_ok (Ok x) P seen h = h seen
@@ -266,15 +338,17 @@ shows_err (Ok x) P seen h = tt
 shows_err (Err e) P seen h = h seen
 
 -- OTHER MESSAGES
--- a message that brings no bytes, and no size
+-- a message that brings no bytes, no size, and asks for no command
 abbrev pub IsPlain : Message → Type 0
 IsPlain (Piece piece) = ⊥
 IsPlain (Resized size) = ⊥
+IsPlain (Asked control) = ⊥
 IsPlain _ = Unit {0}
 
 acts_plain : (c : Run) (from : Origin) (m : Message) → IsPlain m → Acts c from m (turns (after_message from m) c)
 acts_plain c from (Piece piece) plain = absurd plain
 acts_plain c from (Resized size) plain = absurd plain
+acts_plain c from (Asked control) plain = absurd plain
 acts_plain c from HangUp plain = refl
 acts_plain c from ReadFailed plain = refl
 acts_plain c from Take plain = refl
@@ -300,6 +374,8 @@ still_open Net (Said job text after) p e = e
 still_open Net Left p e = e
 still_open Keys (Resized size) p e = e
 still_open Net (Resized size) p e = e
+still_open Keys (Asked control) p e = e
+still_open Net (Asked control) p e = e
 
 -- and what is closed stays so
 pub stays_closed : (from : Origin) (m : Message) (p : Progress) → p.closed ≡ true → (after_message from m p).closed ≡ true
@@ -350,12 +426,13 @@ starts width height limit end core s r runs is = rw is (record {
   progress = refl;
 })
 
-pub is_plain : (m : Message) → ((piece : List ℕ) → m ≡ Piece piece → ⊥) → ((size : WindowSize) → m ≡ Resized size → ⊥) → IsPlain m
-is_plain (Piece piece) other unsized = other piece refl
-is_plain (Resized size) other unsized = unsized size refl
-is_plain HangUp other unsized = tt
-is_plain ReadFailed other unsized = tt
-is_plain Take other unsized = tt
-is_plain (Said job text after) other unsized = tt
-is_plain Refused other unsized = tt
-is_plain Left other unsized = tt
+pub is_plain : (m : Message) → ((piece : List ℕ) → m ≡ Piece piece → ⊥) → ((size : WindowSize) → m ≡ Resized size → ⊥) → ((control : Control) → m ≡ Asked control → ⊥) → IsPlain m
+is_plain (Piece piece) other unsized unasked = other piece refl
+is_plain (Resized size) other unsized unasked = unsized size refl
+is_plain (Asked control) other unsized unasked = unasked control refl
+is_plain HangUp other unsized unasked = tt
+is_plain ReadFailed other unsized unasked = tt
+is_plain Take other unsized unasked = tt
+is_plain (Said job text after) other unsized unasked = tt
+is_plain Refused other unsized unasked = tt
+is_plain Left other unsized unasked = tt

@@ -14,12 +14,13 @@ use Rattle.tn_client_core.specs.Refusing.{RefusesAtKey, RefusesAtItem, RefusesAt
 use Rattle.tn_client_core.specs.Run.{Run, Reads, types}
 use Rattle.tn_client_core.specs.declared.machine.Core.{Core}
 use Rattle.tn_client_core.specs.declared.messages.Origin.{Origin}
+use Rattle.tn_streams.specs.declared.control.Control.{Control}
 use Rattle.tn_streams.specs.declared.window.WindowSize.{WindowSize}
 use Rattle.tn_client_core.specs.declared.messages.Origin.TheVariants.{Keys, Net}
 use Rattle.tn_nvt.specs.Feeding.{DecoderState}
 use Rattle.tn_nvt.specs.Feeding as nvt
 use Rattle.tn_nvt.specs.declared.items.Item.{Item}
-use Rattle.tn_messages.specs.declared.messages.Message.TheVariants.{Piece, Resized}
+use Rattle.tn_messages.specs.declared.messages.Message.TheVariants.{Piece, Resized, Asked}
 
 -- an end that has not failed refuses only when out of memory
 only_memory : (end : End) (f : ClientFault) → end.failed ≡ false → IsFault (call_fault end) f → f ≡ client_fault.Memory
@@ -69,3 +70,7 @@ resize_cause Net size old f on why grows = λ c at.
     let l = at.live on in
     let is = only_memory old.end f l.failed why in
     (is, grows is c.history l.leads)
+
+-- a command was refused
+pub send_cause : (control : Control) (old : Core) (f : ClientFault) → old.progress.over ≡ false → IsFault (call_fault old.end) f → RefusesFor old (record { from = Keys; message = Asked control }) f
+send_cause control old f on why = λ c at. only_memory old.end f (at.live on).failed why

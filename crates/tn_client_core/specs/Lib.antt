@@ -1,3 +1,4 @@
+pub mod Commands
 pub mod Counting
 pub mod Run
 pub mod Refusing

@@ -11,7 +11,7 @@ use Rattle.tn_client_core.specs.declared.messages.Origin.TheVariants.{Keys, Net}
 use Rattle.tn_nvt.specs.declared.items.Item.{Item}
 use Rattle.tn_messages.specs.Pieces.{WantsMemoryWithin}
 use Rattle.tn_messages.specs.declared.messages.Message.{Message}
-use Rattle.tn_messages.specs.declared.messages.Message.TheVariants.{Piece, Resized}
+use Rattle.tn_messages.specs.declared.messages.Message.TheVariants.{Piece, Resized, Asked}
 
 -- one of these keys says or shows something, once those before it were typed
 abbrev pub RefusesAtKey : History → List ℕ → Type 0
@@ -29,10 +29,11 @@ RefusesAtItem c piece =
 abbrev pub RefusesAtByte : Run → List ℕ → Type 0
 RefusesAtByte c piece = WantsMemoryWithin c.stream (items c.history) piece
 
--- a piece, or a size that is told, is refused for lack of memory, and nothing else is refused
+-- a piece, a size that is told, or a command is refused for lack of memory, and nothing else is refused
 abbrev pub IsRefusalCause : Run → Origin → Message → ClientFault → Type 0
 IsRefusalCause c Keys (Piece piece) f = (f ≡ Memory) × RefusesAtKey c.history piece
 IsRefusalCause c Net (Piece piece) f = (f ≡ Memory) × (RefusesAtItem c piece ⊎ RefusesAtByte c piece)
 IsRefusalCause c _ (Resized size) f =
     (f ≡ Memory) × (replies c.history (resized size.width size.height) ≢ [])
+IsRefusalCause c Keys (Asked control) f = f ≡ Memory
 IsRefusalCause c _ _ f = ⊥

@@ -1,6 +1,8 @@
 -- What the messages do: a fold over those that were handled, over the history of the client end.
 use Rattle.std.specs.Prelude.{◌≡◌, ℕ, Bool, true, false, List, [], ◌∷◌, ◌++◌}
 use Rattle.tn_client.specs.Events.{History, begun, next, typed, resized, gets, items}
+use Rattle.tn_client.specs.Events as client
+use Rattle.tn_client_core.specs.Commands.{command_of}
 use Rattle.tn_client_core.specs.Counting as counting
 use Rattle.tn_client_core.specs.declared.messages.Origin.{Origin}
 use Rattle.tn_client_core.specs.declared.messages.Origin.TheVariants.{Keys, Net}
@@ -9,7 +11,8 @@ use Rattle.tn_client_core.specs.declared.progress.Progress.{Progress}
 use Rattle.tn_nvt.specs.declared.items.Item.{Item}
 use Rattle.tn_messages.specs.declared.faults.SessionFault.{SessionFault}
 use Rattle.tn_messages.specs.declared.messages.Message.{Message}
-use Rattle.tn_messages.specs.declared.messages.Message.TheVariants.{Piece, Resized}
+use Rattle.tn_messages.specs.declared.messages.Message.TheVariants.{Piece, Resized, Asked}
+use Rattle.tn_streams.specs.declared.control.Control.{Control}
 use Rattle.tn_streams.specs.declared.window.WindowSize.{WindowSize}
 use Rattle.tn_wire.specs.Prefixes.{IsRead}
 
@@ -53,6 +56,10 @@ Reads c piece xs = IsRead (c.stream ++ piece) (items c.history ++ xs)
 abbrev pub resize : WindowSize → Run → Run
 resize size c = goes_on (next c.history (resized size.width size.height)) c
 
+-- the user sends the command of this control function
+abbrev pub send : Control → Run → Run
+send control c = goes_on (next c.history (client.sent (command_of control))) c
+
 -- something failed
 abbrev pub fail : SessionFault → Run → Run
 fail f c = turns (counting.after_failure f) c
@@ -62,10 +69,16 @@ abbrev pub TakesPiece : Run → Origin → List ℕ → Run → Type 0
 TakesPiece c Keys piece new = new ≡ type_keys piece c
 TakesPiece c Net piece new = (xs : List Item) × Reads c piece xs × (new ≡ feed piece xs c)
 
+-- only the keys have a user who asks
+abbrev pub Asks : Run → Origin → Control → Run → Type 0
+Asks c Keys control new = new ≡ send control c
+Asks c Net control new = new ≡ c
+
 -- a message that has its effect
 abbrev pub Acts : Run → Origin → Message → Run → Type 0
 Acts c from (Piece piece) new = TakesPiece c from piece new
 Acts c from (Resized size) new = new ≡ resize size c
+Acts c from (Asked control) new = Asks c from control new
 Acts c from m new = new ≡ turns (counting.after_message from m) c
 
 abbrev pub ActsUnless : Bool → Run → Told → Run → Type 0

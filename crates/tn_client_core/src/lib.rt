@@ -7,7 +7,7 @@
 //! ```
 //!
 //! ```text
-//! Piece, Resized, Left from the keys ------+
+//! Piece, Resized, Asked, Left from the keys +
 //! Piece, Left from the network ------------+--> Core --> bytes to the network
 //! HangUp, ReadFailed, Refused from each ---+     |
 //!                                                +-----> bytes to the screen
@@ -22,6 +22,7 @@ pub use messages::{Mark, Origin, Told};
 pub use progress::Progress;
 pub use terms::Terms;
 
+mod commands;
 pub mod laws;
 mod machine;
 mod messages;

@@ -11,6 +11,7 @@ ghost use Rattle.tn_client_core.specs.Run as run;
 ghost use Rattle.tn_client_core.specs.Run.{Run};
 ghost use Rattle.tn_client_core.specs.Terms.{terms_at};
 
+use crate::commands::command_of;
 use crate::messages::{Mark, Origin, Told};
 use crate::progress::Progress;
 use crate::terms::Terms;
@@ -20,7 +21,7 @@ use tn_codes::EDIT;
 use tn_discipline::Limit;
 use tn_messages::{Message, SessionFault};
 use tn_option::{ECHO, LINEMODE, QState, Side};
-use tn_streams::WindowSize;
+use tn_streams::{Control, WindowSize};
 
 /// The core of a client session.
 #[derive(Drop)]
@@ -162,6 +163,42 @@ impl Core {
         Ok(())
     }
 
+    // The user asks for this control function: it is sent behind the keys that were typed.
+    fn send(&mut self, control: Control, out: &mut Vec<u8>) -> Result<(), ClientFault>
+        requires { self.old.progress.over ≡ false }
+        ensures ok { OnOk result ((seen : List ℕ) → DoesWhole self.old
+            (record { from = Origin.Keys; message = Message.Asked control })
+            out.old.items out.new.items seen seen self.new) }
+        ensures err { OnErr result ((seen : List ℕ) → StopsWithin self.old
+            (record { from = Origin.Keys; message = Message.Asked control })
+            out.old.items out.new.items seen seen self.new) }
+        ensures cause { IfErr result (RefusesFor self.old
+            (record { from = Origin.Keys; message = Message.Asked control })) }
+        ensures closed { self.new.progress.closed ≡ self.old.progress.closed }
+    {
+        self.end.send(command_of(control), out)?;
+        Ok(())
+    }
+
+    // The same of whoever asks: only the keys have a user.
+    fn ask(&mut self, from: Origin, control: Control, out: &mut Vec<u8>) -> Result<(), ClientFault>
+        requires { self.old.progress.over ≡ false }
+        ensures ok { OnOk result ((seen : List ℕ) → DoesWhole self.old
+            (record { from = from; message = Message.Asked control })
+            out.old.items out.new.items seen seen self.new) }
+        ensures err { OnErr result ((seen : List ℕ) → StopsWithin self.old
+            (record { from = from; message = Message.Asked control })
+            out.old.items out.new.items seen seen self.new) }
+        ensures cause { IfErr result (RefusesFor self.old
+            (record { from = from; message = Message.Asked control })) }
+        ensures closed { self.new.progress.closed ≡ self.old.progress.closed }
+    {
+        match from {
+            Origin::Keys => self.send(control, out),
+            Origin::Net => Ok(()),
+        }
+    }
+
     // What a message that brings no bytes changes.
     fn step(&mut self, from: Origin, message: &Message)
         ensures { self.new ≡ record self.old {
@@ -199,6 +236,7 @@ impl Core {
         match message {
             Message::Piece(piece) => self.piece(from, piece.as_slice(), out, screen),
             Message::Resized(size) => self.resize(from, size, out),
+            Message::Asked(control) => self.ask(from, control, out),
             other => {
                 self.step(from, &other);
                 Ok(())

@@ -10,7 +10,7 @@ use Rattle.tn_session.specs.Facts.{Window, client_result}
 use Rattle.tn_session.specs.declared.parties.ClientPorts.{ClientPorts}
 use Rattle.tn_session.specs.declared.parties.Report.{Report}
 use Rattle.tn_sockets.specs.Queue.{PieceHand, PiecePass, put_bytes}
-use Rattle.tn_streams.specs.Known.{KnownReader, KnownWriting}
+use Rattle.tn_streams.specs.Known.{KnownReader, KnownTyping, KnownWriting}
 
 abbrev pub writing : Option (List ℕ) → Option (List ℕ) → KnownWriting
 writing old new = record { before = record { bytes = old; calls = None }; after = record { bytes = new; calls = None } }
@@ -18,7 +18,7 @@ writing old new = record { before = record { bytes = old; calls = None }; after 
 abbrev pub unforeseen : KnownReader
 unforeseen = record { bytes = None; failures = None; sizes = Some [] }
 
-module _ (window : Window) (keys : KnownReader) (seen now : Option (List ℕ)) where
+module _ (window : Window) (keys : KnownTyping) (seen now : Option (List ℕ)) where
   pub runs : (old : PieceHand) (put : Option (List ℕ)) → old ≡ putter [] → (r : Result (Report × ClientPorts) SessionFault)
       → IfOk r (λ r. RunningClient window keys unforeseen (writing (put_bytes old) put) (writing seen now) (client_result r.0 r.1))
       → IfOk r (λ r. RunsWriting window keys seen now put r.0 r.1)

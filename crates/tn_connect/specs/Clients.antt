@@ -14,23 +14,26 @@ use Rattle.tn_session.specs.Facts.{Window, client_result}
 use Rattle.tn_session.specs.declared.parties.ClientPorts.{ClientPorts}
 use Rattle.tn_session.specs.declared.parties.Report.{Report}
 use Rattle.tn_sockets.specs.Queue.{put_bytes}
-use Rattle.tn_streams.specs.Known.{KnownReader}
+use Rattle.tn_streams.specs.Known.{KnownTyping}
 
 abbrev pub window_of : Connecting → Window
 window_of connecting =
     record { width = connecting.width; height = connecting.height; limit = connecting.line_limit }
 
--- What is known beforehand of the keys of a reader with these bytes: the bytes, and that no size of a window
--- is told; or nothing where they are waited for.
-abbrev pub foreseen : Origin → Option (List ℕ) → KnownReader
-foreseen Reader bytes = record { bytes = bytes; failures = None; sizes = Some [] }
-foreseen Input bytes = record { bytes = None; failures = None; sizes = None }
-foreseen Terminal bytes = record { bytes = None; failures = None; sizes = None }
+-- What is known beforehand of the keys of a reader with these bytes: the bytes, and that no size of a window is told
+-- and nothing asked for; or nothing where they are waited for, but that only at a terminal anything is asked for.
+abbrev pub foreseen : Origin → Option (List ℕ) → KnownTyping
+foreseen Reader bytes =
+    record { reader = record { bytes = bytes; failures = None; sizes = Some [] }; controls = Some [] }
+foreseen Input bytes =
+    record { reader = record { bytes = None; failures = None; sizes = None }; controls = Some [] }
+foreseen Terminal bytes =
+    record { reader = record { bytes = None; failures = None; sizes = None }; controls = None }
 
 -- A client's session ran with these keys and this screen, before and after it, wrote these bytes, and gave back this.
 -- Of what the connection brings nothing was known before, but that it tells no size; all that was read from it stands
 -- in the ports.
-abbrev pub RunsWriting : Window → KnownReader → Option (List ℕ) → Option (List ℕ) → Option (List ℕ) → Report → ClientPorts → Type 0
+abbrev pub RunsWriting : Window → KnownTyping → Option (List ℕ) → Option (List ℕ) → Option (List ℕ) → Report → ClientPorts → Type 0
 RunsWriting window keys seen now written report ports =
     RunningClient window keys (record { bytes = None; failures = None; sizes = Some [] })
     (record { before = record { bytes = Some []; calls = None }; after = record { bytes = written; calls = None } })
@@ -38,7 +41,7 @@ RunsWriting window keys seen now written report ports =
     (client_result report ports)
 
 -- the same, of what it gave back: all that it wrote was put into the queue
-abbrev pub RunsClient : Window → KnownReader → Option (List ℕ) → Option (List ℕ) → Connected → Type 0
+abbrev pub RunsClient : Window → KnownTyping → Option (List ℕ) → Option (List ℕ) → Connected → Type 0
 RunsClient window keys seen now connected =
     RunsWriting window keys seen now (put_bytes (view connected.queue)) connected.report connected.ports
 

@@ -13,7 +13,7 @@ ghost use Rattle.tn_sockets.specs.Ends.{IsNew};
 ghost use Rattle.tn_sockets.specs.Logs.{logged};
 ghost use Rattle.tn_sockets.specs.Queue.{IsNamed, IsSent, put_bytes};
 ghost use Rattle.tn_sockets.specs.declared.sending.Sent.TheVariants.{Whole};
-ghost use Rattle.tn_streams.specs.Known.{known_reader};
+ghost use Rattle.tn_streams.specs.Known.{known_typing};
 
 use crate::connected::Connected;
 use crate::fault::ConnectFault;
@@ -121,7 +121,7 @@ fn talk<H: Host, K: Source + Drop + Send + 'static, S: Write, Q: Queue>(
 ) -> Result<(Report, ClientPorts), SessionFault>
     requires nothing_yet { view outgoing.old.pass ≡ putter [] }
     ensures ran { IfOk result (λ r.
-        RunsWriting (window_of connecting) (known_reader K.remaining K.foretold K.sizes keys)
+        RunsWriting (window_of connecting) (known_typing K.remaining K.foretold K.sizes K.controls keys)
         (S.contents screen.old) (S.contents screen.new) (put_bytes (view outgoing.new.pass)) r.0 r.1) }
 {
     let Ok(gate) = Publisher::new(alloc, incoming.link()) else {

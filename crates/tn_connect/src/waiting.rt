@@ -35,7 +35,7 @@ impl<R: Read> Read for Brought<R> {
 }
 
 /// Keys of which nothing is known beforehand. Their end is told after so many seconds, or once the connection
-/// brings nothing more.
+/// brings nothing more. No user asks for anything there.
 #[derive(Drop)]
 pub(crate) struct Patient<H, K> {
     pub(crate) rt: H,

@@ -1,10 +1,14 @@
 -- The headline over two programs, from that over two sessions.
-use Rattle.std.proofs.Common.{◌≡◌, ℕ, Option, None, Some, List, [], refl, sym, ap, ◌∙◌, subst}
+use Rattle.std.proofs.Common.{◌≡◌, ℕ, All, Option, None, Some, List, [], ◌∷◌, refl, sym, ap, ◌∙◌, subst}
+use Rattle.std.proofs.lemmas.List.Elements.{All-nil, All-cons}
 use Rattle.std.specs.Io.KnownBytes.{Appends}
 use Rattle.crossbeam_channel.specs.Claims.{view}
+use Rattle.tn_client.specs.declared.commands.UserCommand.TheVariants as user
+use Rattle.tn_client_core.specs.Bringing.{Input, key_typed, command_sent}
 use Rattle.tn_discipline.specs.Canon.{typed_entries}
+use Rattle.tn_discipline.specs.declared.reads.Entry.{Entry}
 use Rattle.tn_ends.specs.Programs.{Programs, AreTheirs, ReadsWhatIsTyped, HeadlineOfPrograms}
-use Rattle.tn_joint.specs.Transcripts.{Served, Connected, IsCarried, Headline}
+use Rattle.tn_joint.specs.Transcripts.{Served, Connected, IsCarried, Headline, HasKey, keys_of}
 use Rattle.tn_loopback.specs.Servers.{terminal_of}
 use Rattle.tn_messages.specs.declared.faults.Ended.TheVariants.{HangUp}
 use Rattle.tn_session.specs.Client.{RunningClient}
@@ -39,16 +43,31 @@ module _ {J : Type 0} (facts : JobFacts J) (headline : Headline facts) (p : Prog
   abbrev Client : ℕ → Type 0
   Client limit = RunningClient (record { width = p.connecting.width; height = p.connecting.height; limit = limit }) p.keys socket queued screen (client_result p.connected.report p.connected.ports)
 
+  abbrev local_entries : List Input → List Entry
+  local_entries inputs = typed_entries (terminal_of p.options).canon (keys_of (terminal_of p.options).canon.settings inputs)
+
+  -- the terminal of such a server has a key that interrupts
+  has_key : (input : Input) → HasKey (terminal_of p.options).canon.settings input
+  has_key (key_typed key) = tt
+  has_key (command_sent user.Brk) = refl
+  has_key (command_sent user.Ip) = refl
+  has_key (command_sent user.Ayt) = tt
+  has_key (command_sent user.Nop) = tt
+
+  all_typeable : (inputs : List Input) → All (λ input. HasKey (terminal_of p.options).canon.settings input) inputs
+  all_typeable [] = All-nil (λ input. HasKey (terminal_of p.options).canon.settings input)
+  all_typeable (input ∷ inputs) = All-cons (λ x. HasKey (terminal_of p.options).canon.settings x) input inputs (has_key input) (all_typeable inputs)
+
   -- the same of any client's session
   record Reads (limit : ℕ) (c : Client limit) : Type 0 where
-    pub prefix : IsPrefixOf served.ran.entries_taken (typed_entries (terminal_of p.options).canon c.keys_read)
+    pub prefix : IsPrefixOf served.ran.entries_taken (local_entries c.inputs)
     pub all : p.conversed.report.ended ≡ HangUp → p.connected.report.ended ≡ HangUp → all_read served.ran.transcript ≡ all_wrote c.transcript
-        → served.ran.entries_taken ≡ typed_entries (terminal_of p.options).canon c.keys_read
+        → served.ran.entries_taken ≡ local_entries c.inputs
 
   of_one_limit : (c : Client p.options.line_limit) → IsCarried served.ran.transcript c.transcript → Reads p.options.line_limit c
   of_one_limit c carried =
       let client : Connected (terminal_of p.options).canon.limit = record { width = p.connecting.width; height = p.connecting.height; keys = p.keys; reader = socket; writer = queued; screen = screen; result = client_result p.connected.report p.connected.ports; ran = c } in
-      let reads = headline (terminal_of p.options).canon served client refl carried in
+      let reads = headline (terminal_of p.options).canon served client refl (all_typeable c.inputs) carried in
       record { prefix = reads.prefix; all = λ s c whole. reads.all (record { server = s; client = c; whole = whole }) }
 
   put : Some (all_wrote p.joined.transcript) ≡ put_bytes (view p.connected.queue)

@@ -8,7 +8,7 @@ use Rattle.tn_connect.specs.declared.connected.Connected.{Connected}
 use Rattle.tn_connect.specs.declared.settings.Connecting.{Connecting}
 use Rattle.tn_discipline.specs.Canon.{typed_entries}
 use Rattle.tn_discipline.specs.declared.reads.Entry.{Entry}
-use Rattle.tn_joint.specs.Transcripts.{IsCarried}
+use Rattle.tn_joint.specs.Transcripts.{IsCarried, keys_of}
 use Rattle.tn_loopback.specs.Servers.{RunsServer, terminal_of}
 use Rattle.tn_loopback.specs.declared.conversed.Conversed.{Conversed}
 use Rattle.tn_loopback.specs.declared.settings.SessionOptions.{SessionOptions}
@@ -17,7 +17,7 @@ use Rattle.tn_session.specs.Facts.{JobFacts}
 use Rattle.tn_session.specs.Transcripts.{Exchange, all_read, all_wrote, came_by}
 use Rattle.tn_sockets.specs.Logs.{logged}
 use Rattle.tn_sockets.specs.Queue.{put_bytes}
-use Rattle.tn_streams.specs.Known.{KnownReader}
+use Rattle.tn_streams.specs.Known.{KnownTyping}
 use Rattle.tn_streams.specs.Prefixes.{IsPrefixOf}
 
 -- both returned: what each gave back, and promises of it
@@ -27,7 +27,7 @@ pub record Programs {J : Type 0} (facts : JobFacts J) : Type 0 where
   pub conversed : Conversed
   pub served : RunsServer facts to_make options conversed
   pub connecting : Connecting
-  pub keys : KnownReader
+  pub keys : KnownTyping
   pub seen : Option (List ℕ)
   pub now : Option (List ℕ)
   pub connected : Connected
@@ -52,12 +52,14 @@ pub record AreTheirs {J : Type 0} {facts : JobFacts J} (p : Programs facts) : Ty
   pub client_sent : IsPrefixOf (logged p.connected.log) (all_wrote (client_transcript p))
   pub client_sent_all : p.connected.all_sent ≡ true → logged p.connected.log ≡ all_wrote (client_transcript p)
 
--- what the job took, and what one local terminal gives for the keys that were read
+-- what the job took, and what one local terminal gives for the keys that were read, with the commands between them
 abbrev pub taken : {J : Type 0} {facts : JobFacts J} → Programs facts → List Entry
 taken p = p.served.entries_taken
 
 abbrev pub local : {J : Type 0} {facts : JobFacts J} → Programs facts → List Entry
-local p = typed_entries (terminal_of p.options).canon p.joined.keys_read
+local p =
+    typed_entries (terminal_of p.options).canon
+    (keys_of (terminal_of p.options).canon.settings p.joined.inputs)
 
 -- both sessions ended by a hang-up, and the server read all that the client wrote
 pub record RanToTheEnd {J : Type 0} {facts : JobFacts J} (p : Programs facts) : Type 0 where

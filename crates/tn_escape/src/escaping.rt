@@ -1,7 +1,11 @@
 //! One typed byte after another.
 
-ghost use Rattle.std.specs.Prelude.{◌≡◌, ◌≤◌, false, List, Option, None, [], ◌∷◌, length, take};
-ghost use Rattle.tn_escape.specs.Typing.{IsTakenUpTo, Obeys, command, commands, is_escape, keys, reading, waits, waits_behind};
+ghost use Rattle.std.specs.Prelude.{◌≡◌, ◌≤◌, ◌+◌, ◌++◌, false, List, Option, None, [], ◌∷◌, length, take};
+ghost use Rattle.std.specs.VecDeque.{deque_capacity, deque_len};
+ghost use Rattle.tn_escape.specs.Typing.{IsTakenUpTo, Obeys, command, commands, inputs, is_escape, meant, reading, waits, waits_behind};
+
+use std::collections::VecDeque;
+use tn_streams::Control;
 
 /// What the user asks the client itself for.
 #[derive(Clone, Copy, Debug, PartialEq, Eq)]
@@ -23,10 +27,19 @@ pub enum Command {
 pub enum Typed {
     /// A key of the session.
     Key(u8),
+    /// A control function that is asked for, `b`, `i` or `a` behind the escape character.
+    Control(Control),
     /// A command to the client itself.
     Command(Command),
     /// The escape character: the next byte says what for.
     Nothing,
+}
+
+/// What a session gets of what is typed.
+#[derive(Clone, Copy, Debug, PartialEq, Eq)]
+pub enum Input {
+    Key(u8),
+    Control(Control),
 }
 
 /// Does what the user asks the client itself for.
@@ -40,14 +53,7 @@ pub trait Obey {
         ensures { Obeys (obeyed self.old) (command ∷ []) (obeyed self.new) };
 }
 
-/// How many bytes were taken, and how many keys are among them.
-#[derive(Clone, Copy, Debug, PartialEq, Eq)]
-pub struct Split {
-    pub keys: usize,
-    pub taken: usize,
-}
-
-/// Splits what is typed into keys and commands.
+/// Sorts what is typed into keys, control functions and commands.
 #[derive(Clone, Copy, Debug, PartialEq, Eq)]
 pub struct Escaping {
     /// The escape character, if there is one.
@@ -79,7 +85,7 @@ impl Escaping {
             if escape {
                 return Typed::Key(byte);
             }
-            return Typed::Command(command_of(byte));
+            return meant(byte);
         }
         self.waits = escape;
         if escape {
@@ -88,37 +94,42 @@ impl Escaping {
         Typed::Key(byte)
     }
 
-    /// Leaves the keys among these bytes at their front, in order, and has each command obeyed once, in order.
-    /// What stands behind a byte that asks to close is not taken.
-    pub fn split<O: Obey>(&mut self, bytes: &mut [u8], obeying: &mut O) -> Split
-        ensures room { result.keys ≤ result.taken }
-        ensures keys { take result.keys bytes.new
-            ≡ keys self.old.character self.old.waits (take result.taken bytes.old) }
+    /// Keeps what a session gets of these bytes, behind what is kept, and has each command obeyed once; both in
+    /// their order. Answers how many bytes were taken: what stands behind one that asks to close is not.
+    pub fn sort<O: Obey>(
+        &mut self,
+        bytes: &[u8],
+        kept: &mut VecDeque<Input>,
+        obeying: &mut O,
+    ) -> usize
+        requires room { deque_len kept.old + length bytes.now ≤ deque_capacity kept.old }
+        ensures inputs { kept.new.items ≡ kept.old.items
+            ++ inputs self.old.character self.old.waits (take result bytes.now) }
         ensures commands { Obeys (O.obeyed obeying.old)
-            (commands self.old.character self.old.waits (take result.taken bytes.old)) (O.obeyed obeying.new) }
-        ensures taken { IsTakenUpTo result.taken self.old.character self.old.waits bytes.old }
+            (commands self.old.character self.old.waits (take result bytes.now)) (O.obeyed obeying.new) }
+        ensures taken { IsTakenUpTo result self.old.character self.old.waits bytes.now }
         ensures character { self.new.character ≡ self.old.character }
         ensures waits { self.new.waits
-            ≡ waits_behind self.old.character self.old.waits (take result.taken bytes.old) }
+            ≡ waits_behind self.old.character self.old.waits (take result bytes.now) }
     {
-        let mut keys = 0;
         for place in 0..bytes.len() {
             match self.take(bytes[place]) {
                 Typed::Key(key) => {
-                    bytes[keys] = key;
-                    keys += 1;
+                    let _pushed = kept.push_back(Input::Key(key));
+                },
+                Typed::Control(control) => {
+                    let _pushed = kept.push_back(Input::Control(control));
                 },
                 Typed::Command(Command::Close) => {
                     obeying.obey(Command::Close);
                     let taken = place + 1;
-                    return Split { keys, taken };
+                    return taken;
                 },
                 Typed::Command(command) => obeying.obey(command),
                 Typed::Nothing => {},
             }
         }
-        let taken = bytes.len();
-        Split { keys, taken }
+        bytes.len()
     }
 
     fn is_escape(&self, byte: u8) -> bool
@@ -128,6 +139,18 @@ impl Escaping {
             Some(character) => byte == character,
             None => false,
         }
+    }
+}
+
+// What the byte behind an escape character is.
+fn meant(byte: u8) -> Typed
+    ensures { result ≡ meant byte }
+{
+    match byte {
+        b'b' => Typed::Control(Control::Brk),
+        b'i' => Typed::Control(Control::Ip),
+        b'a' => Typed::Control(Control::Ayt),
+        _ => Typed::Command(command_of(byte)),
     }
 }
 

@@ -1,17 +1,19 @@
-//! What is typed at a terminal: keys of a session, and commands to the client itself behind an escape
-//! character.
+//! What is typed at a terminal: keys of a session, and behind an escape character control functions that it is asked
+//! for, and commands to the client itself.
 //!
 //! ```
 //! let mut escaping = Escaping::new(Some(0x1d)); // ^]
 //! escaping.take(b'a'); // Typed::Key(b'a')
 //! escaping.take(0x1d); // Typed::Nothing
 //! escaping.take(b'q'); // Typed::Command(Command::Close)
+//! escaping.take(0x1d); // Typed::Nothing
+//! escaping.take(b'b'); // Typed::Control(Control::Brk)
 //! ```
 //!
-//! It reads and writes nothing. A session gets the keys alone, in their order.
+//! It reads and writes nothing. A session gets keys and control functions alone, in their order.
 #![tactic(auto)]
 
-pub use escaping::{Command, Escaping, Obey, Split, Typed};
+pub use escaping::{Command, Escaping, Input, Obey, Typed};
 
 mod escaping;
 pub mod laws;

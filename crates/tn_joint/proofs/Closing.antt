@@ -1,7 +1,10 @@
--- In a client's session no key comes once what the client says goes nowhere.
+-- In a client's session no key and no command comes once what the client says goes nowhere.
 use Rattle.std.proofs.Common.{◌≡◌, ℕ, Bool, true, false, Option, List, [], ◌∷◌, ◌++◌, refl, sym, ap, ◌∙◌, subst, map, ⊎_elim}
-use Rattle.tn_client.proofs.lemmas.Histories.{keys-gets}
-use Rattle.tn_client.specs.Events.{History, next, resized, keys, gets}
+use Rattle.tn_client.specs.Events.{History, next, resized, gets}
+use Rattle.tn_client.specs.Events as client
+use Rattle.tn_client_core.proofs.lemmas.Bringing.{inputs-gets}
+use Rattle.tn_client_core.specs.Bringing.{inputs}
+use Rattle.tn_client_core.specs.Commands.{command_of}
 use Rattle.tn_client_core.specs.Counting.{after_message}
 use Rattle.tn_client_core.specs.Marks.{Turns, Runs}
 use Rattle.tn_client_core.specs.Run.{Run, Acts, ActsUnless, types, sent_after, start}
@@ -15,23 +18,25 @@ use Rattle.tn_session.proofs.lemmas.ClientTurns.{opens, sent_latest}
 use Rattle.tn_session.specs.CoreTurns.{all_told}
 use Rattle.tn_session.specs.Mailbox.{from, mail}
 use Rattle.tn_session.specs.Reader.{Closes}
-use Rattle.tn_session.specs.Reading.{IsEnding, Telling, piece_told, size_told, told_messages, pieces_in}
+use Rattle.tn_session.specs.Reading.{IsEnding, Telling, piece_told, size_told, control_told, told_messages, pieces_in}
 use Rattle.tn_session.specs.declared.mail.Mail.{Mail}
 use Rattle.tn_session.specs.declared.mail.Sender.{Sender}
 use Rattle.tn_session.specs.declared.mail.Sender.TheVariants as sender
 use Rattle.tn_streams.specs.Foretelling.{Failures}
 use Rattle.tn_messages.specs.declared.messages.Message.{Message}
-use Rattle.tn_messages.specs.declared.messages.Message.TheVariants.{Piece, HangUp, ReadFailed, Take, Said, Refused, Left, Resized}
+use Rattle.tn_messages.specs.declared.messages.Message.TheVariants.{Piece, HangUp, ReadFailed, Take, Said, Refused, Left, Resized, Asked}
 
-abbrev pub NoPiece : List Message → Type 0
-NoPiece [] = Unit {0}
-NoPiece (Piece piece ∷ ms) = ⊥
-NoPiece (_ ∷ ms) = NoPiece ms
+-- nothing that is typed
+abbrev pub NoInput : List Message → Type 0
+NoInput [] = Unit {0}
+NoInput (Piece piece ∷ ms) = ⊥
+NoInput (Asked control ∷ ms) = ⊥
+NoInput (_ ∷ ms) = NoInput ms
 
--- after a Left no piece comes
+-- after a Left nothing that is typed comes
 abbrev pub LeftLast : List Message → Type 0
 LeftLast [] = Unit {0}
-LeftLast (Left ∷ ms) = NoPiece ms
+LeftLast (Left ∷ ms) = NoInput ms
 LeftLast (_ ∷ ms) = LeftLast ms
 
 abbrev pub keys_cons : Origin → Message → List Message → List Message
@@ -42,9 +47,10 @@ abbrev pub keys_messages : List Told → List Message
 keys_messages [] = []
 keys_messages (t ∷ ts) = keys_cons t.from t.message (keys_messages ts)
 
--- a key comes only while replies go to the network
+-- keys and commands come only while replies go to the network
 abbrev MayType : Bool → Origin → Message → Type 0
 MayType closed Keys (Piece piece) = closed ≡ false
+MayType closed Keys (Asked control) = closed ≡ false
 MayType closed _ _ = Unit {0}
 
 may_always : (closed : Bool) (from : Origin) (m : Message) → closed ≡ false → MayType closed from m
@@ -56,18 +62,19 @@ may_always closed Keys (Said job text after) e = tt
 may_always closed Keys Refused e = tt
 may_always closed Keys Left e = tt
 may_always closed Keys (Resized size) e = tt
+may_always closed Keys (Asked control) e = e
 may_always closed Net m e = tt
 
 pub record Typed (c : Run) : Type 0 where
   pub latest : c.progress.closed ≡ false → c.sent ≡ c.history
-  pub same : keys c.sent ≡ keys c.history
+  pub same : inputs c.sent ≡ inputs c.history
 
-same_sent : (b : Bool) (sent h later : History) → keys sent ≡ keys h → keys later ≡ keys h → keys (sent_after b sent later) ≡ keys later
+same_sent : (b : Bool) (sent h later : History) → inputs sent ≡ inputs h → inputs later ≡ inputs h → inputs (sent_after b sent later) ≡ inputs later
 same_sent true sent h later e f = e ∙ sym f
 same_sent false sent h later e f = refl
 
 stood : (c new : Run) → new.sent ≡ c.sent → new.history ≡ c.history → (new.progress.closed ≡ false → c.progress.closed ≡ false) → Typed c → Typed new
-stood c new e f g t = record { latest = λ o. e ∙ t.latest (g o) ∙ sym f; same = ap keys e ∙ t.same ∙ sym (ap keys f) }
+stood c new e f g t = record { latest = λ o. e ∙ t.latest (g o) ∙ sym f; same = ap inputs e ∙ t.same ∙ sym (ap inputs f) }
 
 turned : (c new : Run) (from : Origin) (m : Message) → new.sent ≡ c.sent → new.history ≡ c.history → new.progress ≡ after_message from m c.progress → Typed c → Typed new
 turned c new from m e f g t = stood c new e f (λ o. opens from m c.progress (sym (ap (λ (p : Progress). p.closed) g) ∙ o)) t
@@ -75,14 +82,14 @@ turned c new from m e f g t = stood c new e f (λ o. opens from m c.progress (sy
 acts : (c new : Run) (from : Origin) (m : Message) → Acts c from m new → MayType c.progress.closed from m → Typed c → Typed new
 acts c new Keys (Piece piece) a may t =
     let e = ap (λ (r : Run). r.sent) a ∙ sent_latest c.progress.closed c.sent (types c.history piece) may ∙ sym (ap (λ (r : Run). r.history) a) in
-    record { latest = λ o. e; same = ap keys e }
+    record { latest = λ o. e; same = ap inputs e }
 acts c new Net (Piece piece) a may t =
     let e = ap (λ (r : Run). r.sent) a.2 in
     let f = ap (λ (r : Run). r.history) a.2 in
     let g = ap (λ (r : Run). r.progress.closed) a.2 in
     record {
       latest = λ o. e ∙ sent_latest c.progress.closed c.sent (gets c.history a.0) (sym g ∙ o) ∙ sym f;
-      same = ap keys e ∙ same_sent c.progress.closed c.sent c.history (gets c.history a.0) t.same (keys-gets c.history a.0) ∙ sym (ap keys f);
+      same = ap inputs e ∙ same_sent c.progress.closed c.sent c.history (gets c.history a.0) t.same (inputs-gets c.history a.0) ∙ sym (ap inputs f);
     }
 acts c new from (Resized size) a may t =
     let later = next c.history (resized size.width size.height) in
@@ -91,8 +98,12 @@ acts c new from (Resized size) a may t =
     let g = ap (λ (r : Run). r.progress.closed) a in
     record {
       latest = λ o. e ∙ sent_latest c.progress.closed c.sent later (sym g ∙ o) ∙ sym f;
-      same = ap keys e ∙ same_sent c.progress.closed c.sent c.history later t.same refl ∙ sym (ap keys f);
+      same = ap inputs e ∙ same_sent c.progress.closed c.sent c.history later t.same refl ∙ sym (ap inputs f);
     }
+acts c new Keys (Asked control) a may t =
+    let e = ap (λ (r : Run). r.sent) a ∙ sent_latest c.progress.closed c.sent (next c.history (client.sent (command_of control))) may ∙ sym (ap (λ (r : Run). r.history) a) in
+    record { latest = λ o. e; same = ap inputs e }
+acts c new Net (Asked control) a may t = stood c new (ap (λ (r : Run). r.sent) a) (ap (λ (r : Run). r.history) a) (λ o. sym (ap (λ (r : Run). r.progress.closed) a) ∙ o) t
 acts c new from HangUp a may t = turned c new from HangUp (ap (λ (r : Run). r.sent) a) (ap (λ (r : Run). r.history) a) (ap (λ (r : Run). r.progress) a) t
 acts c new from ReadFailed a may t = turned c new from ReadFailed (ap (λ (r : Run). r.sent) a) (ap (λ (r : Run). r.history) a) (ap (λ (r : Run). r.progress) a) t
 acts c new from Take a may t = turned c new from Take (ap (λ (r : Run). r.sent) a) (ap (λ (r : Run). r.history) a) (ap (λ (r : Run). r.progress) a) t
@@ -131,7 +142,9 @@ acts_open c new Net Refused is a = ap (λ (r : Run). r.progress.closed) a
 acts_open c new Keys Left is a = absurd is
 acts_open c new Net Left is a = ap (λ (r : Run). r.progress.closed) a
 acts_open c new Keys (Resized size) is a = ap (λ (r : Run). r.progress.closed) a
+acts_open c new Keys (Asked control) is a = ap (λ (r : Run). r.progress.closed) a
 acts_open c new Net (Resized size) is a = ap (λ (r : Run). r.progress.closed) a
+acts_open c new Net (Asked control) is a = ap (λ (r : Run). r.progress.closed) a
 
 handles_open : (o : Bool) (c new : Run) (x : Told) → IsOpen x.from x.message → ActsUnless o c x new → new.progress.closed ≡ c.progress.closed
 handles_open true c new x is a = ap (λ (r : Run). r.progress.closed) a
@@ -152,9 +165,9 @@ typed_as c new e t = subst (λ (r : Run). Typed r) e t
 -- where no key comes any more
 record NoneFirst (closed : Bool) (from : Origin) (m : Message) (ms : List Message) : Type 0 where
   may : MayType closed from m
-  later : NoPiece ms
+  later : NoInput ms
 
-none_first : (closed : Bool) (from : Origin) (m : Message) (ms : List Message) → NoPiece (keys_cons from m ms) → NoneFirst closed from m ms
+none_first : (closed : Bool) (from : Origin) (m : Message) (ms : List Message) → NoInput (keys_cons from m ms) → NoneFirst closed from m ms
 none_first closed Net m ms n = record { may = tt; later = n }
 none_first closed Keys (Piece piece) ms n = absurd n
 none_first closed Keys HangUp ms n = record { may = tt; later = n }
@@ -164,8 +177,9 @@ none_first closed Keys (Said job text after) ms n = record { may = tt; later = n
 none_first closed Keys Refused ms n = record { may = tt; later = n }
 none_first closed Keys Left ms n = record { may = tt; later = n }
 none_first closed Keys (Resized size) ms n = record { may = tt; later = n }
+none_first closed Keys (Asked control) ms n = absurd n
 
-run_closed : (marked : List (Told × Mark)) (c new : Run) → Runs c marked new → NoPiece (keys_messages (tolds marked)) → Typed c → Typed new
+run_closed : (marked : List (Told × Mark)) (c new : Run) → Runs c marked new → NoInput (keys_messages (tolds marked)) → Typed c → Typed new
 run_closed [] c new r n t = typed_as c new r t
 run_closed ((x, k) ∷ marked) c new r n t =
     let f = none_first c.progress.closed x.from x.message (keys_messages (tolds marked)) n in
@@ -173,7 +187,7 @@ run_closed ((x, k) ∷ marked) c new r n t =
 
 -- while they may
 pub data First (from : Origin) (m : Message) (ms : List Message) : Type 0 where
-  last : NoPiece ms → First from m ms
+  last : NoInput ms → First from m ms
   more : IsOpen from m → LeftLast ms → First from m ms
 
 first_of_keys : (from : Origin) (m : Message) (ms : List Message) → LeftLast (keys_cons from m ms) → First from m ms
@@ -186,6 +200,7 @@ first_of_keys Keys (Said job text after) ms l = more tt l
 first_of_keys Keys Refused ms l = more tt l
 first_of_keys Keys Left ms l = last l
 first_of_keys Keys (Resized size) ms l = more tt l
+first_of_keys Keys (Asked control) ms l = more tt l
 
 pub run_typed : (marked : List (Told × Mark)) (c new : Run) → Runs c marked new → c.progress.closed ≡ false → LeftLast (keys_messages (tolds marked)) → Typed c → Typed new
 run_typed [] c new r open_now l t = typed_as c new r t
@@ -200,6 +215,7 @@ told_last : (told : List Telling) (close : List Message) → LeftLast close → 
 told_last [] close l = l
 told_last (piece_told p ∷ told) close l = told_last told close l
 told_last (size_told s ∷ told) close l = told_last told close l
+told_last (control_told c ∷ told) close l = told_last told close l
 
 ending_last : (m : Message) (left : Option (List ℕ)) → IsEnding m left → LeftLast (m ∷ Left ∷ [])
 ending_last (Piece p) left e = absurd e
@@ -210,6 +226,7 @@ ending_last (Said job text after) left e = absurd e
 ending_last Refused left e = tt
 ending_last Left left e = tt
 ending_last (Resized size) left e = absurd e
+ending_last (Asked control) left e = absurd e
 
 closes_last : (may_stop : Bool) (pieces : List (List ℕ)) (left : Option (List ℕ)) (foretold : Option Failures) (close : List Message) → Closes may_stop pieces left foretold close → LeftLast close
 closes_last may_stop pieces left foretold close closes =
@@ -235,9 +252,9 @@ mailed : (ms : List Message) → messages_in (map (mail sender.Keys) ms) ≡ ms
 mailed [] = refl
 mailed (m ∷ ms) = ap (λ (l : List Message). m ∷ l) (mailed ms)
 
-pub keys_sent : (width height limit : ℕ) (marked : List (Told × Mark)) (new : Run) (handled : List Mail) (may_stop : Bool) (told : List Telling) (left : Option (List ℕ)) (foretold : Option Failures) (close : List Message)
-    → Runs (start width height limit) marked new → tolds marked ≡ all_told handled → from sender.Keys handled ≡ map (mail sender.Keys) (told_messages told ++ close) → Closes may_stop (pieces_in told) left foretold close → keys new.sent ≡ keys new.history
-keys_sent width height limit marked new handled may_stop told left foretold close runs is sent closes =
+pub inputs_sent : (width height limit : ℕ) (marked : List (Told × Mark)) (new : Run) (handled : List Mail) (may_stop : Bool) (told : List Telling) (left : Option (List ℕ)) (foretold : Option Failures) (close : List Message)
+    → Runs (start width height limit) marked new → tolds marked ≡ all_told handled → from sender.Keys handled ≡ map (mail sender.Keys) (told_messages told ++ close) → Closes may_stop (pieces_in told) left foretold close → inputs new.sent ≡ inputs new.history
+inputs_sent width height limit marked new handled may_stop told left foretold close runs is sent closes =
     let all = ap keys_messages is ∙ told_all handled ∙ ap messages_in sent ∙ mailed (told_messages told ++ close) in
     let l = subst (λ (ms : List Message). LeftLast ms) (sym all) (told_last told close (closes_last may_stop (pieces_in told) left foretold close closes)) in
     let t = run_typed marked (start width height limit) new runs refl l (record { latest = λ o. refl; same = refl }) in

@@ -3,6 +3,7 @@ use Rattle.std.proofs.Common.{◌≡◌, ℕ, zero, suc, inl, true, false, Optio
 use Rattle.std.proofs.lemmas.List.Elements.{All-nil, All-cons}
 use Rattle.tn_client.specs.Screen.{text_shown}
 use Rattle.tn_client_core.proofs.lemmas.Bringing.{in_order}
+use Rattle.tn_client_core.specs.Bringing.{Input, key_typed}
 use Rattle.tn_client_core.specs.Counting as client_counting
 use Rattle.tn_client_core.specs.Marks as core
 use Rattle.tn_client_core.specs.Run as core_run
@@ -19,7 +20,7 @@ use Rattle.tn_jobs.specs.declared.reactions.Reaction.{Reaction}
 use Rattle.tn_jobs.specs.declared.verdicts.After.TheVariants.{Stay}
 use Rattle.tn_jobs.specs.declared.verdicts.JobState.TheVariants.{Foreground}
 use Rattle.tn_joint.specs.Example as example
-use Rattle.tn_joint.specs.Transcripts.{Step, served, told, server_steps, client_steps, IsCarried, Served, Connected}
+use Rattle.tn_joint.specs.Transcripts.{Step, served, told, server_steps, client_steps, IsCarried, Served, Connected, HasKey}
 use Rattle.tn_messages.specs.declared.faults.Ended.TheVariants as ended
 use Rattle.tn_messages.specs.declared.faults.SessionFault.{SessionFault}
 use Rattle.tn_messages.specs.declared.messages.Message.{Message}
@@ -50,7 +51,7 @@ use Rattle.tn_session.specs.Transcripts.{Exchange, all_read, all_wrote}
 use Rattle.tn_session.specs.declared.mail.Mail.{Mail}
 use Rattle.tn_session.specs.declared.mail.Sender.{Sender}
 use Rattle.tn_session.specs.declared.mail.Sender.TheVariants as who
-use Rattle.tn_streams.specs.Known.{KnownReader, KnownWriting}
+use Rattle.tn_streams.specs.Known.{KnownReader, KnownTyping, KnownWriting}
 use Rattle.tn_streams.specs.Prefixes.{IsPrefixOf}
 use Rattle.tn_term.specs.Marks as term
 use Rattle.tn_term.specs.Run as term_run
@@ -373,6 +374,12 @@ module _ (width height : ℕ) where
   abbrev keys_reader : KnownReader
   keys_reader = record { bytes = Some typed; failures = None; sizes = None }
 
+  abbrev keys_known : KnownTyping
+  keys_known = record { reader = keys_reader; controls = Some [] }
+
+  abbrev typed_inputs : List Input
+  typed_inputs = key_typed 97 ∷ key_typed 13 ∷ []
+
   abbrev c0 : core_run.Run
   c0 = core_run.start width height example.canon.limit
 
@@ -461,7 +468,8 @@ module _ (width height : ℕ) where
   unfolding keys_left
   keys_told = refl
 
-  conversing : RunningClient window keys_reader a_socket writes_unknown writes_unknown client_result
+  conversing : RunningClient window keys_known a_socket writes_unknown writes_unknown client_result
+  unfolding keys_sent
   conversing =
       let said = client_said in
       record {
@@ -502,6 +510,11 @@ module _ (width height : ℕ) where
         keys_read = typed;
         keys_were_read = (Some [], refl);
         keys_are = refl;
+        inputs = typed_inputs;
+        inputs_are = refl;
+        keys_among = refl;
+        commands_among = refl;
+        were_asked = (Some [], ([], refl, refl));
         shown = text_shown c5.history;
         unshown = [];
         displayed = tt;
@@ -529,11 +542,12 @@ sessions_carry editing =
     let c_reads : all_read c_said.transcript ≡ [] = client_reads (c0 80 24) (told_all 80 24) c (of_client.says c) c_said in
     let whole : all_read s_said.transcript ≡ all_wrote c_said.transcript = s_reads ∙ sym (c_said.writes ∙ client_says 80 24) in
     let s : Served example.any_jobs example.canon = record { editing = editing; to_make = None; reader = a_socket; writer = writes_unknown; result = result editing; ran = running editing } in
-    let c : Connected example.canon.limit = record { width = 80; height = 24; keys = keys_reader 80 24; reader = a_socket; writer = writes_unknown; screen = writes_unknown; result = client_result 80 24; ran = conversing 80 24 } in
+    let c : Connected example.canon.limit = record { width = 80; height = 24; keys = keys_known 80 24; reader = a_socket; writer = writes_unknown; screen = writes_unknown; result = client_result 80 24; ran = conversing 80 24 } in
     record {
       server = s;
       client = c;
       edited = refl;
+      with_keys = All-cons (λ input. HasKey example.canon.settings input) (key_typed 97) (key_typed 13 ∷ []) tt (All-cons (λ input. HasKey example.canon.settings input) (key_typed 13) [] tt (All-nil (λ input. HasKey example.canon.settings input)));
       carried = one_way s_said.transcript c_said.transcript whole c_reads;
       ran = record { server = refl; client = refl; whole = whole };
       typed_keys = refl;

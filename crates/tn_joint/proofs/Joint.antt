@@ -1,6 +1,5 @@
 -- Two runs at once: of the terminal of a server's session, and of the core of a client's.
-use Rattle.std.specs.Prelude.{◌≡◌, ℕ, Bool, List, [], ◌∷◌}
-use Rattle.tn_client.specs.Events.{keys}
+use Rattle.std.specs.Prelude.{◌≡◌, ℕ, Bool, List, [], ◌∷◌, ◌++◌}
 use Rattle.tn_client.specs.Replies as client_says
 use Rattle.tn_client_core.specs.Marks as core
 use Rattle.tn_client_core.specs.Run as core_run
@@ -17,6 +16,7 @@ use Rattle.tn_term.specs.Run as term_run
 use Rattle.tn_term.specs.declared.messages.Mark as term_mark
 use Rattle.tn_messages.specs.declared.messages.Message.{Message}
 use Rattle.tn_streams.specs.Prefixes.{IsPrefixOf}
+use Rattle.tn_world.proofs.lemmas.Histories.{keys_typed}
 
 -- A STEP of two sessions: the terminal of the server's handled a message, or the core of the client's did;
 -- with the mark for how far it was done
@@ -70,8 +70,8 @@ pub record IsInTime (now : Both) : Type 0 where
   pub to_client : IsPrefixOf now.client.stream (server_said now)
 
 -- THE SENTENCE, of what both runs tell: the entries of the server, and those of one local terminal for the
--- keys that were typed while what the client said went to the network.
+-- keys that were typed, and the commands sent, while what the client said went to the network.
 pub record LinesAreLocal (canon : Canon) (now : Both) : Type 0 where
-  pub prefix : IsPrefixOf (entries now.server.history) (typed_entries canon (keys now.client.sent))
+  pub prefix : IsPrefixOf (entries now.server.history) (typed_entries canon (keys_typed canon.settings now.client.sent))
   pub complete : now.server.stream ≡ client_said now
-      → entries now.server.history ≡ typed_entries canon (keys now.client.sent)
+      → entries now.server.history ≡ typed_entries canon (keys_typed canon.settings now.client.sent)

@@ -1,5 +1,5 @@
 -- What one loop brings about: after each event all bytes are carried, in one order.
-use Rattle.std.proofs.Common.{◌≡◌, ◌⊎◌, inl, inr, ℕ, Bool, true, false, Option, Some, None, List, [], ◌∷◌, ◌++◌, refl, sym, ap, ◌∙◌, subst, map, append_assoc, append-nil}
+use Rattle.std.proofs.Common.{◌≡◌, ◌⊎◌, inl, inr, ℕ, All, Bool, true, false, Option, Some, None, List, [], ◌∷◌, ◌++◌, refl, sym, ap, ◌∙◌, subst, map, append_assoc, append-nil}
 use Rattle.std.proofs.lemmas.List.{map-append}
 use Rattle.std.proofs.lemmas.Fn.{FoldsTo-push}
 use Rattle.std.specs.List.{FoldsTo}
@@ -7,7 +7,7 @@ use Rattle.tn_client.specs.Events as client
 use Rattle.tn_client.specs.Replies as client_says
 use Rattle.tn_client.proofs.lemmas.Fitting.{sent-fits}
 use Rattle.tn_client_core.proofs.lemmas.Bringing.{in_order}
-use Rattle.tn_client_core.specs.Bringing.{brought, brought_from}
+use Rattle.tn_client_core.specs.Bringing.{Input, brought_from, inputs, inputs_brought, inputs_from}
 use Rattle.tn_client_core.specs.Marks as core
 use Rattle.tn_client_core.specs.Reaching as core_reach
 use Rattle.tn_client_core.specs.Run as core_run
@@ -25,13 +25,13 @@ use Rattle.tn_jobs.specs.Jobs.{Jobs}
 use Rattle.tn_joint.proofs.Closing.{LeftLast, keys_messages, run_typed, tolds}
 use Rattle.tn_joint.proofs.Hearing.{heard_all}
 use Rattle.tn_joint.proofs.Joint.{Both}
-use Rattle.tn_joint.proofs.Keys.{more_entries}
+use Rattle.tn_joint.proofs.Keys.{HaveKeys, first_of_all, keys_of-append, more_entries, typeable, typed_as}
 use Rattle.tn_joint.proofs.Transcripts.{client-append, holds, one_read, one_wrote, server-append}
-use Rattle.tn_joint.proofs.Tying.{ties}
-use Rattle.tn_joint.specs.OneLoop.{Happens, IsStart, ReadsAll, ServesOne, TellsOne, from_network, from_user, keys_in}
-use Rattle.tn_joint.specs.Transcripts.{Step, served, told, server_steps, client_steps, IsCarried, IsInTime}
+use Rattle.tn_joint.proofs.Tying.{AreTied, ties}
+use Rattle.tn_joint.specs.OneLoop.{Happens, IsStart, LoopReads, ReadsAll, ServesOne, TellsOne, from_network, from_user, inputs_by, inputs_of}
+use Rattle.tn_joint.specs.Transcripts.{HasKey, Step, served, told, server_steps, client_steps, IsCarried, IsInTime, keys_of}
 use Rattle.tn_joint.specs.declared.one_loop.Event.{Event}
-use Rattle.tn_joint.specs.declared.one_loop.Event.TheVariants.{Typed, ToServer, ToClient, Asked, Said}
+use Rattle.tn_joint.specs.declared.one_loop.Event.TheVariants.{Typed, Asked, ToServer, ToClient, Take, Said}
 use Rattle.tn_joint.specs.declared.one_loop.Joined.{Joined}
 use Rattle.tn_messages.specs.Pieces.{bytes_in}
 use Rattle.tn_messages.specs.declared.messages.Message.{Message}
@@ -59,7 +59,8 @@ use Rattle.tn_term.specs.Run.{puts_of}
 use Rattle.tn_term.specs.declared.messages.Mark as term_mark
 use Rattle.tn_term.specs.declared.progress.Progress as term_progress
 use Rattle.tn_term.specs.declared.terminal.Term.{Term}
-use Rattle.tn_world.proofs.lemmas.Histories.{TiedHistories}
+use Rattle.tn_world.proofs.lemmas.Histories as histories
+use Rattle.tn_world.proofs.lemmas.Histories.{TiedHistories, keys_typed}
 
 -- ONE STEP MORE
 abbrev AllInTime : List Step → Type 0
@@ -101,9 +102,10 @@ in_time_by : (order : List Step) (to_server to_client : List ℕ) → all_wrote 
 in_time_by order to_server to_client e f = record { to_server = (to_server, sym e); to_client = (to_client, sym f) }
 
 -- THE MESSAGES OF THE USER
-abbrev IsPieceOf : Message → Type 0
-IsPieceOf (message.Piece piece) = Unit {0}
-IsPieceOf _ = ⊥
+abbrev IsInput : Message → Type 0
+IsInput (message.Piece piece) = Unit {0}
+IsInput (message.Asked control) = Unit {0}
+IsInput _ = ⊥
 
 abbrev ClientStep : Type 0
 ClientStep = (Told × core_mark.Mark) × List ℕ
@@ -111,21 +113,22 @@ ClientStep = (Told × core_mark.Mark) × List ℕ
 abbrev ServerStep : Type 0
 ServerStep = (Message × term_mark.Mark) × List ℕ
 
-abbrev AllPieces : List ClientStep → Type 0
-AllPieces [] = Unit {0}
-AllPieces (s ∷ ss) = IsPieceOf s.0.0.message × AllPieces ss
+abbrev AllInputs : List ClientStep → Type 0
+AllInputs [] = Unit {0}
+AllInputs (s ∷ ss) = IsInput s.0.0.message × AllInputs ss
 
-pieces-push : (ss : List ClientStep) (s : ClientStep) → AllPieces ss → IsPieceOf s.0.0.message → AllPieces (ss ++ s ∷ [])
-pieces-push [] s all one = (one, tt)
-pieces-push (t ∷ ts) s all one = (all.0, pieces-push ts s all.1 one)
+all_inputs-push : (ss : List ClientStep) (s : ClientStep) → AllInputs ss → IsInput s.0.0.message → AllInputs (ss ++ s ∷ [])
+all_inputs-push [] s all one = (one, tt)
+all_inputs-push (t ∷ ts) s all one = (all.0, all_inputs-push ts s all.1 one)
 
-left_last : (ss : List ClientStep) → AllPieces ss → LeftLast (keys_messages (tolds (map (λ s. s.0) ss)))
+left_last : (ss : List ClientStep) → AllInputs ss → LeftLast (keys_messages (tolds (map (λ s. s.0) ss)))
 left_last [] all = tt
 left_last (s ∷ ss) all = go s.0.0.from s.0.0.message all.0 (left_last ss all.1)
   where
-    go : (from : Origin) (m : Message) → IsPieceOf m → LeftLast (keys_messages (tolds (map (λ (t : ClientStep). t.0) ss))) → LeftLast (keys_messages ((record { from = from; message = m }) ∷ tolds (map (λ (t : ClientStep). t.0) ss)))
+    go : (from : Origin) (m : Message) → IsInput m → LeftLast (keys_messages (tolds (map (λ (t : ClientStep). t.0) ss))) → LeftLast (keys_messages ((record { from = from; message = m }) ∷ tolds (map (λ (t : ClientStep). t.0) ss)))
     go origin.Net m is later = later
     go origin.Keys (message.Piece piece) is later = later
+    go origin.Keys (message.Asked control) is later = later
     go origin.Keys message.HangUp is later = absurd is
     go origin.Keys message.ReadFailed is later = absurd is
     go origin.Keys message.Take is later = absurd is
@@ -134,12 +137,12 @@ left_last (s ∷ ss) all = go s.0.0.from s.0.0.message all.0 (left_last ss all.1
     go origin.Keys message.Left is later = absurd is
     go origin.Keys (message.Resized size) is later = absurd is
 
-abbrev typed_in : List ClientStep → List ℕ
-typed_in ss = brought origin.Keys (tolds (map (λ s. s.0) ss))
+abbrev typed_in : List ClientStep → List Input
+typed_in ss = inputs_brought (tolds (map (λ s. s.0) ss))
 
-typed-push : (ss : List ClientStep) (s : ClientStep) → typed_in (ss ++ s ∷ []) ≡ typed_in ss ++ brought_from origin.Keys s.0.0.from s.0.0.message
-typed-push [] s = append-nil (brought_from origin.Keys s.0.0.from s.0.0.message)
-typed-push (t ∷ ts) s = ap (λ (l : List ℕ). brought_from origin.Keys t.0.0.from t.0.0.message ++ l) (typed-push ts s) ∙ sym (append_assoc (brought_from origin.Keys t.0.0.from t.0.0.message) (typed_in ts) (brought_from origin.Keys s.0.0.from s.0.0.message))
+typed-push : (ss : List ClientStep) (s : ClientStep) → typed_in (ss ++ s ∷ []) ≡ typed_in ss ++ inputs_from s.0.0.from s.0.0.message
+typed-push [] s = append-nil (inputs_from s.0.0.from s.0.0.message)
+typed-push (t ∷ ts) s = ap (λ (l : List Input). inputs_from t.0.0.from t.0.0.message ++ l) (typed-push ts s) ∙ sym (append_assoc (inputs_from t.0.0.from t.0.0.message) (typed_in ts) (inputs_from s.0.0.from s.0.0.message))
 
 unwritten_one : (m : core_mark.Mark) → core.is_written m ≡ false → core.is_whole m ≡ false
 unwritten_one core_is.Whole e = e
@@ -163,8 +166,8 @@ module _ (canon : Canon) (editing : Editing) (jobs : Jobs) (width height : ℕ) 
   abbrev told_step : ClientStep → Exchange
   told_step s = record { read = of_client.brings s.0; wrote = s.1 }
 
-  -- both machines after some events, in which these keys were typed
-  pub record Here (typed : List ℕ) (j : Joined) : Type 0 where
+  -- both machines after some events, in which this was typed
+  pub record Here (typed : List Input) (j : Joined) : Type 0 where
     pub order : List Step
     pub ss : List ServerStep
     pub cs : List ClientStep
@@ -181,7 +184,7 @@ module _ (canon : Canon) (editing : Editing) (jobs : Jobs) (width height : ℕ) 
     pub to_client : all_wrote (server_steps order) ≡ all_read (client_steps order) ++ j.to_client.items
     pub puts : server.puts ≡ j.puts.items
     pub keys : typed_in cs ≡ typed
-    pub pieces : AllPieces cs
+    pub are_inputs : AllInputs cs
 
   pub begins : (j : Joined) → IsStart canon editing jobs width height j → Here [] j
   begins j start =
@@ -205,7 +208,7 @@ module _ (canon : Canon) (editing : Editing) (jobs : Jobs) (width height : ℕ) 
         to_client = to_client;
         puts = sym start.puts;
         keys = refl;
-        pieces = tt;
+        are_inputs = tt;
       }
     where
       nothing : AllInTime []
@@ -216,7 +219,7 @@ module _ (canon : Canon) (editing : Editing) (jobs : Jobs) (width height : ℕ) 
           none_some f = cc
 
   -- the terminal handles a message, whose bytes were on their way
-  serves : (typed : List ℕ) (old mid new : Joined) (m : Message) → Here typed old → mid.term ≡ old.term → mid.core ≡ old.core → mid.to_client ≡ old.to_client → mid.puts ≡ old.puts → old.to_server.items ≡ bytes_in m ++ mid.to_server.items → ServesOne mid m new → Here typed new
+  serves : (typed : List Input) (old mid new : Joined) (m : Message) → Here typed old → mid.term ≡ old.term → mid.core ≡ old.core → mid.to_client ≡ old.to_client → mid.puts ≡ old.puts → old.to_server.items ≡ bytes_in m ++ mid.to_server.items → ServesOne mid m new → Here typed new
   serves typed old mid new m h term_is core_is to_client_is puts_is comes one =
       let at = subst (λ (t : Term). term_reach.LeadsTo h.server t) (sym term_is) h.at_server in
       let q = one.turn.leads h.server at in
@@ -256,12 +259,12 @@ module _ (canon : Canon) (editing : Editing) (jobs : Jobs) (width height : ℕ) 
         to_client = to_client;
         puts = q.3 ∙ ap (λ (ps : List (Option Entry)). ps ++ (puts_of one.put ++ puts_of one.last)) (h.puts ∙ ap (λ v. v.items) (sym puts_is)) ∙ sym one.puts;
         keys = h.keys;
-        pieces = h.pieces;
+        are_inputs = h.are_inputs;
       }
 
-  -- the core handles a piece, from the user or from the network
-  tells : (typed : List ℕ) (old mid new : Joined) (t : Told) → Here typed old → mid.term ≡ old.term → mid.core ≡ old.core → mid.to_server ≡ old.to_server → mid.puts ≡ old.puts → IsPieceOf t.message → old.to_client.items ≡ brought_from origin.Net t.from t.message ++ mid.to_client.items → TellsOne mid t new → Here (typed ++ brought_from origin.Keys t.from t.message) new
-  tells typed old mid new t h term_is core_is to_server_is puts_is piece comes one =
+  -- the core handles what comes, from the user or from the network
+  tells : (typed : List Input) (old mid new : Joined) (t : Told) → Here typed old → mid.term ≡ old.term → mid.core ≡ old.core → mid.to_server ≡ old.to_server → mid.puts ≡ old.puts → IsInput t.message → old.to_client.items ≡ brought_from origin.Net t.from t.message ++ mid.to_client.items → TellsOne mid t new → Here (typed ++ inputs_from t.from t.message) new
+  tells typed old mid new t h term_is core_is to_server_is puts_is input comes one =
       let at = subst (λ (c : Core). core_reach.LeadsTo h.client c) (sym core_is) h.at_client in
       let q = one.turn.leads h.client at in
       let brings = brought_from origin.Net t.from t.message in
@@ -300,42 +303,31 @@ module _ (canon : Canon) (editing : Editing) (jobs : Jobs) (width height : ℕ) 
         to_server = to_server;
         to_client = to_client;
         puts = h.puts ∙ ap (λ v. v.items) (sym puts_is ∙ sym one.puts);
-        keys = typed-push h.cs ((t, one.mark), one.bytes) ∙ ap (λ (l : List ℕ). l ++ brought_from origin.Keys t.from t.message) h.keys;
-        pieces = pieces-push h.cs ((t, one.mark), one.bytes) h.pieces piece;
+        keys = typed-push h.cs ((t, one.mark), one.bytes) ∙ ap (λ (l : List Input). l ++ inputs_from t.from t.message) h.keys;
+        are_inputs = all_inputs-push h.cs ((t, one.mark), one.bytes) h.are_inputs input;
       }
 
-  -- the keys that an event types
-  abbrev pub keys_of : Event → List ℕ
-  keys_of (Typed keys) = keys
-  keys_of _ = []
-
-  pub happens : (typed : List ℕ) (old new : Joined) (event : Event) → Here typed old → Happens old event new → Here (typed ++ keys_of event) new
-  happens typed old new (Typed keys) h one = tells typed old old new (from_user keys) h refl refl refl refl tt refl one
+  pub happens : (typed : List Input) (old new : Joined) (event : Event) → Here typed old → Happens old event new → Here (typed ++ inputs_by event) new
+  happens typed old new (Typed keys) h one = tells typed old old new (from_user (message.Piece keys)) h refl refl refl refl tt refl one
+  happens typed old new (Asked control) h one = tells typed old old new (from_user (message.Asked control)) h refl refl refl refl tt refl one
   happens typed old new (ToServer count) h one =
-      subst (λ (l : List ℕ). Here l new) (sym (append-nil typed)) (serves typed old one.mid new (message.Piece one.piece) h one.term one.core one.to_client one.puts one.taken.whole one.served)
+      subst (λ (l : List Input). Here l new) (sym (append-nil typed)) (serves typed old one.mid new (message.Piece one.piece) h one.term one.core one.to_client one.puts one.taken.whole one.served)
   happens typed old new (ToClient count) h one = tells typed old one.mid new (from_network one.piece) h one.term one.core one.to_server one.puts tt one.taken.whole one.told
-  happens typed old new Asked h one = subst (λ (l : List ℕ). Here l new) (sym (append-nil typed)) (serves typed old old new message.Take h refl refl refl refl refl one)
-  happens typed old new (Said job text after) h one = subst (λ (l : List ℕ). Here l new) (sym (append-nil typed)) (serves typed old old new (message.Said job text after) h refl refl refl refl refl one)
+  happens typed old new Take h one = subst (λ (l : List Input). Here l new) (sym (append-nil typed)) (serves typed old old new message.Take h refl refl refl refl refl one)
+  happens typed old new (Said job text after) h one = subst (λ (l : List Input). Here l new) (sym (append-nil typed)) (serves typed old old new (message.Said job text after) h refl refl refl refl refl one)
 
-  keys-cons : (event : Event) (events : List Event) → keys_of event ++ keys_in events ≡ keys_in (event ∷ events)
-  keys-cons (Typed keys) events = refl
-  keys-cons (ToServer count) events = refl
-  keys-cons (ToClient count) events = refl
-  keys-cons Asked events = refl
-  keys-cons (Said job text after) events = refl
-
-  all_happen : (typed : List ℕ) (script : List Event) (old new : Joined) → Here typed old → FoldsTo Happens old script new → Here (typed ++ keys_in script) new
-  all_happen typed [] old new h goes = subst (λ (l : List ℕ). Here l new) (sym (append-nil typed)) (subst (λ (j : Joined). Here typed j) goes h)
+  all_happen : (typed : List Input) (script : List Event) (old new : Joined) → Here typed old → FoldsTo Happens old script new → Here (typed ++ inputs_of script) new
+  all_happen typed [] old new h goes = subst (λ (l : List Input). Here l new) (sym (append-nil typed)) (subst (λ (j : Joined). Here typed j) goes h)
   all_happen typed (event ∷ events) old new h goes =
       let one = happens typed old goes.0 event h goes.1 in
-      subst (λ (l : List ℕ). Here l new) (append_assoc typed (keys_of event) (keys_in events) ∙ ap (λ (l : List ℕ). typed ++ l) (keys-cons event events)) (all_happen (typed ++ keys_of event) events goes.0 new one goes.2)
+      subst (λ (l : List Input). Here l new) (append_assoc typed (inputs_by event) (inputs_of events)) (all_happen (typed ++ inputs_by event) events goes.0 new one goes.2)
 
   -- THE SENTENCE
   said_at_first : IsUpTo term.Turns terms.says terms.is_over terms.is_marked_whole first_server opening
   said_at_first = (([], append-nil opening), inl refl)
 
-  reads_all : (typed : List ℕ) (j : Joined) → canon.settings.chars ≡ standard_characters → Here typed j → ReadsAll canon typed j
-  reads_all typed j standard h =
+  reads_all : (typed : List Input) (j : Joined) → canon.settings.chars ≡ standard_characters → All (λ input. HasKey canon.settings input) typed → Here typed j → ReadsAll canon typed j
+  reads_all typed j standard have h =
       let marked = map (λ (s : ServerStep). s.0) h.ss in
       let cmarked = map (λ (s : ClientStep). s.0) h.cs in
       let last : Both = record { server = h.server; client = h.client } in
@@ -343,28 +335,33 @@ module _ (canon : Canon) (editing : Editing) (jobs : Jobs) (width height : ℕ) 
       let s_transcribed = server_stepped first_server h.server h.ss opening h.served_by said_at_first in
       let c_transcribed = client_stepped first_client h.client h.cs h.told_by refl in
       let carried : IsCarried (record { read = []; wrote = opening } ∷ map served_step h.ss) (map told_step h.cs) = record { order = h.order; of_server = h.of_server; of_client = h.of_client; in_time = h.in_time } in
-      let at = holds canon editing width height true jobs (λ k l. TiedHistories canon k l) tied (None ∷ map (λ (m : Message × term_mark.Mark). Some m) marked) cmarked last (opening ++ total h.ss) (total h.cs) _ _ s_transcribed c_transcribed carried in
+      let at = holds canon editing width height true jobs (λ k l. AreTied canon k l) tied (None ∷ map (λ (m : Message × term_mark.Mark). Some m) marked) cmarked last (opening ++ total h.ss) (total h.cs) _ _ s_transcribed c_transcribed carried in
       let s_runs = steps_run h.ss first_server h.server h.served_by in
       let c_runs = told_run h.cs first_client h.client h.told_by in
       let hear = hears true canon editing jobs marked h.server s_runs in
       let order = in_order width height canon.limit cmarked h.client c_runs in
-      let same = (run_typed cmarked first_client h.client c_runs refl (left_last h.cs h.pieces) (record { latest = λ e. refl; same = refl })).same in
-      let sent_keys : typed_entries canon (client.keys h.client.sent) ≡ typed_entries canon (client.keys h.client.history) = ap (λ (ks : List ℕ). typed_entries canon ks) same in
-      let of_keys : typed ≡ client.keys h.client.history ++ order.untyped = sym h.keys ∙ order.typed in
+      let same = (run_typed cmarked first_client h.client c_runs refl (left_last h.cs h.are_inputs) (record { latest = λ e. refl; same = refl })).same in
+      let of_inputs : typed ≡ inputs h.client.history ++ order.untyped = sym h.keys ∙ order.typed in
+      let Have : List Input → Type 0 = λ xs. All (λ input. HasKey canon.settings input) xs in
+      let have_keys : HaveKeys canon.settings standard (inputs h.client.sent) = subst Have (sym same) (first_of_all (λ input. HasKey canon.settings input) (inputs h.client.history) order.untyped (subst Have of_inputs have)) in
+      let both : TiedHistories canon h.server.history h.client.sent = at.tied (typeable canon.settings standard h.client.sent have_keys) in
+      let typed_first : List ℕ = keys_of canon.settings (inputs h.client.history) in
+      let sent_keys : typed_entries canon (keys_typed canon.settings h.client.sent) ≡ typed_entries canon typed_first = ap (λ (ks : List ℕ). typed_entries canon ks) (typed_as canon.settings standard h.client.sent have_keys ∙ ap (λ (xs : List Input). keys_of canon.settings xs) same) in
+      let keys_first : keys_of canon.settings typed ≡ typed_first ++ keys_of canon.settings order.untyped = ap (λ (xs : List Input). keys_of canon.settings xs) of_inputs ∙ keys_of-append canon.settings (inputs h.client.history) order.untyped in
       let fronts = puts_are_front true canon editing jobs marked h.server s_runs in
       let front : IsPrefixOf (entries_put j.puts.items) (entries h.server.history) = (fronts.0, ap (λ (ps : List (Option Entry)). entries_put ps ++ fronts.0) (sym h.puts) ∙ fronts.1) in
-      let mid : IsPrefixOf (entries h.server.history) (typed_entries canon (client.keys h.client.history)) = subst (λ (es : List Entry). IsPrefixOf (entries h.server.history) es) sent_keys (tied.prefix h.server.history h.client.sent at.tied) in
+      let mid : IsPrefixOf (entries h.server.history) (typed_entries canon typed_first) = subst (λ (es : List Entry). IsPrefixOf (entries h.server.history) es) sent_keys (histories.prefix canon h.server.history h.client.sent both) in
       record {
-        prefix = prefix_trans _ _ _ front (prefix_trans _ _ _ mid (more_entries canon (client.keys h.client.history) order.untyped typed of_keys));
+        prefix = prefix_trans _ _ _ front (prefix_trans _ _ _ mid (more_entries canon typed_first (keys_of canon.settings order.untyped) (keys_of canon.settings typed) keys_first));
         all = λ none s_on c_on.
             let s_live : h.server.progress.over ≡ false = ap (λ (p : term_progress.Progress). p.over) (sym h.at_server.progress) ∙ s_on in
             let c_live : h.client.progress.over ≡ false = ap (λ (p : core_progress.Progress). p.over) (sym h.at_client.progress) ∙ c_on in
             let read : all_read (server_steps h.order) ≡ total h.cs = sym (append-nil (all_read (server_steps h.order))) ∙ ap (λ (l : List ℕ). all_read (server_steps h.order) ++ l) (sym none) ∙ sym h.to_server ∙ ap all_wrote h.of_client ∙ wrote_by h.cs in
             let stream : h.server.stream ≡ total h.cs = sym (append-nil h.server.stream) ∙ ap (λ (l : List ℕ). h.server.stream ++ l) (sym (hear.all s_live)) ∙ sym hear.stream_first ∙ sym (read_by h.ss) ∙ ap all_read (sym h.of_server) ∙ read in
             let said : total h.cs ≡ cores.says h.client = all_said h.cs first_client h.client h.told_by c_live refl in
-            let whole = tied.complete h.server.history h.client.sent at.tied (heard_all h.server.stream (server.items h.server.history) (client_says.items_said h.client.sent) hear.read (sent-fits h.client.sent) (stream ∙ said)) in
+            let whole = histories.complete canon h.server.history h.client.sent both (heard_all h.server.stream (server.items h.server.history) (client_says.items_said h.client.sent) hear.read (sent-fits h.client.sent) (stream ∙ said)) in
             let given = puts_are_given true canon editing jobs marked h.server s_runs s_live in
-            let all_keys : client.keys h.client.history ≡ typed = sym (append-nil (client.keys h.client.history)) ∙ ap (λ (l : List ℕ). client.keys h.client.history ++ l) (sym (order.all c_live).0) ∙ sym of_keys in (
+            let all_keys : typed_first ≡ keys_of canon.settings typed = sym (keys_first ∙ ap (λ (xs : List Input). typed_first ++ keys_of canon.settings xs) (order.all c_live).0 ∙ append-nil typed_first) in (
               h.server,
               h.at_server,
               ap (λ (ps : List (Option Entry)). entries_put ps ++ waiting h.server.history) (sym h.puts) ∙ given.all ∙ whole ∙ sent_keys ∙ ap (λ (ks : List ℕ). typed_entries canon ks) all_keys,
@@ -411,6 +408,6 @@ module _ (canon : Canon) (editing : Editing) (jobs : Jobs) (width height : ℕ) 
               let one : cores.says a ++ d.1 ≡ cores.says f.0 = ap (λ (l : List ℕ). cores.says a ++ l) (sym (append-nil d.1) ∙ ap (λ (l : List ℕ). d.1 ++ l) (sym (f.1.all written))) ∙ sym f.1.said in
               sym (append_assoc (cores.says a) d.1 (total ds)) ∙ ap (λ (l : List ℕ). l ++ total ds) one ∙ go ds f.0 b f.2 live
 
-pub loop_reads : (canon : Canon) (editing : Editing) (jobs : Jobs) (width height : ℕ) (first last : Joined) (script : List Event) → canon.settings.chars ≡ standard_characters → IsStart canon editing jobs width height first → FoldsTo Happens first script last → ReadsAll canon (keys_in script) last
-loop_reads canon editing jobs width height first last script standard start goes =
-    reads_all canon editing jobs width height (keys_in script) last standard (all_happen canon editing jobs width height [] script first last (begins canon editing jobs width height first start) goes)
+pub loop_reads : LoopReads
+loop_reads canon editing jobs width height first last script standard have start goes =
+    reads_all canon editing jobs width height (inputs_of script) last standard have (all_happen canon editing jobs width height [] script first last (begins canon editing jobs width height first start) goes)

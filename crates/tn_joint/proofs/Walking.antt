@@ -4,12 +4,13 @@ use Rattle.std.specs.List.{FoldsTo}
 use Rattle.tn_client.proofs.lemmas.Fitting.{sent-fits}
 use Rattle.tn_client.specs.Events as client
 use Rattle.tn_client.specs.Replies as client_says
+use Rattle.tn_client.specs.declared.commands.UserCommand.{UserCommand}
 use Rattle.tn_client_core.proofs.lemmas.Bringing.{in_order}
 use Rattle.tn_client_core.specs.Marks as core
 use Rattle.tn_client_core.specs.Run as core_run
 use Rattle.tn_client_core.specs.declared.messages.Mark as core_mark
 use Rattle.tn_client_core.specs.declared.messages.Told.{Told}
-use Rattle.tn_discipline.specs.Canon.{Canon, typed_entries}
+use Rattle.tn_discipline.specs.Canon.{Canon}
 use Rattle.tn_jobs.specs.Jobs.{Jobs}
 use Rattle.tn_session.proofs.lemmas.ClientTurns.{ClientAt, client_turns}
 use Rattle.tn_joint.proofs.Prefixes.{server-append, client-append}
@@ -19,7 +20,6 @@ use Rattle.tn_joint.proofs.Joint.{Step, served, told, server_steps, client_steps
 use Rattle.tn_nvt.specs.declared.items.Item.{Item}
 use Rattle.tn_server.proofs.lemmas.Fitting.{sent-fit}
 use Rattle.tn_server.specs.Events as server
-use Rattle.tn_server.specs.Lines.{entries}
 use Rattle.tn_server.specs.Replies as server_says
 use Rattle.tn_server.specs.declared.wishes.Editing.{Editing}
 use Rattle.tn_term.proofs.lemmas.Hearing.{hears}
@@ -29,8 +29,8 @@ use Rattle.tn_term.specs.declared.messages.Mark as term_mark
 use Rattle.tn_messages.specs.declared.messages.Message.{Message}
 use Rattle.tn_streams.specs.Prefixes.{IsPrefixOf}
 
--- WHAT IS NEEDED OF TWO HISTORIES: these hold of the opening, each event of a terminal or a core keeps them, an
--- item coming only in the order in which it was said, and they say of entries what is to be said.
+-- WHAT IS NEEDED OF TWO HISTORIES: these hold of the opening, and each event of a terminal or a core keeps them, an
+-- item coming only in the order in which it was said.
 pub record Ties (canon : Canon) (editing : Editing) (width height : ℕ) (Tied : server.History → client.History → Type 0) : Type 0 where
   pub begins : Tied (term_run.opening canon editing) (client.begun width height canon.limit)
   pub reaches : (h : server.History) (k : client.History) (x : Item) → IsPrefixOf (server.items h ++ x ∷ []) (client_says.items_said k) → Tied h k → Tied (server.next h (server.got x)) k
@@ -39,9 +39,8 @@ pub record Ties (canon : Canon) (editing : Editing) (width height : ℕ) (Tied :
   pub pulls : (h : server.History) (k : client.History) (n : ℕ) → Tied h k → Tied (server.next h (server.pulled n)) k
   pub types_on : (h : server.History) (k : client.History) (key : ℕ) → Tied h k → Tied h (client.next k (client.typed key))
   pub resizes : (h : server.History) (k : client.History) (w t : ℕ) → Tied h k → Tied h (client.next k (client.resized w t))
+  pub sends : (h : server.History) (k : client.History) (command : UserCommand) → Tied h k → Tied h (client.next k (client.sent command))
   pub returns : (h : server.History) (k : client.History) (x : Item) → IsPrefixOf (client.items k ++ x ∷ []) (server_says.items_said h) → Tied h k → Tied h (client.next k (client.got x))
-  pub prefix : (h : server.History) (k : client.History) → Tied h k → IsPrefixOf (entries h) (typed_entries canon (client.keys k))
-  pub complete : (h : server.History) (k : client.History) → Tied h k → server.items h ≡ client_says.items_said k → entries h ≡ typed_entries canon (client.keys k)
 
 joins : {P A : Type 0} (R : P → A → P → Type 0) (p m q : P) (xs : List A) (x : A) → FoldsTo R p xs m → R m x q → FoldsTo R p (xs ++ x ∷ []) q
 joins {P} {A} R p m q [] x f r = (q, subst (λ (u : P). R u x q) (sym f) r, refl)
@@ -81,6 +80,7 @@ module _ (canon : Canon) (editing : Editing) (width height : ℕ) (opens : Bool)
       client_turns (λ c. Tied h c) (server_says.items_said h) (record {
         types_on = λ c key tie. ties.types_on h c key tie;
         resizes = λ c w t tie. ties.resizes h c w t tie;
+        sends = λ c command tie. ties.sends h c command tie;
         comes = λ c y p tie. ties.returns h c y p tie;
       }) now.client mid x k t (client_heard (done ++ told (x, k) ∷ []) (record { server = now.server; client = mid }) r i) at
 

@@ -13,7 +13,7 @@ use Rattle.tn_messages.specs.declared.faults.Ended.TheVariants as ended
 use Rattle.tn_messages.specs.declared.faults.SessionFault.{SessionFault}
 use Rattle.tn_messages.specs.declared.faults.SessionFault.TheVariants as fault
 use Rattle.tn_messages.specs.declared.messages.Message.{Message}
-use Rattle.tn_messages.specs.declared.messages.Message.TheVariants.{Piece, HangUp, ReadFailed, Take, Said, Refused, Left, Resized}
+use Rattle.tn_messages.specs.declared.messages.Message.TheVariants.{Piece, HangUp, ReadFailed, Take, Said, Refused, Left, Resized, Asked}
 
 -- WHAT FAILED IS TOLD
 abbrev ended_of : Run → Ended
@@ -52,7 +52,9 @@ acts c new Net Refused a t = failed c new fault.Memory (ap ended_of a)
 acts c new Keys Left a t = same c new (ap ended_of a) (ap over_of a) t
 acts c new Net Left a t = same c new (ap ended_of a) (ap over_of a) t
 acts c new Keys (Resized size) a t = same c new (ap ended_of a) (ap over_of a) t
+acts c new Keys (Asked control) a t = same c new (ap ended_of a) (ap over_of a) t
 acts c new Net (Resized size) a t = same c new (ap ended_of a) (ap over_of a) t
+acts c new Net (Asked control) a t = same c new (ap ended_of a) (ap over_of a) t
 
 handles : (o : Bool) (c new : Run) (x : Told) → ActsUnless o c x new → Tells c → Tells new
 handles true c new x a t = same c new (ap ended_of a) (ap over_of a) t

@@ -1,12 +1,12 @@
 -- Two sessions that meet every premise of `Headline`, and have an entry: a line is typed at the client and taken
 -- at the server.
-use Rattle.std.specs.Prelude.{◌≡◌, [], ◌∷◌}
+use Rattle.std.specs.Prelude.{◌≡◌, ℕ, All, [], ◌∷◌}
 use Rattle.tn_discipline.specs.Canon.{Canon}
 use Rattle.tn_discipline.specs.Characters.{standard_characters}
 use Rattle.tn_discipline.specs.Keys.{standard_flags}
 use Rattle.tn_discipline.specs.Limits.{standard_limit}
 use Rattle.tn_discipline.specs.declared.reads.Entry.TheVariants.{Text}
-use Rattle.tn_joint.specs.Transcripts.{Served, Connected, IsCarried, RanToTheEnd}
+use Rattle.tn_joint.specs.Transcripts.{Served, Connected, IsCarried, RanToTheEnd, HasKey}
 use Rattle.tn_server.specs.declared.wishes.Editing.{Editing}
 use Rattle.tn_session.specs.Facts.{JobFacts, job_facts}
 
@@ -28,6 +28,7 @@ pub record SessionsCarryALine (editing : Editing) : Type 0 where
   pub server : Served any_jobs canon
   pub client : Connected canon.limit
   pub edited : server.editing ≡ editing
+  pub with_keys : All (λ input. HasKey canon.settings input) client.ran.inputs
   pub carried : IsCarried server.ran.transcript client.ran.transcript
   pub ran : RanToTheEnd server client
   pub typed_keys : client.ran.keys_read ≡ 97 ∷ 13 ∷ []

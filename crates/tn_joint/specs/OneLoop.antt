@@ -1,16 +1,19 @@
 -- The machines of two sessions, run by one loop: no socket, no thread and no pipe is between them but two lists of
 -- bytes. Read `Happens`, and `ReadsAll` at the end.
-use Rattle.std.specs.Prelude.{◌≡◌, ℕ, false, List, [], ◌∷◌, ◌++◌, length, min}
+use Rattle.std.specs.Prelude.{◌≡◌, ℕ, false, All, List, [], ◌++◌, flat_map, length, min}
+use Rattle.std.specs.List.{FoldsTo}
 use Rattle.tn_client_core.specs.Reaching as core
 use Rattle.tn_client_core.specs.Run as core_run
 use Rattle.tn_client_core.specs.declared.messages.Mark as core_mark
 use Rattle.tn_client_core.specs.declared.messages.Origin.TheVariants as origin
 use Rattle.tn_client_core.specs.declared.messages.Told.{Told}
 use Rattle.tn_discipline.specs.Canon.{Canon, typed_entries}
+use Rattle.tn_discipline.specs.Characters.{standard_characters}
 use Rattle.tn_jobs.specs.Jobs.{Jobs}
-use Rattle.tn_joint.specs.Transcripts.{IsCarried}
+use Rattle.tn_client_core.specs.Bringing.{Input, inputs_in}
+use Rattle.tn_joint.specs.Transcripts.{HasKey, IsCarried, keys_of}
 use Rattle.tn_joint.specs.declared.one_loop.Event.{Event}
-use Rattle.tn_joint.specs.declared.one_loop.Event.TheVariants.{Typed, ToServer, ToClient, Asked, Said}
+use Rattle.tn_joint.specs.declared.one_loop.Event.TheVariants.{Typed, Asked, ToServer, ToClient, Take, Said}
 use Rattle.tn_joint.specs.declared.one_loop.Joined.{Joined}
 use Rattle.tn_messages.specs.declared.messages.Message.{Message}
 use Rattle.tn_messages.specs.declared.messages.Message.TheVariants as message
@@ -66,8 +69,8 @@ pub record TellsOne (old : Joined) (told : Told) (new : Joined) : Type 0 where
   pub to_client : new.to_client ≡ old.to_client
   pub puts : new.puts ≡ old.puts
 
-abbrev pub from_user : List ℕ → Told
-from_user keys = record { from = origin.Keys; message = message.Piece keys }
+abbrev pub from_user : Message → Told
+from_user m = record { from = origin.Keys; message = m }
 
 abbrev pub from_network : List ℕ → Told
 from_network piece = record { from = origin.Net; message = message.Piece piece }
@@ -95,26 +98,38 @@ pub record ComesToClient (old : Joined) (count : ℕ) (new : Joined) : Type 0 wh
 
 -- ONE EVENT
 abbrev pub Happens : Joined → Event → Joined → Type 0
-Happens old (Typed keys) new = TellsOne old (from_user keys) new
+Happens old (Typed keys) new = TellsOne old (from_user (message.Piece keys)) new
+Happens old (Asked control) new = TellsOne old (from_user (message.Asked control)) new
 Happens old (ToServer count) new = ComesToServer old count new
 Happens old (ToClient count) new = ComesToClient old count new
-Happens old Asked new = ServesOne old message.Take new
+Happens old Take new = ServesOne old message.Take new
 Happens old (Said job text after) new = ServesOne old (message.Said job text after) new
 
--- the keys that the user typed
-abbrev pub keys_in : List Event → List ℕ
-keys_in [] = []
-keys_in (Typed keys ∷ events) = keys ++ keys_in events
-keys_in (_ ∷ events) = keys_in events
+-- what the user typed: keys, and commands between them
+abbrev pub inputs_by : Event → List Input
+inputs_by (Typed keys) = inputs_in (message.Piece keys)
+inputs_by (Asked control) = inputs_in (message.Asked control)
+inputs_by _ = []
+
+abbrev pub inputs_of : List Event → List Input
+inputs_of events = flat_map inputs_by events
 
 -- THE SENTENCE, with nothing between the two: what was put for the foreground job is the first of what a local terminal
--- gives for the keys that were typed; and where nothing is on its way to the server, and nothing failed, that and what
--- waits for the job is all of it. That the bytes are carried is a part of it, and no premise.
-pub record ReadsAll (canon : Canon) (typed : List ℕ) (j : Joined) : Type 0 where
-  pub prefix : IsPrefixOf (entries_put j.puts.items) (typed_entries canon typed)
+-- gives for what was typed; and where nothing is on its way to the server, and nothing failed, that and what waits for
+-- the job is all of it. That the bytes are carried is a part of it, and no premise.
+pub record ReadsAll (canon : Canon) (typed : List Input) (j : Joined) : Type 0 where
+  pub prefix : IsPrefixOf (entries_put j.puts.items) (typed_entries canon (keys_of canon.settings typed))
   pub all : j.to_server.items ≡ [] → j.term.progress.over ≡ false → j.core.progress.over ≡ false
       → (c : term_run.Run) × term.LeadsTo c j.term
-      × (entries_put j.puts.items ++ waiting c.history ≡ typed_entries canon typed)
+      × (entries_put j.puts.items ++ waiting c.history ≡ typed_entries canon (keys_of canon.settings typed))
   pub server : List Exchange
   pub client : List Exchange
   pub carried : IsCarried server client
+
+-- from the start on, with the standard special characters, of which INTR interrupts if BRK or IP was sent
+abbrev pub LoopReads : Type 0
+LoopReads =
+    (canon : Canon) (editing : Editing) (jobs : Jobs) (width height : ℕ) (first last : Joined) (script : List Event)
+    → canon.settings.chars ≡ standard_characters → All (λ input. HasKey canon.settings input) (inputs_of script)
+    → IsStart canon editing jobs width height first → FoldsTo Happens first script last
+    → ReadsAll canon (inputs_of script) last

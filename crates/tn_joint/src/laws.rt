@@ -1,15 +1,10 @@
 //! The headline over two running sessions, as laws over the definitions alone.
 
-ghost use Rattle.std.specs.Prelude.{◌≡◌, ℕ, List};
-ghost use Rattle.std.specs.List.{FoldsTo};
-ghost use Rattle.tn_discipline.specs.Characters.{standard_characters};
-ghost use Rattle.tn_jobs.specs.Jobs.{Jobs};
+ghost use Rattle.std.specs.Prelude.{ℕ};
 ghost use Rattle.tn_discipline.specs.Canon.{Canon};
 ghost use Rattle.tn_joint.specs.Answers.{AnswersOfServer, AnswersOfClient};
 ghost use Rattle.tn_joint.specs.Example.{SessionsCarryALine};
-ghost use Rattle.tn_joint.specs.OneLoop.{Happens, IsStart, ReadsAll, keys_in};
-ghost use Rattle.tn_joint.specs.declared.one_loop.Event.{Event};
-ghost use Rattle.tn_joint.specs.declared.one_loop.Joined.{Joined};
+ghost use Rattle.tn_joint.specs.OneLoop.{LoopReads};
 ghost use Rattle.tn_joint.specs.Transcripts.{Headline, Served, Connected};
 ghost use Rattle.tn_session.specs.Facts.{job_facts};
 ghost use Rattle.tn_session.specs.Makers.{begins};
@@ -18,9 +13,9 @@ ghost use Rattle.tn_server.specs.declared.wishes.Editing.{Editing};
 use tn_session::Maker;
 
 /// What you type is what the job reads, of what can be seen of two sessions: where the server's special
-/// characters are the standard ones and both have lines of one limit, and a socket carries what each wrote,
-/// what the job took is a prefix of the entries of the keys that the client read, and all of them where both
-/// sessions ran to the end.
+/// characters are the standard ones and both have lines of one limit, each command that was sent stands for a key
+/// there, and a socket carries what each wrote, what the job took is a prefix of the entries of the keys that the
+/// client read, with the commands between them, and all of them where both sessions ran to the end.
 pub fn what_you_type_is_what_the_job_reads<M: Maker>()
     ensures { (maker : M) →
         Headline (job_facts (begins M.Job.fresh M.gives maker) M.Job.reacts M.Job.steps M.Job.refuses) }
@@ -38,10 +33,7 @@ pub fn no_answer_comes_late<M: Maker>()
 /// Where both machines are run by one loop, with nothing between them but two lists of bytes, what you type is what
 /// the job reads, whatever happens and however the bytes are cut: that they are carried is proved, and no premise.
 pub fn one_loop_reads_what_is_typed()
-    ensures { (canon : Canon) (editing : Editing) (jobs : Jobs) (width height : ℕ) (first last : Joined)
-        (script : List Event) → canon.settings.chars ≡ standard_characters →
-        IsStart canon editing jobs width height first → FoldsTo Happens first script last →
-        ReadsAll canon (keys_in script) last }
+    ensures { LoopReads }
 {}
 
 /// What that asks of two sessions can be met, and both can run to the end: a line is typed at the client, and

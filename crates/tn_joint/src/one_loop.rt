@@ -5,7 +5,7 @@
 //! let mut joined = Joined::start(alloc, settings, limit, editing, table, 80, 24)?;
 //! joined.happen(alloc, Event::Typed(keys))?;
 //! joined.happen(alloc, Event::ToServer(512))?;
-//! joined.happen(alloc, Event::Asked)?; // the entries that the foreground job gets are put in `puts`
+//! joined.happen(alloc, Event::Take)?; // the entries that the foreground job gets are put in `puts`
 //! ```
 
 ghost use Rattle.std.specs.Prelude.{◌≡◌, ◌++◌, OnOk, IfOk, IfErr};
@@ -20,6 +20,7 @@ use tn_discipline::{Entry, Limit, Settings, Text};
 use tn_jobs::{After, JobId, Table};
 use tn_messages::{Message, SessionFault};
 use tn_server::Editing;
+use tn_streams::Control;
 use tn_term::{Outcome, Put, Term};
 
 /// What happens next.
@@ -31,8 +32,10 @@ pub enum Event {
     ToServer(usize),
     /// So many of the bytes that are on their way to the client come there, or all where there are fewer.
     ToClient(usize),
+    /// The user asks for a control function.
+    Asked(Control),
     /// The foreground job asks for an entry.
-    Asked,
+    Take,
     /// A job wrote a text and does something next.
     Said {
         job: JobId,
@@ -171,9 +174,16 @@ impl Joined {
                     message: Message::Piece(keys),
                 },
             ),
+            Event::Asked(control) => self.tell(
+                alloc,
+                Told {
+                    from: Origin::Keys,
+                    message: Message::Asked(control),
+                },
+            ),
             Event::ToServer(count) => self.to_server(alloc, count),
             Event::ToClient(count) => self.to_client(alloc, count),
-            Event::Asked => self.serve(alloc, Message::Take),
+            Event::Take => self.serve(alloc, Message::Take),
             Event::Said { job, text, after } => {
                 self.serve(alloc, Message::Said { job, text, after })
             },

@@ -19,7 +19,7 @@ WantsMemoryWithin stream had piece =
     × nvt.LeadsTo (stream ++ front) (had ++ xs) here × WantsMemory here back
 
 -- what was taken is a prefix of what came, and all of it as long as messages have their effect
-pub record TakesFront (over : Bool) (all taken : List ℕ) : Type 0 where
-  pub rest : List ℕ
+pub record TakesFront {A : Type 0} (over : Bool) (all taken : List A) : Type 0 where
+  pub rest : List A
   pub front : all ≡ taken ++ rest
   pub whole : over ≡ false → rest ≡ []

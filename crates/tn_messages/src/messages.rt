@@ -2,7 +2,7 @@
 
 use tn_discipline::Text;
 use tn_jobs::{After, JobId};
-use tn_streams::WindowSize;
+use tn_streams::{Control, WindowSize};
 
 /// A message to the terminal or to the core of a client.
 #[derive(Debug, Drop)]
@@ -23,6 +23,8 @@ pub enum Message {
     },
     /// The window in which a client's keys are typed has this size now.
     Resized(WindowSize),
+    /// The user of a client asks for this control function.
+    Asked(Control),
     /// A thread found no memory.
     Refused,
     /// A thread ends.

@@ -21,7 +21,7 @@ use Rattle.tn_program.specs.declared.outcome.Outcome.{Outcome}
 use Rattle.tn_program.specs.declared.outcome.Outcome.TheVariants as outcome
 use Rattle.tn_program.specs.Settings.{UnlessMemory, count_as, plain_as, window_as}
 use Rattle.tn_roster.specs.Held.{IsLimit}
-use Rattle.tn_streams.specs.Known.{KnownReader}
+use Rattle.tn_streams.specs.Known.{KnownTyping}
 use Rattle.tn_connect.specs.declared.settings.Origin.{Origin}
 use Rattle.tn_words.specs.Words.{AskFor, AsksForHelp, AsksForVersion, Refuses, version_line}
 use Rattle.tn_connect.specs.declared.talks.TalkReport.{TalkReport}
@@ -41,7 +41,7 @@ pub record EndsServing (network : Asking) (serving : Serving) (ended : Result Se
   pub unwritten : new ≡ old
 
 -- What came of connecting.
-pub record EndsConnecting (network : Asking) (connecting : Connecting) (ended : Result Connected ConnectFault) (input : KnownReader)
+pub record EndsConnecting (network : Asking) (connecting : Connecting) (ended : Result Connected ConnectFault) (input : KnownTyping)
     (old new : Option (List ℕ)) : Type 0 where
   pub telnet : connecting.plain ≡ None
   pub ran : IfOk ended (RunsClient (window_as connecting) input old new)

@@ -1,24 +1,28 @@
 -- What the messages to the core bring, of what the readers gave.
 use Rattle.std.proofs.Common.{◌≡◌, ℕ, Bool, true, false, List, [], ◌∷◌, ◌++◌, Option, Some, refl, sym, ap, ◌∙◌, ⊎_elim, map, subst, append-nil, append_assoc}
+use Rattle.std.proofs.lemmas.List.{map-append}
+use Rattle.std.proofs.lemmas.Grind.{flat_map-append}
 use Rattle.std.specs.Io.KnownBytes.{Consumes}
 use Rattle.std.specs.List.{concat}
-use Rattle.tn_client_core.specs.Bringing.{brought_from, brought}
+use Rattle.tn_client_core.specs.Bringing.{key_typed, command_in, commands_in, inputs_in, inputs_brought, brought_from, brought}
+use Rattle.tn_client_core.specs.Commands.{command_of}
 use Rattle.tn_client_core.specs.declared.messages.Origin.TheVariants as origin
 use Rattle.tn_session.proofs.Mailbox.{sender_share}
 use Rattle.tn_session.specs.CoreTurns.{all_told}
 use Rattle.tn_session.specs.Mailbox.{same, from, mail, sender}
 use Rattle.tn_session.specs.Transcripts.{bytes_sent}
 use Rattle.tn_session.specs.Reader.{ReaderSends, Closes}
-use Rattle.tn_session.specs.Reading.{IsEnding, Telling, piece_told, size_told, told_messages, pieces_in}
+use Rattle.tn_session.specs.Reading.{IsEnding, Telling, piece_told, size_told, control_told, told_messages, pieces_in, controls_in}
 use Rattle.tn_session.specs.declared.channels.View.{View}
 use Rattle.tn_session.specs.declared.mail.Mail.{Mail}
 use Rattle.tn_session.specs.declared.mail.Sender.{Sender}
 use Rattle.tn_session.specs.declared.mail.Sender.TheVariants.{Net, Desk, Back, Keys}
 use Rattle.tn_streams.specs.Foretelling.{Failures}
 use Rattle.tn_streams.specs.Known.{KnownReader}
+use Rattle.tn_streams.specs.declared.control.Control.{Control}
 use Rattle.tn_messages.specs.Pieces.{bytes_in}
 use Rattle.tn_messages.specs.declared.messages.Message.{Message}
-use Rattle.tn_messages.specs.declared.messages.Message.TheVariants.{Piece, HangUp, ReadFailed, Take, Said, Refused, Left, Resized}
+use Rattle.tn_messages.specs.declared.messages.Message.TheVariants.{Piece, HangUp, ReadFailed, Take, Said, Refused, Left, Resized, Asked}
 
 keys_bytes : (m : Message) → brought_from origin.Keys origin.Keys m ≡ bytes_in m
 keys_bytes (Piece piece) = refl
@@ -29,6 +33,7 @@ keys_bytes (Said job text after) = refl
 keys_bytes Refused = refl
 keys_bytes Left = refl
 keys_bytes (Resized size) = refl
+keys_bytes (Asked control) = refl
 
 net_bytes : (m : Message) → brought_from origin.Net origin.Net m ≡ bytes_in m
 net_bytes (Piece piece) = refl
@@ -39,6 +44,7 @@ net_bytes (Said job text after) = refl
 net_bytes Refused = refl
 net_bytes Left = refl
 net_bytes (Resized size) = refl
+net_bytes (Asked control) = refl
 
 -- the keys are what Keys sent
 keys_more : (s : Sender) (m : Message) (xs : List Mail) → brought origin.Keys (all_told xs) ≡ bytes_sent (from Keys xs) → brought origin.Keys (all_told (mail s m ∷ xs)) ≡ bytes_sent (from Keys (mail s m ∷ xs))
@@ -83,6 +89,7 @@ told_bytes : (s : Sender) (told : List Telling) (close : List Message) → bytes
 told_bytes s [] close = refl
 told_bytes s (piece_told p ∷ told) close = ap (λ (bs : List ℕ). p ++ bs) (told_bytes s told close) ∙ sym (append_assoc p (concat (pieces_in told)) (bytes_sent (map (mail s) close)))
 told_bytes s (size_told z ∷ told) close = told_bytes s told close
+told_bytes s (control_told c ∷ told) close = told_bytes s told close
 
 ending_bytes : (m : Message) (left : Option (List ℕ)) → IsEnding m left → bytes_in m ≡ []
 ending_bytes (Piece piece) left e = absurd e
@@ -93,6 +100,7 @@ ending_bytes (Said job text after) left e = refl
 ending_bytes Refused left e = refl
 ending_bytes Left left e = refl
 ending_bytes (Resized s) left e = refl
+ending_bytes (Asked control) left e = refl
 
 close_bytes : (s : Sender) (may_stop : Bool) (pieces : List (List ℕ)) (left : Option (List ℕ)) (foretold : Option Failures) (close : List Message) → Closes may_stop pieces left foretold close → bytes_sent (map (mail s) close) ≡ []
 close_bytes s may_stop pieces left foretold close closes =
@@ -128,3 +136,73 @@ net_brought reader v handled mails sent e is desk back =
     let r = reader_bytes Net false reader v mails sent e in
     let P : List ℕ → Type 0 = λ bs. Consumes reader.bytes r.0 bs in
     (r.0, subst P (sym (net_all handled desk back ∙ ap bytes_sent is)) r.1)
+
+-- THE COMMANDS
+abbrev asked_in : Message → List Control
+asked_in (Asked control) = control ∷ []
+asked_in _ = []
+
+abbrev asked_sent : List Mail → List Control
+asked_sent [] = []
+asked_sent (x ∷ xs) = asked_in x.message ++ asked_sent xs
+
+no_command : (piece : List ℕ) → commands_in (map key_typed piece) ≡ []
+no_command [] = refl
+no_command (key ∷ keys) = no_command keys
+
+command_asked : (m : Message) → commands_in (inputs_in m) ≡ map command_of (asked_in m)
+command_asked (Piece piece) = no_command piece
+command_asked (Asked control) = refl
+command_asked HangUp = refl
+command_asked ReadFailed = refl
+command_asked Take = refl
+command_asked (Said job text after) = refl
+command_asked Refused = refl
+command_asked Left = refl
+command_asked (Resized size) = refl
+
+-- they are those that Keys told
+commands_more : (s : Sender) (m : Message) (xs : List Mail) → commands_in (inputs_brought (all_told xs)) ≡ map command_of (asked_sent (from Keys xs)) → commands_in (inputs_brought (all_told (mail s m ∷ xs))) ≡ map command_of (asked_sent (from Keys (mail s m ∷ xs)))
+commands_more Keys m xs ih =
+    flat_map-append command_in (inputs_in m) (inputs_brought (all_told xs))
+    ∙ (λ i. command_asked m i ++ ih i)
+    ∙ sym (map-append command_of (asked_in m) (asked_sent (from Keys xs)))
+commands_more Net m xs ih = ih
+commands_more Desk m xs ih = ih
+commands_more Back m xs ih = ih
+
+commands_all : (xs : List Mail) → commands_in (inputs_brought (all_told xs)) ≡ map command_of (asked_sent (from Keys xs))
+commands_all [] = refl
+commands_all (x ∷ xs) = commands_more x.from x.message xs (commands_all xs)
+
+told_asked : (s : Sender) (told : List Telling) (close : List Message) → asked_sent (map (mail s) (told_messages told ++ close)) ≡ controls_in told ++ asked_sent (map (mail s) close)
+told_asked s [] close = refl
+told_asked s (piece_told p ∷ told) close = told_asked s told close
+told_asked s (size_told z ∷ told) close = told_asked s told close
+told_asked s (control_told c ∷ told) close = ap (λ (cs : List Control). c ∷ cs) (told_asked s told close)
+
+ending_asks : (m : Message) (left : Option (List ℕ)) → IsEnding m left → asked_in m ≡ []
+ending_asks (Piece piece) left e = absurd e
+ending_asks HangUp left e = refl
+ending_asks ReadFailed left e = refl
+ending_asks Take left e = refl
+ending_asks (Said job text after) left e = refl
+ending_asks Refused left e = refl
+ending_asks Left left e = refl
+ending_asks (Resized s) left e = refl
+ending_asks (Asked control) left e = absurd e
+
+close_asks : (s : Sender) (may_stop : Bool) (pieces : List (List ℕ)) (left : Option (List ℕ)) (foretold : Option Failures) (close : List Message) → Closes may_stop pieces left foretold close → asked_sent (map (mail s) close) ≡ []
+close_asks s may_stop pieces left foretold close closes =
+    let A : List Message → List Control = λ ms. asked_sent (map (mail s) ms) in
+    ⊎_elim
+    (λ x. ap A x.2 ∙ ap (λ (cs : List Control). cs ++ []) (ending_asks x.0 left x.1.0))
+    (λ x. ap A x.2)
+    closes
+
+pub commands_brought : (stopped : Bool) (reader : KnownReader) (v : View) (handled mails : List Mail) (sent : ReaderSends Keys stopped reader v) → v ≡ sender Keys mails → from Keys handled ≡ mails → commands_in (inputs_brought (all_told handled)) ≡ map command_of (controls_in sent.0)
+commands_brought stopped reader v handled mails (told, left, close, consumed, closes, is, small, sizes) e of =
+    let asked : asked_sent mails ≡ controls_in told =
+    ap asked_sent (one_list Keys mails (map (mail Keys) (told_messages told ++ close)) v e is) ∙ told_asked Keys told close
+    ∙ ap (λ (cs : List Control). controls_in told ++ cs) (close_asks Keys stopped (pieces_in told) left reader.failures close closes) ∙ append-nil (controls_in told) in
+    commands_all handled ∙ ap (λ (ms : List Mail). map command_of (asked_sent ms)) of ∙ ap (map command_of) asked

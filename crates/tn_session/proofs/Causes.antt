@@ -2,16 +2,17 @@
 use Rattle.std.proofs.Common.{◌≡◌, ℕ, Bool, true, false, ◌&&◌, ◌⊎◌, inl, inr, ⊎_elim, List, [], ◌∷◌, ◌++◌, refl, sym, ap, ◌∙◌, subst, map}
 use Rattle.tn_session.proofs.Lefts.{same_self}
 use Rattle.tn_session.specs.Mailbox.{same, from}
-use Rattle.tn_session.specs.Reading.{Telling, piece_told, size_told, told_messages}
+use Rattle.tn_session.specs.Reading.{Telling, piece_told, size_told, control_told, told_messages}
 use Rattle.tn_session.specs.Turns.{messages_of}
 use Rattle.tn_session.specs.declared.mail.Mail.{Mail}
 use Rattle.tn_session.specs.declared.mail.Sender.{Sender}
 use Rattle.tn_term.specs.Marks.{no_write_failed, no_writes_failed}
 use Rattle.tn_term.specs.declared.messages.Mark.{Mark}
 use Rattle.tn_term.specs.declared.messages.Mark.TheVariants as mark
+use Rattle.tn_streams.specs.declared.control.Control.{Control}
 use Rattle.tn_streams.specs.declared.window.WindowSize.{WindowSize}
 use Rattle.tn_messages.specs.declared.messages.Message.{Message}
-use Rattle.tn_messages.specs.declared.messages.Message.TheVariants.{Piece, ReadFailed, Left, Resized}
+use Rattle.tn_messages.specs.declared.messages.Message.TheVariants.{Piece, ReadFailed, Left, Resized, Asked}
 
 pub from_hit : (s : Sender) (x : Mail) (xs : List Mail) → same x.from s ≡ true → from s (x ∷ xs) ≡ x ∷ from s xs
 from_hit s x xs is = rw is refl
@@ -48,6 +49,9 @@ no_piece p e = cc
 no_size : (s : WindowSize) → Resized s ≡ ReadFailed → ⊥
 no_size s e = cc
 
+no_control : (c : Control) → Asked c ≡ ReadFailed → ⊥
+no_control c e = cc
+
 no_left : Left ≡ ReadFailed → ⊥
 no_left e = cc
 
@@ -56,11 +60,13 @@ pub failure_last : (told : List Telling) (last : Message) → HasFailure (told_m
 failure_last [] last h = ⊎_elim (λ e. e) (λ f. ⊎_elim (λ e. absurd (no_left e)) (λ none. absurd none) f) h
 failure_last (piece_told p ∷ told) last h = ⊎_elim (λ e. absurd (no_piece p e)) (λ f. failure_last told last f) h
 failure_last (size_told s ∷ told) last h = ⊎_elim (λ e. absurd (no_size s e)) (λ f. failure_last told last f) h
+failure_last (control_told c ∷ told) last h = ⊎_elim (λ e. absurd (no_control c e)) (λ f. failure_last told last f) h
 
 pub failure_never : (told : List Telling) → HasFailure (told_messages told ++ Left ∷ []) → ⊥
 failure_never [] h = ⊎_elim (λ e. no_left e) (λ none. none) h
 failure_never (piece_told p ∷ told) h = ⊎_elim (λ e. no_piece p e) (λ f. failure_never told f) h
 failure_never (size_told s ∷ told) h = ⊎_elim (λ e. no_size s e) (λ f. failure_never told f) h
+failure_never (control_told c ∷ told) h = ⊎_elim (λ e. no_control c e) (λ f. failure_never told f) h
 
 pub never_and : (a b : Bool) → b ≡ false → (a && b) ≡ false
 never_and true b e = e

@@ -1,9 +1,9 @@
 -- A whole client session: its passes joined, and what its threads did.
 use Rattle.std.proofs.Common.{◌≡◌, ℕ, Bool, true, false, refl, List, [], ◌∷◌, ◌++◌, map, Some, None, sym, ap, ◌∙◌, subst, append-nil, arith}
-use Rattle.tn_client_core.proofs.lemmas.Bringing.{in_order}
-use Rattle.tn_client_core.proofs.lemmas.Ending.{fault_cause}
 use Rattle.std.specs.List.{FoldsTo}
-use Rattle.tn_client_core.specs.Bringing.{TakesInOrder, brought, brought_from}
+use Rattle.tn_client_core.proofs.lemmas.Bringing.{in_order, keys-brought}
+use Rattle.tn_client_core.proofs.lemmas.Ending.{fault_cause}
+use Rattle.tn_client_core.specs.Bringing.{TakesInOrder, inputs_brought, brought, brought_from}
 use Rattle.tn_client_core.specs.Marks.{Turns, all_written, all_whole}
 use Rattle.tn_client_core.specs.Run.{Run, start}
 use Rattle.tn_client_core.specs.declared.machine.Core.{Core}
@@ -11,7 +11,7 @@ use Rattle.tn_client_core.specs.declared.messages.Mark.{Mark}
 use Rattle.tn_client_core.specs.declared.messages.Origin.TheVariants as origin
 use Rattle.tn_client_core.specs.declared.messages.Told.{Told}
 use Rattle.tn_client_core.specs.declared.progress.Progress.{Progress}
-use Rattle.tn_session.proofs.Brought.{keys_brought, net_all, net_brought}
+use Rattle.tn_session.proofs.Brought.{keys_brought, commands_brought, net_all, net_brought}
 use Rattle.tn_session.proofs.ClientCauses.{read_cause, write_cause}
 use Rattle.tn_session.proofs.CoreGoing.{unwritten}
 use Rattle.tn_session.proofs.Going.{false_true}
@@ -27,7 +27,7 @@ use Rattle.tn_session.specs.Client.{core_view, AreTwoSettled, IsClientRun, bring
 use Rattle.tn_session.specs.CoreTurns.{CoreHandles, all_told, is_marked_written, is_over, says, told_of}
 use Rattle.tn_session.specs.Facts.{ClientResult}
 use Rattle.tn_session.specs.Mailbox.{Interleaves, from, four, sender, union, nobody, everyone, with_handled, Total}
-use Rattle.tn_session.specs.Reader.{ReaderSends}
+use Rattle.tn_session.specs.Reader.{ReaderSends, TypingSends}
 use Rattle.tn_session.specs.Stops.{IsTold}
 use Rattle.tn_session.specs.Notes.{Noted, NotesAll, no_notes}
 use Rattle.tn_session.specs.Transcripts.{Exchange, IsStep, Transcribes, bytes_sent, came_by, exchange_of, total}
@@ -35,7 +35,7 @@ use Rattle.tn_session.specs.declared.channels.View.{View}
 use Rattle.tn_session.specs.declared.mail.Mail.{Mail}
 use Rattle.tn_session.specs.declared.mail.Sender.TheVariants.{Net, Desk, Back, Keys}
 use Rattle.tn_session.specs.declared.parties.Report.{Report}
-use Rattle.tn_streams.specs.Known.{KnownReader, KnownWriting}
+use Rattle.tn_streams.specs.Known.{KnownReader, KnownTyping, KnownWriting}
 use Rattle.tn_messages.specs.declared.faults.Ended.TheVariants as ended
 use Rattle.tn_messages.specs.declared.faults.SessionFault.{SessionFault}
 use Rattle.tn_messages.specs.declared.faults.SessionFault.TheVariants as fault
@@ -91,8 +91,8 @@ client_noted begin last steps marked handled bytes noted goes of_steps messages 
     mapped f (s ∷ ss) = ap (λ (l : List Told). f s.0 ∷ l) (mapped f ss)
 
 -- all of a client's session that ran
-pub client_ran : (core last : Core) (stopped : Bool) (keys_reader net_reader : KnownReader) (writer screen : KnownWriting) (pass₀ pass₁ net keys : View) (result : ClientResult)
-    → pass₀ ≡ core_view [] → (acted : CoreHandles core pass₀ pass₁ writer screen result.noted result.told last) → ReaderSends Net false net_reader net → ReaderSends Keys stopped keys_reader keys
+pub client_ran : (core last : Core) (stopped : Bool) (keys_reader : KnownTyping) (net_reader : KnownReader) (writer screen : KnownWriting) (pass₀ pass₁ net keys : View) (result : ClientResult)
+    → pass₀ ≡ core_view [] → (acted : CoreHandles core pass₀ pass₁ writer screen result.noted result.told last) → ReaderSends Net false net_reader net → TypingSends Keys stopped keys_reader keys
     → (stopped ≡ true → result.told ≡ putter [] → ⊥)
     → AreTwoSettled pass₁ net keys result.net result.keys result.core → result.report ≡ client_report last.progress
     → IsClientRun core keys_reader net_reader writer screen result
@@ -100,17 +100,18 @@ client_ran core last stopped keys_reader net_reader writer screen pass₀ pass�
     let begin = start window.width window.height window.limit in
     let g = acted.goes.leads begin at in
     let ns = reader_sent Net false net_reader net sn in
-    let ks = reader_sent Keys stopped keys_reader keys sk in
+    let ks = reader_sent Keys stopped keys_reader.reader keys sk.0 in
     let view : pass₁ ≡ core_view acted.handled = acted.view ∙ ap (λ (w : View). with_handled w acted.handled) ep in
     let s = settled acted.handled ns.mails ks.mails view ns.is ks.is in
     let none = none_over acted.handled s.3.0 ns.mails [] [] ks.mails s.3.1 ns.ends tt tt ks.ends (omega (arith, ns.one, ks.one, acted.lefts)) in
     let woven : Interleaves acted.handled (four ns.mails [] [] ks.mails) = λ w. ap (from w) (sym (append-nil acted.handled) ∙ ap (λ (l : List Mail). acted.handled ++ l) (sym none)) ∙ s.3.1 w in
-    let typed : ReaderSends Keys stopped keys_reader result.keys = subst (λ (w : View). ReaderSends Keys stopped keys_reader w) (ks.is ∙ sym s.1) sk in
+    let typing : TypingSends Keys stopped keys_reader result.keys = subst (λ (w : View). TypingSends Keys stopped keys_reader w) (ks.is ∙ sym s.1) sk in
+    let typed = typing.0 in
     let read : ReaderSends Net false net_reader result.net = subst (λ (w : View). ReaderSends Net false net_reader w) (ns.is ∙ sym s.0) sn in
     let noted = client_noted begin g.0 acted.goes.steps acted.goes.marked acted.handled acted.goes.bytes result.noted g.5 acted.goes.of_steps acted.goes.whole acted.goes.all_bytes refl acted.noted in
     let said = client_said window.width window.height window.limit acted.goes.marked g.0 acted.goes.bytes noted.0 noted.2 in
     let net_first = net_brought net_reader net acted.handled ns.mails sn ns.is (woven Net) (woven Desk) (woven Back) in
-    let keys_first = keys_brought stopped keys_reader keys acted.handled ks.mails sk ks.is (woven Keys) in
+    let keys_first = keys_brought stopped keys_reader.reader keys acted.handled ks.mails sk.0 ks.is (woven Keys) in
     let left = (acted.stands begin at).gone (was_left Keys acted.handled ks.mails (woven Keys) ks.one) in
     let is : result.report ≡ client_report g.0.progress = er ∙ ap client_report g.2.progress in
     let caused = λ (f : SessionFault) (e : result.report.ended ≡ ended.Fault f). fault_cause window.width window.height window.limit acted.goes.marked g.0 f g.1 (sym (ap (λ (o : Report). o.ended) is) ∙ e) in
@@ -152,6 +153,11 @@ client_ran core last stopped keys_reader net_reader writer screen pass₀ pass�
       keys_read = brought origin.Keys (all_told acted.handled);
       keys_were_read = keys_first;
       keys_are = refl;
+      inputs = inputs_brought (all_told acted.handled);
+      inputs_are = refl;
+      keys_among = keys-brought (all_told acted.handled);
+      commands_among = commands_brought stopped keys_reader.reader result.keys acted.handled ks.mails typed s.1 (woven Keys);
+      were_asked = typing.1;
       shown = acted.goes.text;
       unshown = g.4.0;
       displayed = acted.goes.showed;
@@ -160,6 +166,6 @@ client_ran core last stopped keys_reader net_reader writer screen pass₀ pass�
       all_shown = g.4.2;
       report_is = is;
       caused = caused;
-      read_failed = λ e. read_cause stopped keys_reader net_reader ks.mails ns.mails acted.handled result.keys result.net acted.goes.marked s.1 s.0 woven typed read acted.goes.whole begin (caused fault.Read e);
+      read_failed = λ e. read_cause stopped keys_reader.reader net_reader ks.mails ns.mails acted.handled result.keys result.net acted.goes.marked s.1 s.0 woven typed read acted.goes.whole begin (caused fault.Read e);
       write_failed = λ e. write_cause writer.before.calls writer.after.calls screen.before.calls screen.after.calls acted.goes.marked acted.goes.tells acted.goes.tells_shown begin (caused fault.Write e);
     }

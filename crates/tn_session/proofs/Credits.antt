@@ -3,12 +3,12 @@ use Rattle.std.proofs.Common.{◌≡◌, ◌≤◌, ◌||◌, Bool, true, false,
 use Rattle.std.proofs.lemmas.List.{map-append}
 use Rattle.crossbeam_channel.specs.Fifo.{Pushes, Pops, Forks, Learns}
 use Rattle.tn_messages.specs.declared.messages.Message.{Message}
-use Rattle.tn_messages.specs.declared.messages.Message.TheVariants.{Piece, HangUp, ReadFailed, Take, Said, Refused, Left, Resized}
+use Rattle.tn_messages.specs.declared.messages.Message.TheVariants.{Piece, HangUp, ReadFailed, Take, Said, Refused, Left, Resized, Asked}
 use Rattle.tn_session.specs.Credits.{AnyTally, HaveUsed, none_taken, one_given, one_taken, owed_one, HaveTaken, piece_one, pieces_among, step_one, steps_among}
 use Rattle.tn_session.specs.Mailbox.{mail, sender}
 use Rattle.tn_session.specs.Reader.{sends}
 use Rattle.tn_session.specs.Stepping.{step_said}
-use Rattle.tn_session.specs.Reading.{IsEnding, Telling, piece_told, size_told, told_messages, pieces_in}
+use Rattle.tn_session.specs.Reading.{IsEnding, Telling, piece_told, size_told, control_told, told_messages, pieces_in}
 use Rattle.tn_session.specs.declared.channels.View.{View}
 use Rattle.tn_session.specs.declared.credit.Credit.{Credit}
 use Rattle.tn_session.specs.declared.credit.CreditSeat.{CreditSeat}
@@ -80,6 +80,7 @@ count_told : (who : Sender) (told : List Telling) → pieces_among (map (mail wh
 count_told who [] = refl
 count_told who (piece_told p ∷ told) = omega (arith, count_told who told)
 count_told who (size_told s ∷ told) = omega (arith, count_told who told)
+count_told who (control_told c ∷ told) = omega (arith, count_told who told)
 
 sender_is : (who : Sender) (a b : List Mail) → sender who a ≡ sender who b → a ≡ b
 sender_is Net a b e = let same : Some a ≡ Some b = ap (λ (v : View). v.net) e in cc
@@ -96,6 +97,7 @@ no_piece Take left e = refl
 no_piece (Said id text after) left e = refl
 no_piece Left left e = refl
 no_piece (Resized s) left e = refl
+no_piece (Asked control) left e = refl
 
 counted : (who : Sender) (told : List Telling) (close : List Message) (v : View) (mails : List Mail) → v ≡ sends who (told_messages told ++ close) → pieces_among (map (mail who) close) ≡ 0 → v ≡ sender who mails → pieces_among mails ≡ length (pieces_in told)
 counted who told close v mails e none f =

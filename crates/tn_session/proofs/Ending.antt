@@ -17,7 +17,7 @@ use Rattle.tn_session.specs.Acts.{JobActs}
 use Rattle.tn_session.specs.Facts.{SessionJobs, SessionResult, TermSettings}
 use Rattle.tn_session.specs.Mailbox.{same, from, sender, mail}
 use Rattle.tn_queue.specs.Queue.{taker}
-use Rattle.tn_session.specs.Reading.{IsEnding, IsReadCause, max_reads, Telling, piece_told, size_told, told_messages, pieces_in}
+use Rattle.tn_session.specs.Reading.{IsEnding, IsReadCause, max_reads, Telling, piece_told, size_told, control_told, told_messages, pieces_in}
 use Rattle.tn_session.specs.Session.{Schedule, HearsReader, TakesEntries}
 use Rattle.tn_session.specs.Stepping.{step_said}
 use Rattle.tn_session.specs.Turning.{Holds}
@@ -44,7 +44,7 @@ use Rattle.tn_term.specs.Run.{Run}
 use Rattle.tn_messages.specs.declared.faults.Ended.TheVariants as ended
 use Rattle.tn_messages.specs.declared.faults.SessionFault.TheVariants as fault
 use Rattle.tn_messages.specs.declared.messages.Message.{Message}
-use Rattle.tn_messages.specs.declared.messages.Message.TheVariants.{Piece, HangUp, ReadFailed, Take, Said, Refused, Left, Resized}
+use Rattle.tn_messages.specs.declared.messages.Message.TheVariants.{Piece, HangUp, ReadFailed, Take, Said, Refused, Left, Resized, Asked}
 use Rattle.tn_wire.specs.Prefixes.{IsRead}
 
 true_false : true ≡ false → ⊥
@@ -61,6 +61,7 @@ is_of_net (Said id text after) = false
 is_of_net Refused = false
 is_of_net Left = false
 is_of_net (Resized size) = false
+is_of_net (Asked control) = false
 
 abbrev NoneOfNet : List Message → Type 0
 NoneOfNet [] = Unit {0}
@@ -85,6 +86,7 @@ brings_nothing at_end (Said id text after) e = record { may = tt; after = refl; 
 brings_nothing at_end Refused e = record { may = tt; after = refl; bytes = refl }
 brings_nothing at_end Left e = record { may = tt; after = refl; bytes = refl }
 brings_nothing at_end (Resized size) e = record { may = tt; after = refl; bytes = refl }
+brings_nothing at_end (Asked control) e = record { may = tt; after = refl; bytes = refl }
 
 -- what holds of the mails of all others
 abbrev Others : List Mail → Type 0
@@ -129,6 +131,7 @@ of_net at_end (x ∷ xs) others may = of_net_next at_end x xs others (λ b m. of
 net_may : (told : List Telling) (last : Message) (left : Option (List ℕ)) → IsEnding last left → MayAllCome false (told_messages told ++ last ∷ Left ∷ [])
 net_may (piece_told p ∷ told) last left e = (refl, net_may told last left e)
 net_may (size_told s ∷ told) last left e = (tt, net_may told last left e)
+net_may (control_told c ∷ told) last left e = (tt, net_may told last left e)
 net_may [] HangUp left e = (tt, (tt, tt))
 net_may [] ReadFailed left e = (tt, (tt, tt))
 net_may [] Refused left e = (tt, (tt, tt))
@@ -137,10 +140,12 @@ net_may [] Take left e = absurd e
 net_may [] (Said id t a) left e = absurd e
 net_may [] Left left e = absurd e
 net_may [] (Resized s) left e = absurd e
+net_may [] (Asked control) left e = absurd e
 
 net_bytes : (told : List Telling) (last : Message) (left : Option (List ℕ)) → IsEnding last left → heard (told_messages told ++ last ∷ Left ∷ []) ≡ concat (pieces_in told)
 net_bytes (piece_told p ∷ told) last left e = ap (λ (bs : List ℕ). p ++ bs) (net_bytes told last left e)
 net_bytes (size_told s ∷ told) last left e = net_bytes told last left e
+net_bytes (control_told c ∷ told) last left e = net_bytes told last left e
 net_bytes [] HangUp left e = refl
 net_bytes [] ReadFailed left e = refl
 net_bytes [] Refused left e = refl
@@ -149,6 +154,7 @@ net_bytes [] Take left e = absurd e
 net_bytes [] (Said id t a) left e = absurd e
 net_bytes [] Left left e = absurd e
 net_bytes [] (Resized s) left e = absurd e
+net_bytes [] (Asked control) left e = absurd e
 
 none_fails : (ms : List Message) → NoneOfNet ms → HasFailure ms → ⊥
 none_fails [] n h = h
@@ -238,6 +244,7 @@ net_at_end id Take left e k = absurd e
 net_at_end id (Said job t a) left e k = absurd e
 net_at_end id Left left e k = absurd e
 net_at_end id (Resized s) left e k = absurd e
+net_at_end id (Asked control) left e k = absurd e
 
 -- what the left bytes leave of the known ones
 known_left : (bytes stream : List ℕ) (left : Option (List ℕ)) → Consumes (Some bytes) left stream → (rest : List ℕ) × (bytes ≡ stream ++ rest) × (IsAtEnd left → rest ≡ [])

@@ -7,7 +7,7 @@ use Rattle.tn_session.specs.Reading.{IsReadCause, max_reads}
 use Rattle.tn_streams.proofs.lemmas.Foretelling.{come_on, come_will}
 use Rattle.tn_streams.specs.Foretelling.{Failures, HasCome}
 use Rattle.tn_messages.specs.declared.messages.Message.{Message}
-use Rattle.tn_messages.specs.declared.messages.Message.TheVariants.{Piece, HangUp, ReadFailed, Take, Said, Refused, Left, Resized}
+use Rattle.tn_messages.specs.declared.messages.Message.TheVariants.{Piece, HangUp, ReadFailed, Take, Said, Refused, Left, Resized, Asked}
 
 pub consumes_more : (a b c : Option (List ℕ)) (xs ys : List ℕ) → Consumes a b xs → Consumes b c ys → Consumes a c (xs ++ ys)
 consumes_more None b c xs ys one two = tt
@@ -45,3 +45,4 @@ cause_on calls pieces (Said job text after) a b one cause = tt
 cause_on calls pieces Refused a b one cause = tt
 cause_on calls pieces Left a b one cause = tt
 cause_on calls pieces (Resized s) a b one cause = tt
+cause_on calls pieces (Asked control) a b one cause = tt

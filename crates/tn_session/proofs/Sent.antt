@@ -4,14 +4,14 @@ use Rattle.std.proofs.lemmas.List.{map-append}
 use Rattle.tn_session.proofs.Lefts.{EndsLeft, lefts-append}
 use Rattle.tn_session.specs.Mailbox.{sender, mail}
 use Rattle.tn_session.specs.Reader.{ReaderSends}
-use Rattle.tn_session.specs.Reading.{IsEnding, Telling, piece_told, size_told, told_messages}
+use Rattle.tn_session.specs.Reading.{IsEnding, Telling, piece_told, size_told, control_told, told_messages}
 use Rattle.tn_session.specs.Turns.{left_one, lefts_of}
 use Rattle.tn_session.specs.declared.channels.View.{View}
 use Rattle.tn_session.specs.declared.mail.Mail.{Mail}
 use Rattle.tn_session.specs.declared.mail.Sender.{Sender}
 use Rattle.tn_streams.specs.Known.{KnownReader}
 use Rattle.tn_messages.specs.declared.messages.Message.{Message}
-use Rattle.tn_messages.specs.declared.messages.Message.TheVariants.{Piece, HangUp, ReadFailed, Take, Said, Refused, Left, Resized}
+use Rattle.tn_messages.specs.declared.messages.Message.TheVariants.{Piece, HangUp, ReadFailed, Take, Said, Refused, Left, Resized, Asked}
 
 abbrev pub NoLeft : List Message → Type 0
 NoLeft [] = Unit {0}
@@ -46,6 +46,7 @@ told_stay : (told : List Telling) → NoLeft (told_messages told)
 told_stay [] = tt
 told_stay (piece_told p ∷ told) = (refl, told_stay told)
 told_stay (size_told s ∷ told) = (refl, told_stay told)
+told_stay (control_told c ∷ told) = (refl, told_stay told)
 
 ending_stays : (m : Message) (left : Option (List ℕ)) → IsEnding m left → left_one m ≡ 0
 ending_stays HangUp left e = refl
@@ -56,6 +57,7 @@ ending_stays Take left e = refl
 ending_stays (Said id t a) left e = refl
 ending_stays Left left e = absurd e
 ending_stays (Resized s) left e = absurd e
+ending_stays (Asked control) left e = absurd e
 
 -- what a sender's view says
 pub record Sent (s : Sender) (v : View) : Type 0 where

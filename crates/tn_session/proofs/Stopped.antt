@@ -3,7 +3,7 @@ use Rattle.std.proofs.Common.{◌≡◌, Bool, true, false, not, ◌||◌, ◌&&
 use Rattle.crossbeam_channel.specs.Claims.{view, IsSeatAt}
 use Rattle.crossbeam_channel.specs.Ends.{sends_on, receives_on}
 use Rattle.tn_messages.specs.declared.messages.Message.{Message}
-use Rattle.tn_messages.specs.declared.messages.Message.TheVariants.{Piece, HangUp, ReadFailed, Take, Said, Refused, Left, Resized}
+use Rattle.tn_messages.specs.declared.messages.Message.TheVariants.{Piece, HangUp, ReadFailed, Take, Said, Refused, Left, Resized, Asked}
 use Rattle.tn_queue.specs.Queue.{putter, put_more, joined_hands, one_of, LeftOver}
 use Rattle.tn_session.proofs.Lefts.{lefts_here, lefts_else}
 use Rattle.tn_session.specs.Mailbox.{same, from, mail}
@@ -165,6 +165,7 @@ left_is (Said id text after) e = absurd (false_true e)
 left_is Refused e = absurd (false_true e)
 left_is Left e = refl
 left_is (Resized size) e = absurd (false_true e)
+left_is (Asked control) e = absurd (false_true e)
 
 left_mail : (who : Sender) (x : Mail) → leaves who x ≡ true → x ≡ mail who Left
 left_mail who x e =
@@ -246,6 +247,7 @@ no_left_one (Said id text after) e = refl
 no_left_one Refused e = refl
 no_left_one Left e = absurd (true_false e)
 no_left_one (Resized size) e = refl
+no_left_one (Asked control) e = refl
 
 none_of : (who : Sender) (xs : List Mail) → has_left who xs ≡ false → lefts_of (from who xs) ≡ 0
 none_of who [] e = refl

@@ -15,7 +15,7 @@ use Rattle.tn_jobs.specs.declared.verdicts.JobState.TheVariants as job
 use Rattle.tn_jobs.specs.declared.verdicts.Verdict.{Verdict}
 use Rattle.tn_jobs.specs.declared.verdicts.Why.{Why}
 use Rattle.tn_messages.specs.declared.messages.Message.{Message}
-use Rattle.tn_messages.specs.declared.messages.Message.TheVariants.{Piece, HangUp, ReadFailed, Take, Said, Refused, Left, Resized}
+use Rattle.tn_messages.specs.declared.messages.Message.TheVariants.{Piece, HangUp, ReadFailed, Take, Said, Refused, Left, Resized, Asked}
 use Rattle.tn_server.specs.Events.{next, took}
 use Rattle.tn_server.specs.Lines.{waiting}
 use Rattle.tn_session.specs.Stops.{core_stops, term_stops}
@@ -45,6 +45,7 @@ message_ends origin.Net (Said id text after) p on = on
 message_ends origin.Net Refused p on = on
 message_ends origin.Net Left p on = on
 message_ends origin.Net (Resized size) p on = on
+message_ends origin.Net (Asked control) p on = on
 message_ends origin.Keys (Piece q) p on = on
 message_ends origin.Keys HangUp p on = on
 message_ends origin.Keys ReadFailed p on = on
@@ -53,6 +54,7 @@ message_ends origin.Keys (Said id text after) p on = on
 message_ends origin.Keys Refused p on = on
 message_ends origin.Keys Left p on = on
 message_ends origin.Keys (Resized size) p on = on
+message_ends origin.Keys (Asked control) p on = on
 
 piece_ends : (c new : core_run.Run) (from : Origin) (piece : List ℕ) → core_run.TakesPiece c from piece new → c.progress.at_end ≡ true → new.progress.at_end ≡ true
 piece_ends c new origin.Keys piece e on = ap (λ (r : core_run.Run). r.progress.at_end) e ∙ on
@@ -61,6 +63,8 @@ piece_ends c new origin.Net piece (xs, reads, e) on = ap (λ (r : core_run.Run).
 core_acts : (c new : core_run.Run) (from : Origin) (m : Message) → core_run.Acts c from m new → c.progress.at_end ≡ true → new.progress.at_end ≡ true
 core_acts c new from (Piece piece) a on = piece_ends c new from piece a on
 core_acts c new from (Resized size) e on = ap (λ (r : core_run.Run). r.progress.at_end) e ∙ on
+core_acts c new origin.Keys (Asked control) e on = ap (λ (r : core_run.Run). r.progress.at_end) e ∙ on
+core_acts c new origin.Net (Asked control) e on = ap (λ (r : core_run.Run). r.progress.at_end) e ∙ on
 core_acts c new from HangUp e on = ap (λ (r : core_run.Run). r.progress.at_end) e ∙ message_ends from HangUp c.progress on
 core_acts c new from ReadFailed e on = ap (λ (r : core_run.Run). r.progress.at_end) e ∙ message_ends from ReadFailed c.progress on
 core_acts c new from Take e on = ap (λ (r : core_run.Run). r.progress.at_end) e ∙ message_ends from Take c.progress on
@@ -125,6 +129,7 @@ term_acts c new (Said id text after) (parts, cuts, e) on = ap (λ (r : term_run.
 term_acts c new Refused e on = ap (λ (r : term_run.Run). r.progress.at_end) e ∙ on
 term_acts c new Left e on = ap (λ (r : term_run.Run). r.progress.at_end) e ∙ on
 term_acts c new (Resized size) e on = ap (λ (r : term_run.Run). r.progress.at_end) e ∙ on
+term_acts c new (Asked control) e on = ap (λ (r : term_run.Run). r.progress.at_end) e ∙ on
 
 term_handles : (c new : term_run.Run) (m : Message) → term_run.Handles c m new → term_stops c.progress ≡ true → term_stops new.progress ≡ true
 term_handles c new m h on = by c.progress.over refl h

@@ -5,11 +5,11 @@ use Rattle.std.specs.Io.KnownBytes.{Consumes}
 use Rattle.std.specs.List.{concat}
 use Rattle.tn_session.proofs.Credits.{taken_none, taken_piece, paid_ends, paid_stops}
 use Rattle.tn_session.proofs.Reading.{consumes_piece, consumes_end, come_piece, come_interrupted, cause_on}
-use Rattle.tn_session.proofs.Readers.{Says, said_piece, said_size, with_size, pieces-with_size, pieces-push, sizes-push, tells_none, tells_next, reader_ends, reader_stops}
+use Rattle.tn_session.proofs.Readers.{Says, said_piece, said_beside, beside, pieces-beside, sizes-beside, controls-beside, pieces-push, sizes-push, controls-push, tells_none, tells_next, reader_ends, reader_stops}
 use Rattle.tn_session.specs.Credits.{HaveTaken, pieces_among}
 use Rattle.tn_session.specs.Mailbox.{sender}
-use Rattle.tn_session.specs.Reader.{ReaderSends, SaysSize, sends}
-use Rattle.tn_session.specs.Reading.{IsEnding, IsPiece, IsReadCause, max_reads, Telling, piece_told, told_messages, pieces_in, sizes_in}
+use Rattle.tn_session.specs.Reader.{TypingSends, SaysBeside, sends}
+use Rattle.tn_session.specs.Reading.{IsEnding, IsPiece, IsReadCause, max_reads, Telling, piece_told, told_messages, pieces_in, sizes_in, controls_in}
 use Rattle.tn_session.specs.declared.channels.View.{View}
 use Rattle.tn_session.specs.declared.credit.CreditSeat.{CreditSeat}
 use Rattle.tn_session.specs.declared.mail.Mail.{Mail}
@@ -18,96 +18,102 @@ use Rattle.tn_messages.specs.declared.messages.Message.{Message}
 use Rattle.tn_messages.specs.declared.messages.Message.TheVariants.{Piece, ReadFailed, Left}
 use Rattle.tn_streams.proofs.lemmas.Foretelling.{come_none, come_passed}
 use Rattle.tn_streams.specs.Foretelling.{Failures, HasCome}
-use Rattle.tn_streams.specs.Known.{KnownReader}
-use Rattle.tn_streams.specs.Sizes.{TellsSizes}
+use Rattle.tn_streams.specs.Beside.{TellsList}
+use Rattle.tn_streams.specs.Known.{KnownTyping}
+use Rattle.tn_streams.specs.declared.control.Control.{Control}
 use Rattle.tn_streams.specs.declared.window.WindowSize.{WindowSize}
 
 -- After so many reads: what the thread told of what its reader gave, and the credits that it took.
-pub record HasTold (who : Sender) (old now : KnownReader) (calls : ℕ) (a b : Option CreditSeat) (v : View) : Type 0 where
+pub record HasTold (who : Sender) (old now : KnownTyping) (calls : ℕ) (a b : Option CreditSeat) (v : View) : Type 0 where
   pub told : List Telling
-  pub consumed : Consumes old.bytes now.bytes (concat (pieces_in told))
+  pub consumed : Consumes old.reader.bytes now.reader.bytes (concat (pieces_in told))
   pub sent : v ≡ sends who (told_messages told)
-  pub come : HasCome calls (length (pieces_in told)) old.failures now.failures
+  pub come : HasCome calls (length (pieces_in told)) old.reader.failures now.reader.failures
   pub small : All IsPiece (pieces_in told)
   pub taken : HaveTaken (length (pieces_in told)) a b
-  pub sizes : TellsSizes old.sizes (sizes_in told) now.sizes
+  pub sizes : TellsList old.reader.sizes (sizes_in told) now.reader.sizes
+  pub controls : TellsList old.controls (controls_in told) now.controls
 
--- a size was told, or none
-pub told_size : (who : Sender) (old now new : KnownReader) (calls : ℕ) (a b : Option CreditSeat) (v w : View) → HasTold who old now calls a b v → SaysSize who now.sizes new.sizes v w → new.bytes ≡ now.bytes → new.failures ≡ now.failures → HasTold who old new calls a b w
-told_size who old now new calls a b v w h says bytes failures =
-    let told = with_size h.told says.0 in
-    let is : pieces_in told ≡ pieces_in h.told = pieces-with_size h.told says.0 in
-    let Bytes : Option (List ℕ) → Type 0 = λ o. Consumes old.bytes o (concat (pieces_in told)) in
-    let Came : Option Failures → Type 0 = λ o. HasCome calls (length (pieces_in told)) old.failures o in
+-- a size was told, or none, and a control function, or none
+pub told_beside : (who : Sender) (old now new : KnownTyping) (calls : ℕ) (a b : Option CreditSeat) (v w : View) → HasTold who old now calls a b v → SaysBeside who now new v w → HasTold who old new calls a b w
+told_beside who old now new calls a b v w h says =
+    let told = h.told ++ beside says.size says.control in
+    let is : pieces_in told ≡ pieces_in h.told = pieces-beside h.told says.size says.control in
+    let Bytes : Option (List ℕ) → Type 0 = λ o. Consumes old.reader.bytes o (concat (pieces_in told)) in
+    let Came : Option Failures → Type 0 = λ o. HasCome calls (length (pieces_in told)) old.reader.failures o in
     record {
       told = told;
-      consumed = subst Bytes (sym bytes) (subst (λ (ps : List (List ℕ)). Consumes old.bytes now.bytes (concat ps)) (sym is) h.consumed);
-      sent = said_size who h.told says.0 v w h.sent says.2;
-      come = subst Came (sym failures) (subst (λ (ps : List (List ℕ)). HasCome calls (length ps) old.failures now.failures) (sym is) h.come);
+      consumed = subst Bytes (sym says.bytes) (subst (λ (ps : List (List ℕ)). Consumes old.reader.bytes now.reader.bytes (concat ps)) (sym is) h.consumed);
+      sent = said_beside who h.told says.size says.control v w h.sent says.says;
+      come = subst Came (sym says.failures) (subst (λ (ps : List (List ℕ)). HasCome calls (length ps) old.reader.failures now.reader.failures) (sym is) h.come);
       small = subst (λ (ps : List (List ℕ)). All IsPiece ps) (sym is) h.small;
       taken = subst (λ (ps : List (List ℕ)). HaveTaken (length ps) a b) (sym is) h.taken;
-      sizes = tells_next old.sizes now.sizes new.sizes h.told says.0 h.sizes says.1;
+      sizes = subst (λ (ss : List WindowSize). TellsList old.reader.sizes ss new.reader.sizes) (sym (sizes-beside h.told says.size says.control)) (tells_next old.reader.sizes now.reader.sizes new.reader.sizes (sizes_in h.told) says.size h.sizes says.sizes);
+      controls = subst (λ (cs : List Control). TellsList old.controls cs new.controls) (sym (controls-beside h.told says.size says.control)) (tells_next old.controls now.controls new.controls (controls_in h.told) says.control h.controls says.controls);
     }
 
 -- a piece was read, paid for and told
-pub told_one : (who : Sender) (old now new : KnownReader) (calls : ℕ) (p : List ℕ) (a b d : Option CreditSeat) (v w : View) → HasTold who old now calls a b v → Consumes now.bytes new.bytes p → IsPiece p → HasCome 1 1 now.failures new.failures → new.sizes ≡ now.sizes → HaveTaken 1 b d → Says who (Piece p) v w → HasTold who old new (calls + 1) a d w
-told_one who old now new calls p a b d v w h gives fits come same paid says =
+pub told_one : (who : Sender) (old now new : KnownTyping) (calls : ℕ) (p : List ℕ) (a b d : Option CreditSeat) (v w : View) → HasTold who old now calls a b v → Consumes now.reader.bytes new.reader.bytes p → IsPiece p → HasCome 1 1 now.reader.failures new.reader.failures → new.reader.sizes ≡ now.reader.sizes → new.controls ≡ now.controls → HaveTaken 1 b d → Says who (Piece p) v w → HasTold who old new (calls + 1) a d w
+told_one who old now new calls p a b d v w h gives fits come same alike paid says =
     let told = h.told ++ piece_told p ∷ [] in
     let is : pieces_in told ≡ pieces_in h.told ++ p ∷ [] = pieces-push h.told p in
-    let Told : Option (List WindowSize) → Type 0 = λ o. TellsSizes old.sizes (sizes_in told) o in
+    let Told : Option (List WindowSize) → Type 0 = λ o. TellsList old.reader.sizes (sizes_in told) o in
+    let Asked : Option (List Control) → Type 0 = λ o. TellsList old.controls (controls_in told) o in
     record {
       told = told;
-      consumed = subst (λ (ps : List (List ℕ)). Consumes old.bytes new.bytes (concat ps)) (sym is) (consumes_piece old.bytes now.bytes new.bytes (pieces_in h.told) p h.consumed gives);
+      consumed = subst (λ (ps : List (List ℕ)). Consumes old.reader.bytes new.reader.bytes (concat ps)) (sym is) (consumes_piece old.reader.bytes now.reader.bytes new.reader.bytes (pieces_in h.told) p h.consumed gives);
       sent = said_piece who h.told p v w h.sent says;
-      come = subst (λ (ps : List (List ℕ)). HasCome (calls + 1) (length ps) old.failures new.failures) (sym is) (come_piece calls (pieces_in h.told) p old.failures now.failures new.failures h.come come);
+      come = subst (λ (ps : List (List ℕ)). HasCome (calls + 1) (length ps) old.reader.failures new.reader.failures) (sym is) (come_piece calls (pieces_in h.told) p old.reader.failures now.reader.failures new.reader.failures h.come come);
       small = subst (λ (ps : List (List ℕ)). All IsPiece ps) (sym is) (All-push IsPiece (pieces_in h.told) p h.small fits);
       taken = subst (λ (ps : List (List ℕ)). HaveTaken (length ps) a d) (sym is) (taken_piece (pieces_in h.told) p a b d h.taken paid);
-      sizes = subst Told (sym same) (subst (λ (ss : List WindowSize). TellsSizes old.sizes ss now.sizes) (sym (sizes-push h.told p)) h.sizes);
+      sizes = subst Told (sym same) (subst (λ (ss : List WindowSize). TellsList old.reader.sizes ss now.reader.sizes) (sym (sizes-push h.told p)) h.sizes);
+      controls = subst Asked (sym alike) (subst (λ (cs : List Control). TellsList old.controls cs now.controls) (sym (controls-push h.told p)) h.controls);
     }
 
 -- a read was interrupted
-pub told_none : (who : Sender) (old now new : KnownReader) (calls : ℕ) (a b : Option CreditSeat) (v : View) → HasTold who old now calls a b v → Consumes now.bytes new.bytes [] → HasCome 1 0 now.failures new.failures → new.sizes ≡ now.sizes → HasTold who old new (calls + 1) a b v
-told_none who old now new calls a b v h gives come same = record {
+pub told_none : (who : Sender) (old now new : KnownTyping) (calls : ℕ) (a b : Option CreditSeat) (v : View) → HasTold who old now calls a b v → Consumes now.reader.bytes new.reader.bytes [] → HasCome 1 0 now.reader.failures new.reader.failures → new.reader.sizes ≡ now.reader.sizes → new.controls ≡ now.controls → HasTold who old new (calls + 1) a b v
+told_none who old now new calls a b v h gives come same alike = record {
   told = h.told;
-  consumed = consumes_end old.bytes now.bytes new.bytes (concat (pieces_in h.told)) h.consumed gives;
+  consumed = consumes_end old.reader.bytes now.reader.bytes new.reader.bytes (concat (pieces_in h.told)) h.consumed gives;
   sent = h.sent;
-  come = come_interrupted calls (pieces_in h.told) old.failures now.failures new.failures h.come come;
+  come = come_interrupted calls (pieces_in h.told) old.reader.failures now.reader.failures new.reader.failures h.come come;
   small = h.small;
   taken = h.taken;
-  sizes = subst (λ (o : Option (List WindowSize)). TellsSizes old.sizes (sizes_in h.told) o) (sym same) h.sizes;
+  sizes = subst (λ (o : Option (List WindowSize)). TellsList old.reader.sizes (sizes_in h.told) o) (sym same) h.sizes;
+  controls = subst (λ (o : Option (List Control)). TellsList old.controls (controls_in h.told) o) (sym alike) h.controls;
 }
 
 -- the reading ended
-pub told_end : (who : Sender) (may_stop : Bool) (old now new : KnownReader) (calls : ℕ) (a b : Option CreditSeat) (last : Message) (v w u : View) → HasTold who old now calls a b v → Consumes now.bytes new.bytes [] → IsEnding last new.bytes → IsReadCause now.failures 0 last → Says who last v w → Says who Left w u → ReaderSends who may_stop old u
+pub told_end : (who : Sender) (may_stop : Bool) (old now new : KnownTyping) (calls : ℕ) (a b : Option CreditSeat) (last : Message) (v w u : View) → HasTold who old now calls a b v → Consumes now.reader.bytes new.reader.bytes [] → IsEnding last new.reader.bytes → IsReadCause now.reader.failures 0 last → Says who last v w → Says who Left w u → TypingSends who may_stop old u
 told_end who may_stop old now new calls a b last v w u h gives ending cause one two =
-    reader_ends who may_stop old new.bytes h.told last v w u
-    (consumes_end old.bytes now.bytes new.bytes (concat (pieces_in h.told)) h.consumed gives) ending
-    (cause_on calls (pieces_in h.told) last old.failures now.failures h.come cause)
-    h.sent h.small (now.sizes, h.sizes) one two
+    reader_ends who may_stop old new.reader.bytes h.told last v w u
+    (consumes_end old.reader.bytes now.reader.bytes new.reader.bytes (concat (pieces_in h.told)) h.consumed gives) ending
+    (cause_on calls (pieces_in h.told) last old.reader.failures now.reader.failures h.come cause)
+    h.sent h.small (now.reader.sizes, h.sizes) (now.controls, h.controls) one two
 
 -- it was given up after as many reads as are made
-pub told_all : (who : Sender) (may_stop : Bool) (old now : KnownReader) (calls : ℕ) (a b : Option CreditSeat) (v w u : View) → calls ≡ max_reads → HasTold who old now calls a b v → Says who ReadFailed v w → Says who Left w u → ReaderSends who may_stop old u
+pub told_all : (who : Sender) (may_stop : Bool) (old now : KnownTyping) (calls : ℕ) (a b : Option CreditSeat) (v w u : View) → calls ≡ max_reads → HasTold who old now calls a b v → Says who ReadFailed v w → Says who Left w u → TypingSends who may_stop old u
 told_all who may_stop old now calls a b v w u is h one two =
-    let come : HasCome max_reads (length (pieces_in h.told)) old.failures now.failures = subst (λ (n : ℕ). HasCome n (length (pieces_in h.told)) old.failures now.failures) is h.come in
-    reader_ends who may_stop old now.bytes h.told ReadFailed v w u h.consumed tt
-    (come_passed max_reads (length (pieces_in h.told)) old.failures now.failures come)
-    h.sent h.small (now.sizes, h.sizes) one two
+    let come : HasCome max_reads (length (pieces_in h.told)) old.reader.failures now.reader.failures = subst (λ (n : ℕ). HasCome n (length (pieces_in h.told)) old.reader.failures now.reader.failures) is h.come in
+    reader_ends who may_stop old now.reader.bytes h.told ReadFailed v w u h.consumed tt
+    (come_passed max_reads (length (pieces_in h.told)) old.reader.failures now.reader.failures come)
+    h.sent h.small (now.reader.sizes, h.sizes) (now.controls, h.controls) one two
 
 -- it was stopped after a piece
-pub told_stop : (who : Sender) (may_stop : Bool) (old now new : KnownReader) (calls : ℕ) (p : List ℕ) (a b : Option CreditSeat) (v w u : View) → HasTold who old now calls a b v → may_stop ≡ true → Consumes now.bytes new.bytes p → IsPiece p → Says who (Piece p) v w → Says who Left w u → ReaderSends who may_stop old u
+pub told_stop : (who : Sender) (may_stop : Bool) (old now new : KnownTyping) (calls : ℕ) (p : List ℕ) (a b : Option CreditSeat) (v w u : View) → HasTold who old now calls a b v → may_stop ≡ true → Consumes now.reader.bytes new.reader.bytes p → IsPiece p → Says who (Piece p) v w → Says who Left w u → TypingSends who may_stop old u
 told_stop who may_stop old now new calls p a b v w u h may gives fits one two =
-    reader_stops who may_stop old new.bytes h.told p v w u
-    (consumes_piece old.bytes now.bytes new.bytes (pieces_in h.told) p h.consumed gives) may
-    h.sent h.small fits (now.sizes, h.sizes) one two
+    reader_stops who may_stop old new.reader.bytes h.told p v w u
+    (consumes_piece old.reader.bytes now.reader.bytes new.reader.bytes (pieces_in h.told) p h.consumed gives) may
+    h.sent h.small fits (now.reader.sizes, h.sizes) (now.controls, h.controls) one two
 
 -- WHAT WAS PAID
 
 -- as many credits as pieces, where the reading ended
-pub paid_end : (who : Sender) (old now : KnownReader) (calls : ℕ) (a b : Option CreditSeat) (last : Message) (left : Option (List ℕ)) (v w u : View) → HasTold who old now calls a b v → IsEnding last left → Says who last v w → Says who Left w u → (mails : List Mail) → u ≡ sender who mails → HaveTaken (pieces_among mails) a b
+pub paid_end : (who : Sender) (old now : KnownTyping) (calls : ℕ) (a b : Option CreditSeat) (last : Message) (left : Option (List ℕ)) (v w u : View) → HasTold who old now calls a b v → IsEnding last left → Says who last v w → Says who Left w u → (mails : List Mail) → u ≡ sender who mails → HaveTaken (pieces_among mails) a b
 paid_end who old now calls a b last left v w u h ending one two = paid_ends who h.told last left v w u a b ending h.taken h.sent one two
 
 -- and where it was stopped
-pub paid_stop : (who : Sender) (old now : KnownReader) (calls : ℕ) (p : List ℕ) (a b d : Option CreditSeat) (v w u : View) → HasTold who old now calls a b v → HaveTaken 1 b d → Says who (Piece p) v w → Says who Left w u → (mails : List Mail) → u ≡ sender who mails → HaveTaken (pieces_among mails) a d
+pub paid_stop : (who : Sender) (old now : KnownTyping) (calls : ℕ) (p : List ℕ) (a b d : Option CreditSeat) (v w u : View) → HasTold who old now calls a b v → HaveTaken 1 b d → Says who (Piece p) v w → Says who Left w u → (mails : List Mail) → u ≡ sender who mails → HaveTaken (pieces_among mails) a d
 paid_stop who old now calls p a b d v w u h paid one two = paid_stops who h.told p v w u a b d h.taken paid h.sent one two
 
 -- AT FIRST
@@ -116,13 +122,14 @@ consumes_nothing None = tt
 consumes_nothing (Some bytes) = refl
 
 -- nothing was read yet
-pub told_nothing : (who : Sender) (reader : KnownReader) (a : Option CreditSeat) (v : View) → v ≡ sender who [] → HasTold who reader reader 0 a a v
-told_nothing who reader a v e = record {
+pub told_nothing : (who : Sender) (typing : KnownTyping) (a : Option CreditSeat) (v : View) → v ≡ sender who [] → HasTold who typing typing 0 a a v
+told_nothing who typing a v e = record {
   told = [];
-  consumed = consumes_nothing reader.bytes;
+  consumed = consumes_nothing typing.reader.bytes;
   sent = e;
-  come = come_none reader.failures;
+  come = come_none typing.reader.failures;
   small = All-nil IsPiece;
   taken = taken_none a;
-  sizes = tells_none reader.sizes;
+  sizes = tells_none typing.reader.sizes;
+  controls = tells_none typing.controls;
 }

@@ -5,7 +5,8 @@ use Rattle.crossbeam_channel.specs.Claims.{view, IsSeatAt}
 use Rattle.crossbeam_channel.specs.Ends.{sends_on, receives_on, ruled_capacity}
 use Rattle.tn_client.specs.Replies.{items_said}
 use Rattle.tn_client.specs.Screen.{text_shown}
-use Rattle.tn_client_core.specs.Bringing.{brought_from, brought, TakesInOrder}
+use Rattle.tn_client_core.specs.Bringing.{Input, inputs_brought, keys_in, commands_in, brought_from, brought, TakesInOrder}
+use Rattle.tn_client_core.specs.Commands.{command_of}
 use Rattle.tn_client_core.specs.Ending.{IsEndedAt}
 use Rattle.tn_client_core.specs.Marks.{Turns, Runs, no_write_failed, no_show_failed, all_by, all_written, all_whole}
 use Rattle.tn_client_core.specs.Reaching.{LeadsTo}
@@ -22,7 +23,7 @@ use Rattle.tn_session.specs.Notes.{Note, notes, no_notes}
 use Rattle.tn_session.specs.Facts.{ClientResult, Window}
 use Rattle.tn_session.specs.Mailbox.{Interleaves, four, sender}
 use Rattle.tn_session.specs.Reader.{ReaderSends}
-use Rattle.tn_session.specs.Reading.{max_reads, pieces_in}
+use Rattle.tn_session.specs.Reading.{max_reads, pieces_in, controls_in}
 use Rattle.tn_session.specs.Stops.{IsTold, LeavesAt, core_stops}
 use Rattle.tn_session.specs.Transcripts.{Exchange, ReadsPrefix, Transcribes, all_read, all_wrote, came_by, exchange_of}
 use Rattle.tn_session.specs.Turns.{Tells, max_writes}
@@ -32,7 +33,8 @@ use Rattle.tn_session.specs.declared.mail.Mail.{Mail}
 use Rattle.tn_session.specs.declared.mail.Sender.TheVariants.{Net, Keys}
 use Rattle.tn_session.specs.declared.parties.Report.{Report}
 use Rattle.tn_streams.specs.Foretelling.{WillFail}
-use Rattle.tn_streams.specs.Known.{KnownReader, KnownWriting}
+use Rattle.tn_streams.specs.Beside.{TellsFirst}
+use Rattle.tn_streams.specs.Known.{KnownReader, KnownTyping, KnownWriting}
 use Rattle.tn_streams.specs.Telling.{SomeFailed}
 use Rattle.tn_messages.specs.declared.faults.Ended.TheVariants.{Fault}
 use Rattle.tn_messages.specs.declared.faults.SessionFault.{SessionFault}
@@ -78,7 +80,7 @@ says c = turns.says c
 
 -- Of what Keys and Net sent, in the order that these passes know, and of what the core handled,
 -- wrote and showed.
-pub record RunningClient (window : Window) (keys net : KnownReader) (writer screen : KnownWriting)
+pub record RunningClient (window : Window) (keys : KnownTyping) (net : KnownReader) (writer screen : KnownWriting)
     (result : ClientResult) : Type 0 where
   -- what each sent, and what was handled
   pub from_keys : List Mail
@@ -91,7 +93,7 @@ pub record RunningClient (window : Window) (keys net : KnownReader) (writer scre
   pub woven : Interleaves handled (four from_net [] [] from_keys)
   -- the pieces are prefixes of what the readers gave
   pub stopped : Bool
-  pub typed : ReaderSends Keys stopped keys result.keys
+  pub typed : ReaderSends Keys stopped keys.reader result.keys
   pub read : ReaderSends Net false net result.net
   -- the run of the messages with their marks
   pub marked : List (Told × Mark)
@@ -103,7 +105,8 @@ pub record RunningClient (window : Window) (keys net : KnownReader) (writer scre
   pub keys_left : LeavesAt Keys all_told (Runs (start window.width window.height window.limit)) handled marked
   pub told : IsTold (core_stops keys_left.by_then.progress) result.told
   pub stopped_for : stopped ≡ true → core_stops keys_left.by_then.progress ≡ true
-  -- what was typed, and the bytes from the network whose items came, are the first of what these messages bring
+  -- what was typed, keys and commands, and the bytes from the network whose items came, are the first of what these
+  -- messages bring
   pub in_order : TakesInOrder (all_told handled) run
   -- what was written of what it says up to the Left of Keys
   pub written : List ℕ
@@ -128,8 +131,15 @@ pub record RunningClient (window : Window) (keys net : KnownReader) (writer scre
       written transcript
   -- and the keys that it read from the user
   pub keys_read : List ℕ
-  pub keys_were_read : ReadsPrefix keys.bytes keys_read
+  pub keys_were_read : ReadsPrefix keys.reader.bytes keys_read
   pub keys_are : keys_read ≡ brought origin.Keys (all_told handled)
+  -- with the commands between them: those of the control functions that stand among the pieces, the first of those
+  -- that the reader tells
+  pub inputs : List Input
+  pub inputs_are : inputs ≡ inputs_brought (all_told handled)
+  pub keys_among : keys_in inputs ≡ keys_read
+  pub commands_among : commands_in inputs ≡ map command_of (controls_in typed.0)
+  pub were_asked : TellsFirst keys.controls (controls_in typed.0)
   -- and what was shown of what it shows
   pub shown : List ℕ
   pub unshown : List ℕ
@@ -144,7 +154,7 @@ pub record RunningClient (window : Window) (keys net : KnownReader) (writer scre
       → IsEndedAt (start window.width window.height window.limit) marked (Fault f)
   -- that reading failed, only where a read fails, or after as many as are made
   pub read_failed : result.report.ended ≡ Fault fault.Read
-      → WillFail max_reads (length (pieces_in typed.0)) keys.failures
+      → WillFail max_reads (length (pieces_in typed.0)) keys.reader.failures
       ⊎ WillFail max_reads (length (pieces_in read.0)) net.failures
   -- and that a write failed, only where one did, to the network or to the screen
   pub write_failed : result.report.ended ≡ Fault fault.Write
@@ -152,7 +162,7 @@ pub record RunningClient (window : Window) (keys net : KnownReader) (writer scre
       ⊎ SomeFailed max_writes screen.before.calls screen.after.calls
 
 -- wherever the core is at first
-abbrev pub IsClientRun : Core → KnownReader → KnownReader → KnownWriting → KnownWriting → ClientResult
+abbrev pub IsClientRun : Core → KnownTyping → KnownReader → KnownWriting → KnownWriting → ClientResult
     → Type 0
 IsClientRun core keys net writer screen result =
     (window : Window) → LeadsTo (start window.width window.height window.limit) core

@@ -3,16 +3,17 @@ use Rattle.std.specs.Prelude.{◌≡◌, ◌≢◌, ℕ, Bool, true, List, Optio
 use Rattle.std.specs.Io.KnownBytes.{Consumes}
 use Rattle.std.specs.List.{concat}
 use Rattle.tn_session.specs.Mailbox.{mail, sender}
-use Rattle.tn_session.specs.Reading.{IsEnding, IsPiece, IsReadCause, Telling, told_messages, pieces_in, sizes_in}
+use Rattle.tn_session.specs.Reading.{IsEnding, IsPiece, IsReadCause, Telling, size_told, control_told, told_messages, pieces_in, sizes_in, controls_in}
 use Rattle.tn_session.specs.declared.channels.View.{View}
 use Rattle.tn_session.specs.declared.mail.Sender.{Sender}
+use Rattle.tn_streams.specs.Beside.{TellsNext, TellsFirst}
 use Rattle.tn_streams.specs.Foretelling.{Failures}
-use Rattle.tn_streams.specs.Known.{KnownReader}
-use Rattle.tn_streams.specs.Sizes.{TellsSize, TellsSizes}
+use Rattle.tn_streams.specs.Known.{KnownReader, KnownTyping}
 use Rattle.tn_session.specs.declared.mail.Mail.{Mail}
+use Rattle.tn_streams.specs.declared.control.Control.{Control}
 use Rattle.tn_streams.specs.declared.window.WindowSize.{WindowSize}
 use Rattle.tn_messages.specs.declared.messages.Message.{Message}
-use Rattle.tn_messages.specs.declared.messages.Message.TheVariants.{Left, Resized}
+use Rattle.tn_messages.specs.declared.messages.Message.TheVariants.{Left}
 
 -- After the pieces comes how the reading ended, for its cause, and then Left. A thread that may be stopped
 -- may leave right after a piece.
@@ -25,19 +26,39 @@ Closes may_stop pieces left foretold close =
 abbrev pub sends : Sender → List Message → View
 sends who messages = sender who (map (mail who) messages)
 
--- the first of the sizes that the reader tells
-abbrev pub TellsFirst : Option (List WindowSize) → List WindowSize → Type 0
-TellsFirst sizes told = (later : Option (List WindowSize)) × TellsSizes sizes told later
+-- these were told
+abbrev pub SaysThese : Sender → List Telling → View → View → Type 0
+SaysThese who told v w =
+    (l : List Mail) → v ≡ sender who l → w ≡ sender who (l ++ map (mail who) (told_messages told))
+
+abbrev pub one_size : Option WindowSize → List Telling
+one_size size = map size_told (option_to_list size)
+
+abbrev pub one_control : Option Control → List Telling
+one_control control = map control_told (option_to_list control)
 
 -- one size more was told, or none
 abbrev pub SaysSize : Sender → Option (List WindowSize) → Option (List WindowSize) → View → View → Type 0
 SaysSize who old new v w =
-    (told : Option WindowSize) × TellsSize old told new
-    × ((l : List Mail) → v ≡ sender who l
-    → w ≡ sender who (l ++ map (λ s. mail who (Resized s)) (option_to_list told)))
+    (told : Option WindowSize) × TellsNext old told new × SaysThese who (one_size told) v w
+
+-- one control function more was told, or none
+abbrev pub SaysControl : Sender → Option (List Control) → Option (List Control) → View → View → Type 0
+SaysControl who old new v w =
+    (told : Option Control) × TellsNext old told new × SaysThese who (one_control told) v w
+
+-- what is told between two reads: a size, if there is one, and then a control function
+pub record SaysBeside (who : Sender) (old new : KnownTyping) (v w : View) : Type 0 where
+  pub size : Option WindowSize
+  pub control : Option Control
+  pub sizes : TellsNext old.reader.sizes size new.reader.sizes
+  pub controls : TellsNext old.controls control new.controls
+  pub says : SaysThese who (one_size size ++ one_control control) v w
+  pub bytes : new.reader.bytes ≡ old.reader.bytes
+  pub failures : new.reader.failures ≡ old.reader.failures
 
 -- the pieces joined are the first of the bytes that the reader gives, and each has some of them; between them
--- stand the sizes that it tells
+-- stand the sizes that it tells, and the control functions
 abbrev pub ReaderSends : Sender → Bool → KnownReader → View → Type 0
 ReaderSends who may_stop reader v =
     (told : List Telling) × (left : Option (List ℕ)) × (close : List Message)
@@ -45,3 +66,8 @@ ReaderSends who may_stop reader v =
     × Closes may_stop (pieces_in told) left reader.failures close
     × (v ≡ sends who (told_messages told ++ close)) × All IsPiece (pieces_in told)
     × TellsFirst reader.sizes (sizes_in told)
+
+-- the same, where the control functions are the first of those that it tells
+abbrev pub TypingSends : Sender → Bool → KnownTyping → View → Type 0
+TypingSends who may_stop typing v =
+    (sent : ReaderSends who may_stop typing.reader v) × TellsFirst typing.controls (controls_in sent.0)

@@ -5,7 +5,8 @@ use Rattle.tn_streams.specs.Foretelling.{Failures, HasCome, WillFail}
 use Rattle.tn_session.specs.declared.net.Got.{Got}
 use Rattle.tn_session.specs.declared.net.Got.TheVariants.{Bytes, Again, Last}
 use Rattle.tn_messages.specs.declared.messages.Message.{Message}
-use Rattle.tn_messages.specs.declared.messages.Message.TheVariants.{Piece, HangUp, ReadFailed, Refused, Resized}
+use Rattle.tn_messages.specs.declared.messages.Message.TheVariants.{Piece, HangUp, ReadFailed, Refused, Resized, Asked}
+use Rattle.tn_streams.specs.declared.control.Control.{Control}
 use Rattle.tn_streams.specs.declared.window.WindowSize.{WindowSize}
 
 -- how the reading ended; after a hang-up nothing is left
@@ -25,14 +26,16 @@ Gives old new (Bytes text) = Consumes old new text × IsPiece text
 Gives old new Again = Consumes old new []
 Gives old new (Last last) = Consumes old new [] × IsEnding last new
 
--- what a thread that reads tells before the end: a piece, or a size of the window
+-- what a thread that reads tells before the end: a piece, a size of the window, or a control function
 pub data Telling : Type 0 where
   piece_told : List ℕ → Telling
   size_told : WindowSize → Telling
+  control_told : Control → Telling
 
 abbrev pub message_of : Telling → Message
 message_of (piece_told p) = Piece p
 message_of (size_told s) = Resized s
+message_of (control_told c) = Asked c
 
 abbrev pub told_messages : List Telling → List Message
 told_messages told = map message_of told
@@ -41,11 +44,19 @@ abbrev pub pieces_in : List Telling → List (List ℕ)
 pieces_in [] = []
 pieces_in (piece_told p ∷ told) = p ∷ pieces_in told
 pieces_in (size_told s ∷ told) = pieces_in told
+pieces_in (control_told c ∷ told) = pieces_in told
 
 abbrev pub sizes_in : List Telling → List WindowSize
 sizes_in [] = []
 sizes_in (piece_told p ∷ told) = sizes_in told
 sizes_in (size_told s ∷ told) = s ∷ sizes_in told
+sizes_in (control_told c ∷ told) = sizes_in told
+
+abbrev pub controls_in : List Telling → List Control
+controls_in [] = []
+controls_in (piece_told p ∷ told) = controls_in told
+controls_in (size_told s ∷ told) = controls_in told
+controls_in (control_told c ∷ told) = c ∷ controls_in told
 
 -- how many reads a thread makes at most
 abbrev pub max_reads : ℕ

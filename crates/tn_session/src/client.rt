@@ -8,7 +8,7 @@ ghost use Rattle.tn_queue.specs.Queue.{putter};
 ghost use Rattle.tn_session.specs.Facts.{client_result};
 ghost use Rattle.tn_session.specs.Session.{IsRefusal, IsOfThreads};
 ghost use Rattle.tn_session.specs.Stops.{AreNewStops};
-ghost use Rattle.tn_streams.specs.Known.{known_reader, known_writing};
+ghost use Rattle.tn_streams.specs.Known.{known_reader, known_typing, known_writing};
 ghost use Rattle.tn_streams.specs.Sending.{IsFinished};
 
 use crate::channels::{
@@ -179,7 +179,7 @@ where
         (view watched.stops.pass ≡ putter []) }
     ensures fault { IfErr result (λ fault. fault ≡ SessionFault.Channel) }
     ensures ran { IfOk result (λ r.
-        IsClientRun core.old (known_reader K.remaining K.foretold K.sizes started.keys.promise.reader.value)
+        IsClientRun core.old (known_typing K.remaining K.foretold K.sizes K.controls started.keys.promise.reader.value)
         (known_reader N.remaining N.foretold N.sizes started.net.promise.reader.value)
         (known_writing W.contents W.told writer.old writer.new)
         (known_writing S.contents S.told screen.old screen.new) (client_result r.0 r.1)) }
@@ -232,7 +232,7 @@ where
     requires stops { AreNewStops outfit.watched.stops outfit.stops }
     ensures fault { IfErr result IsOfThreads }
     ensures ran { IfOk result (λ r.
-        IsClientRun core.old (known_reader K.remaining K.foretold K.sizes readers.keys)
+        IsClientRun core.old (known_typing K.remaining K.foretold K.sizes K.controls readers.keys)
         (known_reader N.remaining N.foretold N.sizes readers.net)
         (known_writing W.contents W.told writer.old writer.new)
         (known_writing S.contents S.told screen.old screen.new) (client_result r.0 r.1)) }
@@ -298,7 +298,7 @@ where
     G: Gate + Drop + Send + Sync + 'static,
     ensures fault { IfErr result IsRefusal }
     ensures ran { IfOk result (λ r.
-        IsClientRun core.old (known_reader K.remaining K.foretold K.sizes readers.keys)
+        IsClientRun core.old (known_typing K.remaining K.foretold K.sizes K.controls readers.keys)
         (known_reader N.remaining N.foretold N.sizes readers.net)
         (known_writing W.contents W.told writer.old writer.new)
         (known_writing S.contents S.told screen.old screen.new) (client_result r.0 r.1)) }
@@ -335,7 +335,7 @@ where
     ensures fault { IfErr result IsRefusal }
     ensures ran { IfOk result (λ r.
         RunningClient (record { width = width; height = height; limit = limit })
-        (known_reader K.remaining K.foretold K.sizes keys_reader)
+        (known_typing K.remaining K.foretold K.sizes K.controls keys_reader)
         (known_reader N.remaining N.foretold N.sizes net_reader)
         (known_writing W.contents W.told net_writer.old net_writer.new)
         (known_writing S.contents S.told screen.old screen.new) (client_result r.0 r.1)) }

@@ -5,11 +5,11 @@ ghost use Rattle.crossbeam_channel.specs.Claims.{view, IsSeatAt};
 ghost use Rattle.crossbeam_channel.specs.Ends.{sends_on};
 ghost use Rattle.tn_session.specs.Credits.{HaveTaken, IsSeated, pieces_among};
 ghost use Rattle.tn_session.specs.Mailbox.{sender};
-ghost use Rattle.tn_session.specs.Reader.{ReaderSends, SaysSize};
+ghost use Rattle.tn_session.specs.Reader.{TypingSends, SaysSize, SaysControl, SaysBeside};
 ghost use Rattle.tn_session.specs.Reading.{Gives, IsForetold};
 ghost use Rattle.tn_session.specs.Stops.{StopsStay, has_stopped};
 ghost use Rattle.tn_session.specs.declared.mail.Mail.{Mail as MailT};
-ghost use Rattle.tn_streams.specs.Known.{known_reader};
+ghost use Rattle.tn_streams.specs.Known.{known_typing};
 
 use crate::channels::{MailPass, MailSeat, MailSender};
 use crate::credit::{CreditSeat, take_credit};
@@ -37,6 +37,7 @@ fn read_piece<Rd: Source>(reader: &mut Rd, alloc: Global) -> Got
     ensures gives { Gives (Rd.remaining reader.old) (Rd.remaining reader.new) result }
     ensures foretold { IsForetold (Rd.foretold reader.old) (Rd.foretold reader.new) result }
     ensures sizes { Rd.sizes reader.new ≡ Rd.sizes reader.old }
+    ensures controls { Rd.controls reader.new ≡ Rd.controls reader.old }
 {
     let Ok(mut bytes) = Vec::from_elem(alloc, 0u8, MAX_PIECE) else {
         return Got::Last(Message::Refused);
@@ -75,6 +76,7 @@ fn tell_size<R: Wait, Rd: Source>(
         (view p)) }
     ensures bytes { Rd.remaining reader.new ≡ Rd.remaining reader.old }
     ensures foretold { Rd.foretold reader.new ≡ Rd.foretold reader.old }
+    ensures controls { Rd.controls reader.new ≡ Rd.controls reader.old }
 {
     match reader.resized() {
         Some(size) => say(rt, to, pass, who, Message::Resized(size)),
@@ -82,9 +84,51 @@ fn tell_size<R: Wait, Rd: Source>(
     }
 }
 
+// Tells the control function that is asked for now, if there is one. `None` where the other end is gone.
+fn tell_control<R: Wait, Rd: Source>(
+    rt: &R,
+    to: &MailSender,
+    pass: MailPass,
+    who: Sender,
+    reader: &mut Rd,
+) -> Option<MailPass>
+    requires seat { IsSeatAt (sends_on to.now) pass }
+    requires role { (l : List MailT) × (view pass ≡ sender who l) }
+    ensures seat { IfSome result (λ p. IsSeatAt (sends_on to.now) p) }
+    ensures told { IfSome result (λ p. SaysControl who (Rd.controls reader.old) (Rd.controls reader.new) (view pass)
+        (view p)) }
+    ensures bytes { Rd.remaining reader.new ≡ Rd.remaining reader.old }
+    ensures foretold { Rd.foretold reader.new ≡ Rd.foretold reader.old }
+    ensures sizes { Rd.sizes reader.new ≡ Rd.sizes reader.old }
+{
+    match reader.control() {
+        Some(control) => say(rt, to, pass, who, Message::Asked(control)),
+        None => Some(pass),
+    }
+}
+
+// Tells what a reader tells between two reads. `None` where the other end is gone.
+fn tell_beside<R: Wait, Rd: Source>(
+    rt: &R,
+    to: &MailSender,
+    pass: MailPass,
+    who: Sender,
+    reader: &mut Rd,
+) -> Option<MailPass>
+    requires seat { IsSeatAt (sends_on to.now) pass }
+    requires role { (l : List MailT) × (view pass ≡ sender who l) }
+    ensures seat { IfSome result (λ p. IsSeatAt (sends_on to.now) p) }
+    ensures told { IfSome result (λ p. SaysBeside who
+        (known_typing Rd.remaining Rd.foretold Rd.sizes Rd.controls reader.old)
+        (known_typing Rd.remaining Rd.foretold Rd.sizes Rd.controls reader.new) (view pass) (view p)) }
+{
+    let pass = tell_size(rt, to, pass, who, reader)?;
+    tell_control(rt, to, pass, who, reader)
+}
+
 // tools/progress: proctype Net, ClientNet and ClientKeys
-/// Sends the pieces that the reader gives, each for a credit where these are needed, with the sizes that it
-/// tells between them, and then how it ended: after 4,294,967,295 reads as if one had failed. Where it is told
+/// Sends the pieces that the reader gives, each for a credit where these are needed, with the sizes and the control
+/// functions that it tells between them, and then how it ended: after 4,294,967,295 reads as if one had failed. Where it is told
 /// to stop it leaves after a piece. `None` where the other end is gone.
 pub(crate) fn run_reader<R: Wait, Rd: Source + Drop, G: Gate>(
     rt: &R,
@@ -99,15 +143,15 @@ pub(crate) fn run_reader<R: Wait, Rd: Source + Drop, G: Gate>(
     requires credits { IsSeated credits.old }
     requires stops { StopsStay stops.old stops.old }
     ensures seat { IfSome result (λ p. IsSeatAt (sends_on seat.to) p) }
-    ensures sent { IfSome result (λ p. ReaderSends part.now.who (has_stopped stops.new)
-        (known_reader Rd.remaining Rd.foretold Rd.sizes reader) (view p)) }
+    ensures sent { IfSome result (λ p. TypingSends part.now.who (has_stopped stops.new)
+        (known_typing Rd.remaining Rd.foretold Rd.sizes Rd.controls reader) (view p)) }
     ensures stays { StopsStay stops.old stops.new }
     ensures credited { IfSome result (λ p. (mails : List MailT) → view p ≡ sender part.now.who mails →
         HaveTaken (pieces_among mails) credits.old credits.new) }
 {
     let MailSeat { to, mut pass } = seat;
     for _read in 0..u32::MAX {
-        pass = tell_size(rt, &to, pass, part.who, &mut reader)?;
+        pass = tell_beside(rt, &to, pass, part.who, &mut reader)?;
         match read_piece(&mut reader, alloc) {
             Got::Bytes(text) => {
                 take_credit(rt, credits)?;

@@ -7,13 +7,13 @@ ghost use Rattle.tn_session.specs.Acts.{job_acts};
 ghost use Rattle.tn_session.specs.Credits.{IsSeated};
 ghost use Rattle.tn_session.specs.Mailbox.{sender};
 ghost use Rattle.tn_queue.specs.Queue.{taker};
-ghost use Rattle.tn_session.specs.Reader.{ReaderSends};
+ghost use Rattle.tn_session.specs.Reader.{TypingSends};
 ghost use Rattle.tn_session.specs.Stepping.{AreSteps};
 ghost use Rattle.tn_session.specs.Stops.{StopsStay, has_stopped};
 ghost use Rattle.tn_session.specs.Talk.{IsJob, IsTalk};
 ghost use Rattle.tn_session.specs.Turning.{Holds, IsQueue, queue_of};
 ghost use Rattle.tn_session.specs.declared.mail.Sender.TheVariants.{Desk, Back};
-ghost use Rattle.tn_streams.specs.Known.{known_reader};
+ghost use Rattle.tn_streams.specs.Known.{known_typing};
 
 use crate::back::{Runner, run_back};
 use crate::channels::{MailPass, MailSeat, MailSender};
@@ -54,14 +54,14 @@ impl<Rd: Source> Promise<Option<ThreadLeft>> for ReaderSays<Rd> {
     ghost use Rattle.std.specs.Prelude.{IfSome};
     ghost use Rattle.crossbeam_channel.specs.Claims.{view, IsSeatAt};
     ghost use Rattle.crossbeam_channel.specs.Ends.{sends_on};
-    ghost use Rattle.tn_session.specs.Reader.{ReaderSends};
+    ghost use Rattle.tn_session.specs.Reader.{TypingSends};
     ghost use Rattle.tn_session.specs.Stops.{StopsStay, has_stopped};
-    ghost use Rattle.tn_streams.specs.Known.{known_reader};
+    ghost use Rattle.tn_streams.specs.Known.{known_typing};
 
     ghost kept_by = { λ p r.
         IfSome r (λ left. IsSeatAt (sends_on p.to.value) left.pass ×
-        ReaderSends p.who (has_stopped left.stops)
-        (known_reader Rd.remaining Rd.foretold Rd.sizes p.reader.value) (view left.pass) ×
+        TypingSends p.who (has_stopped left.stops)
+        (known_typing Rd.remaining Rd.foretold Rd.sizes Rd.controls p.reader.value) (view left.pass) ×
         StopsStay p.stops.value left.stops) };
 }
 
@@ -143,7 +143,7 @@ pub(crate) fn start_reader<
         requires { IsSeatAt (sends_on seat.to) seat.pass × (view seat.pass ≡ sender part.who []) ×
             IsSeated credits × StopsStay stops stops }
         ensures { IfSome result (λ left. IsSeatAt (sends_on seat.to) left.pass ×
-            ReaderSends part.who (has_stopped left.stops) (known_reader Rd.remaining Rd.foretold Rd.sizes reader)
+            TypingSends part.who (has_stopped left.stops) (known_typing Rd.remaining Rd.foretold Rd.sizes Rd.controls reader)
             (view left.pass) × StopsStay stops left.stops) }
     {
         let mut credits = credits;
@@ -291,8 +291,8 @@ impl<Rd: Source, J: Job> Started<Rd, J> {
     /// Joins them all. `None` where a channel of one was disconnected.
     pub(crate) fn join<R: Threads + Wait>(self, rt: &R) -> Option<Returned>
         ensures net { IfSome result (λ r. IsSeatAt (sends_on self.net.promise.to.value) r.net ×
-            (self.net.promise.stops.value ≡ None → ReaderSends self.net.promise.who false
-            (known_reader Rd.remaining Rd.foretold Rd.sizes self.net.promise.reader.value) (view r.net))) }
+            (self.net.promise.stops.value ≡ None → TypingSends self.net.promise.who false
+            (known_typing Rd.remaining Rd.foretold Rd.sizes Rd.controls self.net.promise.reader.value) (view r.net))) }
         ensures desk { IfSome result (λ r. IsSeatAt (sends_on self.desk.promise.to.value) r.desk ×
             IsSeatAt (receives_on self.desk.promise.from.value) r.took ×
             IsTalk self.desk.promise.id (IsJob self.desk.promise.job.value) (job_acts J.reacts J.steps J.refuses)
@@ -339,11 +339,11 @@ impl<N: Source, K: Source> ClientStarted<N, K> {
     /// Joins them both. `None` where the mailbox of one was disconnected.
     pub(crate) fn join<R: Threads + Wait>(self, rt: &R) -> Option<ClientReturned>
         ensures net { IfSome result (λ r. IsSeatAt (sends_on self.net.promise.to.value) r.net ×
-            (self.net.promise.stops.value ≡ None → ReaderSends self.net.promise.who false
-            (known_reader N.remaining N.foretold N.sizes self.net.promise.reader.value) (view r.net))) }
+            (self.net.promise.stops.value ≡ None → TypingSends self.net.promise.who false
+            (known_typing N.remaining N.foretold N.sizes N.controls self.net.promise.reader.value) (view r.net))) }
         ensures keys { IfSome result (λ r. IsSeatAt (sends_on self.keys.promise.to.value) r.keys.pass ×
-            ReaderSends self.keys.promise.who (has_stopped r.keys.stops)
-            (known_reader K.remaining K.foretold K.sizes self.keys.promise.reader.value) (view r.keys.pass)) }
+            TypingSends self.keys.promise.who (has_stopped r.keys.stops)
+            (known_typing K.remaining K.foretold K.sizes K.controls self.keys.promise.reader.value) (view r.keys.pass)) }
         ensures stays { IfSome result (λ r. StopsStay self.keys.promise.stops.value r.keys.stops) }
     {
         let ClientStarted { net, keys } = self;

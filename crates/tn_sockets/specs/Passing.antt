@@ -1,8 +1,11 @@
 -- What passes through: a write that fails on the way, and what a reader hands on.
-use Rattle.std.specs.Prelude.{◌≡◌, ◌≢◌, ℕ, List, [], ◌++◌, take, Option, Result, Ok, Err, IfOk, MatchResult}
+use Rattle.std.specs.Prelude.{◌≡◌, ◌≢◌, ℕ, List, [], ◌++◌, map, take, Option, option_to_list, Result, Ok, Err, IfOk, MatchResult}
 use Rattle.std.specs.Io.KnownBytes.{Appends, Consumes, Keeps}
-use Rattle.tn_escape.specs.Typing.{IsTakenUpTo, keys, waits_behind}
+use Rattle.tn_escape.specs.Typing.{IsTakenUpTo, inputs, waits_behind}
 use Rattle.tn_escape.specs.declared.escaping.Escaping.{Escaping}
+use Rattle.tn_escape.specs.declared.escaping.Input.{Input}
+use Rattle.tn_escape.specs.declared.escaping.Input.TheVariants as input
+use Rattle.tn_streams.specs.declared.control.Control.{Control}
 use Rattle.tn_streams.specs.Prefixes.{IsPrefixOf}
 
 -- the first of the bytes were written
@@ -22,13 +25,20 @@ abbrev pub given_of : {E : Type 0} → Result ℕ E → List ℕ → List ℕ
 given_of (Ok n) buf = take n buf
 given_of (Err e) buf = []
 
--- From one state of a console to a later one: the keys that it gave, and then those that it keeps, are those that it
--- kept and then the keys of the next bytes that were typed. Of these all were taken, or those up to one that asks to close.
-pub record GivesKeys (old new : Option (List ℕ)) (was now : Escaping) (kept left given : List ℕ) : Type 0 where
+-- the keys that were given, and the control function that is to be told next, if there is one
+abbrev pub handed_on : List ℕ → Option Control → List Input
+handed_on keys asked = map input.Key keys ++ map input.Control (option_to_list asked)
+
+-- From one state of a console to a later one. What it gave, is to tell and keeps is what it was to tell and kept, and
+-- then what a session gets of the next bytes that were typed: each once, in their order. Of these all were taken, or
+-- those up to one that asks to close.
+pub record GivesInputs (old new : Option (List ℕ)) (was now : Escaping) (to_tell : Option Control) (kept : List Input)
+    (given : List ℕ) (telling : Option Control) (left : List Input) : Type 0 where
   pub bytes : List ℕ
   pub typed : Consumes old new bytes
   pub count : ℕ
   pub taken : IsTakenUpTo count was.character was.waits bytes
-  pub keys : given ++ left ≡ kept ++ keys was.character was.waits (take count bytes)
+  pub inputs : handed_on given telling ++ left
+      ≡ handed_on [] to_tell ++ (kept ++ inputs was.character was.waits (take count bytes))
   pub character : now.character ≡ was.character
   pub waits : now.waits ≡ waits_behind was.character was.waits (take count bytes)

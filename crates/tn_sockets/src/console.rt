@@ -1,12 +1,12 @@
 //! Standard input as keys: it is waited for, so that a session ends though nobody types, and at a terminal
 //! the user speaks to the client itself behind an escape character.
 
-ghost use Rattle.std.specs.Prelude.{◌≡◌, ◌≤◌, ◌+◌, ◌++◌, [], None, length, take};
+ghost use Rattle.std.specs.Prelude.{◌≡◌, ◌≢◌, ◌≤◌, ◌+◌, ◌++◌, ℕ, [], None, length, take};
 ghost use Rattle.std.specs.Io.{ReadsAtMost};
 ghost use Rattle.std.specs.Io.KnownBytes.{ReadConsumes};
 ghost use Rattle.std.specs.VecDeque.{deque_capacity, deque_len};
-ghost use Rattle.tn_escape.specs.Typing.{IsTakenUpTo, keys, waits_behind};
-ghost use Rattle.tn_sockets.specs.Passing.{GivesKeys, given_of};
+ghost use Rattle.tn_escape.specs.Typing.{IsTakenUpTo, inputs, waits_behind};
+ghost use Rattle.tn_sockets.specs.Passing.{GivesInputs, given_of, handed_on};
 ghost use Rattle.tn_streams.specs.Foretelling.{ForetellsCall};
 ghost use Rattle.tn_streams.specs.Telling.{CountsRead, TellsCall};
 
@@ -22,8 +22,8 @@ use std::io::{ErrorKind, Read};
 use std::sync::Wait;
 use std::time::{Clock, Duration, Instant};
 use std::{io, mem};
-use tn_escape::{Escaping, Split};
-use tn_streams::{Source, WindowSize};
+use tn_escape::{Escaping, Input};
+use tn_streams::{Control, Source, WindowSize};
 
 /// The descriptor of standard input (POSIX, `STDIN_FILENO`).
 const STANDARD_INPUT: i32 = 0;
@@ -63,8 +63,8 @@ pub struct Console<H, K> {
     typing: Typing<H, K>,
     escaping: Escaping,
     terminal: Terminal,
-    // What was read ahead, whether the last read was, and whether there is no room for more.
-    kept: VecDeque<u8>,
+    // What is still to be given, whether the last read was ahead, and whether there is no room for more.
+    kept: VecDeque<Input>,
     is_ahead: bool,
     is_full: bool,
     // The end of what is typed was read ahead.
@@ -73,6 +73,8 @@ pub struct Console<H, K> {
     left: Option<Instant>,
     // The size that was told last, and has not been said.
     resized: Option<WindowSize>,
+    // The control function that is asked for behind the keys that were given, and has not been told.
+    asked: Option<Control>,
 }
 
 impl<H: Clock + Copy + Wait, K: Read + Drop> Console<H, K> {
@@ -98,6 +100,7 @@ impl<H: Clock + Copy + Wait, K: Read + Drop> Console<H, K> {
             has_ended: false,
             left: None,
             resized: None,
+            asked: None,
         }
     }
 
@@ -167,6 +170,7 @@ impl<H: Clock + Copy + Wait, K: Read + Drop> Console<H, K> {
         ensures keys { self.new.typing.keys ≡ self.old.typing.keys }
         ensures escaping { self.new.escaping ≡ self.old.escaping }
         ensures kept { self.new.kept ≡ self.old.kept }
+        ensures asked { self.new.asked ≡ self.old.asked }
     {
         if let Some(size) = self.typing.sizes.read() {
             self.typing.width = size.width;
@@ -175,88 +179,96 @@ impl<H: Clock + Copy + Wait, K: Read + Drop> Console<H, K> {
         }
     }
 
-    // Leaves the keys of the session at the front of the bytes, and does what the others ask for.
-    fn split(&mut self, bytes: &mut [u8]) -> Split
-        ensures room { result.keys ≤ length bytes.new }
-        ensures keys { take result.keys bytes.new
-            ≡ keys self.old.escaping.character self.old.escaping.waits (take result.taken bytes.old) }
-        ensures taken { IsTakenUpTo result.taken self.old.escaping.character self.old.escaping.waits bytes.old }
+    // Keeps what the session gets of these bytes, and does what the others ask for.
+    fn sort(&mut self, bytes: &[u8])
+        requires room { deque_len self.old.kept + length bytes.now ≤ deque_capacity self.old.kept }
+        ensures kept { (count : ℕ)
+            × IsTakenUpTo count self.old.escaping.character self.old.escaping.waits bytes.now
+            × (self.new.kept.items ≡ self.old.kept.items
+            ++ inputs self.old.escaping.character self.old.escaping.waits (take count bytes.now))
+            × (self.new.escaping.waits
+            ≡ waits_behind self.old.escaping.character self.old.escaping.waits (take count bytes.now)) }
         ensures character { self.new.escaping.character ≡ self.old.escaping.character }
-        ensures waits { self.new.escaping.waits
-            ≡ waits_behind self.old.escaping.character self.old.escaping.waits (take result.taken bytes.old) }
         ensures typing { self.new.typing ≡ self.old.typing }
-        ensures kept { self.new.kept ≡ self.old.kept }
+        ensures asked { self.new.asked ≡ self.old.asked }
     {
         let mut deeds = Deeds {
             alloc: self.alloc,
             typing: &self.typing,
             terminal: mem::replace(&mut self.terminal, Terminal::new(None, None)),
         };
-        let split = self.escaping.split(bytes, &mut deeds);
+        let _taken = self.escaping.sort(bytes, &mut self.kept, &mut deeds);
         let Deeds { mut terminal, .. } = deeds;
         terminal.settle(self.escaping.waits);
         self.terminal = terminal;
-        split
     }
 
-    // Gives the first of the keys that are kept, or reads what is typed. Keys are the next of those that are typed;
-    // where there are none, it is as if a signal had come.
+    // Gives the first of the keys that are kept, or has a control function told; where there is neither, it is as if
+    // a signal had come.
     fn give(&mut self, buf: &mut [u8]) -> io::Result<usize>
         ensures bound { ReadsAtMost result buf.new }
-        ensures keys { GivesKeys (K.remaining self.old.typing.keys) (K.remaining self.new.typing.keys)
-            self.old.escaping self.new.escaping self.old.kept.items self.new.kept.items
-            (given_of result buf.new) }
+        ensures inputs { handed_on (given_of result buf.new) self.new.asked ++ self.new.kept.items
+            ≡ handed_on [] self.old.asked ++ self.old.kept.items }
+        ensures typing { self.new.typing ≡ self.old.typing }
+        ensures escaping { self.new.escaping ≡ self.old.escaping }
     {
-        if self.kept.is_empty() {
-            return self.read_keys(buf);
+        if self.asked.is_some() {
+            return Err(io::Error::from(ErrorKind::Interrupted));
         }
         let count = kept::give(&mut self.kept, buf);
         self.is_full = false;
-        Ok(count)
+        if count > 0 {
+            return Ok(count);
+        }
+        self.asked = kept::first_control(&mut self.kept);
+        Err(io::Error::from(ErrorKind::Interrupted))
     }
 
-    fn read_keys(&mut self, buf: &mut [u8]) -> io::Result<usize>
-        requires none { self.old.kept.items ≡ [] }
-        ensures bound { ReadsAtMost result buf.new }
-        ensures keys { GivesKeys (K.remaining self.old.typing.keys) (K.remaining self.new.typing.keys)
-            self.old.escaping self.new.escaping [] self.new.kept.items (given_of result buf.new) }
-    {
-        let count = self.typing.keys.read(buf)?;
-        if count == 0 {
-            return Ok(0);
-        }
-        let split = self.split(&mut buf[..count]);
-        if split.keys == 0 {
-            return Err(io::Error::from(ErrorKind::Interrupted));
-        }
-        Ok(split.keys)
-    }
-
-    // Reads what is typed, and keeps the keys.
-    fn read_ahead(&mut self, buf: &mut [u8]) -> io::Result<()>
+    // Reads what is typed, and keeps what the session gets of it. Whether there was anything.
+    fn read_in(&mut self, buf: &mut [u8]) -> io::Result<bool>
         requires room { deque_len self.old.kept + length buf.old ≤ deque_capacity self.old.kept }
-        ensures keys { GivesKeys (K.remaining self.old.typing.keys) (K.remaining self.new.typing.keys)
-            self.old.escaping self.new.escaping self.old.kept.items self.new.kept.items [] }
+        ensures inputs { GivesInputs (K.remaining self.old.typing.keys) (K.remaining self.new.typing.keys)
+            self.old.escaping self.new.escaping self.old.asked self.old.kept.items
+            [] self.new.asked self.new.kept.items }
+        ensures size { length buf.new ≡ length buf.old }
     {
         let count = self.typing.keys.read(buf)?;
         if count == 0 {
-            self.has_ended = true;
-            return Ok(());
+            return Ok(false);
         }
-        let split = self.split(&mut buf[..count]);
-        kept::keep(&mut self.kept, &buf[..split.keys]);
-        Ok(())
+        self.sort(&buf[..count]);
+        Ok(true)
     }
 
-    // The same, where there is room to keep them. Nothing is given.
-    fn keep_keys(&mut self, buf: &mut [u8]) -> io::Result<usize>
+    // Gives what is kept, or reads what is typed and gives that.
+    fn read_keys(&mut self, buf: &mut [u8]) -> io::Result<usize>
         ensures bound { ReadsAtMost result buf.new }
-        ensures keys { GivesKeys (K.remaining self.old.typing.keys) (K.remaining self.new.typing.keys)
-            self.old.escaping self.new.escaping self.old.kept.items self.new.kept.items
-            (given_of result buf.new) }
+        ensures inputs { GivesInputs (K.remaining self.old.typing.keys) (K.remaining self.new.typing.keys)
+            self.old.escaping self.new.escaping self.old.asked self.old.kept.items
+            (given_of result buf.new) self.new.asked self.new.kept.items }
+    {
+        if !self.kept.is_empty() {
+            return self.give(buf);
+        }
+        if !kept::makes_room(&mut self.kept, buf.len()) {
+            return Err(io::Error::from(ErrorKind::OutOfMemory));
+        }
+        if self.read_in(buf)? {
+            return self.give(buf);
+        }
+        Ok(0)
+    }
+
+    // Reads what is typed, where there is room to keep it. Nothing is given.
+    fn read_ahead(&mut self, buf: &mut [u8]) -> io::Result<usize>
+        ensures bound { ReadsAtMost result buf.new }
+        ensures inputs { GivesInputs (K.remaining self.old.typing.keys) (K.remaining self.new.typing.keys)
+            self.old.escaping self.new.escaping self.old.asked self.old.kept.items
+            (given_of result buf.new) self.new.asked self.new.kept.items }
     {
         if kept::makes_room(&mut self.kept, buf.len()) {
-            self.read_ahead(buf)?;
+            let more = self.read_in(buf)?;
+            self.has_ended = !more;
         } else {
             self.is_full = true;
         }
@@ -291,10 +303,11 @@ impl<H: Clock + Copy + Wait, K: Read + Drop> Console<H, K> {
         false
     }
 
-    // Once the user leaves, keys that were typed before are given, as long as they are taken, and then end.
-    fn leave(&mut self, buf: &mut [u8]) -> usize
-        ensures bound { result ≤ length buf.new }
-        ensures given { take result buf.new ++ self.new.kept.items ≡ self.old.kept.items }
+    // Once the user leaves, what was typed before is given, as long as it is taken, and then ends.
+    fn leave(&mut self, buf: &mut [u8]) -> io::Result<usize>
+        ensures bound { ReadsAtMost result buf.new }
+        ensures inputs { handed_on (given_of result buf.new) self.new.asked ++ self.new.kept.items
+            ≡ handed_on [] self.old.asked ++ self.old.kept.items }
         ensures typing { self.new.typing ≡ self.old.typing }
         ensures escaping { self.new.escaping ≡ self.old.escaping }
     {
@@ -302,10 +315,10 @@ impl<H: Clock + Copy + Wait, K: Read + Drop> Console<H, K> {
             self.left = Instant::now(&self.rt).ok();
         }
         if self.can_still_give() {
-            return kept::give(&mut self.kept, buf);
+            return self.give(buf);
         }
         self.count_dropped();
-        0
+        Ok(0)
     }
 
     // The keys that are kept are given to no session.
@@ -326,10 +339,20 @@ fn waits_at(fd: i32) -> pollfd {
 impl<H: Clock + Copy + Wait, K: Read + Drop> Source for Console<H, K> {
     ghost sizes = { λ _. None };
 
+    ghost controls = { λ _. None };
+
     fn resized(&mut self) -> Option<WindowSize>
         ensures size { result ≡ self.old.resized }
     {
         self.resized.take()
+    }
+
+    fn control(&mut self) -> Option<Control>
+        ensures control { result ≡ self.old.asked }
+        ensures asked { self.new.asked ≡ None }
+        ensures kept { self.new.kept ≡ self.old.kept }
+    {
+        self.asked.take()
     }
 
     fn read_some(&mut self, buf: &mut [u8]) -> io::Result<usize>
@@ -337,12 +360,12 @@ impl<H: Clock + Copy + Wait, K: Read + Drop> Source for Console<H, K> {
         ensures bytes { ReadConsumes None None result buf.new }
         ensures tells { TellsCall (CountsRead result) None None }
         ensures foretells { ForetellsCall result None None }
-        ensures keys { GivesKeys (K.remaining self.old.typing.keys) (K.remaining self.new.typing.keys)
-            self.old.escaping self.new.escaping self.old.kept.items self.new.kept.items
-            (given_of result buf.new) }
+        ensures inputs { GivesInputs (K.remaining self.old.typing.keys) (K.remaining self.new.typing.keys)
+            self.old.escaping self.new.escaping self.old.asked self.old.kept.items
+            (given_of result buf.new) self.new.asked self.new.kept.items }
     {
         if self.typing.link.is_left() {
-            return Ok(self.leave(buf));
+            return self.leave(buf);
         }
         let ready = self.wait();
         self.is_ahead = matches!(ready, Ready::Ahead);
@@ -355,8 +378,8 @@ impl<H: Clock + Copy + Wait, K: Read + Drop> Source for Console<H, K> {
                 self.take_size();
                 Err(io::Error::from(ErrorKind::Interrupted))
             },
-            Ready::Key => self.give(buf),
-            Ready::Ahead => self.keep_keys(buf),
+            Ready::Key => self.read_keys(buf),
+            Ready::Ahead => self.read_ahead(buf),
         }
     }
 }

@@ -10,6 +10,8 @@ use tn_escape::{Command, Obey};
 /// What the keys of the escape character do, in lines of their own.
 const HELP: &[u8] = b"q  closes the connection and leaves\r\n?  shows these keys\r\n\
     s  shows the state of the session\r\nz  stops, until the shell goes on with it\r\n\
+    b  sends BREAK, which some monitors wait for\r\ni  interrupts what runs at the other end\r\n\
+    a  asks whether the other end is there\r\n\
     and the escape character again sends itself\r\n";
 
 /// What the user asks the client itself for is done at once.

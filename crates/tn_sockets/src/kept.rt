@@ -1,39 +1,63 @@
-//! Keys that were read ahead and are still to be given: a queue of bytes.
+//! What was typed and is still to be given to a session: a queue of keys, with the control functions that are asked for
+//! between them.
 
-ghost use Rattle.std.specs.Prelude.{◌≡◌, ◌≤◌, ◌+◌, ◌++◌, OnErr, true, length, take};
+ghost use Rattle.std.specs.Prelude.{◌≡◌, ◌≤◌, ◌+◌, ◌++◌, true, length, map, option_to_list, take};
 ghost use Rattle.std.specs.VecDeque.{deque_capacity, deque_len};
+ghost use Rattle.tn_escape.specs.declared.escaping.Input.TheVariants as input;
 
 use std::collections::VecDeque;
-use std::io::Read;
+use tn_escape::Input;
+use tn_streams::Control;
 
-/// How many bytes of keys are read ahead at most: 16 MB.
+/// How many keys are kept at most: 16 million.
 const MAX_KEPT: usize = 16_777_216;
 
 /// Whether so many more can be kept.
-pub(crate) fn makes_room(kept: &mut VecDeque<u8>, count: usize) -> bool
+pub(crate) fn makes_room(kept: &mut VecDeque<Input>, count: usize) -> bool
     ensures kept { kept.new.items ≡ kept.old.items }
     ensures room { result ≡ true → deque_len kept.new + count ≤ deque_capacity kept.new }
 {
     kept.len() < MAX_KEPT && kept.reserve(count).is_ok()
 }
 
-/// Keeps these, behind those that are kept.
-pub(crate) fn keep(kept: &mut VecDeque<u8>, keys: &[u8])
-    requires room { deque_len kept.old + length keys.now ≤ deque_capacity kept.old }
-    ensures { kept.new.items ≡ kept.old.items ++ keys.now }
+/// Gives the first keys, as many as there is room for, and none behind a control function.
+pub(crate) fn give(kept: &mut VecDeque<Input>, buf: &mut [u8]) -> usize
+    ensures bound { result ≤ length buf.new }
+    ensures gives { map input.Key (take result buf.new) ++ kept.new.items ≡ kept.old.items }
 {
-    for key in keys {
-        let _pushed = kept.push_back(*key);
+    for place in 0..buf.len() {
+        let Some(key) = first_key(kept) else {
+            return place;
+        };
+        buf[place] = key;
+    }
+    buf.len()
+}
+
+// Takes what is first, if it is a key.
+fn first_key(kept: &mut VecDeque<Input>) -> Option<u8>
+    ensures { map input.Key (option_to_list result) ++ kept.new.items ≡ kept.old.items }
+{
+    match kept.front() {
+        Some(Input::Key(key)) => {
+            let key = *key;
+            let _first = kept.pop_front();
+            Some(key)
+        },
+        _ => None,
     }
 }
 
-/// Gives the first of them, as many as there is room for.
-pub(crate) fn give(kept: &mut VecDeque<u8>, buf: &mut [u8]) -> usize
-    ensures bound { result ≤ length buf.new }
-    ensures gives { take result buf.new ++ kept.new.items ≡ kept.old.items }
+/// Takes what is first, if it is a control function.
+pub(crate) fn first_control(kept: &mut VecDeque<Input>) -> Option<Control>
+    ensures { map input.Control (option_to_list result) ++ kept.new.items ≡ kept.old.items }
 {
-    match kept.read(buf) {
-        Ok(count) => count,
-        Err(_) => 0,
+    match kept.front() {
+        Some(Input::Control(control)) => {
+            let control = *control;
+            let _first = kept.pop_front();
+            Some(control)
+        },
+        _ => None,
     }
 }

@@ -2,6 +2,7 @@
 use Rattle.std.specs.Prelude.{ℕ, Option, List}
 use Rattle.tn_streams.specs.Foretelling.{Failures}
 use Rattle.tn_streams.specs.Telling.{Calls}
+use Rattle.tn_streams.specs.declared.control.Control.{Control}
 use Rattle.tn_streams.specs.declared.window.WindowSize.{WindowSize}
 
 -- a reader: the bytes that it gives, what it foretells of its calls, and the sizes of its window
@@ -9,6 +10,11 @@ pub record KnownReader : Type 0 where
   pub bytes : Option (List ℕ)
   pub failures : Option Failures
   pub sizes : Option (List WindowSize)
+
+-- a reader of keys, and the control functions that its user asks for between them
+pub record KnownTyping : Type 0 where
+  pub reader : KnownReader
+  pub controls : Option (List Control)
 
 -- a writer: the bytes that it holds, and what it tells of its calls
 pub record KnownWriter : Type 0 where
@@ -25,6 +31,11 @@ abbrev pub known_reader : {R : Type 0} → (R → Option (List ℕ)) → (R → 
     → (R → Option (List WindowSize)) → R → KnownReader
 known_reader bytes failures sizes reader =
     record { bytes = bytes reader; failures = failures reader; sizes = sizes reader }
+
+abbrev pub known_typing : {R : Type 0} → (R → Option (List ℕ)) → (R → Option Failures)
+    → (R → Option (List WindowSize)) → (R → Option (List Control)) → R → KnownTyping
+known_typing bytes failures sizes controls reader =
+    record { reader = known_reader bytes failures sizes reader; controls = controls reader }
 
 abbrev pub known_writer : {W : Type 0} → (W → Option (List ℕ)) → (W → Option Calls) → W → KnownWriter
 known_writer bytes calls writer = record { bytes = bytes writer; calls = calls writer }

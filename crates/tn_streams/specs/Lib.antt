@@ -3,6 +3,6 @@ pub mod Counting
 pub mod Foretelling
 pub mod Prefixes
 pub mod Known
-pub mod Sizes
+pub mod Beside
 pub mod Sending
 pub mod Seats

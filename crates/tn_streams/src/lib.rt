@@ -23,19 +23,23 @@ ghost use Rattle.std.specs.Io.{ReadsAtMost, WritesAtMost};
 ghost use Rattle.std.specs.Io.KnownBytes.{ReadConsumes, WriteAppends, Keeps};
 ghost use Rattle.tn_streams.specs.Foretelling.{Failures, ForetellsCall};
 ghost use Rattle.tn_streams.specs.Sending.{Sending, written_on, finished_on};
-ghost use Rattle.tn_streams.specs.Sizes.{TellsSize};
+ghost use Rattle.tn_streams.specs.Beside.{TellsNext};
+ghost use Rattle.tn_streams.specs.declared.control.Control.{Control as ControlT};
 ghost use Rattle.tn_streams.specs.declared.window.WindowSize.{WindowSize as WindowSizeT};
 ghost use Rattle.tn_streams.specs.Telling.{Calls, TellsCall, CountsRead, CountsWrite};
 
+pub use control::Control;
 use std::io::{Error, ErrorKind, Read, Result, Write};
 pub use tally::Tally;
 pub use window::WindowSize;
 
+mod control;
 mod tally;
 mod window;
 
 /// A reader that may tell how many of its calls failed, and foretell how many will: one that is given away
-/// can't be asked afterwards. Where its bytes are typed in a window, it tells the window's size too.
+/// can't be asked afterwards. Where its bytes are typed in a window, it tells the window's size too, and the
+/// control functions that its user asks for between them.
 pub trait Source {
     // The bytes that reads will give from here on, where they are known.
     ghost remaining: { Self → Option (List ℕ) } = { λ _. None };
@@ -49,12 +53,28 @@ pub trait Source {
     // The sizes that it will tell from here on, where they are known. Most readers have no window.
     ghost sizes: { Self → Option (List WindowSizeT) } = { λ _. Some [] };
 
+    // The control functions that it will tell from here on, where they are known. Most readers have no user.
+    ghost controls: { Self → Option (List ControlT) } = { λ _. Some [] };
+
     /// The size of the window, if it is another than the one that was told last.
     fn resized(&mut self) -> Option<WindowSize>
-        ensures tells { TellsSize (sizes self.old) result (sizes self.new) }
+        ensures tells { TellsNext (sizes self.old) result (sizes self.new) }
         ensures bytes { remaining self.new ≡ remaining self.old }
         ensures told { told self.new ≡ told self.old }
         ensures foretold { foretold self.new ≡ foretold self.old }
+        ensures controls { controls self.new ≡ controls self.old }
+    {
+        None
+    }
+
+    /// The control function that is asked for right behind the bytes that were given, if there is one that was
+    /// not told.
+    fn control(&mut self) -> Option<Control>
+        ensures tells { TellsNext (controls self.old) result (controls self.new) }
+        ensures bytes { remaining self.new ≡ remaining self.old }
+        ensures told { told self.new ≡ told self.old }
+        ensures foretold { foretold self.new ≡ foretold self.old }
+        ensures sizes { sizes self.new ≡ sizes self.old }
     {
         None
     }
@@ -65,7 +85,8 @@ pub trait Source {
         ensures bytes { ReadConsumes (remaining self.old) (remaining self.new) result buf.new }
         ensures tells { TellsCall (CountsRead result) (told self.old) (told self.new) }
         ensures foretells { ForetellsCall result (foretold self.old) (foretold self.new) }
-        ensures sizes { sizes self.new ≡ sizes self.old };
+        ensures sizes { sizes self.new ≡ sizes self.old }
+        ensures controls { controls self.new ≡ controls self.old };
 }
 
 /// A writer that may tell how many of its calls failed.

@@ -26,7 +26,7 @@ use Rattle.tn_messages.specs.declared.faults.SessionFault.TheVariants as fault
 use Rattle.tn_term.specs.declared.messages.Mark.{Mark}
 use Rattle.tn_term.specs.declared.messages.Mark.TheVariants as mark
 use Rattle.tn_messages.specs.declared.messages.Message.{Message}
-use Rattle.tn_messages.specs.declared.messages.Message.TheVariants.{Piece, HangUp, ReadFailed, Take, Said, Refused, Left, Resized}
+use Rattle.tn_messages.specs.declared.messages.Message.TheVariants.{Piece, HangUp, ReadFailed, Take, Said, Refused, Left, Resized, Asked}
 use Rattle.tn_term.specs.declared.progress.Progress.{Progress}
 use Rattle.tn_wire.proofs.lemmas.Reading.{same_more}
 use Rattle.tn_wire.specs.Prefixes.{IsRead}
@@ -198,6 +198,7 @@ same_acts Refused c d c' d' none a b s =
     same_as (halt e) (halt f) c' d' a b (same_halt e f (same_flush (ends_by (Fault fault.Memory) c) (ends_by (Fault fault.Memory) d) (same_ends_by (Fault fault.Memory) c d s)))
 same_acts Left c d c' d' none a b s = same_as (flush c) (flush d) c' d' a b (same_flush c d s)
 same_acts (Resized size) c d c' d' none a b s = same_as (flush c) (flush d) c' d' a b (same_flush c d s)
+same_acts (Asked control) c d c' d' none a b s = same_as (flush c) (flush d) c' d' a b (same_flush c d s)
 
 same_handles : (o p : Bool) (m : Message) (c d c' d' : Run) → o ≡ p → Pulled c → ActsUnless o c m c' → ActsUnless p d m d' → Same c d → Same c' d'
 same_handles true true m c d c' d' e none a b s =
@@ -229,6 +230,7 @@ acts_pulled (Said id text after) c new a = pulled_as _ new a.2 (said_pulled id.0
 acts_pulled Refused c new a = pulled_as _ new a (none_left c.history)
 acts_pulled Left c new a = pulled_as (flush c) new a (none_left c.history)
 acts_pulled (Resized size) c new a = pulled_as (flush c) new a (none_left c.history)
+acts_pulled (Asked control) c new a = pulled_as (flush c) new a (none_left c.history)
 
 handles_pulled : (o : Bool) (m : Message) (c new : Run) → ActsUnless o c m new → Pulled c → Pulled new
 handles_pulled true m c new a none = pulled_as (idle m c) new a none
@@ -254,6 +256,7 @@ same_put_or_not false m c d whole other s w = record {
     asks_by Refused = ap (λ (p : Progress). p.asks) s.progress
     asks_by Left = ap (λ (p : Progress). p.asks) s.progress
     asks_by (Resized size) = ap (λ (p : Progress). p.asks) s.progress
+    asks_by (Asked control) = ap (λ (p : Progress). p.asks) s.progress
 
 unput_pulled : (put : Bool) (m : Message) (c whole : Run) → Pulled whole → Pulled (put_or_not put m c whole)
 unput_pulled true m c whole none = none

@@ -19,7 +19,7 @@ use Rattle.tn_messages.specs.declared.faults.SessionFault.TheVariants as fault
 use Rattle.tn_term.specs.declared.messages.Mark.{Mark}
 use Rattle.tn_term.specs.declared.messages.Mark.TheVariants as mark
 use Rattle.tn_messages.specs.declared.messages.Message.{Message}
-use Rattle.tn_messages.specs.declared.messages.Message.TheVariants.{Piece, HangUp, ReadFailed, Take, Said, Refused, Left, Resized}
+use Rattle.tn_messages.specs.declared.messages.Message.TheVariants.{Piece, HangUp, ReadFailed, Take, Said, Refused, Left, Resized, Asked}
 
 -- the run ended so before, or ends at this message
 abbrev MovesAt : Run → Message → Mark → Ended → Type 0
@@ -61,6 +61,7 @@ acts_moves c new (Said id text after) k a = moves_to c (Said id text after) k _ 
 acts_moves c new Refused k a = moves_on c Refused k (ended_of c) (ended_of new) fault.Memory (ap ended_of a) (inl refl) refl
 acts_moves c new Left k a = inl (ap ended_of a)
 acts_moves c new (Resized size) k a = inl (ap ended_of a)
+acts_moves c new (Asked control) k a = inl (ap ended_of a)
 
 handles_moves : (o : Bool) (c new : Run) (m : Message) (k : Mark) → ActsUnless o c m new → MovesAt c m k (ended_of new)
 handles_moves true c new m k a = inl (ap ended_of a)

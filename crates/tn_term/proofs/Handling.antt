@@ -9,9 +9,10 @@ use Rattle.tn_jobs.specs.declared.verdicts.Verdict.{Verdict}
 use Rattle.tn_jobs.specs.Judging.{judged}
 use Rattle.tn_server.specs.Replies.{items_said}
 use Rattle.tn_messages.specs.declared.messages.Message.{Message}
-use Rattle.tn_messages.specs.declared.messages.Message.TheVariants.{Piece, HangUp, ReadFailed, Take, Said, Refused, Left, Resized}
+use Rattle.tn_messages.specs.declared.messages.Message.TheVariants.{Piece, HangUp, ReadFailed, Take, Said, Refused, Left, Resized, Asked}
 use Rattle.tn_messages.specs.declared.faults.Ended.TheVariants.{Fault}
 use Rattle.tn_messages.specs.declared.faults.SessionFault.TheVariants as fault
+use Rattle.tn_streams.specs.declared.control.Control.{Control}
 use Rattle.tn_streams.specs.declared.window.WindowSize.{WindowSize}
 use Rattle.tn_term.specs.declared.messages.Put.{Put}
 use Rattle.tn_term.specs.declared.messages.Put.TheVariants.{Nothing}
@@ -162,6 +163,9 @@ handled_left old new x y on one = handled_by Left flush old new x y Nothing on (
 pub handled_resized : (size : WindowSize) (old new : Term) (x y : List ℕ) → old.progress.over ≡ false → AdvancesRun flush old x y [] new → DoesWhole old (Resized size) x y Nothing new
 handled_resized size old new x y on one = handled_by (Resized size) flush old new x y Nothing on (λ c at. refl) one
 
+pub handled_asked : (control : Control) (old new : Term) (x y : List ℕ) → old.progress.over ≡ false → AdvancesRun flush old x y [] new → DoesWhole old (Asked control) x y Nothing new
+handled_asked control old new x y on one = handled_by (Asked control) flush old new x y Nothing on (λ c at. refl) one
+
 breaks_last : (f g : Run → Run) (a b d : Term) (x y z : List ℕ) (p : List (Option Entry)) → AdvancesRun f a x y p b → BreaksOff g b y z [] d → BreaksOff (λ c. g (f c)) a x z p d
 breaks_last f g a b d x y z p one two =
     let P : List (Option Entry) → Type 0 = λ ps. BreaksOff (λ c. g (f c)) a x z ps d in
@@ -184,6 +188,9 @@ stops_left old new x y on one = stops_by Left flush old new x y Nothing on (λ c
 
 pub stops_resized : (size : WindowSize) (old new : Term) (x y : List ℕ) → old.progress.over ≡ false → BreaksOff flush old x y [] new → StopsWithin old (Resized size) true x y Nothing new
 stops_resized size old new x y on one = stops_by (Resized size) flush old new x y Nothing on (λ c at. refl) one
+
+pub stops_asked : (control : Control) (old new : Term) (x y : List ℕ) → old.progress.over ≡ false → BreaksOff flush old x y [] new → StopsWithin old (Asked control) true x y Nothing new
+stops_asked control old new x y on one = stops_by (Asked control) flush old new x y Nothing on (λ c at. refl) one
 
 pub stops_take : (old mid new : Term) (x y z : List ℕ) (put : Put) → old.progress.over ≡ false → AdvancesRun ask old x y (puts_of put) mid → BreaksOff flush mid y z [] new → StopsWithin old Take true x z put new
 stops_take old mid new x y z put on asked stuck =

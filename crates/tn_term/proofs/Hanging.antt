@@ -26,7 +26,7 @@ use Rattle.tn_messages.specs.declared.faults.SessionFault.TheVariants as fault
 use Rattle.tn_term.specs.declared.messages.Mark.{Mark}
 use Rattle.tn_term.specs.declared.messages.Mark.TheVariants as mark
 use Rattle.tn_messages.specs.declared.messages.Message.{Message}
-use Rattle.tn_messages.specs.declared.messages.Message.TheVariants.{Piece, HangUp, ReadFailed, Take, Said, Refused, Left, Resized}
+use Rattle.tn_messages.specs.declared.messages.Message.TheVariants.{Piece, HangUp, ReadFailed, Take, Said, Refused, Left, Resized, Asked}
 
 true_false : true ≡ false → ⊥
 true_false e = cc
@@ -165,6 +165,7 @@ acts_ended c new (Said id text after) a e = said_ended id.0 a.0 _ c (sym (ap end
 acts_ended c new Refused a e = first_none (ended_of c) (ended.Fault fault.Memory) (sym (ap ended_of a) ∙ e)
 acts_ended c new Left a e = sym (ap ended_of a) ∙ e
 acts_ended c new (Resized size) a e = sym (ap ended_of a) ∙ e
+acts_ended c new (Asked control) a e = sym (ap ended_of a) ∙ e
 
 handles_ended : (o : Bool) (c new : Run) (m : Message) → ActsUnless o c m new → ended_of new ≡ ended.HangUp → ended_of c ≡ ended.HangUp
 handles_ended true c new m a e = sym (ap ended_of a) ∙ e
@@ -221,7 +222,7 @@ asked_none h none = by (nat_lt (taken_count h) (length (entries h)))
     by false = none
 
 -- what the answer to a request leaves
-record Asked (c new : Run) : Type 0 where
+record IsAsked (c new : Run) : Type 0 where
   on : new.progress.over ≡ c.progress.over
   at_end : new.progress.at_end ≡ c.progress.at_end
   asks : new.progress.asks ≡ true → waiting new.history ≡ []
@@ -229,7 +230,7 @@ record Asked (c new : Run) : Type 0 where
   jobs : new.jobs ≡ c.jobs
   stream : new.stream ≡ c.stream
 
-answered : (c : Run) (ws : List Entry) → waiting c.history ≡ ws → Gives c.puts c.history → Ends c.progress.at_end c.puts (entries c.history) → Asked c (answer (record c { history = grown c.history took }) ws)
+answered : (c : Run) (ws : List Entry) → waiting c.history ≡ ws → Gives c.puts c.history → Ends c.progress.at_end c.puts (entries c.history) → IsAsked c (answer (record c { history = grown c.history took }) ws)
 answered c [] e g old = record {
   on = refl;
   at_end = refl;
@@ -247,12 +248,12 @@ answered c (w ∷ ws) e g old = record {
   stream = refl;
 }
 
-asked_if : (b : Bool) (c : Run) → c.progress.asks ≡ b → Gives c.puts c.history → Ends c.progress.at_end c.puts (entries c.history) → Asked c (ask_if b c)
+asked_if : (b : Bool) (c : Run) → c.progress.asks ≡ b → Gives c.puts c.history → Ends c.progress.at_end c.puts (entries c.history) → IsAsked c (ask_if b c)
 asked_if true c asks g old = answered c (waiting c.history) refl g old
 asked_if false c asks g old = record { on = refl; at_end = refl; asks = λ a. absurd (false_true (sym asks ∙ a)); ends = old; jobs = refl; stream = refl }
 
 -- and then all is pulled
-calm_asked : (id : ℕ) (m : Message) (c d e new : Run) → new ≡ flush e → Gives new.puts new.history → Asked d e → d.progress.over ≡ false → d.progress.at_end ≡ at_end_after c.progress.at_end m → state_at d.jobs id ≡ Some job.Foreground → d.stream ≡ c.stream ++ bytes_in m → KeepsOn id m → CalmOn id m c new
+calm_asked : (id : ℕ) (m : Message) (c d e new : Run) → new ≡ flush e → Gives new.puts new.history → IsAsked d e → d.progress.over ≡ false → d.progress.at_end ≡ at_end_after c.progress.at_end m → state_at d.jobs id ≡ Some job.Foreground → d.stream ≡ c.stream ++ bytes_in m → KeepsOn id m → CalmOn id m c new
 calm_asked id m c d e new is gives a on at_end front stream keeps =
     let P : Run → Type 0 = λ u. Gives u.puts u.history in
     calm_as id m c (flush e) new is (record {
@@ -384,6 +385,8 @@ calm_acts id c new Left others a e may s =
     calm_as id Left c (flush c) new a (record { calm = calm_flush id c s; at_end = refl; keeps = tt; stream = sym (append-nil c.stream) })
 calm_acts id c new (Resized size) others a e may s =
     calm_as id (Resized size) c (flush c) new a (record { calm = calm_flush id c s; at_end = refl; keeps = tt; stream = sym (append-nil c.stream) })
+calm_acts id c new (Asked control) others a e may s =
+    calm_as id (Asked control) c (flush c) new a (record { calm = calm_flush id c s; at_end = refl; keeps = tt; stream = sym (append-nil c.stream) })
 
 -- ALL MESSAGES
 

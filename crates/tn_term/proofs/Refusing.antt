@@ -32,7 +32,7 @@ use Rattle.tn_term.specs.Reaching.{LeadsTo, RefusesFor, AdvancesRun, Feeds}
 use Rattle.tn_term.specs.Refusing.{SymbolsWait, SymbolsWaitWithin, WaitsWithText, WaitsWithRequest, WaitsIf, RefusesAtItem, RefusesAtByte, IsRefusalCause}
 use Rattle.tn_term.specs.Run.{Run, Reads, Cuts, ask, feed, move, show, stop_job, end_job, in_foreground, verdict_at, has_text, writes}
 use Rattle.tn_messages.specs.declared.messages.Message.{Message}
-use Rattle.tn_messages.specs.declared.messages.Message.TheVariants.{Piece, HangUp, ReadFailed, Take, Said, Refused, Left, Resized}
+use Rattle.tn_messages.specs.declared.messages.Message.TheVariants.{Piece, HangUp, ReadFailed, Take, Said, Refused, Left, Resized, Asked}
 use Rattle.tn_term.specs.declared.terminal.Stuck.{Stuck}
 use Rattle.tn_term.specs.declared.terminal.Term.{Term}
 
@@ -185,6 +185,7 @@ IsQuiet ReadFailed = Unit {0}
 IsQuiet Refused = Unit {0}
 IsQuiet Left = Unit {0}
 IsQuiet (Resized size) = Unit {0}
+IsQuiet (Asked control) = Unit {0}
 IsQuiet _ = ⊥
 
 quiet : (c : Run) (m : Message) (f : ServerFault) → IsQuiet m → f ≡ server.Memory → SymbolsWait c.history → IsRefusalCause c m f
@@ -193,6 +194,7 @@ quiet c ReadFailed f q e w = (e, w)
 quiet c Refused f q e w = (e, w)
 quiet c Left f q e w = (e, w)
 quiet c (Resized size) f q e w = (e, w)
+quiet c (Asked control) f q e w = (e, w)
 quiet c (Piece piece) f q e w = absurd q
 quiet c Take f q e w = absurd q
 quiet c (Said id text after) f q e w = absurd q

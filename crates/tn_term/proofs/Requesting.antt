@@ -10,7 +10,7 @@ use Rattle.tn_jobs.specs.declared.verdicts.Why.{Why}
 use Rattle.tn_messages.specs.declared.faults.SessionFault.{SessionFault}
 use Rattle.tn_messages.specs.declared.faults.SessionFault.TheVariants as fault
 use Rattle.tn_messages.specs.declared.messages.Message.{Message}
-use Rattle.tn_messages.specs.declared.messages.Message.TheVariants.{Piece, HangUp, ReadFailed, Take, Said, Refused, Left, Resized}
+use Rattle.tn_messages.specs.declared.messages.Message.TheVariants.{Piece, HangUp, ReadFailed, Take, Said, Refused, Left, Resized, Asked}
 use Rattle.tn_messages.specs.declared.faults.Ended.TheVariants.{Fault}
 use Rattle.tn_server.specs.Events.{next, took}
 use Rattle.tn_server.specs.Lines.{waiting}
@@ -90,6 +90,7 @@ by_idle (Said id text after) c = ap (λ (n : ℕ). n + open_requests c.progress.
 by_idle Refused c = ap (λ (n : ℕ). n + open_requests c.progress.asks) (length-none c.puts) ∙ omega arith
 by_idle Left c = ap (λ (n : ℕ). n + open_requests c.progress.asks) (length-none c.puts) ∙ omega arith
 by_idle (Resized size) c = ap (λ (n : ℕ). n + open_requests c.progress.asks) (length-none c.puts) ∙ omega arith
+by_idle (Asked control) c = ap (λ (n : ℕ). n + open_requests c.progress.asks) (length-none c.puts) ∙ omega arith
 
 -- a message that has its effect
 by_act : (c : Run) (m : Message) (new : Run) → Acts c m new → answered new ≤ answered c + request_of m
@@ -101,6 +102,7 @@ by_act c (Said id text after) new (parts, _, e) = let f = ap answered e ∙ by_s
 by_act c Refused new e = let f = ap answered e ∙ by_halt (flush (ends_by (Fault fault.Memory) c)) in omega arith
 by_act c Left new e = let f = ap answered e in omega arith
 by_act c (Resized size) new e = let f = ap answered e in omega arith
+by_act c (Asked control) new e = let f = ap answered e in omega arith
 
 by_handle : (over : Bool) (c : Run) (m : Message) (new : Run) → ActsUnless over c m new → answered new ≤ answered c + request_of m
 by_handle true c m new e = let f = ap answered e ∙ by_idle m c in omega arith
@@ -118,6 +120,7 @@ by_unput (Said id text after) c whole = omega arith
 by_unput Refused c whole = omega arith
 by_unput Left c whole = omega arith
 by_unput (Resized size) c whole = omega arith
+by_unput (Asked control) c whole = omega arith
 
 by_put : (b : Bool) (m : Message) (c whole : Run) → answered whole ≤ answered c + request_of m → answered (put_or_not b m c whole) ≤ answered c + request_of m
 by_put true m c whole l = l

@@ -13,7 +13,7 @@ use Rattle.tn_server.specs.declared.faults.ServerFault.TheVariants.{Pty, Memory,
 use Rattle.tn_term.specs.Run.{Run, Reads, verdict, writes}
 use Rattle.tn_messages.specs.Pieces.{WantsMemoryWithin}
 use Rattle.tn_messages.specs.declared.messages.Message.{Message}
-use Rattle.tn_messages.specs.declared.messages.Message.TheVariants.{Piece, HangUp, ReadFailed, Take, Said, Refused, Left, Resized}
+use Rattle.tn_messages.specs.declared.messages.Message.TheVariants.{Piece, HangUp, ReadFailed, Take, Said, Refused, Left, Resized, Asked}
 
 -- symbols wait to be sent
 abbrev pub SymbolsWait : History → Type 0
@@ -80,3 +80,4 @@ IsRefusalCause c (Said id text after) f =
 IsRefusalCause c Refused f = (f ≡ Memory) × SymbolsWait c.history
 IsRefusalCause c Left f = (f ≡ Memory) × SymbolsWait c.history
 IsRefusalCause c (Resized size) f = (f ≡ Memory) × SymbolsWait c.history
+IsRefusalCause c (Asked control) f = (f ≡ Memory) × SymbolsWait c.history

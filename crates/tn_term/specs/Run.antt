@@ -23,7 +23,7 @@ use Rattle.tn_messages.specs.declared.faults.Ended.TheVariants.{Done, Fault}
 use Rattle.tn_messages.specs.declared.faults.SessionFault.{SessionFault}
 use Rattle.tn_messages.specs.declared.faults.SessionFault.TheVariants as fault
 use Rattle.tn_messages.specs.declared.messages.Message.{Message}
-use Rattle.tn_messages.specs.declared.messages.Message.TheVariants.{Piece, HangUp, ReadFailed, Take, Said, Refused, Left, Resized}
+use Rattle.tn_messages.specs.declared.messages.Message.TheVariants.{Piece, HangUp, ReadFailed, Take, Said, Refused, Left, Resized, Asked}
 use Rattle.tn_term.specs.declared.messages.Put.{Put}
 use Rattle.tn_term.specs.declared.messages.Put.TheVariants as put
 use Rattle.tn_term.specs.declared.progress.Progress.{Progress}
@@ -187,6 +187,7 @@ Acts c (Said id text after) new =
 Acts c Refused new = new ≡ halt (flush (ends_by (Fault fault.Memory) c))
 Acts c Left new = new ≡ flush c
 Acts c (Resized size) new = new ≡ flush c
+Acts c (Asked control) new = new ≡ flush c
 
 abbrev pub ActsUnless : Bool → Run → Message → Run → Type 0
 ActsUnless true c message new = new ≡ idle message c

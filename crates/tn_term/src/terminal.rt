@@ -502,6 +502,7 @@ impl Term {
             Message::Refused => self.refused(out),
             Message::Left => self.finish(Put::Nothing, out),
             Message::Resized(_) => self.finish(Put::Nothing, out),
+            Message::Asked(_) => self.finish(Put::Nothing, out),
         }
     }
 

@@ -7,7 +7,7 @@ use Rattle.tn_discipline.specs.Characters.{Characters}
 use Rattle.tn_discipline.specs.Keys.{role_of_key}
 use Rattle.tn_discipline.specs.declared.keys.Role.{Role}
 use Rattle.tn_discipline.specs.declared.keys.Role.TheVariants as role
-use Rattle.tn_discipline.specs.declared.reads.Sig.TheVariants.{Int, Quit, Tstp}
+use Rattle.tn_discipline.specs.declared.reads.Sig.TheVariants.{Int}
 use Rattle.tn_discipline.specs.declared.termios.Flags.{Flags}
 use Rattle.tn_discipline.specs.declared.termios.Settings.{Settings}
 use Rattle.tn_nvt.specs.Spelling.{Fits}
@@ -21,7 +21,7 @@ use Rattle.tn_client.specs.Events as client_calls
 use Rattle.tn_client.specs.Replies.{command_sent}
 use Rattle.tn_client.specs.declared.commands.UserCommand.{UserCommand}
 use Rattle.tn_client.specs.declared.commands.UserCommand.TheVariants as user
-use Rattle.tn_world.specs.Commands.{key_if, interrupt_at}
+use Rattle.tn_world.proofs.Interrupting.{interrupts_there}
 use Rattle.tn_world.specs.Past.{HasPast}
 use Rattle.tn_world.specs.Headline.{RunsQuietly, IsQuietEvent, PassesQuietly, NoneFailed}
 use Rattle.tn_world.specs.relation.Calm.{IsCalmToServer, IsCalmToClient}
@@ -85,27 +85,7 @@ holds_types s old new key none sound t h =
       past = sound;
     }
 
--- a command: the key that it stands for interrupts
-key_interrupts : (r : Role) (key k : ℕ) → key_if r key ≡ Some k → (r ≡ role.Signal Int) × (key ≡ k)
-key_interrupts (role.Signal Int) key k is = (refl, cc)
-key_interrupts (role.Signal Quit) key k is = absurd (cc)
-key_interrupts (role.Signal Tstp) key k is = absurd (cc)
-key_interrupts role.Ignored key k is = absurd (cc)
-key_interrupts role.Nl key k is = absurd (cc)
-key_interrupts (role.Eol byte) key k is = absurd (cc)
-key_interrupts (role.Eol2 byte) key k is = absurd (cc)
-key_interrupts role.Eof key k is = absurd (cc)
-key_interrupts role.Erase key k is = absurd (cc)
-key_interrupts role.Kill key k is = absurd (cc)
-key_interrupts (role.Ordinary byte) key k is = absurd (cc)
-
-interrupts_there : (s : Settings) (intr : Option ℕ) (key : ℕ) → interrupt_at s intr ≡ Some key → role_of_key s key ≡ role.Signal Int
-interrupts_there s None key is = absurd (cc)
-interrupts_there s (Some k) key is =
-    let p = key_interrupts (role_of_key s k) k key is in
-    ap (λ (x : ℕ). role_of_key s x) (sym p.1) ∙ p.0
-
--- and it does so at the beginning, too
+-- a command: the key that it stands for interrupts at the beginning, too
 role_kept : (s : Canon) (w : World) (key : ℕ) → HasPast w → ServerStays s w.server → role_of_key (canon_of w).settings key ≡ role_of_key s.settings key
 role_kept s w key past k =
     let at = past.server in

@@ -8,6 +8,7 @@ pub mod Engines
 pub mod Failing
 pub mod Following
 pub mod Hearing
+pub mod Interrupting
 pub mod lemmas
 pub mod Marking
 pub mod Opening

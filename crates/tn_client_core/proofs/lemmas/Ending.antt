@@ -15,7 +15,7 @@ use Rattle.tn_messages.specs.declared.faults.Ended.TheVariants as ended
 use Rattle.tn_messages.specs.declared.faults.SessionFault.{SessionFault}
 use Rattle.tn_messages.specs.declared.faults.SessionFault.TheVariants as fault
 use Rattle.tn_messages.specs.declared.messages.Message.{Message}
-use Rattle.tn_messages.specs.declared.messages.Message.TheVariants.{Piece, HangUp, ReadFailed, Take, Said, Refused, Left, Resized}
+use Rattle.tn_messages.specs.declared.messages.Message.TheVariants.{Piece, HangUp, ReadFailed, Take, Said, Refused, Left, Resized, Asked}
 
 abbrev ended_of : Run → Ended
 ended_of c = c.progress.ended
@@ -48,6 +48,8 @@ acts_moves Keys Left k c new a = inl (ap ended_of a)
 acts_moves Net Left k c new a = inl (ap ended_of a)
 acts_moves Keys (Resized size) k c new a = inl (ap ended_of a)
 acts_moves Net (Resized size) k c new a = inl (ap ended_of a)
+acts_moves Keys (Asked control) k c new a = inl (ap ended_of a)
+acts_moves Net (Asked control) k c new a = inl (ap ended_of a)
 
 handles_moves : (o : Bool) (c new : Run) (m : Told) (k : Mark) → ActsUnless o c m new → MovesAt c m k (ended_of new)
 handles_moves true c new m k a = inl (ap ended_of a)

@@ -1,8 +1,11 @@
--- What the core does with a message keeps whatever keys, sizes and items keep, of the history whose replies go to the
--- network.
+-- What the core does with a message keeps whatever keys, sizes, commands and items keep, of the history whose replies
+-- go to the network.
 use Rattle.std.proofs.Common.{◌≡◌, ℕ, Bool, true, false, List, [], ◌∷◌, ◌++◌, refl, sym, ap, ◌∙◌, subst, append_assoc}
 use Rattle.tn_client.proofs.lemmas.Histories.{items-gets}
+use Rattle.tn_client.specs.Events as events
 use Rattle.tn_client.specs.Events.{History, next, typed, got, resized, items, gets}
+use Rattle.tn_client.specs.declared.commands.UserCommand.{UserCommand}
+use Rattle.tn_client_core.specs.Commands.{command_of}
 use Rattle.tn_client_core.specs.Counting.{after_message}
 use Rattle.tn_client_core.specs.Marks.{Turns}
 use Rattle.tn_client_core.specs.Run.{Run, Acts, ActsUnless, types, sent_after}
@@ -14,12 +17,13 @@ use Rattle.tn_client_core.specs.declared.messages.Told.{Told}
 use Rattle.tn_client_core.specs.declared.progress.Progress.{Progress}
 use Rattle.tn_nvt.specs.declared.items.Item.{Item}
 use Rattle.tn_messages.specs.declared.messages.Message.{Message}
-use Rattle.tn_messages.specs.declared.messages.Message.TheVariants.{Piece, HangUp, ReadFailed, Take, Said, Refused, Left, Resized}
+use Rattle.tn_messages.specs.declared.messages.Message.TheVariants.{Piece, HangUp, ReadFailed, Take, Said, Refused, Left, Resized, Asked}
 use Rattle.tn_streams.specs.Prefixes.{IsPrefixOf}
 
 pub record ClientKeeps (T : History → Type 0) (said : List Item) : Type 0 where
   pub types_on : (h : History) (key : ℕ) → T h → T (next h (typed key))
   pub resizes : (h : History) (width height : ℕ) → T h → T (next h (resized width height))
+  pub sends : (h : History) (command : UserCommand) → T h → T (next h (events.sent command))
   pub comes : (h : History) (x : Item) → IsPrefixOf (items h ++ x ∷ []) said → T h → T (next h (got x))
 
 -- as long as replies go to the network, they are those of all that happened
@@ -37,6 +41,7 @@ opens Net (Said job text after) p e = e
 opens Net Refused p e = e
 opens Net Left p e = e
 opens Net (Resized size) p e = e
+opens Net (Asked control) p e = e
 opens Keys (Piece piece) p e = e
 opens Keys HangUp p e = e
 opens Keys ReadFailed p e = e
@@ -45,6 +50,7 @@ opens Keys (Said job text after) p e = e
 opens Keys Refused p e = e
 opens Keys Left p e = cc
 opens Keys (Resized size) p e = e
+opens Keys (Asked control) p e = e
 
 pub sent_latest : (b : Bool) (sent h : History) → b ≡ false → sent_after b sent h ≡ h
 sent_latest true sent h e = cc
@@ -96,6 +102,9 @@ module _ (T : History → Type 0) (said : List Item) (s : ClientKeeps T said) wh
   acts c new from Refused a p t = turned c new from Refused (ap (λ (r : Run). r.sent) a) (ap (λ (r : Run). r.history) a) (ap (λ (r : Run). r.progress) a) t
   acts c new from (Resized size) a p t =
       went_on c new (next c.history (resized size.width size.height)) (ap (λ (r : Run). r.sent) a) (ap (λ (r : Run). r.history) a) (ap (λ (r : Run). r.progress.closed) a) (s.resizes c.history size.width size.height) t
+  acts c new Keys (Asked control) a p t =
+      went_on c new (next c.history (events.sent (command_of control))) (ap (λ (r : Run). r.sent) a) (ap (λ (r : Run). r.history) a) (ap (λ (r : Run). r.progress.closed) a) (s.sends c.history (command_of control)) t
+  acts c new Net (Asked control) a p t = same_run c new a t
   acts c new from Left a p t = turned c new from Left (ap (λ (r : Run). r.sent) a) (ap (λ (r : Run). r.history) a) (ap (λ (r : Run). r.progress) a) t
 
   handles : (o : Bool) (c new : Run) (x : Told) → ActsUnless o c x new → IsPrefixOf (items new.history) said → ClientAt T c → ClientAt T new

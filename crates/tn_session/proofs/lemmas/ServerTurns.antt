@@ -14,7 +14,7 @@ use Rattle.tn_term.specs.Run.{Run, Acts, ActsUnless, flushed_history, flush, fee
 use Rattle.tn_term.specs.declared.messages.Mark.{Mark}
 use Rattle.tn_term.specs.declared.messages.Mark.TheVariants as mark
 use Rattle.tn_messages.specs.declared.messages.Message.{Message}
-use Rattle.tn_messages.specs.declared.messages.Message.TheVariants.{Piece, HangUp, ReadFailed, Take, Said, Refused, Left, Resized}
+use Rattle.tn_messages.specs.declared.messages.Message.TheVariants.{Piece, HangUp, ReadFailed, Take, Said, Refused, Left, Resized, Asked}
 use Rattle.tn_streams.specs.Prefixes.{IsPrefixOf}
 
 -- kept by each event of a terminal, where the items that come begin these
@@ -84,6 +84,7 @@ module _ (T : History → Type 0) (said : List Item) (s : ServerKeeps T said) wh
   acts c new Refused a p t = moved (flushed_history c.history) new.history (ap (λ (r : Run). r.history) a) (flushes c.history t)
   acts c new Left a p t = moved (flushed_history c.history) new.history (ap (λ (r : Run). r.history) a) (flushes c.history t)
   acts c new (Resized size) a p t = moved (flushed_history c.history) new.history (ap (λ (r : Run). r.history) a) (flushes c.history t)
+  acts c new (Asked control) a p t = moved (flushed_history c.history) new.history (ap (λ (r : Run). r.history) a) (flushes c.history t)
 
   handles : (o : Bool) (c new : Run) (m : Message) → ActsUnless o c m new → IsPrefixOf (items new.history) said → T c.history → T new.history
   handles true c new m a p t = moved c.history new.history (ap (λ (r : Run). r.history) a) t

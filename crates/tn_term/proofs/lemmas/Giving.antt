@@ -29,7 +29,7 @@ use Rattle.tn_messages.specs.declared.faults.SessionFault.{SessionFault}
 use Rattle.tn_messages.specs.declared.faults.Ended.TheVariants.{Fault}
 use Rattle.tn_messages.specs.declared.faults.SessionFault.TheVariants as fault
 use Rattle.tn_messages.specs.declared.messages.Message.{Message}
-use Rattle.tn_messages.specs.declared.messages.Message.TheVariants.{Piece, HangUp, ReadFailed, Take, Said, Refused, Left, Resized}
+use Rattle.tn_messages.specs.declared.messages.Message.TheVariants.{Piece, HangUp, ReadFailed, Take, Said, Refused, Left, Resized, Asked}
 use Rattle.tn_jobs.specs.Jobs.{Jobs}
 
 pub entries_put-append : (ps qs : List (Option Entry)) → entries_put (ps ++ qs) ≡ entries_put ps ++ entries_put qs
@@ -151,6 +151,7 @@ gives_acts c new (Said id text after) a g = gives_as _ new a.2 (gives_said id.0 
 gives_acts c new Refused a g = gives_as _ new a (gives_end c.progress.asks c.puts (flushed_history c.history) (gives_flush c g))
 gives_acts c new Left a g = gives_as (flush c) new a (gives_flush c g)
 gives_acts c new (Resized size) a g = gives_as (flush c) new a (gives_flush c g)
+gives_acts c new (Asked control) a g = gives_as (flush c) new a (gives_flush c g)
 
 pub gives_start : (canon : Canon) (editing : Editing) → Gives [] (opening canon editing)
 gives_start canon editing = record { all = refl; taken = omega arith }
@@ -174,6 +175,7 @@ none_idle : (m : Message) → entries_put (idle_puts m) ≡ []
 none_idle Take = refl
 none_idle Left = refl
 none_idle (Resized size) = refl
+none_idle (Asked control) = refl
 none_idle (Piece piece) = refl
 none_idle HangUp = refl
 none_idle ReadFailed = refl
@@ -236,6 +238,7 @@ more_acts c new (Said id text after) a = more_as c _ new a.2 (more_said id.0 a.0
 more_acts c new Refused a = more_as c _ new a (end_if c.progress.asks, refl)
 more_acts c new Left a = more_as c (flush c) new a (more_none c (flush c) refl)
 more_acts c new (Resized size) a = more_as c (flush c) new a (more_none c (flush c) refl)
+more_acts c new (Asked control) a = more_as c (flush c) new a (more_none c (flush c) refl)
 
 -- while messages have their effect all is given, and from then on a front
 record InOrder (c : Run) : Type 0 where

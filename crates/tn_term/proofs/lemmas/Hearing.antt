@@ -32,7 +32,7 @@ use Rattle.tn_messages.specs.declared.faults.SessionFault.TheVariants as fault
 use Rattle.tn_term.specs.declared.messages.Mark.{Mark}
 use Rattle.tn_term.specs.declared.messages.Mark.TheVariants as mark
 use Rattle.tn_messages.specs.declared.messages.Message.{Message}
-use Rattle.tn_messages.specs.declared.messages.Message.TheVariants.{Piece, HangUp, ReadFailed, Take, Said, Refused, Left, Resized}
+use Rattle.tn_messages.specs.declared.messages.Message.TheVariants.{Piece, HangUp, ReadFailed, Take, Said, Refused, Left, Resized, Asked}
 
 -- the history of a stream
 record Heard (first : History) (stream : List ℕ) (h : History) : Type 0 where
@@ -145,6 +145,7 @@ hearing_acts first (Said id text after) c new a h =
 hearing_acts first Refused c new a h = hearing_as first Refused c _ new a (hearing_none first Refused c _ refl refl (heard_flushed first c.history c.stream h))
 hearing_acts first Left c new a h = hearing_as first Left c (flush c) new a (hearing_none first Left c (flush c) refl refl (heard_flushed first c.history c.stream h))
 hearing_acts first (Resized size) c new a h = hearing_as first (Resized size) c (flush c) new a (hearing_none first (Resized size) c (flush c) refl refl (heard_flushed first c.history c.stream h))
+hearing_acts first (Asked control) c new a h = hearing_as first (Asked control) c (flush c) new a (hearing_none first (Asked control) c (flush c) refl refl (heard_flushed first c.history c.stream h))
 
 -- ONE MESSAGE WITH ITS MARK
 

@@ -21,7 +21,7 @@ use Rattle.tn_term.specs.declared.progress.Progress.{Progress}
 use Rattle.tn_term.specs.declared.terminal.Term.{Term}
 use Rattle.tn_messages.specs.declared.faults.Ended.{Ended}
 use Rattle.tn_messages.specs.declared.messages.Message.{Message}
-use Rattle.tn_messages.specs.declared.messages.Message.TheVariants.{Piece, HangUp, ReadFailed, Take, Said, Refused, Left, Resized}
+use Rattle.tn_messages.specs.declared.messages.Message.TheVariants.{Piece, HangUp, ReadFailed, Take, Said, Refused, Left, Resized, Asked}
 
 -- A WELCOME MESSAGE
 
@@ -51,6 +51,7 @@ never_refused c t (Said id text after) at on welcome cause = no_memory cause.0
 never_refused c t Refused at on welcome cause = no_memory cause.0
 never_refused c t Left at on welcome cause = no_memory cause.0
 never_refused c t (Resized size) at on welcome cause = no_memory cause.0
+never_refused c t (Asked control) at on welcome cause = no_memory cause.0
 
 was_on : (c new : Run) (m : Message) (k : Mark) (f : ServerFault) (put : Bool) → k ≡ mark.Refused f put → Turns c (m, k) new → c.progress.over ≡ false
 was_on c new m k f put e t =

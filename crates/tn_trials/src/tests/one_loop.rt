@@ -38,7 +38,7 @@ fn carry(joined: &mut Joined, alloc: Global, count: usize, times: usize) -> Resu
 fn reads_a_line(rt: &impl Abort, alloc: Global, editing: Editing, count: usize) -> Result<(), Fail> {
     let mut joined = start(alloc, editing)?;
     carry(&mut joined, alloc, count, 200)?;
-    joined.happen(alloc, Event::Asked)?;
+    joined.happen(alloc, Event::Take)?;
     for key in b"hx\x7fi\r".as_slice() {
         joined.happen(alloc, Event::Typed(text_of(alloc, &[*key])?))?;
         carry(&mut joined, alloc, count, 3)?;
@@ -65,7 +65,7 @@ fn one_loop_reads_what_is_typed_wherever_it_is_edited(rt: HostRuntime) -> Result
 #[test]
 fn nothing_is_read_before_it_comes(rt: HostRuntime) -> Result<(), Fail> {
     let mut joined = start(rt.alloc(), Editing::Remote)?;
-    joined.happen(rt.alloc(), Event::Asked)?;
+    joined.happen(rt.alloc(), Event::Take)?;
     joined.happen(rt.alloc(), Event::Typed(text_of(rt.alloc(), b"hi\r")?))?;
     assert!(&rt; joined.puts.is_empty());
     Ok(())

@@ -1,4 +1,4 @@
-use Rattle.tn_escape.proofs.Splitting.{every}
+use Rattle.tn_escape.proofs.Sorting.{every}
 use Rattle.tn_escape.proofs.laws.every_byte_is_a_key.Goals as goal
 
 pub returns : goal.returns

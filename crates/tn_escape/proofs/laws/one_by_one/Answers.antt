@@ -1,4 +1,4 @@
-use Rattle.tn_escape.proofs.Splitting.{taken}
+use Rattle.tn_escape.proofs.Sorting.{taken}
 use Rattle.tn_escape.proofs.laws.one_by_one.Goals as goal
 
 pub returns : goal.returns

@@ -1,13 +1,13 @@
 use Rattle.std.proofs.Common.{IfOk, subst}
 use Rattle.tn_session.specs.Client.{IsClientRun}
 use Rattle.tn_session.specs.Facts.{client_result}
-use Rattle.tn_streams.specs.Known.{known_reader, known_writing}
+use Rattle.tn_streams.specs.Known.{known_reader, known_typing, known_writing}
 use Rattle.tn_session.proofs.client.run.Goals as goal
 
 pub returns-clause-ran : goal.returns-clause-ran
 returns-clause-ran g c =
     let keys = c.in-Some-start_reader.keys in
-    let keys_reader = known_reader g.K.Source.remaining g.K.Source.foretold g.K.Source.sizes in
+    let keys_reader = known_typing g.K.Source.remaining g.K.Source.foretold g.K.Source.sizes g.K.Source.controls in
     let net_reader = known_reader g.N.Source.remaining g.N.Source.foretold g.N.Source.sizes in
     let writer = known_writing g.W.Drain.contents g.W.Drain.told c.args.writer.now c.run_beside.new.writer in
     let screen = known_writing g.S.Drain.contents g.S.Drain.told c.args.screen.now c.run_beside.new.screen in

@@ -3,11 +3,11 @@ use Rattle.crossbeam_channel.specs.Claims.{view}
 use Rattle.tn_session.proofs.ClientWhole.{client_ran}
 use Rattle.tn_session.proofs.Stopped.{told_words, seat_at}
 use Rattle.tn_session.specs.CoreTurns.{CoreHandles}
-use Rattle.tn_session.specs.Reader.{ReaderSends}
+use Rattle.tn_session.specs.Reader.{TypingSends}
 use Rattle.tn_session.specs.Stops.{has_stopped}
 use Rattle.tn_session.specs.Client.{client_report}
 use Rattle.tn_session.specs.Facts.{client_result}
-use Rattle.tn_streams.specs.Known.{known_reader, known_writing}
+use Rattle.tn_streams.specs.Known.{known_typing, known_writing}
 use Rattle.tn_session.proofs.client.run_beside.Goals as goal
 
 pub returns-clause-ran : goal.returns-clause-ran
@@ -17,15 +17,16 @@ returns-clause-ran g c =
     let join = c.in-Some-join in
     let returned = join.returned in
     let ended = c.in-Some in
-    let keys_reader = known_reader g.K.Source.remaining g.K.Source.foretold g.K.Source.sizes started.keys.promise.reader.value in
-    let net_reader = known_reader g.N.Source.remaining g.N.Source.foretold g.N.Source.sizes started.net.promise.reader.value in
+    let keys_reader = known_typing g.K.Source.remaining g.K.Source.foretold g.K.Source.sizes g.K.Source.controls started.keys.promise.reader.value in
+    let net_typing = known_typing g.N.Source.remaining g.N.Source.foretold g.N.Source.sizes g.N.Source.controls started.net.promise.reader.value in
+    let net_reader = net_typing.reader in
     let writer = known_writing g.W.Drain.contents g.W.Drain.told c.args.writer.now c.run_core.new.writer in
     let screen = known_writing g.S.Drain.contents g.S.Drain.told c.args.screen.now c.run_core.new.screen in
     let same = ap (λ p. view p) c.settle-ports.ensures.told ∙ c.settle-told.ensures.same in
     client_ran c.args.core.now c.run_core.new.core (has_stopped returned.keys.stops) keys_reader net_reader writer screen (view c.args.pass) (view ended.pass) (view returned.net) (view returned.keys.pass) (client_result c.report.result ports)
     c.requires.mailbox.2 (subst (λ n. CoreHandles c.args.core.now (view c.args.pass) (view ended.pass) writer screen n (view ports.told) c.run_core.new.core) (sym c.settle-ports.ensures.transcript) (subst (λ v. CoreHandles c.args.core.now (view c.args.pass) (view ended.pass) writer screen ended.transcript v c.run_core.new.core) (sym same) ended.ensures.acted))
-    (subst (λ s. ReaderSends s false net_reader (view returned.net)) c.requires.net.1 (join.ensures.net.1 c.requires.net.2))
-    (subst (λ s. ReaderSends s (has_stopped returned.keys.stops) keys_reader (view returned.keys.pass)) c.requires.keys.1 join.ensures.keys.1)
+    (subst (λ s. TypingSends s false net_typing (view returned.net)) c.requires.net.1 (join.ensures.net.1 c.requires.net.2)).0
+    (subst (λ s. TypingSends s (has_stopped returned.keys.stops) keys_reader (view returned.keys.pass)) c.requires.keys.1 join.ensures.keys.1)
     (λ on none. c.settle-told.ensures.told on (sym same ∙ none))
     c.settle-ports.ensures.settled (c.report.ensures ∙ ap client_report c.progress.ensures)
 

@@ -3,12 +3,12 @@ use Rattle.crossbeam_channel.specs.Ends.{sends_on}
 use Rattle.tn_session.specs.Credits.{IsSeated}
 use Rattle.tn_session.proofs.Telling.{HasTold}
 use Rattle.tn_session.specs.Stops.{StopsStay}
-use Rattle.tn_streams.specs.Known.{known_reader}
+use Rattle.tn_streams.specs.Known.{known_typing}
 use Rattle.tn_session.proofs.net.run_reader.Given as goal
 
 abbrev pub invariant-loop-read : goal.invariant-loop-read
 invariant-loop-read g l =
-    let known = known_reader g.Rd.Source.remaining g.Rd.Source.foretold g.Rd.Source.sizes in
+    let known = known_typing g.Rd.Source.remaining g.Rd.Source.foretold g.Rd.Source.sizes g.Rd.Source.controls in
     IsSeatAt (sends_on l.to) l.pass
     × HasTold l.part.who (known l.fn.reader) (known l.reader) l._read l.fn.credits l.credits (view l.pass)
     × IsSeated l.credits

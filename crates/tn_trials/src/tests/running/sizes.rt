@@ -1,4 +1,4 @@
-//! A client's window that gets other sizes while keys are typed.
+//! A client's window that gets other sizes while keys are typed, and commands that are sent between them.
 
 ghost use Rattle.std.specs.Prelude.{None};
 
@@ -13,7 +13,7 @@ use std::test::Fail;
 use std::thread::Threads;
 use tn_discipline::Limit;
 use tn_session::{Ended, Gate, Place, Report, client_session};
-use tn_streams::{Source, WindowSize};
+use tn_streams::{Control, Source, WindowSize};
 
 /// What the two readers of a client tell each other.
 #[derive(Drop)]
@@ -61,22 +61,31 @@ impl Gate for Telling {
     }
 }
 
-/// Tells one size before each of its first keys, once the server has asked for it.
+/// Tells one size before each of its first keys, once the server has asked for it, and what is asked for before each.
 #[derive(Drop)]
 struct Window {
     meeting: Arc<Meeting, Global>,
     sizes: &'static [WindowSize],
+    controls: &'static [Option<Control>],
     keys: &'static [u8],
 }
 
 impl Source for Window {
     ghost sizes = { λ _. None };
 
+    ghost controls = { λ _. None };
+
     fn resized(&mut self) -> Option<WindowSize> {
         wait(&self.meeting.asked, &self.meeting.stuck);
         let (first, rest) = self.sizes.split_first()?;
         self.sizes = rest;
         Some(*first)
+    }
+
+    fn control(&mut self) -> Option<Control> {
+        let (first, rest) = self.controls.split_first()?;
+        self.controls = rest;
+        *first
     }
 
     fn read_some(&mut self, buf: &mut [u8]) -> io::Result<usize> {
@@ -109,9 +118,20 @@ const SIZES: &[WindowSize] = &[
     },
 ];
 
-/// WILL NAWS and the size at first; then each size that is another than before, in its place among the keys.
+/// Before the second key, the third, and the end of the keys.
+const CONTROLS: &[Option<Control>] = &[
+    None,
+    Some(Control::Brk),
+    Some(Control::Ip),
+    None,
+    Some(Control::Ayt),
+];
+
+/// WILL NAWS and the size at first; then each size that is another than before, and each command, in its place among
+/// the keys.
 const SENT: &[u8] = b"\xff\xfb\x1f\xff\xfa\x1f\x00\x50\x00\x18\xff\xf0\
-    \xff\xfa\x1f\x00\x64\x00\x28\xff\xf0ab\xff\xfa\x1f\x00\x00\x00\x00\xff\xf0cd";
+    \xff\xfa\x1f\x00\x64\x00\x28\xff\xf0a\xff\xf3b\
+    \xff\xfa\x1f\x00\x00\x00\x00\xff\xf0\xff\xf4cd\xff\xf6";
 
 // A client's session over these readers; the screen is looked at by nobody.
 fn typed<R: Threads + Wait + Copy + Send + 'static>(
@@ -143,6 +163,7 @@ fn types<R: Abort + Threads + Wait + Copy + Send + 'static>(
     let keys = Window {
         meeting: Arc::try_clone(meeting)?,
         sizes: SIZES,
+        controls: CONTROLS,
         keys: b"abcd",
     };
     let telling = Telling {
@@ -156,7 +177,7 @@ fn types<R: Abort + Threads + Wait + Copy + Send + 'static>(
 }
 
 #[test]
-fn a_client_session_tells_sizes_between_keys(rt: HostRuntime) -> Result<(), Fail> {
+fn a_client_session_tells_sizes_and_commands_between_keys(rt: HostRuntime) -> Result<(), Fail> {
     let meeting = Meeting {
         asked: AtomicBool::new(false),
         typed: AtomicBool::new(false),

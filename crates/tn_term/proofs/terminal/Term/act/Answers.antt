@@ -1,5 +1,5 @@
 use Rattle.std.proofs.Common.{ℕ, List, [], IfErr, refl, subst}
-use Rattle.tn_messages.specs.declared.messages.Message.TheVariants.{HangUp, ReadFailed, Left, Resized}
+use Rattle.tn_messages.specs.declared.messages.Message.TheVariants.{HangUp, ReadFailed, Left, Resized, Asked}
 use Rattle.tn_messages.specs.declared.faults.Ended.TheVariants.{Fault}
 use Rattle.tn_messages.specs.declared.faults.SessionFault.TheVariants as fault
 use Rattle.tn_messages.specs.declared.messages.Message.TheVariants.{Said, Refused}
@@ -8,7 +8,7 @@ use Rattle.tn_term.specs.Run.{hang_up, ends_by}
 use Rattle.tn_term.proofs.Doing.{does_nothing, does_then}
 use Rattle.tn_term.proofs.Refusing.{take_cause, said_cause, quiet_cause}
 use Rattle.tn_term.specs.declared.messages.Put.TheVariants.{Nothing}
-use Rattle.tn_term.proofs.Handling.{with_ok, with_stuck, handled_hang_up, handled_fault, handled_left, handled_resized, stops_hang_up, stops_fault, stops_left, stops_resized}
+use Rattle.tn_term.proofs.Handling.{with_ok, with_stuck, handled_hang_up, handled_fault, handled_left, handled_resized, handled_asked, stops_hang_up, stops_fault, stops_left, stops_resized, stops_asked}
 use Rattle.tn_term.proofs.terminal.Term.act.Goals as goal
 
 pub returns-in-HangUp-clause-ok : goal.returns-in-HangUp-clause-ok
@@ -39,6 +39,10 @@ pub returns-in-Resized-clause-ok : goal.returns-in-Resized-clause-ok
 returns-in-Resized-clause-ok c =
     rw c.in-Resized.is (with_ok _ _ c.finish-in-Resized.result Nothing (λ d. handled_resized c.in-Resized.field-0 c.args.self.now c.finish-in-Resized.new.self _ _ c.requires d) c.finish-in-Resized.ensures.ok)
 
+pub returns-in-Asked-clause-ok : goal.returns-in-Asked-clause-ok
+returns-in-Asked-clause-ok c =
+    rw c.in-Asked.is (with_ok _ _ c.finish-in-Asked.result Nothing (λ d. handled_asked c.in-Asked.field-0 c.args.self.now c.finish-in-Asked.new.self _ _ c.requires d) c.finish-in-Asked.ensures.ok)
+
 pub returns-in-Left-clause-err : goal.returns-in-Left-clause-err
 returns-in-Left-clause-err c =
     rw c.in-Left.is (with_stuck c.args.self.now Left _ _ c.finish-in-Left.new.self _ c.finish-in-Left.result Nothing (λ d. stops_left c.args.self.now c.finish-in-Left.new.self _ _ c.requires d) c.finish-in-Left.ensures.err)
@@ -46,6 +50,10 @@ returns-in-Left-clause-err c =
 pub returns-in-Resized-clause-err : goal.returns-in-Resized-clause-err
 returns-in-Resized-clause-err c =
     rw c.in-Resized.is (with_stuck c.args.self.now (Resized c.in-Resized.field-0) _ _ c.finish-in-Resized.new.self _ c.finish-in-Resized.result Nothing (λ d. stops_resized c.in-Resized.field-0 c.args.self.now c.finish-in-Resized.new.self _ _ c.requires d) c.finish-in-Resized.ensures.err)
+
+pub returns-in-Asked-clause-err : goal.returns-in-Asked-clause-err
+returns-in-Asked-clause-err c =
+    rw c.in-Asked.is (with_stuck c.args.self.now (Asked c.in-Asked.field-0) _ _ c.finish-in-Asked.new.self _ c.finish-in-Asked.result Nothing (λ d. stops_asked c.in-Asked.field-0 c.args.self.now c.finish-in-Asked.new.self _ _ c.requires d) c.finish-in-Asked.ensures.err)
 
 pub returns-in-HangUp-clause-cause : goal.returns-in-HangUp-clause-cause
 returns-in-HangUp-clause-cause c =
@@ -81,3 +89,8 @@ pub returns-in-Resized-clause-cause : goal.returns-in-Resized-clause-cause
 returns-in-Resized-clause-cause c =
     let last = c.finish-in-Resized in
     rw c.in-Resized.is (quiet_cause (λ d. d) c.args.self.now c.args.self.now (Resized c.in-Resized.field-0) [] [] _ last.result tt (λ d. refl) (does_nothing c.args.self.now []) last.ensures.fault last.ensures.grows)
+
+pub returns-in-Asked-clause-cause : goal.returns-in-Asked-clause-cause
+returns-in-Asked-clause-cause c =
+    let last = c.finish-in-Asked in
+    rw c.in-Asked.is (quiet_cause (λ d. d) c.args.self.now c.args.self.now (Asked c.in-Asked.field-0) [] [] _ last.result tt (λ d. refl) (does_nothing c.args.self.now []) last.ensures.fault last.ensures.grows)

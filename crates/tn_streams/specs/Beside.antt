@@ -1,0 +1,18 @@
+-- What a reader tells beside its bytes: the sizes of the window in which they are typed, and the control functions
+-- that are asked for between them.
+use Rattle.std.specs.Prelude.{◌≡◌, Option, Some, None, List, ◌∷◌, ◌++◌}
+
+-- the next of these was told, or none; where they are not known, they stay so
+abbrev pub TellsNext : {A : Type 0} → Option (List A) → Option A → Option (List A) → Type 0
+TellsNext None told new = new ≡ None
+TellsNext (Some old) None new = new ≡ Some old
+TellsNext {A} (Some old) (Some one) new = (later : List A) × (old ≡ one ∷ later) × (new ≡ Some later)
+
+-- they were told, one after another
+abbrev pub TellsList : {A : Type 0} → Option (List A) → List A → Option (List A) → Type 0
+TellsList None told new = new ≡ None
+TellsList {A} (Some old) told new = (later : List A) × (old ≡ told ++ later) × (new ≡ Some later)
+
+-- the first of them were told
+abbrev pub TellsFirst : {A : Type 0} → Option (List A) → List A → Type 0
+TellsFirst {A} all told = (later : Option (List A)) × TellsList all told later
