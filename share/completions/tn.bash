@@ -10,9 +10,9 @@ _tn() {
         before=${COMP_WORDS[COMP_CWORD - 2]}
     fi
     case $before in
-        --trace) mapfile -t COMPREPLY < <(compgen -f -- "$word"); return ;;
+        --until|--trace) mapfile -t COMPREPLY < <(compgen -f -- "$word"); return ;;
         --host|--to) mapfile -t COMPREPLY < <(compgen -A hostname -- "$word"); return ;;
-        -p|--port|--limit|--per-host|--count|--ticks|--line|--idle|--longest|--width|--height|--escape|-q) return ;;
+        -p|--port|--limit|--per-host|--count|--ticks|--line|--idle|--longest|--line-cut|--width|--height|--escape|-q) return ;;
     esac
     if ((COMP_CWORD == 1)); then
         words='local replay decode world serve connect help -h --help -V --version'
@@ -27,7 +27,7 @@ _tn() {
             world)
                 words='-h --help' ;;
             serve)
-                words='--host -p --port --limit --per-host --count --forever --ticks --line --idle --longest --local --verbose --to --crlf --cr -h --help' ;;
+                words='--host -p --port --limit --per-host --count --forever --until --ticks --line --idle --longest --local --verbose --to --crlf --cr --line-cut -h --help' ;;
             connect)
                 if [[ $word != -* ]]; then mapfile -t COMPREPLY < <(compgen -A hostname -- "$word"); return; fi
                 words='-p --port --width --height --line --escape --trace -q --quiet --plain --lf --cr -h --help' ;;

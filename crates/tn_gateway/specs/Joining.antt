@@ -3,13 +3,13 @@ use Rattle.std.specs.Prelude.{◌≡◌, ℕ, ◌+◌, false, Option, Some, None
 use Rattle.tn_discipline.specs.declared.reads.Entry.{Entry}
 use Rattle.tn_gateway.specs.Sending.{SendsEntry, WantsMemory, silent}
 use Rattle.tn_gateway.specs.Showing.{Shows}
+use Rattle.tn_gateway.specs.declared.cutting.Lines.{Lines}
 use Rattle.tn_gateway.specs.declared.joining.Gateway.{Gateway}
 use Rattle.tn_gateway.specs.declared.joining.Gateway.TheVariants as side
 use Rattle.tn_gateway.specs.declared.makers.Gateways.{Gateways}
 use Rattle.tn_gateway.specs.declared.sending.Way.TheVariants.{Open}
 use Rattle.tn_jobs.specs.declared.reactions.Reaction.{Reaction}
 use Rattle.tn_jobs.specs.declared.verdicts.After.TheVariants.{Stay, Done}
-use Rattle.tn_lines.specs.declared.line_ends.LineEnd.{LineEnd}
 use Rattle.tn_streams.specs.Foretelling.{Failures}
 use Rattle.tn_streams.specs.Known.{known_reader}
 use Rattle.tn_streams.specs.declared.window.WindowSize.{WindowSize}
@@ -31,18 +31,18 @@ abbrev pub GivesSide : {R W : Type 0} → ℕ → Gateway R W → Type 0
 GivesSide left (side.Sends sending) = Unit {0}
 GivesSide left (side.Shows showing) = left ≡ 1
 
--- it has the reader or the writer that was there for it, and this line end
-abbrev pub GivesPart : {R W : Type 0} → Option R → Option W → LineEnd → Gateway R W → Type 0
-GivesPart reader writer line_end (side.Sends sending) =
-    (writer ≡ Some sending.writer) × (sending.line_end ≡ line_end)
-GivesPart reader writer line_end (side.Shows showing) = reader ≡ Some showing.reader
+-- it has the reader or the writer that was there for it, and its lines go so
+abbrev pub GivesPart : {R W : Type 0} → Option R → Option W → Lines → Gateway R W → Type 0
+GivesPart reader writer lines (side.Sends sending) =
+    (writer ≡ Some sending.writer) × (sending.lines ≡ lines)
+GivesPart reader writer lines (side.Shows showing) = reader ≡ Some showing.reader
 
--- where its connection was still to be made, such a writer is its, and this line end
-abbrev pub GivesReached : {R W A : Type 0} → (W → Type 0) → LineEnd → Option A → Gateway R W → Type 0
-GivesReached reached line_end (Some hook) (side.Sends sending) =
-    reached sending.writer × (sending.line_end ≡ line_end)
-GivesReached reached line_end (Some hook) (side.Shows showing) = Unit {0}
-GivesReached reached line_end None job = Unit {0}
+-- where its connection was still to be made, such a writer is its, and its lines go so
+abbrev pub GivesReached : {R W A : Type 0} → (W → Type 0) → Lines → Option A → Gateway R W → Type 0
+GivesReached reached lines (Some hook) (side.Sends sending) =
+    reached sending.writer × (sending.lines ≡ lines)
+GivesReached reached lines (Some hook) (side.Shows showing) = Unit {0}
+GivesReached reached lines None job = Unit {0}
 
 abbrev pub IsFresh : {R W : Type 0} → Gateway R W → Type 0
 IsFresh (side.Sends sending) = sending.way ≡ Open

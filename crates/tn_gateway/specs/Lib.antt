@@ -1,3 +1,4 @@
+pub mod Cutting
 pub mod Dialing
 pub mod Joining
 pub mod NewLines

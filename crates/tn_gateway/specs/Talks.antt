@@ -5,8 +5,10 @@ use Rattle.std.specs.Io.KnownBytes.{Consumes, IsAtEnd}
 use Rattle.tn_discipline.specs.declared.reads.Entry.{Entry}
 use Rattle.tn_discipline.specs.declared.reads.Entry.TheVariants.{Text, Eof, Signal}
 use Rattle.tn_discipline.specs.declared.reads.Sig.TheVariants.{Int, Quit, Tstp}
+use Rattle.tn_gateway.specs.Cutting.{is_ending}
 use Rattle.tn_gateway.specs.NewLines.{shown_of, waiting}
 use Rattle.tn_gateway.specs.Showing.{IsToFail}
+use Rattle.tn_gateway.specs.declared.cutting.Lines.{Lines}
 use Rattle.tn_gateway.specs.declared.joining.Gateway.{Gateway}
 use Rattle.tn_gateway.specs.declared.joining.Gateway.TheVariants as side
 use Rattle.tn_gateway.specs.declared.sending.Sending.{Sending}
@@ -16,21 +18,27 @@ use Rattle.tn_gateway.specs.declared.showing.Showing.{Showing}
 use Rattle.tn_jobs.specs.declared.reactions.Reaction.{Reaction}
 use Rattle.tn_jobs.specs.declared.verdicts.After.TheVariants.{Stay, Done}
 use Rattle.tn_lines.specs.LineEnds.{line_said}
-use Rattle.tn_lines.specs.declared.line_ends.LineEnd.{LineEnd}
 use Rattle.tn_session.specs.Turns.{Writes, Tells}
 use Rattle.tn_streams.specs.Foretelling.{Failures}
 use Rattle.tn_streams.specs.Known.{KnownReader, KnownWriting, known_reader, known_writing}
 use Rattle.tn_streams.specs.declared.window.WindowSize.{WindowSize}
 use Rattle.tn_streams.specs.Telling.{Calls}
 
--- what is due to the service: each line once, in order, up to the end of file, an interrupt or a quit
-abbrev pub due : LineEnd → List Entry → List ℕ
-due line_end [] = []
-due line_end (Text line ∷ entries) = line_said line_end line ++ due line_end entries
-due line_end (Signal Tstp ∷ entries) = due line_end entries
-due line_end (Signal Int ∷ entries) = []
-due line_end (Signal Quit ∷ entries) = []
-due line_end (Eof ∷ entries) = []
+-- a line, and what is due behind it; or nothing, where it ends the session
+abbrev pub due_from : Bool → List ℕ → List ℕ → List ℕ
+due_from true bytes more = []
+due_from false bytes more = bytes ++ more
+
+-- what is due to the service: each line once, in order, up to the end of file, an interrupt or a quit, or to a line that
+-- ends the session
+abbrev pub due : Lines → List Entry → List ℕ
+due lines [] = []
+due lines (Text line ∷ entries) =
+    due_from (is_ending lines line) (line_said lines.line_end line) (due lines entries)
+due lines (Signal Tstp ∷ entries) = due lines entries
+due lines (Signal Int ∷ entries) = []
+due lines (Signal Quit ∷ entries) = []
+due lines (Eof ∷ entries) = []
 
 -- no write has failed
 abbrev pub goes_well : Way → Bool
@@ -47,7 +55,7 @@ pub record SendsAll (bytes : List ℕ) (writer : KnownWriting) (way : Way) : Typ
 abbrev pub SendsTalk : {R W : Type 0} → (W → Option (List ℕ)) → (W → Option Calls)
     → Sending W → List Entry → Gateway R W → Type 0
 SendsTalk contents told first entries (side.Sends last) =
-    SendsAll (due first.line_end entries) (known_writing contents told first.writer last.writer) last.way
+    SendsAll (due first.lines entries) (known_writing contents told first.writer last.writer) last.way
 SendsTalk contents told first entries (side.Shows last) = ⊥
 
 abbrev pub texts_of : List Reaction → List ℕ

@@ -8,6 +8,7 @@ ghost use Rattle.tn_gateway.specs.Joining.{count};
 ghost use Rattle.tn_network.specs.Asked.{Reaches};
 ghost use Rattle.tn_sockets.specs.Passing.{HandsOn};
 
+use crate::cutting::{HearsCut, Lines};
 use crate::joining::Gateway;
 use crate::makers::Gateways;
 use std::alloc::{AllocError, Global};
@@ -17,7 +18,6 @@ use std::net::{Shutdown, TcpStream};
 use std::sync::atomic::{AtomicBool, Ordering};
 use std::sync::{Arc, Wait};
 use std::time::Duration;
-use tn_lines::LineEnd;
 use tn_network::{Network, Unheard, reach};
 use tn_session::{Finish, Maker};
 use tn_sockets::{Closing, Hook};
@@ -61,36 +61,37 @@ fn halves(stream: TcpStream) -> io::Result<(TcpStream, TcpStream)>
 
 /// Makes the jobs of one session that is joined to a line service: it connects to it for the first of them.
 #[derive(Drop)]
-pub struct Joiner<H> {
+pub struct Joiner<H, N> {
     rt: H,
     host: String,
     port: u16,
-    line_end: LineEnd,
-    hook: Option<Hook>,
-    jobs: Option<Gateways<Heard<H, TcpStream>, Told<H, TcpStream>>>,
+    lines: Lines,
+    hook: Option<(Hook, N)>,
+    jobs: Option<Gateways<Heard<H, TcpStream>, Told<H, TcpStream, N>>>,
 }
 
-impl<H> Joiner<H> {
-    /// Jobs that are joined to the service at this host and port, and hang up by this hook where it ends.
-    pub fn new(rt: H, host: String, port: u16, line_end: LineEnd, hook: Hook) -> Joiner<H>
+impl<H, N> Joiner<H, N> {
+    /// Jobs that are joined to the service at this host and port, hang up by this hook where it ends, and tell
+    /// `notes` of lines that may have been cut.
+    pub fn new(rt: H, host: String, port: u16, lines: Lines, hook: Hook, notes: N) -> Joiner<H, N>
         ensures rt { result.rt ≡ rt }
         ensures host { result.host ≡ host }
         ensures port { result.port ≡ port }
-        ensures line_end { result.line_end ≡ line_end }
+        ensures lines { result.lines ≡ lines }
         ensures new { IsSome result.hook }
     {
         Joiner {
             rt,
             host,
             port,
-            line_end,
-            hook: Some(hook),
+            lines,
+            hook: Some((hook, notes)),
             jobs: None,
         }
     }
 }
 
-impl<H: Copy + Network + Wait> Joiner<H> {
+impl<H: Copy + Network + Wait, N: Drop> Joiner<H, N> {
     // Both halves of a connection to the service, or none where it is not reached; then it is noted why.
     fn dial(&self, alloc: Global, hook: &Hook) -> Option<(TcpStream, TcpStream)>
         ensures { IsReached (Reaches (H.finds self.now.rt (string_bytes self.now.host) self.now.port)
@@ -116,9 +117,10 @@ impl<H: Copy + Network + Wait> Joiner<H> {
         &self,
         alloc: Global,
         hook: Hook,
-    ) -> Result<Gateways<Heard<H, TcpStream>, Told<H, TcpStream>>, AllocError>
+        notes: N,
+    ) -> Result<Gateways<Heard<H, TcpStream>, Told<H, TcpStream, N>>, AllocError>
         ensures both { IfOk result (λ jobs. count jobs.writer + count jobs.reader ≡ 2) }
-        ensures line_end { IfOk result (λ jobs. jobs.line_end ≡ self.now.line_end) }
+        ensures lines { IfOk result (λ jobs. jobs.lines ≡ self.now.lines) }
         ensures reached { IfOk result (λ jobs. IfSome jobs.writer (λ told. IsReached
             (Reaches (H.finds self.now.rt (string_bytes self.now.host) self.now.port) (H.dials self.now.rt))
             told.stream)) }
@@ -135,6 +137,7 @@ impl<H: Copy + Network + Wait> Joiner<H> {
             stream: told,
             hook: hook.another()?,
             said_all: Arc::try_clone(&said_all)?,
+            notes,
         };
         let reader = Heard {
             rt,
@@ -144,30 +147,30 @@ impl<H: Copy + Network + Wait> Joiner<H> {
             said_all,
             returned: false,
         };
-        Ok(Gateways::new(reader, writer, self.line_end))
+        Ok(Gateways::new(reader, writer, self.lines))
     }
 }
 
-impl<H: Copy + Network + Wait> Maker for Joiner<H> {
+impl<H: Copy + Network + Wait, N: HearsCut + Drop> Maker for Joiner<H, N> {
     ghost use Rattle.std.specs.Prelude.{Some, string_bytes};
     ghost use Rattle.tn_gateway.specs.Dialing.{IsReached};
     ghost use Rattle.tn_gateway.specs.Joining.{GivesReached, GivesSide, left_to_make};
     ghost use Rattle.tn_network.specs.Asked.{Reaches};
 
-    type Job = Gateway<Heard<H, TcpStream>, Told<H, TcpStream>>;
+    type Job = Gateway<Heard<H, TcpStream>, Told<H, TcpStream, N>>;
 
     ghost left = { λ joiner. Some (left_to_make joiner.hook joiner.jobs) };
 
     ghost gives = { λ old job new. GivesSide (left_to_make old.hook old.jobs) job
         × GivesReached (λ told. IsReached (Reaches (H.finds old.rt (string_bytes old.host) old.port)
-        (H.dials old.rt)) told.stream) old.line_end old.hook job };
+        (H.dials old.rt)) told.stream) old.lines old.hook job };
 
     fn next(
         &mut self,
         alloc: Global,
-    ) -> Result<Option<Gateway<Heard<H, TcpStream>, Told<H, TcpStream>>>, AllocError> {
-        if let Some(hook) = self.hook.take() {
-            self.jobs = Some(self.join(alloc, hook)?);
+    ) -> Result<Option<Gateway<Heard<H, TcpStream>, Told<H, TcpStream, N>>>, AllocError> {
+        if let Some((hook, notes)) = self.hook.take() {
+            self.jobs = Some(self.join(alloc, hook, notes)?);
         }
         match &mut self.jobs {
             Some(jobs) => {
@@ -270,11 +273,13 @@ impl<H: Copy + Wait, S: Drop + Read + Pacing> Read for Heard<H, S> {
 /// What the service is told. Where the session is over, or the service has said all, one that takes nothing
 /// is given up in time.
 #[derive(Drop)]
-pub struct Told<H, S> {
+pub struct Told<H, S, N> {
     rt: H,
     stream: Option<S>,
     hook: Hook,
     said_all: Arc<AtomicBool, Global>,
+    /// It hears of lines that may have been cut.
+    notes: N,
 }
 
 // tools/progress: d_gateway.pml, ANSWERS Writes as much as the stream takes at once, until the session is
@@ -308,7 +313,7 @@ fn tell<H: Wait, S: Write>(
     Err(io::Error::from(ErrorKind::BrokenPipe))
 }
 
-impl<H: Copy + Wait, S: Drop + Write> Write for Told<H, S> {
+impl<H: Copy + Wait, S: Drop + Write, N: Drop> Write for Told<H, S, N> {
     ghost contents = { λ told. bytes_held S.Write.contents told.stream };
 
     fn write(&mut self, buf: &[u8]) -> io::Result<usize> {
@@ -323,11 +328,17 @@ impl<H: Copy + Wait, S: Drop + Write> Write for Told<H, S> {
     }
 }
 
-impl<H: Copy + Wait, S: Drop + Write + Closing> Finish for Told<H, S> {
+impl<H: Copy + Wait, S: Drop + Write + Closing, N: Drop> Finish for Told<H, S, N> {
     fn finish(&mut self) {
         if let Some(stream) = &self.stream {
             stream.close(Shutdown::Write);
         }
+    }
+}
+
+impl<H, S, N: HearsCut> HearsCut for Told<H, S, N> {
+    fn hear_cut(&self, bytes: usize) {
+        self.notes.hear_cut(bytes);
     }
 }
 

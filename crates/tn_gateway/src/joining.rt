@@ -2,6 +2,7 @@
 
 ghost use Rattle.std.specs.Prelude.{◌≡◌};
 
+use crate::cutting::HearsCut;
 use crate::sending::{Sending, silent};
 use crate::showing::Showing;
 use std::alloc::{AllocError, Global};
@@ -19,7 +20,7 @@ pub enum Gateway<R, W> {
     Shows(Showing<R>),
 }
 
-impl<R: Source + Drop, W: Finish + Drop> Job for Gateway<R, W> {
+impl<R: Source + Drop, W: Finish + HearsCut + Drop> Job for Gateway<R, W> {
     ghost use Rattle.tn_gateway.specs.Joining.{IsFresh, MayRefuse, Reacts, Steps};
 
     ghost fresh = { λ job. IsFresh job };

@@ -2,8 +2,8 @@
 //! the user enters, and the one in the background shows the user what the service says.
 //!
 //! ```
-//! let jobs = Gateways::new(reader, writer, LineEnd::Lf); // both halves of a connection, or any others
-//! let jobs = Joiner::new(rt, host, port, LineEnd::Lf, hook); // of a connection made for the first job
+//! let jobs = Gateways::new(reader, writer, lines); // both halves of a connection, or any others
+//! let jobs = Joiner::new(rt, host, port, lines, hook, notes); // of a connection made for the first job
 //! ```
 //!
 //! It waits for nobody but its reader and its writer. A session ends its jobs; the end of the service ends
@@ -11,6 +11,7 @@
 //! does by its hook.
 #![tactic(auto)]
 
+pub use cutting::{HearsCut, Lines};
 pub use dialing::{Heard, Joiner, Pacing, Told};
 pub use joining::Gateway;
 pub use makers::Gateways;
@@ -19,6 +20,7 @@ pub use showing::Showing;
 pub use tn_lines::LineEnd;
 pub use writing::write_whole;
 
+mod cutting;
 mod dialing;
 mod joining;
 pub mod laws;

@@ -2,11 +2,11 @@
 
 ghost use Rattle.std.specs.Prelude.{◌≡◌, Some};
 
+use crate::cutting::{HearsCut, Lines};
 use crate::joining::Gateway;
 use crate::sending::{Sending, Way};
 use crate::showing::Showing;
 use std::alloc::{AllocError, Global};
-use tn_lines::LineEnd;
 use tn_session::{Finish, Maker};
 use tn_streams::Source;
 
@@ -16,25 +16,25 @@ use tn_streams::Source;
 pub struct Gateways<R, W> {
     reader: Option<R>,
     writer: Option<W>,
-    line_end: LineEnd,
+    lines: Lines,
 }
 
 impl<R, W> Gateways<R, W> {
     /// Jobs that read what the service says by the reader, and write lines to it by the writer.
-    pub fn new(reader: R, writer: W, line_end: LineEnd) -> Gateways<R, W>
+    pub fn new(reader: R, writer: W, lines: Lines) -> Gateways<R, W>
         ensures reader { result.reader ≡ Some reader }
         ensures writer { result.writer ≡ Some writer }
-        ensures line_end { result.line_end ≡ line_end }
+        ensures lines { result.lines ≡ lines }
     {
         Gateways {
             reader: Some(reader),
             writer: Some(writer),
-            line_end,
+            lines,
         }
     }
 }
 
-impl<R: Source + Drop, W: Finish + Drop> Maker for Gateways<R, W> {
+impl<R: Source + Drop, W: Finish + HearsCut + Drop> Maker for Gateways<R, W> {
     ghost use Rattle.std.specs.Prelude.{Some, ◌+◌};
     ghost use Rattle.tn_gateway.specs.Joining.{GivesPart, GivesSide, count};
 
@@ -43,13 +43,13 @@ impl<R: Source + Drop, W: Finish + Drop> Maker for Gateways<R, W> {
     ghost left = { λ maker. Some (count maker.writer + count maker.reader) };
 
     ghost gives = { λ old job new. GivesSide (count old.writer + count old.reader) job
-        × GivesPart old.reader old.writer old.line_end job };
+        × GivesPart old.reader old.writer old.lines job };
 
     fn next(&mut self, _alloc: Global) -> Result<Option<Gateway<R, W>>, AllocError> {
         if let Some(writer) = self.writer.take() {
             return Ok(Some(Gateway::Sends(Sending {
                 writer,
-                line_end: self.line_end,
+                lines: self.lines,
                 way: Way::Open,
             })));
         }

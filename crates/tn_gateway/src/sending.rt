@@ -5,12 +5,12 @@ ghost use Rattle.tn_gateway.specs.Sending.{SendsEntry, WantsMemory, WritesBytes,
 ghost use Rattle.tn_lines.specs.LineEnds.{line_said};
 ghost use Rattle.tn_streams.specs.Known.{known_writing};
 
+use crate::cutting::{HearsCut, Lines};
 use crate::line_ends::line_sent;
 use crate::writing::write_whole;
 use std::alloc::{AllocError, Global};
 use tn_discipline::{Entry, Sig, Text};
 use tn_jobs::{After, Reaction};
-use tn_lines::LineEnd;
 use tn_session::Finish;
 
 /// Whether lines still go to the service.
@@ -27,12 +27,13 @@ pub enum Way {
 #[derive(Drop)]
 pub struct Sending<W> {
     pub(crate) writer: W,
-    pub(crate) line_end: LineEnd,
+    pub(crate) lines: Lines,
     pub(crate) way: Way,
 }
 
-impl<W: Finish> Sending<W> {
-    /// Answers an entry: a line goes to the service, the end of file ends what goes there, an interrupt and a
+impl<W: Finish + HearsCut> Sending<W> {
+    /// Answers an entry: a line goes to the service, or ends the session where it may have been cut and that is
+    /// wanted, the end of file ends what goes there, an interrupt and a
     /// quit end the session too, and a stop does nothing. Out of memory nothing is sent.
     pub(crate) fn answer(&mut self, alloc: Global, entry: Entry) -> Result<Reaction, AllocError>
         ensures answers { IfOk result (λ reaction.
@@ -59,22 +60,37 @@ impl<W: Finish> Sending<W> {
         ensures refused { IfErr result (λ _. WantsMemory self.old (Entry.Text line)) }
     {
         match self.way {
-            Way::Open => {
-                self.send(line)?;
-                Ok(silent(alloc, After::Stay))
-            },
+            Way::Open => self.answer_open(alloc, line),
             Way::Ended => say(alloc, "closed\n", After::Stay),
             Way::Broken => Ok(silent(alloc, After::Stay)),
         }
     }
 
+    // A line while the way is open.
+    fn answer_open(&mut self, alloc: Global, line: Text) -> Result<Reaction, AllocError>
+        requires { self.old.way ≡ Way.Open }
+        ensures { IfOk result (λ reaction.
+            SendsEntry W.contents W.told self.old (Entry.Text line) reaction self.new) }
+    {
+        if self.lines.is_full(line.as_slice()) {
+            self.writer.hear_cut(line.as_slice().len());
+        }
+        if self.lines.is_ending(line.as_slice()) {
+            let reaction = say(alloc, "line cut\n", After::Done)?;
+            self.end();
+            return Ok(reaction);
+        }
+        self.send(line)?;
+        Ok(silent(alloc, After::Stay))
+    }
+
     fn send(&mut self, line: Text) -> Result<(), AllocError>
         requires { self.old.way ≡ Way.Open }
-        ensures sent { OnOk result (WritesBytes (line_said self.old.line_end line)
+        ensures sent { OnOk result (WritesBytes (line_said self.old.lines.line_end line)
             (known_writing W.contents W.told self.old.writer self.new.writer) self.new.way) }
-        ensures line_end { self.new.line_end ≡ self.old.line_end }
+        ensures lines { self.new.lines ≡ self.old.lines }
     {
-        let bytes = line_sent(line, self.line_end)?;
+        let bytes = line_sent(line, self.lines.line_end)?;
         let whole = write_whole(&mut self.writer, &bytes);
         self.way = way_after(whole);
         Ok(())
@@ -84,7 +100,7 @@ impl<W: Finish> Sending<W> {
     fn end(&mut self)
         ensures nothing { WritesNothing (known_writing W.contents W.told self.old.writer self.new.writer) }
         ensures way { self.new.way ≡ ended self.old.way }
-        ensures line_end { self.new.line_end ≡ self.old.line_end }
+        ensures lines { self.new.lines ≡ self.old.lines }
     {
         self.writer.finish();
         self.way = ended(self.way);

@@ -1,5 +1,6 @@
 -- What a service does and hears, call by call.
 use Rattle.std.specs.Prelude.{◌≡◌, ℕ, ◌+◌, ◌==◌, if◌then◌else◌, List, [], ◌∷◌, Result, Ok, Err, sum_by}
+use Rattle.tn_loopback.specs.Ends.{whole_of}
 use Rattle.tn_loopback.specs.declared.finished.Finished.{Finished}
 use Rattle.tn_loopback.specs.declared.turns.Turn.{Turn}
 use Rattle.tn_loopback.specs.declared.turns.Turn.TheVariants.{Made, Refused, Ended}
@@ -31,6 +32,12 @@ ends (Made number) = 0
 ends (Refused number) = 0
 ends (Ended number finished) = 1
 
+-- 1 where it heard that a session has ended without a fault
+abbrev pub ends_whole : Turn → ℕ
+ends_whole (Made number) = 0
+ends_whole (Refused number) = 0
+ends_whole (Ended number finished) = whole_of finished
+
 -- how many of these calls are such
 abbrev pub times : (Turn → ℕ) → List Turn → ℕ
 times is_such [] = 0
@@ -39,6 +46,11 @@ times is_such (turn ∷ earlier) = is_such turn + times is_such earlier
 -- of how many of these each number is the number
 abbrev pub live_of : {S : Type 0} → List S → (S → ℕ) → ℕ → ℕ
 live_of started number_of number = sum_by (λ s. is_same number (number_of s)) started
+
+-- one more has ended so
+abbrev pub IsOneEnd : Finished → ℕ → ℕ → ℕ → ℕ → Type 0
+IsOneEnd finished whole faulted whole' faulted' =
+    (whole' ≡ whole + whole_of finished) × (whole' + faulted' ≡ whole + faulted + 1)
 
 -- one more has this number
 abbrev pub IsOneMore : ℕ → (ℕ → ℕ) → (ℕ → ℕ) → Type 0
@@ -57,35 +69,38 @@ module _ {V : Type 0} (turns : V → Turn → V → Type 0) (HasEnded : Finished
   IsCalled (turn ∷ earlier) now =
       (before : V) × IsCalled earlier before × turns before turn now × TellsSo HasEnded turn
 
-  -- So many connections are counted, and as often as a number is live, its session has jobs and has not ended: each
-  -- session that got jobs ends once, and is counted then; a connection is counted too that never got any.
-  pub record Hears (counted : ℕ) (now : V) (live : ℕ → ℕ) : Type 0 where
+  -- So many sessions are counted, without a fault and with one, and as often as a number is live, its session has jobs
+  -- and has not ended: each session that got jobs ends once, and is counted then as it was heard; a connection that never
+  -- got any is counted as one with a fault.
+  pub record Hears (whole faulted : ℕ) (now : V) (live : ℕ → ℕ) : Type 0 where
     pub calls : List Turn
     pub called : IsCalled calls now
     pub each : (number : ℕ) → times (made_for number) calls ≡ times (ended_for number) calls + live number
     pub without : ℕ
-    pub all : counted ≡ times ends calls + without
+    pub all : whole + faulted ≡ times ends calls + without
+    pub whole_ones : whole ≡ times ends_whole calls
 
   -- all that got jobs have ended
-  abbrev pub HearsAll : ℕ → Type 0
-  HearsAll counted = (last : V) × Hears counted last (λ _. 0)
+  abbrev pub HearsAll : ℕ → ℕ → Type 0
+  HearsAll whole faulted = (last : V) × Hears whole faulted last (λ _. 0)
 
 module _ {V : Type 0} (turns : V → Turn → V → Type 0) (HasEnded : Finished → Type 0) where
   -- what was so up to the old service, is so up to the new one
-  abbrev pub StillHears : ℕ → V → (ℕ → ℕ) → ℕ → V → (ℕ → ℕ) → Type 0
-  StillHears counted now live counted' now' live' =
-      (first : V) → Hears turns HasEnded first counted now live → Hears turns HasEnded first counted' now' live'
+  abbrev pub StillHears : ℕ → ℕ → V → (ℕ → ℕ) → ℕ → ℕ → V → (ℕ → ℕ) → Type 0
+  StillHears whole faulted now live whole' faulted' now' live' = (first : V)
+      → Hears turns HasEnded first whole faulted now live → Hears turns HasEnded first whole' faulted' now' live'
 
   -- one more session has jobs
   abbrev pub HearsOfJobs : ℕ → V → V → Type 0
-  HearsOfJobs number old new =
-      (counted : ℕ) (live live' : ℕ → ℕ) → IsOneMore number live live' → StillHears counted old live counted new live'
+  HearsOfJobs number old new = (whole faulted : ℕ) (live live' : ℕ → ℕ)
+      → IsOneMore number live live' → StillHears whole faulted old live whole faulted new live'
 
   -- one more connection is counted
   abbrev pub HearsOfNone : V → V → Type 0
-  HearsOfNone old new = (counted : ℕ) (live : ℕ → ℕ) → StillHears counted old live (counted + 1) new live
+  HearsOfNone old new = (whole faulted : ℕ) (live : ℕ → ℕ) → StillHears whole faulted old live whole (faulted + 1) new live
 
   -- one more session has ended
-  abbrev pub HearsOfEnd : ℕ → V → V → Type 0
-  HearsOfEnd number old new =
-      (counted : ℕ) (live live' : ℕ → ℕ) → IsOneMore number live' live → StillHears counted old live (counted + 1) new live'
+  abbrev pub HearsOfEnd : ℕ → Finished → V → V → Type 0
+  HearsOfEnd number finished old new = (whole faulted whole' faulted' : ℕ) (live live' : ℕ → ℕ)
+      → IsOneMore number live' live → IsOneEnd finished whole faulted whole' faulted'
+      → StillHears whole faulted old live whole' faulted' new live'

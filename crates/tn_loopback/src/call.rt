@@ -1,6 +1,10 @@
 //! A connection that comes to a server.
 
+use crate::events::Event;
+use crossbeam_channel::Sender;
+use std::alloc::Global;
 use std::net::SocketAddr;
+use std::sync::Wait;
 use tn_sockets::Hook;
 
 /// A connection that is to have a session.
@@ -11,4 +15,19 @@ pub struct Call {
     /// Who it is with.
     pub peer: SocketAddr,
     pub hook: Hook,
+    pub notes: Notes,
+}
+
+/// By it a job has something noted of its session, where its server notes anything.
+#[derive(Drop)]
+pub struct Notes {
+    pub(crate) events: Sender<Event, Global>,
+    pub(crate) number: usize,
+}
+
+impl Notes {
+    /// Has it noted that a line of so many bytes may have been cut. While too much is to be noted, that is dropped.
+    pub fn note_cut<R: Wait>(&self, rt: &R, bytes: usize) {
+        let _ = self.events.try_send(rt, Event::Cut(self.number, bytes));
+    }
 }

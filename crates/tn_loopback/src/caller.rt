@@ -9,7 +9,7 @@ pub(crate) struct Caller {
     /// The session's number, which another session gets once this one has ended.
     pub(crate) number: usize,
     /// Which of the accepted connections it is, from 1 on. No other has it.
-    pub(crate) serial: u32,
+    pub(crate) serial: u64,
     pub(crate) peer: SocketAddr,
     pub(crate) since: Option<Instant>,
 }

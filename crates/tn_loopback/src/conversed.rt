@@ -22,7 +22,7 @@ pub struct Conversed {
 pub(crate) struct Ran {
     // What it gave, or why it did not come to its report.
     pub(crate) ended: Result<Conversed, SessionFault>,
-    // Its client sent nothing for too long.
+    // Its client typed nothing for too long.
     pub(crate) idle: bool,
     // It lasted too long.
     pub(crate) too_long: bool,

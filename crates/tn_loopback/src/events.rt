@@ -10,8 +10,12 @@ pub(crate) enum Event {
     Came(TcpStream, SocketAddr),
     /// The machine can give no connection now, for this reason.
     Starved(io::Error),
-    /// No connection can be accepted any more.
-    Broke,
+    /// Nothing happened for a while.
+    Quiet,
+    /// No connection is accepted any more.
+    Closed,
+    /// A line of so many bytes, of the session with this number, may have been cut.
+    Cut(usize, usize),
     /// The session with this number has ended, and its thread is about to.
     Ended(usize),
 }

@@ -10,7 +10,7 @@ use tn_session::{Report, SessionFault};
 pub struct Finished {
     /// What the session tells, or why it did not run to its report.
     pub report: Result<Report, SessionFault>,
-    /// Its client sent nothing for too long.
+    /// Its client typed nothing for too long.
     pub idle: bool,
     /// It lasted too long.
     pub too_long: bool,

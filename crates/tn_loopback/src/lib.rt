@@ -2,7 +2,7 @@
 //!
 //! ```
 //! let at = At { host: "127.0.0.1", port: 2323 };
-//! serve(rt, alloc, at, serving, service, &mut errors, &mut causes)?;
+//! serve(rt, alloc, at, serving, Never, service, &mut errors, &mut causes)?;
 //! ```
 //!
 //! Nothing is proved about what a connection carries: the sessions are proved for whatever their readers
@@ -10,7 +10,7 @@
 //! `tn_connect`.
 #![tactic(auto)]
 
-pub use call::Call;
+pub use call::{Call, Notes};
 pub use conversed::Conversed;
 pub use fault::ServeFault;
 pub use finished::Finished;
@@ -22,6 +22,7 @@ pub use session::serve_connection;
 pub use settings::{Serving, SessionOptions};
 pub use tn_sockets::{Hook, Host};
 pub use turns::Turn;
+pub use until::{Never, Until};
 
 mod acceptor;
 mod asked;
@@ -41,4 +42,6 @@ mod session;
 mod settings;
 mod times;
 mod traffic;
+mod turned;
 mod turns;
+mod until;

@@ -39,7 +39,7 @@ pub(crate) fn note_began<C: Clock, E: Write>(
 pub(crate) fn note_full<C: Clock, E: Write>(
     clock: &C,
     alloc: Global,
-    serial: u32,
+    serial: u64,
     peer: &SocketAddr,
     errors: &mut E,
 ) {
@@ -57,6 +57,29 @@ pub(crate) fn note_refused_accept<C: Clock, E: Write>(
 ) {
     let mut line = stamp(clock, alloc);
     let _ = writeln!(line, "no connection can be accepted now: {}", error);
+    let _ = errors.write_all(&line);
+}
+
+/// No connection is accepted any more.
+pub(crate) fn note_closed<C: Clock, E: Write>(clock: &C, alloc: Global, errors: &mut E) {
+    let mut line = stamp(clock, alloc);
+    let _ = writeln!(line, "no more connections are accepted");
+    let _ = errors.write_all(&line);
+}
+
+/// A line of so many bytes may have been cut.
+pub(crate) fn note_cut<C: Clock, E: Write>(
+    clock: &C,
+    alloc: Global,
+    caller: &Caller,
+    bytes: usize,
+    errors: &mut E,
+) {
+    let mut line = stamp(clock, alloc);
+    let _ = whose(&mut line, caller);
+    let _ = write!(line, ": a line of ");
+    let _ = grouped(&mut line, alloc, bytes as u64);
+    let _ = writeln!(line, " bytes may have been cut");
     let _ = errors.write_all(&line);
 }
 

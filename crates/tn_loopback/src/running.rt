@@ -4,7 +4,7 @@ ghost use Rattle.std.specs.Net.Socket.{socket_ip};
 ghost use Rattle.std.specs.Prelude.{◌≡◌, ◌<◌, ◌≤◌, ◌+◌, ◌-◌, ◌^◌, true, false, IfSome, IfNone, vec_items, vec_len, vec_capacity};
 ghost use Rattle.tn_loopback.specs.Counted.{HasEnded, StillCounts, facts_of, server_of};
 ghost use Rattle.tn_loopback.specs.Places.{HasNoPlace, count_at, count_from, is_same};
-ghost use Rattle.tn_loopback.specs.Turns.{IsOneMore, live_of};
+ghost use Rattle.tn_loopback.specs.Turns.{IsOneEnd, IsOneMore, live_of};
 ghost use Rattle.tn_roster.specs.Held.{Enters};
 
 use crate::asked::Asked;
@@ -84,10 +84,10 @@ pub(crate) struct Left {
 #[derive(Drop)]
 pub(crate) struct Running<J: Job, M: Maker<Job = J>, O: Asked<M>> {
     pub(crate) started: Vec<Started<M, O>>,
-    pub(crate) accepted: u32,
-    pub(crate) whole: u32,
-    pub(crate) faulted: u32,
-    pub(crate) refused: u32,
+    pub(crate) accepted: u64,
+    pub(crate) whole: u64,
+    pub(crate) faulted: u64,
+    pub(crate) refused: u64,
     ghost counted: { vec_len started + whole + faulted + refused ≡ accepted },
 }
 
@@ -136,6 +136,12 @@ impl<J: Job, M: Maker<Job = J>, O: Asked<M>> Running<J, M, O> {
         None
     }
 
+    /// Who the session with this number is with, if there is one.
+    pub(crate) fn caller_of(&self, number: usize) -> Option<Caller> {
+        let place = self.place_of(number)?;
+        Some(self.started[place].caller)
+    }
+
     // How many sessions are from the address of this peer.
     fn count_from(&self, peer: &SocketAddr) -> usize
         ensures { result ≡ count_from (λ s. s.caller.peer) peer.now
@@ -174,7 +180,7 @@ impl<J: Job, M: Maker<Job = J>, O: Asked<M>> Running<J, M, O> {
         ensures joined { vec_len self.new.started + 1 ≡ vec_len self.old.started }
         ensures ended { HasEnded
             (server_of (facts_of J.fresh M.gives J.reacts J.steps J.refuses) M.left O.options O.made O.turned) result.finished }
-        ensures one { self.new.whole + self.new.faulted ≡ self.old.whole + self.old.faulted + 1 }
+        ensures end { IsOneEnd result.finished self.old.whole self.old.faulted self.new.whole self.new.faulted }
         ensures closed { IsOneMore result.caller.number
             (live_of (vec_items self.new.started) (λ s. s.caller.number))
             (live_of (vec_items self.old.started) (λ s. s.caller.number)) }
@@ -205,7 +211,7 @@ impl<J: Job, M: Maker<Job = J>, O: Asked<M>> Running<J, M, O> {
     /// Counts an accepted connection, and keeps its session, which was started.
     pub(crate) fn keep(&mut self, session: Started<M, O>)
         requires room { vec_len self.old.started < vec_capacity self.old.started }
-        requires more { self.old.accepted < 2 ^ 32 - 1 }
+        requires more { self.old.accepted < 2 ^ 64 - 1 }
         ensures accepted { self.new.accepted ≡ self.old.accepted + 1 }
         ensures one { vec_len self.new.started ≡ vec_len self.old.started + 1 }
         ensures opened { IsOneMore session.caller.number
@@ -220,10 +226,10 @@ impl<J: Job, M: Maker<Job = J>, O: Asked<M>> Running<J, M, O> {
 
     /// Counts an accepted connection whose session could not be started.
     pub(crate) fn fail(&mut self)
-        requires { self.old.accepted < 2 ^ 32 - 1 }
+        requires { self.old.accepted < 2 ^ 64 - 1 }
         ensures accepted { self.new.accepted ≡ self.old.accepted + 1 }
         ensures same { self.new.started ≡ self.old.started }
-        ensures one { self.new.whole + self.new.faulted ≡ self.old.whole + self.old.faulted + 1 }
+        ensures one { (self.new.whole ≡ self.old.whole) × (self.new.faulted ≡ self.old.faulted + 1) }
         ensures each { StillCounts
             (server_of (facts_of J.fresh M.gives J.reacts J.steps J.refuses) M.left O.options O.made O.turned)
             self.old.whole self.old.faulted self.old.refused self.new.whole self.new.faulted self.new.refused }
@@ -243,7 +249,7 @@ impl<J: Job, M: Maker<Job = J>, O: Asked<M>> Running<J, M, O> {
         requires full { HasNoPlace _roster.now _per_host (count_from
             (λ s. s.caller.peer) _peer.now (vec_items self.old.started)) }
         requires told { O.turned _told.now }
-        requires more { self.old.accepted < 2 ^ 32 - 1 }
+        requires more { self.old.accepted < 2 ^ 64 - 1 }
         ensures accepted { self.new.accepted ≡ self.old.accepted + 1 }
         ensures same { self.new.started ≡ self.old.started }
         ensures counts { (self.new.whole ≡ self.old.whole) × (self.new.faulted ≡ self.old.faulted) }

@@ -3,7 +3,7 @@
 ghost use Rattle.std.specs.Prelude.{◌≡◌, ◌<◌, ◌≤◌, ◌+◌, ◌^◌, ◌-◌, true, IfOk, IfSome, IfNone, IsErrOf, vec_items, vec_len};
 ghost use Rattle.tn_loopback.specs.Causes.{IsCaused};
 ghost use Rattle.tn_loopback.specs.Counted.{CountsSessions, HasEnded, StillCounts, facts_of, server_of};
-ghost use Rattle.tn_loopback.specs.Ends.{ServesAll};
+ghost use Rattle.tn_loopback.specs.Ends.{ServesAll, ServesUntil};
 ghost use Rattle.tn_loopback.specs.Places.{HasNoPlace, count_from};
 ghost use Rattle.tn_loopback.specs.Services.{MakesOnly, StillMakes, TurnsAway, WasTurnedAway};
 ghost use Rattle.tn_loopback.specs.Turns.{HearsAll, HearsOfJobs, HearsOfNone, StillHears, live_of};
@@ -12,28 +12,31 @@ ghost use Rattle.tn_roster.specs.Held.{IsLimit, held_count};
 
 use crate::acceptor::Acceptor;
 use crate::asked::Asked;
-use crate::call::Call;
+use crate::call::{Call, Notes};
 use crate::caller::Caller;
 use crate::conversed::Ran;
 use crate::events::Event;
 use crate::fault::ServeFault;
 use crate::finished::Finished;
 use crate::listening::{At, listen_at};
-use crate::notes::{note_began, note_end, note_full, note_listening, note_refused_accept};
+use crate::notes::{
+    note_began, note_closed, note_cut, note_end, note_full, note_listening, note_refused_accept,
+};
 use crate::running::{Running, Started, tell_fault};
 use crate::served::Served;
 use crate::service::Service;
 use crate::session::Session;
 use crate::settings::Serving;
 use crate::traffic::{Noted, Passed, Traffic};
-use crossbeam_channel::{Receiver, Sender};
+use crate::turned::TurnedAway;
+use crate::until::{Never, Until};
+use crossbeam_channel::{Receiver, RecvTimeoutError, Sender};
 use std::alloc::Global;
-use std::collections::VecDeque;
 use std::io::Write;
 use std::marker::Brand;
 use std::net::{SocketAddr, TcpListener, TcpStream};
 use std::sync::Arc;
-use std::time::Instant;
+use std::time::{Duration, Instant};
 use tn_network::Network;
 use tn_roster::Roster;
 use tn_sockets::{Hook, Host, Standing};
@@ -41,37 +44,36 @@ use tn_sockets::{Hook, Host, Standing};
 /// How many events wait at most for the loop.
 const EVENTS: usize = 16;
 
-/// How many connections that were told `full` are kept open for their peers to close. One that is closed
-/// here at once could lose that word where its peer sends something.
-const KEPT_OPEN: usize = 16;
-
-/// Serves an address, or a name that has one, until so many connections were accepted and all their
-/// sessions have ended. Each connection has a session in threads of its own, with the jobs that the service
-/// makes for it, as long as there are no more of them, and no more from its address, than there may be; one more
-/// is told `full` and closed.
+/// Serves an address, or a name that has one, until so many connections were accepted, or `until` tells that no
+/// more are to come, and all their sessions have ended. Each connection has a session in threads of its own, with
+/// the jobs that the service makes for it, as long as there are no more of them, and no more from its address,
+/// than there may be; one more is told `full` and closed.
 /// One that ends in a fault is reported in two lines on `errors`, the second a note of how it ended, and
 /// changes nothing else. Where it cannot listen, `causes` gets a line. Each session is a call of
-/// `serve_connection`; the clauses below count them, and say what the network was asked for.
-pub fn serve<H, V, E>(
+/// `serve_connection`; the clauses below count them, and say what the network was asked for. None makes it ask
+/// `until`.
+pub fn serve<H, U, V, E>(
     rt: H,
     alloc: Global,
     at: At<'_>,
     serving: Serving,
+    until: U,
     service: V,
     errors: &mut E,
     causes: &mut Vec<u8>,
 ) -> Result<Served, ServeFault>
 where
     H: Host + Network,
+    U: Until + Drop + Send + 'static,
     V: Service + Drop,
     E: Write,
-    ensures all { IfOk result (ServesAll serving.count) }
+    ensures all { IfOk result (ServesUntil serving.count (U.ends until)) }
     ensures each { IfOk result (λ served. CountsSessions (server_of
         (facts_of V.Job.fresh V.Jobs.gives V.Job.reacts V.Job.steps V.Job.refuses) V.Jobs.left serving.options
         (V.makes service) (WasTurnedAway (H.dismisses rt))) served.whole served.faulted served.refused) }
     ensures heard { IfOk result (λ served. HearsAll V.turns (HasEnded (server_of
         (facts_of V.Job.fresh V.Jobs.gives V.Job.reacts V.Job.steps V.Job.refuses) V.Jobs.left serving.options
-        (V.makes service) (WasTurnedAway (H.dismisses rt)))) service (served.whole + served.faulted)) }
+        (V.makes service) (WasTurnedAway (H.dismisses rt)))) service served.whole served.faulted) }
     ensures listened { Listens (H.listens rt at.entry.host.now at.entry.port) (H.shares rt) (H.accepts rt)
         (λ (served : Served). served.accepted) result }
     ensures caused { IsCaused (H.listens rt at.entry.host.now at.entry.port)
@@ -79,10 +81,10 @@ where
     ensures limit { IsErrOf result ServeFault.Limit → ¬ IsLimit serving.sessions }
 {
     let listener = listen_at(&rt, at, causes)?;
-    serve_on(rt, alloc, &listener, serving, service, errors)
+    serve_as::<H, U, V, E, Brand>(rt, alloc, &listener, serving, until, service, errors)
 }
 
-/// The same, over an existing listener.
+/// The same, over an existing listener, where nothing ends it before its count.
 pub fn serve_on<H: Host + Network, V: Service + Drop, E: Write>(
     rt: H,
     alloc: Global,
@@ -97,33 +99,40 @@ pub fn serve_on<H: Host + Network, V: Service + Drop, E: Write>(
         (V.makes service) (WasTurnedAway (H.dismisses rt))) served.whole served.faulted served.refused) }
     ensures heard { IfOk result (λ served. HearsAll V.turns (HasEnded (server_of
         (facts_of V.Job.fresh V.Jobs.gives V.Job.reacts V.Job.steps V.Job.refuses) V.Jobs.left serving.options
-        (V.makes service) (WasTurnedAway (H.dismisses rt)))) service (served.whole + served.faulted)) }
+        (V.makes service) (WasTurnedAway (H.dismisses rt)))) service served.whole served.faulted) }
     ensures accepted { IfOk result (λ served. Accepts (H.shares rt listener.now) (H.accepts rt) served.accepted) }
     ensures limit { IsErrOf result ServeFault.Limit → ¬ IsLimit serving.sessions }
     ensures bad_limit { (¬ IsLimit serving.sessions) → IsErrOf result ServeFault.Limit }
 {
-    serve_as::<H, V, E, Brand>(rt, alloc, listener, serving, service, errors)
+    serve_as::<H, Never, V, E, Brand>(rt, alloc, listener, serving, Never, service, errors)
 }
 
 // The same, for contracts that know the options of its sessions.
-fn serve_as<H: Host + Network, V: Service + Drop, E: Write, O: Asked<V::Jobs>>(
+fn serve_as<
+    H: Host + Network,
+    U: Until + Drop + Send + 'static,
+    V: Service + Drop,
+    E: Write,
+    O: Asked<V::Jobs>,
+>(
     rt: H,
     alloc: Global,
     listener: &TcpListener,
     serving: Serving,
+    until: U,
     service: V,
     errors: &mut E,
 ) -> Result<Served, ServeFault>
     requires asked { serving.options ≡ O.options }
     requires makes { MakesOnly V.makes service O.made }
     requires turns { TurnsAway (H.dismisses rt) O.turned }
-    ensures all { IfOk result (ServesAll serving.count) }
+    ensures all { IfOk result (ServesUntil serving.count (U.ends until)) }
     ensures each { IfOk result (λ served. CountsSessions (server_of
         (facts_of V.Job.fresh V.Jobs.gives V.Job.reacts V.Job.steps V.Job.refuses) V.Jobs.left O.options O.made O.turned)
         served.whole served.faulted served.refused) }
     ensures heard { IfOk result (λ served. HearsAll V.turns (HasEnded (server_of
         (facts_of V.Job.fresh V.Jobs.gives V.Job.reacts V.Job.steps V.Job.refuses) V.Jobs.left O.options O.made O.turned))
-        service (served.whole + served.faulted)) }
+        service served.whole served.faulted) }
     ensures accepted { IfOk result (λ served. Accepts (H.shares rt listener.now) (H.accepts rt) served.accepted) }
     ensures limit { IsErrOf result ServeFault.Limit → ¬ IsLimit serving.sessions }
     ensures bad_limit { (¬ IsLimit serving.sessions) → IsErrOf result ServeFault.Limit }
@@ -139,6 +148,7 @@ fn serve_as<H: Host + Network, V: Service + Drop, E: Write, O: Asked<V::Jobs>>(
         listener: rt.share(listener)?,
         events: sender.clone()?,
         count,
+        until,
         verbose: serving.verbose,
     };
     let Some(acceptor) = acceptor.start() else {
@@ -151,9 +161,9 @@ fn serve_as<H: Host + Network, V: Service + Drop, E: Write, O: Asked<V::Jobs>>(
         service,
         roster,
         running: Running::new(alloc),
-        is_broken: false,
+        is_closed: false,
         events: sender,
-        turned_away: VecDeque::new(alloc),
+        turned_away: TurnedAway::new(alloc),
     };
     open.serve_all(&receiver, errors);
     open.join_all(errors);
@@ -161,7 +171,10 @@ fn serve_as<H: Host + Network, V: Service + Drop, E: Write, O: Asked<V::Jobs>>(
     drop(open);
     drop(receiver);
     let accepted = acceptor.join(&rt);
-    if served.accepted() != count || accepted != count {
+    if served.accepted() != accepted.count {
+        return Err(ServeFault::Network);
+    }
+    if !accepted.are_enough(count) {
         return Err(ServeFault::Network);
     }
     Ok(served)
@@ -171,6 +184,8 @@ fn serve_as<H: Host + Network, V: Service + Drop, E: Write, O: Asked<V::Jobs>>(
 #[derive(Drop)]
 struct Prepared {
     events: Sender<Event, Global>,
+    /// For the notes of its jobs.
+    noting: Sender<Event, Global>,
     standing: Arc<Standing, Global>,
     hook: Hook,
     traffic: Arc<Traffic, Global>,
@@ -188,9 +203,9 @@ struct Open<H, V: Service, O: Asked<V::Jobs>> {
     roster: Roster,
     running: Running<V::Job, V::Jobs, O>,
     /// No more connections come.
-    is_broken: bool,
+    is_closed: bool,
     events: Sender<Event, Global>,
-    turned_away: VecDeque<TcpStream>,
+    turned_away: TurnedAway,
     ghost within: { vec_len running.started ≤ held_count roster },
     ghost asked: { serving.options ≡ O.options },
 }
@@ -205,9 +220,9 @@ impl<H: Host + Network, V: Service, O: Asked<V::Jobs>> Open<H, V, O> {
             self.new.running.whole self.new.running.faulted self.new.running.refused }
         ensures heard { StillHears V.turns (HasEnded (server_of
             (facts_of V.Job.fresh V.Jobs.gives V.Job.reacts V.Job.steps V.Job.refuses) V.Jobs.left O.options O.made O.turned))
-            (self.old.running.whole + self.old.running.faulted) self.old.service
+            self.old.running.whole self.old.running.faulted self.old.service
             (live_of (vec_items self.old.running.started) (λ s. s.caller.number))
-            (self.new.running.whole + self.new.running.faulted) self.new.service
+            self.new.running.whole self.new.running.faulted self.new.service
             (live_of (vec_items self.new.running.started) (λ s. s.caller.number)) }
     {
         let rt = self.rt;
@@ -215,7 +230,8 @@ impl<H: Host + Network, V: Service, O: Asked<V::Jobs>> Open<H, V, O> {
             if self.is_done() {
                 return;
             }
-            let Ok(event) = events.recv(&rt) else {
+            let time = self.turned_away.close(&rt);
+            let Some(event) = next_event(&rt, events, time) else {
                 return;
             };
             self.handle(event, errors);
@@ -226,7 +242,7 @@ impl<H: Host + Network, V: Service, O: Asked<V::Jobs>> Open<H, V, O> {
     fn is_done(&self) -> bool
         ensures { result ≡ true → vec_len self.now.running.started ≡ 0 }
     {
-        (self.is_broken || self.running.accepted >= self.serving.count) && self.running.is_empty()
+        (self.is_closed || self.running.accepted >= self.serving.count) && self.running.is_empty()
     }
 
     fn handle<E: Write>(&mut self, event: Event, errors: &mut E)
@@ -238,9 +254,9 @@ impl<H: Host + Network, V: Service, O: Asked<V::Jobs>> Open<H, V, O> {
             self.new.running.whole self.new.running.faulted self.new.running.refused }
         ensures heard { StillHears V.turns (HasEnded (server_of
             (facts_of V.Job.fresh V.Jobs.gives V.Job.reacts V.Job.steps V.Job.refuses) V.Jobs.left O.options O.made O.turned))
-            (self.old.running.whole + self.old.running.faulted) self.old.service
+            self.old.running.whole self.old.running.faulted self.old.service
             (live_of (vec_items self.old.running.started) (λ s. s.caller.number))
-            (self.new.running.whole + self.new.running.faulted) self.new.service
+            self.new.running.whole self.new.running.faulted self.new.service
             (live_of (vec_items self.new.running.started) (λ s. s.caller.number)) }
         ensures makes { StillMakes V.makes self.old.service self.new.service }
         ensures rt { self.new.rt ≡ self.old.rt }
@@ -251,9 +267,12 @@ impl<H: Host + Network, V: Service, O: Asked<V::Jobs>> Open<H, V, O> {
             Event::Starved(error) => return note_refused_accept(
                 &self.rt, self.alloc, &error, errors,
             ),
-            Event::Broke => {},
+            Event::Cut(number, bytes) => return self.tell_cut(number, bytes, errors),
+            Event::Quiet => return,
+            Event::Closed => {},
         }
-        self.is_broken = true;
+        self.is_closed = true;
+        self.tell_closed(errors);
     }
 
     // Starts a session over a connection that came, or turns it away where the session limit is reached.
@@ -266,9 +285,9 @@ impl<H: Host + Network, V: Service, O: Asked<V::Jobs>> Open<H, V, O> {
             self.new.running.whole self.new.running.faulted self.new.running.refused }
         ensures heard { StillHears V.turns (HasEnded (server_of
             (facts_of V.Job.fresh V.Jobs.gives V.Job.reacts V.Job.steps V.Job.refuses) V.Jobs.left O.options O.made O.turned))
-            (self.old.running.whole + self.old.running.faulted) self.old.service
+            self.old.running.whole self.old.running.faulted self.old.service
             (live_of (vec_items self.old.running.started) (λ s. s.caller.number))
-            (self.new.running.whole + self.new.running.faulted) self.new.service
+            self.new.running.whole self.new.running.faulted self.new.service
             (live_of (vec_items self.new.running.started) (λ s. s.caller.number)) }
         ensures makes { StillMakes V.makes self.old.service self.new.service }
         ensures rt { self.new.rt ≡ self.old.rt }
@@ -300,9 +319,23 @@ impl<H: Host + Network, V: Service, O: Asked<V::Jobs>> Open<H, V, O> {
     }
 
     // Notes that there was no room for a connection, where that is wanted.
-    fn tell_full<E: Write>(&self, serial: u32, peer: &SocketAddr, errors: &mut E) {
+    fn tell_full<E: Write>(&self, serial: u64, peer: &SocketAddr, errors: &mut E) {
         if self.serving.verbose {
             note_full(&self.rt, self.alloc, serial, peer, errors);
+        }
+    }
+
+    // Notes that no connection is accepted any more, where that is wanted.
+    fn tell_closed<E: Write>(&self, errors: &mut E) {
+        if self.serving.verbose {
+            note_closed(&self.rt, self.alloc, errors);
+        }
+    }
+
+    // Notes that a line of a session may have been cut, where that is wanted.
+    fn tell_cut<E: Write>(&self, number: usize, bytes: usize, errors: &mut E) {
+        if let (true, Some(caller)) = (self.serving.verbose, self.running.caller_of(number)) {
+            note_cut(&self.rt, self.alloc, &caller, bytes, errors);
         }
     }
 
@@ -312,7 +345,7 @@ impl<H: Host + Network, V: Service, O: Asked<V::Jobs>> Open<H, V, O> {
         requires full { HasNoPlace self.old.roster self.old.serving.per_host
             (count_from (λ s. s.caller.peer) peer.now
             (vec_items self.old.running.started)) }
-        requires more { self.old.running.accepted < 2 ^ 32 - 1 }
+        requires more { self.old.running.accepted < 2 ^ 64 - 1 }
         ensures each { StillCounts (server_of
             (facts_of V.Job.fresh V.Jobs.gives V.Job.reacts V.Job.steps V.Job.refuses) V.Jobs.left O.options O.made O.turned)
             self.old.running.whole self.old.running.faulted self.old.running.refused
@@ -326,7 +359,7 @@ impl<H: Host + Network, V: Service, O: Asked<V::Jobs>> Open<H, V, O> {
         let told = self.rt.dismiss(stream, b"full\r\n");
         self.running
             .refuse(&self.roster, self.serving.per_host, peer, &told);
-        self.keep_open(told);
+        self.turned_away.keep(&self.rt, told);
     }
 
     // Starts the session with this number, which is held for it.
@@ -335,16 +368,16 @@ impl<H: Host + Network, V: Service, O: Asked<V::Jobs>> Open<H, V, O> {
         requires held { vec_len self.old.running.started < held_count self.old.roster }
         requires place { count_from (λ s. s.caller.peer) caller.peer
             (vec_items self.old.running.started) < self.old.serving.per_host }
-        requires more { self.old.running.accepted < 2 ^ 32 - 1 }
+        requires more { self.old.running.accepted < 2 ^ 64 - 1 }
         ensures each { StillCounts (server_of
             (facts_of V.Job.fresh V.Jobs.gives V.Job.reacts V.Job.steps V.Job.refuses) V.Jobs.left O.options O.made O.turned)
             self.old.running.whole self.old.running.faulted self.old.running.refused
             self.new.running.whole self.new.running.faulted self.new.running.refused }
         ensures heard { StillHears V.turns (HasEnded (server_of
             (facts_of V.Job.fresh V.Jobs.gives V.Job.reacts V.Job.steps V.Job.refuses) V.Jobs.left O.options O.made O.turned))
-            (self.old.running.whole + self.old.running.faulted) self.old.service
+            self.old.running.whole self.old.running.faulted self.old.service
             (live_of (vec_items self.old.running.started) (λ s. s.caller.number))
-            (self.new.running.whole + self.new.running.faulted) self.new.service
+            self.new.running.whole self.new.running.faulted self.new.service
             (live_of (vec_items self.new.running.started) (λ s. s.caller.number)) }
         ensures makes { StillMakes V.makes self.old.service self.new.service }
         ensures rt { self.new.rt ≡ self.old.rt }
@@ -361,14 +394,14 @@ impl<H: Host + Network, V: Service, O: Asked<V::Jobs>> Open<H, V, O> {
     // The session with this number could not be started, and its number is free.
     fn give_up<E: Write>(&mut self, caller: &Caller, errors: &mut E)
         requires held { vec_len self.old.running.started < held_count self.old.roster }
-        requires more { self.old.running.accepted < 2 ^ 32 - 1 }
+        requires more { self.old.running.accepted < 2 ^ 64 - 1 }
         ensures each { StillCounts (server_of
             (facts_of V.Job.fresh V.Jobs.gives V.Job.reacts V.Job.steps V.Job.refuses) V.Jobs.left O.options O.made O.turned)
             self.old.running.whole self.old.running.faulted self.old.running.refused
             self.new.running.whole self.new.running.faulted self.new.running.refused }
         ensures started { self.new.running.started ≡ self.old.running.started }
-        ensures one { self.new.running.whole + self.new.running.faulted
-            ≡ self.old.running.whole + self.old.running.faulted + 1 }
+        ensures one { (self.new.running.whole ≡ self.old.running.whole)
+            × (self.new.running.faulted ≡ self.old.running.faulted + 1) }
         ensures service { self.new.service ≡ self.old.service }
         ensures rt { self.new.rt ≡ self.old.rt }
     {
@@ -402,13 +435,23 @@ impl<H: Host + Network, V: Service, O: Asked<V::Jobs>> Open<H, V, O> {
         };
         let Prepared {
             events,
+            noting,
             standing,
             hook,
             traffic,
             noted,
         } = prepared;
         let Caller { number, peer, .. } = caller;
-        let call = Call { number, peer, hook };
+        let notes = Notes {
+            events: noting,
+            number,
+        };
+        let call = Call {
+            number,
+            peer,
+            hook,
+            notes,
+        };
         let Ok(jobs) = self.service.session(self.alloc, call) else {
             return None;
         };
@@ -431,6 +474,7 @@ impl<H: Host + Network, V: Service, O: Asked<V::Jobs>> Open<H, V, O> {
     // What a session that is to start needs beside its jobs.
     fn prepared(&self) -> Option<Prepared> {
         let events = self.events.clone().ok()?;
+        let noting = self.events.clone().ok()?;
         let standing = Standing::new(self.alloc).ok()?;
         let hook = Hook::new(&standing).ok()?;
         let traffic = Traffic::new(self.alloc).ok()?;
@@ -440,6 +484,7 @@ impl<H: Host + Network, V: Service, O: Asked<V::Jobs>> Open<H, V, O> {
         };
         Some(Prepared {
             events,
+            noting,
             standing,
             hook,
             traffic,
@@ -455,9 +500,9 @@ impl<H: Host + Network, V: Service, O: Asked<V::Jobs>> Open<H, V, O> {
             self.new.running.whole self.new.running.faulted self.new.running.refused }
         ensures heard { StillHears V.turns (HasEnded (server_of
             (facts_of V.Job.fresh V.Jobs.gives V.Job.reacts V.Job.steps V.Job.refuses) V.Jobs.left O.options O.made O.turned))
-            (self.old.running.whole + self.old.running.faulted) self.old.service
+            self.old.running.whole self.old.running.faulted self.old.service
             (live_of (vec_items self.old.running.started) (λ s. s.caller.number))
-            (self.new.running.whole + self.new.running.faulted) self.new.service
+            self.new.running.whole self.new.running.faulted self.new.service
             (live_of (vec_items self.new.running.started) (λ s. s.caller.number)) }
         ensures makes { StillMakes V.makes self.old.service self.new.service }
         ensures rt { self.new.rt ≡ self.old.rt }
@@ -477,9 +522,9 @@ impl<H: Host + Network, V: Service, O: Asked<V::Jobs>> Open<H, V, O> {
             self.new.running.whole self.new.running.faulted self.new.running.refused }
         ensures heard { StillHears V.turns (HasEnded (server_of
             (facts_of V.Job.fresh V.Jobs.gives V.Job.reacts V.Job.steps V.Job.refuses) V.Jobs.left O.options O.made O.turned))
-            (self.old.running.whole + self.old.running.faulted) self.old.service
+            self.old.running.whole self.old.running.faulted self.old.service
             (live_of (vec_items self.old.running.started) (λ s. s.caller.number))
-            (self.new.running.whole + self.new.running.faulted) self.new.service
+            self.new.running.whole self.new.running.faulted self.new.service
             (live_of (vec_items self.new.running.started) (λ s. s.caller.number)) }
         ensures fewer { vec_len self.new.running.started + 1 ≡ vec_len self.old.running.started }
         ensures accepted { self.new.running.accepted ≡ self.old.running.accepted }
@@ -534,9 +579,9 @@ impl<H: Host + Network, V: Service, O: Asked<V::Jobs>> Open<H, V, O> {
             self.new.running.whole self.new.running.faulted self.new.running.refused }
         ensures heard { StillHears V.turns (HasEnded (server_of
             (facts_of V.Job.fresh V.Jobs.gives V.Job.reacts V.Job.steps V.Job.refuses) V.Jobs.left O.options O.made O.turned))
-            (self.old.running.whole + self.old.running.faulted) self.old.service
+            self.old.running.whole self.old.running.faulted self.old.service
             (live_of (vec_items self.old.running.started) (λ s. s.caller.number))
-            (self.new.running.whole + self.new.running.faulted) self.new.service
+            self.new.running.whole self.new.running.faulted self.new.service
             (live_of (vec_items self.new.running.started) (λ s. s.caller.number)) }
         ensures none { vec_len self.new.running.started ≡ 0 }
         ensures accepted { self.new.running.accepted ≡ self.old.running.accepted }
@@ -545,16 +590,20 @@ impl<H: Host + Network, V: Service, O: Asked<V::Jobs>> Open<H, V, O> {
             self.end_at(0, errors);
         }
     }
+}
 
-    // Keeps a connection open that was told that there is no room. The longest of those is closed for it.
-    fn keep_open(&mut self, stream: TcpStream)
-        ensures running { self.new.running ≡ self.old.running }
-        ensures service { self.new.service ≡ self.old.service }
-        ensures rt { self.new.rt ≡ self.old.rt }
-    {
-        if self.turned_away.len() >= KEPT_OPEN {
-            self.turned_away.pop_front();
-        }
-        let _ = self.turned_away.push_back(stream);
+// What happens next at a server, in this time where there is one.
+fn next_event<H: Host>(
+    rt: &H,
+    events: &Receiver<Event, Global>,
+    time: Option<Duration>,
+) -> Option<Event> {
+    let Some(time) = time else {
+        return events.recv(rt).ok();
+    };
+    match events.recv_timeout(rt, time) {
+        Ok(event) => Some(event),
+        Err(RecvTimeoutError::Timeout) => Some(Event::Quiet),
+        Err(RecvTimeoutError::Disconnected) => None,
     }
 }

@@ -148,7 +148,8 @@ where
         let Ok((stream, writer)) = Connection::split(stream) else {
             return Err(SessionFault::Start);
         };
-        let Ok(reader) = Attended::new(rt, stream, theirs, options.idle, options.longest) else {
+        let Ok(reader) = Attended::new(rt, alloc, stream, theirs, options.idle, options.longest)
+        else {
             return Err(SessionFault::Start);
         };
         let reader = Counted {
@@ -162,7 +163,7 @@ where
         let (report, ports) = talk(rt, alloc, reader, &mut writer, options, jobs)?;
         let (writer, log) = writer.into_parts();
         if standing.is_ended_here() {
-            linger(rt, writer.side.into_stream(), standing);
+            linger(rt, alloc, writer.side.into_stream(), standing);
         }
         Ok(Conversed { report, ports, log })
     }
@@ -203,8 +204,8 @@ where
 
 // Reads what a peer still sends after it was told that no more comes, until it has closed or had its time to.
 // A connection that is closed here before that could lose what was sent last.
-fn linger<H: Host>(rt: H, stream: TcpStream, standing: Arc<Standing, Global>) {
-    if let Ok(mut rest) = Attended::new(rt, stream, standing, 0, 0) {
+fn linger<H: Host>(rt: H, alloc: Global, stream: TcpStream, standing: Arc<Standing, Global>) {
+    if let Ok(mut rest) = Attended::new(rt, alloc, stream, standing, 0, 0) {
         let mut unread = [0; 512];
         let _ = rest.read(&mut unread);
     }

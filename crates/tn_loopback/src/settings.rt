@@ -13,8 +13,8 @@ pub struct SessionOptions {
     pub line_limit: Limit,
     /// Which side the client is asked to edit at.
     pub editing: Editing,
-    /// After how many seconds in which the client sends nothing a session ends as by a hang-up, or 0 for
-    /// never.
+    /// After how many seconds in which the client sends nothing that reaches the terminal a session ends as by a
+    /// hang-up, or 0 for never.
     pub idle: u32,
     /// After how many seconds a session ends as by a hang-up, or 0 for never.
     pub longest: u32,
@@ -45,7 +45,7 @@ pub struct Serving {
     /// How many of them there may be from one address, of 1 to 64.
     pub per_host: u16,
     /// After how many accepted connections to end.
-    pub count: u32,
+    pub count: u64,
     pub options: SessionOptions,
     /// Whether it is noted which connections come and how their sessions end.
     pub verbose: bool,

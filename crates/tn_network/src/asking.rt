@@ -40,7 +40,7 @@ pub trait Network {
         ensures { shares self.now listener.now result };
 
     /// Waits for the connection of this number, and for whom it is from.
-    fn accept(&self, listener: &TcpListener, number: u32) -> io::Result<(TcpStream, SocketAddr)>
+    fn accept(&self, listener: &TcpListener, number: u64) -> io::Result<(TcpStream, SocketAddr)>
         ensures { accepts self.now listener.now number result };
 
     /// Tells a connection these words, and that no more comes. It is not closed. Where it takes them not, they
@@ -76,7 +76,7 @@ impl<H: Net<Listener = TcpListener, Stream = TcpStream>> Network for H {
         listener.try_clone()
     }
 
-    fn accept(&self, listener: &TcpListener, _number: u32) -> io::Result<(TcpStream, SocketAddr)> {
+    fn accept(&self, listener: &TcpListener, _number: u64) -> io::Result<(TcpStream, SocketAddr)> {
         listener.accept()
     }
 

@@ -1,14 +1,16 @@
 -- It is served as was asked for.
-use Rattle.std.proofs.Common.{◌≡◌, ℕ, List, Option, Result, Ok, Err, IfOk, IsErrAnd, subst}
+use Rattle.std.proofs.Common.{◌≡◌, ◌≤◌, ◌∙◌, inl, inr, ℕ, List, Option, Some, None, Result, Ok, Err, IfOk, IfSome, IsErrAnd, option_map, string_bytes, subst}
 use Rattle.std.specs.declared.net.tcp.TcpStream.{TcpStream}
 use Rattle.tn_answerer.specs.declared.answerers.Answerers.{Answerers}
+use Rattle.tn_gateway.specs.declared.cutting.Lines.{Lines}
 use Rattle.tn_gateway.specs.declared.dialing.Joiner.{Joiner}
-use Rattle.tn_lines.specs.declared.line_ends.LineEnd.{LineEnd}
+use Rattle.tn_loopback.specs.Ends.{IfAny, ServesUntil}
 use Rattle.tn_loopback.specs.Counted.{CountsSessions, server_of}
 use Rattle.tn_loopback.specs.declared.fault.ServeFault.{ServeFault}
 use Rattle.tn_loopback.specs.declared.fault.ServeFault.TheVariants.{Network, Memory, Limit}
 use Rattle.tn_loopback.specs.declared.served.Served.{Served}
 use Rattle.tn_loopback.specs.declared.settings.SessionOptions.{SessionOptions}
+use Rattle.tn_program.specs.declared.watching.AtFile.{AtFile}
 use Rattle.tn_program.specs.Settings.{AnswersAsAsked, JoinsAsAsked, UnlessMemory}
 use Rattle.tn_session.specs.Facts.{JobFacts}
 
@@ -36,9 +38,21 @@ answers facts left turned result options options' ticks ticks' so often counted 
     subst (λ (o : SessionOptions). Counted facts left turned result o (AnswersAsAsked ticks')) so
     (subst (λ (n : ℕ). Counted facts left turned result options (AnswersAsAsked n)) often counted)
 
-pub joins : {H J : Type 0} (facts : Joiner H → JobFacts J) (left : Joiner H → Option ℕ) (turned : TcpStream → Type 0) (result : Result Served ServeFault) (rt : H) (port : ℕ) (options options' : SessionOptions) (name name' : List ℕ) (ends ends' : LineEnd) → options ≡ options' → name ≡ name' → ends ≡ ends'
+pub joins : {H N J : Type 0} (facts : Joiner H N → JobFacts J) (left : Joiner H N → Option ℕ) (turned : TcpStream → Type 0) (result : Result Served ServeFault) (rt : H) (port : ℕ) (options options' : SessionOptions) (name name' : List ℕ) (ends ends' : Lines) → options ≡ options' → name ≡ name' → ends ≡ ends'
     → Counted facts left turned result options (JoinsAsAsked rt name port ends) → Counted facts left turned result options' (JoinsAsAsked rt name' port ends')
 joins facts left turned result rt port options options' name name' ends ends' so named ended counted =
     subst (λ (o : SessionOptions). Counted facts left turned result o (JoinsAsAsked rt name' port ends')) so
     (subst (λ (n : List ℕ). Counted facts left turned result options (JoinsAsAsked rt n port ends')) named
-    (subst (λ (e : LineEnd). Counted facts left turned result options (JoinsAsAsked rt name port e)) ended counted))
+    (subst (λ (e : Lines). Counted facts left turned result options (JoinsAsAsked rt name port e)) ended counted))
+
+-- the file that was asked for was seen, and no other
+pub seen : {H : Type 0} (sees : H → List ℕ → Type 0) (rt : H) (until : Option (AtFile H)) (path : Option (List ℕ)) → IfSome until (λ at. at.rt ≡ rt) → option_map (λ at. string_bytes at.path) until ≡ path
+    → IfAny (λ at. sees at.rt (string_bytes at.path)) until → IfAny (sees rt) path
+seen sees rt None path same is any = absurd any
+seen {H} sees rt (Some at) path same is any =
+    subst (IfAny (sees rt)) is (subst (λ (h : H). sees h (string_bytes at.path)) same any)
+
+pub served : (result : Result Served ServeFault) (count count' : ℕ) (told told' : Type 0) → count ≡ count' → (told → told') → IfOk result (ServesUntil count told) → IfOk result (ServesUntil count' told')
+served (Ok done) count count' told told' is so (inl all) = inl (all ∙ is)
+served (Ok done) count count' told told' is so (inr few) = inr (subst (λ (n : ℕ). done.accepted ≤ n) is few.0, so few.1)
+served (Err fault) count count' told told' is so all = tt

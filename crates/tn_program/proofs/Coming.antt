@@ -7,7 +7,7 @@ use Rattle.tn_connect.specs.declared.fault.ConnectFault.{ConnectFault}
 use Rattle.tn_connect.specs.declared.fault.ConnectFault.TheVariants as connect
 use Rattle.tn_loopback.specs.declared.fault.ServeFault.{ServeFault}
 use Rattle.tn_loopback.specs.declared.fault.ServeFault.TheVariants as serve
-use Rattle.tn_network.specs.Asked.{Asking}
+use Rattle.tn_program.specs.Machine.{Machine}
 use Rattle.tn_program.specs.Outcomes.{AskForNothing, ComesOf, ComesOfRun, ComesOfNoRun}
 use Rattle.tn_program.specs.Runs.{DoesAsAsked, RunsAsked}
 use Rattle.tn_program.specs.Statuses.{status_of, status_of_connecting, status_of_serving}
@@ -43,55 +43,55 @@ unconnected connect.Memory zero = omega (arith, zero)
 
 -- the run that was asked for
 
-ran : (network : Asking) (a : Asked) (origin : Origin) (bytes : Option (List ℕ)) (old new : Option (List ℕ)) (came : Outcome) → ComesOfRun network a origin bytes old new came
-    → status_of came ≡ 0 → RunsAsked network a origin bytes old new
-ran network a origin bytes old new (outcome.Local (Ok done)) (e, ends) zero = subst (λ a. RunsAsked network a origin bytes old new) (sym e) ends.run.ok
-ran network a origin bytes old new (outcome.Local (Err f)) h zero = absurd (faulted f zero)
-ran network a origin bytes old new (outcome.Replay (Ok done)) (e, ends) zero = subst (λ a. RunsAsked network a origin bytes old new) (sym e) ends.run.ok
-ran network a origin bytes old new (outcome.Replay (Err f)) h zero = absurd (faulted f zero)
-ran network a origin bytes old new (outcome.Decode (Ok unprinted)) (e, ends) zero = subst (λ a. RunsAsked network a origin bytes old new) (sym e) ends.1.ok
-ran network a origin bytes old new (outcome.Decode (Err f)) h zero = absurd (faulted f zero)
-ran network a origin bytes old new (outcome.World (Ok done)) (e, ends) zero = subst (λ a. RunsAsked network a origin bytes old new) (sym e) ends.run.ok
-ran network a origin bytes old new (outcome.World (Err f)) h zero = absurd (faulted f zero)
-ran network a origin bytes old new (outcome.Served (Ok served)) (serving, e, ends) zero =
-    subst (λ a. RunsAsked network a origin bytes old new) (sym e) (served, ends.all, ends.listened, ends.unwritten)
-ran network a origin bytes old new (outcome.Served (Err f)) h zero = absurd (unserved f zero)
-ran network a origin bytes old new (outcome.Connected (Ok r)) (connecting, e, ends) zero =
-    subst (λ a. RunsAsked network a origin bytes old new) (sym e) (inl (r, ends.telnet, ends.ran, ends.whole, ends.reached))
-ran network a origin bytes old new (outcome.Connected (Err f)) h zero = absurd (unconnected f zero)
-ran network a origin bytes old new (outcome.Talked (Ok r)) (connecting, e, ends) zero =
-    subst (λ a. RunsAsked network a origin bytes old new) (sym e) (inr (ends.line_end, r, ends.plain, ends.ran, ends.reached))
-ran network a origin bytes old new (outcome.Talked (Err f)) h zero = absurd (unconnected f zero)
-ran network a origin bytes old new outcome.Untraced h zero = absurd (omega (arith, zero))
-ran network a origin bytes old new (outcome.Help ended) h zero = absurd h
-ran network a origin bytes old new (outcome.Version ended) h zero = absurd h
-ran network a origin bytes old new (outcome.Usage detail) h zero = absurd h
-ran network a origin bytes old new outcome.Memory h zero = absurd h
+ran : (machine : Machine) (a : Asked) (origin : Origin) (bytes : Option (List ℕ)) (old new : Option (List ℕ)) (came : Outcome) → ComesOfRun machine a origin bytes old new came
+    → status_of came ≡ 0 → RunsAsked machine a origin bytes old new
+ran machine a origin bytes old new (outcome.Local (Ok done)) (e, ends) zero = subst (λ a. RunsAsked machine a origin bytes old new) (sym e) ends.run.ok
+ran machine a origin bytes old new (outcome.Local (Err f)) h zero = absurd (faulted f zero)
+ran machine a origin bytes old new (outcome.Replay (Ok done)) (e, ends) zero = subst (λ a. RunsAsked machine a origin bytes old new) (sym e) ends.run.ok
+ran machine a origin bytes old new (outcome.Replay (Err f)) h zero = absurd (faulted f zero)
+ran machine a origin bytes old new (outcome.Decode (Ok unprinted)) (e, ends) zero = subst (λ a. RunsAsked machine a origin bytes old new) (sym e) ends.1.ok
+ran machine a origin bytes old new (outcome.Decode (Err f)) h zero = absurd (faulted f zero)
+ran machine a origin bytes old new (outcome.World (Ok done)) (e, ends) zero = subst (λ a. RunsAsked machine a origin bytes old new) (sym e) ends.run.ok
+ran machine a origin bytes old new (outcome.World (Err f)) h zero = absurd (faulted f zero)
+ran machine a origin bytes old new (outcome.Served (Ok served)) (serving, e, ends) zero =
+    subst (λ a. RunsAsked machine a origin bytes old new) (sym e) (served, ends.all, ends.listened, ends.unwritten)
+ran machine a origin bytes old new (outcome.Served (Err f)) h zero = absurd (unserved f zero)
+ran machine a origin bytes old new (outcome.Connected (Ok r)) (connecting, e, ends) zero =
+    subst (λ a. RunsAsked machine a origin bytes old new) (sym e) (inl (r, ends.telnet, ends.ran, ends.whole, ends.reached))
+ran machine a origin bytes old new (outcome.Connected (Err f)) h zero = absurd (unconnected f zero)
+ran machine a origin bytes old new (outcome.Talked (Ok r)) (connecting, e, ends) zero =
+    subst (λ a. RunsAsked machine a origin bytes old new) (sym e) (inr (ends.line_end, r, ends.plain, ends.ran, ends.reached))
+ran machine a origin bytes old new (outcome.Talked (Err f)) h zero = absurd (unconnected f zero)
+ran machine a origin bytes old new outcome.Untraced h zero = absurd (omega (arith, zero))
+ran machine a origin bytes old new (outcome.Help ended) h zero = absurd h
+ran machine a origin bytes old new (outcome.Version ended) h zero = absurd h
+ran machine a origin bytes old new (outcome.Usage detail) h zero = absurd h
+ran machine a origin bytes old new outcome.Memory h zero = absurd h
 
 -- or the help or the version
 
-helped : (network : Asking) (words : List (List ℕ)) (origin : Origin) (bytes : Option (List ℕ)) (old new : Option (List ℕ)) (came : Outcome)
-    → ComesOfNoRun words old new came → status_of came ≡ 0 → DoesAsAsked network words origin bytes old new
-helped network words origin bytes old new (outcome.Help (Ok done)) (asks, ends) zero = inr (inl (asks, ends.ok))
-helped network words origin bytes old new (outcome.Help (Err f)) h zero = absurd (faulted f zero)
-helped network words origin bytes old new (outcome.Version (Ok done)) (asks, ends) zero = inr (inr (asks, ends.ok))
-helped network words origin bytes old new (outcome.Version (Err f)) h zero = absurd (faulted f zero)
-helped network words origin bytes old new (outcome.Usage (Some detail)) h zero = absurd (omega (arith, zero))
-helped network words origin bytes old new (outcome.Usage None) h zero = absurd h
-helped network words origin bytes old new outcome.Memory h zero = absurd (omega (arith, zero))
-helped network words origin bytes old new (outcome.Local ended) h zero = absurd h
-helped network words origin bytes old new (outcome.Replay ended) h zero = absurd h
-helped network words origin bytes old new (outcome.Decode ended) h zero = absurd h
-helped network words origin bytes old new (outcome.World ended) h zero = absurd h
-helped network words origin bytes old new (outcome.Served ended) h zero = absurd h
-helped network words origin bytes old new (outcome.Connected ended) h zero = absurd h
-helped network words origin bytes old new (outcome.Talked ended) h zero = absurd h
-helped network words origin bytes old new outcome.Untraced h zero = absurd h
+helped : (machine : Machine) (words : List (List ℕ)) (origin : Origin) (bytes : Option (List ℕ)) (old new : Option (List ℕ)) (came : Outcome)
+    → ComesOfNoRun words old new came → status_of came ≡ 0 → DoesAsAsked machine words origin bytes old new
+helped machine words origin bytes old new (outcome.Help (Ok done)) (asks, ends) zero = inr (inl (asks, ends.ok))
+helped machine words origin bytes old new (outcome.Help (Err f)) h zero = absurd (faulted f zero)
+helped machine words origin bytes old new (outcome.Version (Ok done)) (asks, ends) zero = inr (inr (asks, ends.ok))
+helped machine words origin bytes old new (outcome.Version (Err f)) h zero = absurd (faulted f zero)
+helped machine words origin bytes old new (outcome.Usage (Some detail)) h zero = absurd (omega (arith, zero))
+helped machine words origin bytes old new (outcome.Usage None) h zero = absurd h
+helped machine words origin bytes old new outcome.Memory h zero = absurd (omega (arith, zero))
+helped machine words origin bytes old new (outcome.Local ended) h zero = absurd h
+helped machine words origin bytes old new (outcome.Replay ended) h zero = absurd h
+helped machine words origin bytes old new (outcome.Decode ended) h zero = absurd h
+helped machine words origin bytes old new (outcome.World ended) h zero = absurd h
+helped machine words origin bytes old new (outcome.Served ended) h zero = absurd h
+helped machine words origin bytes old new (outcome.Connected ended) h zero = absurd h
+helped machine words origin bytes old new (outcome.Talked ended) h zero = absurd h
+helped machine words origin bytes old new outcome.Untraced h zero = absurd h
 
-pub does : (network : Asking) (words : List (List ℕ)) (origin : Origin) (bytes : Option (List ℕ)) (old new : Option (List ℕ)) (came : Outcome)
-    → status_of came ≡ 0 → ComesOf network words origin bytes old new came → DoesAsAsked network words origin bytes old new
-does network words origin bytes old new came zero (inl (a, asks, h)) = inl (a, asks, ran network a origin bytes old new came h zero)
-does network words origin bytes old new came zero (inr h) = helped network words origin bytes old new came h zero
+pub does : (machine : Machine) (words : List (List ℕ)) (origin : Origin) (bytes : Option (List ℕ)) (old new : Option (List ℕ)) (came : Outcome)
+    → status_of came ≡ 0 → ComesOf machine words origin bytes old new came → DoesAsAsked machine words origin bytes old new
+does machine words origin bytes old new came zero (inl (a, asks, h)) = inl (a, asks, ran machine a origin bytes old new came h zero)
+does machine words origin bytes old new came zero (inr h) = helped machine words origin bytes old new came h zero
 
 -- of words that ask for nothing comes that they are not accepted, or that memory ran out, and nothing is written
 
@@ -111,12 +111,12 @@ unrun words old new (outcome.Connected ended) nothing h = absurd h
 unrun words old new (outcome.Talked ended) nothing h = absurd h
 unrun words old new outcome.Untraced nothing h = absurd h
 
-comes_of_nothing : (network : Asking) (words : List (List ℕ)) (origin : Origin) (bytes : Option (List ℕ)) (old new : Option (List ℕ)) (came : Outcome)
-    → AskForNothing words → ComesOf network words origin bytes old new came → ((status_of came ≡ 2) ⊎ (status_of came ≡ 1)) × (new ≡ old)
-comes_of_nothing network words origin bytes old new came nothing (inl (a, asks, h)) = absurd (nothing.0 a asks)
-comes_of_nothing network words origin bytes old new came nothing (inr h) = unrun words old new came nothing h
+comes_of_nothing : (machine : Machine) (words : List (List ℕ)) (origin : Origin) (bytes : Option (List ℕ)) (old new : Option (List ℕ)) (came : Outcome)
+    → AskForNothing words → ComesOf machine words origin bytes old new came → ((status_of came ≡ 2) ⊎ (status_of came ≡ 1)) × (new ≡ old)
+comes_of_nothing machine words origin bytes old new came nothing (inl (a, asks, h)) = absurd (nothing.0 a asks)
+comes_of_nothing machine words origin bytes old new came nothing (inr h) = unrun words old new came nothing h
 
-pub refused : (network : Asking) (words : List (List ℕ)) (origin : Origin) (bytes : Option (List ℕ)) (old new : Option (List ℕ)) (came : Outcome) (status : ℕ)
-    → status ≡ status_of came → ComesOf network words origin bytes old new came → AskForNothing words → ((status ≡ 2) ⊎ (status ≡ 1)) × (new ≡ old)
-refused network words origin bytes old new came status is comes nothing =
-    subst (λ (s : ℕ). ((s ≡ 2) ⊎ (s ≡ 1)) × (new ≡ old)) (sym is) (comes_of_nothing network words origin bytes old new came nothing comes)
+pub refused : (machine : Machine) (words : List (List ℕ)) (origin : Origin) (bytes : Option (List ℕ)) (old new : Option (List ℕ)) (came : Outcome) (status : ℕ)
+    → status ≡ status_of came → ComesOf machine words origin bytes old new came → AskForNothing words → ((status ≡ 2) ⊎ (status ≡ 1)) × (new ≡ old)
+refused machine words origin bytes old new came status is comes nothing =
+    subst (λ (s : ℕ). ((s ≡ 2) ⊎ (s ≡ 1)) × (new ≡ old)) (sym is) (comes_of_nothing machine words origin bytes old new came nothing comes)

@@ -1,3 +1,4 @@
+pub mod Machine
 pub mod Outcomes
 pub mod Runs
 pub mod Settings

@@ -1,5 +1,5 @@
 -- What comes of the words of a command line.
-use Rattle.std.specs.Prelude.{◌≡◌, ◌≢◌, ◌⊎◌, ⊤, ℕ, Option, Some, None, Result, Err, OnOk, OnErr, IfOk, IfErr, IsErrOf, List, string_bytes}
+use Rattle.std.specs.Prelude.{◌≡◌, ◌≢◌, ◌⊎◌, ⊤, ℕ, Option, Some, None, Result, Err, OnOk, OnErr, IfOk, IfErr, IsErrOf, List, option_map, string_bytes}
 use Rattle.std.specs.Io.KnownBytes.{Appends}
 use Rattle.tn_cli.specs.Ends.{EndsDecode, EndsLocal, EndsReplay, EndsWorld}
 use Rattle.tn_cli.specs.declared.fault.CliFault.{CliFault}
@@ -10,12 +10,13 @@ use Rattle.tn_connect.specs.declared.connected.Connected.{Connected}
 use Rattle.tn_connect.specs.declared.fault.ConnectFault.{ConnectFault}
 use Rattle.tn_connect.specs.declared.fault.ConnectFault.TheVariants as connect
 use Rattle.tn_lines.specs.declared.line_ends.LineEnd.{LineEnd}
-use Rattle.tn_loopback.specs.Ends.{ServesAll}
+use Rattle.tn_loopback.specs.Ends.{IfAny, ServesUntil}
 use Rattle.tn_loopback.specs.declared.fault.ServeFault.{ServeFault}
 use Rattle.tn_loopback.specs.declared.fault.ServeFault.TheVariants as serve
 use Rattle.tn_loopback.specs.declared.served.Served.{Served}
 use Rattle.tn_messages.specs.Ending.{EndsWhole}
-use Rattle.tn_network.specs.Asked.{Asking, Listens, Reaches}
+use Rattle.tn_network.specs.Asked.{Listens, Reaches}
+use Rattle.tn_program.specs.Machine.{Machine}
 use Rattle.tn_program.specs.Statuses.{status_of}
 use Rattle.tn_program.specs.declared.outcome.Outcome.{Outcome}
 use Rattle.tn_program.specs.declared.outcome.Outcome.TheVariants as outcome
@@ -32,30 +33,31 @@ use Rattle.tn_words.specs.declared.words.Asked.TheVariants as asked
 use Rattle.tn_words.specs.declared.words.WordsFault.TheVariants as words_fault
 
 -- What came of serving.
-pub record EndsServing (network : Asking) (serving : Serving) (ended : Result Served ServeFault)
+pub record EndsServing (machine : Machine) (serving : Serving) (ended : Result Served ServeFault)
     (old new : Option (List ℕ)) : Type 0 where
-  pub all : IfOk ended (ServesAll (count_as serving.count))
-  pub listened : UnlessMemory ended (Listens (network.listens (string_bytes serving.host) serving.port)
-      network.shares network.accepts (λ (served : Served). served.accepted) ended)
+  pub all : IfOk ended (ServesUntil (count_as serving.count)
+      (IfAny machine.sees (option_map string_bytes serving.until)))
+  pub listened : UnlessMemory ended (Listens (machine.network.listens (string_bytes serving.host) serving.port)
+      machine.network.shares machine.network.accepts (λ (served : Served). served.accepted) ended)
   pub limit : IsErrOf ended serve.Limit → ¬ IsLimit serving.sessions
   pub unwritten : new ≡ old
 
 -- What came of connecting.
-pub record EndsConnecting (network : Asking) (connecting : Connecting) (ended : Result Connected ConnectFault) (input : KnownTyping)
+pub record EndsConnecting (machine : Machine) (connecting : Connecting) (ended : Result Connected ConnectFault) (input : KnownTyping)
     (old new : Option (List ℕ)) : Type 0 where
   pub telnet : connecting.plain ≡ None
   pub ran : IfOk ended (RunsClient (window_as connecting) input old new)
   pub whole : IfOk ended (λ r. EndsWhole r.report.ended)
-  pub reached : ConnectsBy connection_of (Reaches (network.finds (string_bytes connecting.host) connecting.port) network.dials) ended
+  pub reached : ConnectsBy connection_of (Reaches (machine.network.finds (string_bytes connecting.host) connecting.port) machine.network.dials) ended
   pub unwritten : OnErr ended (ended ≢ Err connect.Session → new ≡ old)
 
 -- What came of a talk with a service that takes lines.
-pub record EndsTalking (network : Asking) (connecting : Connecting) (ended : Result TalkReport ConnectFault) (origin : Origin)
+pub record EndsTalking (machine : Machine) (connecting : Connecting) (ended : Result TalkReport ConnectFault) (origin : Origin)
     (bytes old new : Option (List ℕ)) : Type 0 where
   pub line_end : LineEnd
   pub plain : connecting.plain ≡ Some line_end
   pub ran : IfOk ended (RunsTalk (plain_as connecting line_end origin) bytes old new)
-  pub reached : ConnectsBy talked_over (Reaches (network.finds (string_bytes connecting.host) connecting.port) network.dials) ended
+  pub reached : ConnectsBy talked_over (Reaches (machine.network.finds (string_bytes connecting.host) connecting.port) machine.network.dials) ended
 
 -- What came of writing the help.
 pub record EndsHelp (ended : Result ⊤ CliFault) (old new : Option (List ℕ)) : Type 0 where
@@ -68,26 +70,26 @@ pub record EndsVersion (ended : Result ⊤ CliFault) (old new : Option (List ℕ
   pub fault : IfErr ended (λ f. f ≡ fault.Write)
 
 -- what was asked for was run, and this came of it
-abbrev pub ComesOfRun : Asking → Asked → Origin → Option (List ℕ) → Option (List ℕ) → Option (List ℕ) → Outcome → Type 0
-ComesOfRun network a origin bytes old new (outcome.Local ended) = (a ≡ asked.Local) × EndsLocal ended bytes old new
-ComesOfRun network a origin bytes old new (outcome.Replay ended) = (a ≡ asked.Replay) × EndsReplay ended bytes old new
-ComesOfRun network a origin bytes old new (outcome.Decode ended) =
+abbrev pub ComesOfRun : Machine → Asked → Origin → Option (List ℕ) → Option (List ℕ) → Option (List ℕ) → Outcome → Type 0
+ComesOfRun machine a origin bytes old new (outcome.Local ended) = (a ≡ asked.Local) × EndsLocal ended bytes old new
+ComesOfRun machine a origin bytes old new (outcome.Replay ended) = (a ≡ asked.Replay) × EndsReplay ended bytes old new
+ComesOfRun machine a origin bytes old new (outcome.Decode ended) =
     (a ≡ asked.Decode) × ((rest : Option (List ℕ)) × EndsDecode ended bytes rest old new)
-ComesOfRun network a origin bytes old new (outcome.World ended) = (a ≡ asked.World) × EndsWorld ended bytes old new
-ComesOfRun network a origin bytes old new (outcome.Served ended) =
-    (serving : Serving) × (a ≡ asked.Serve serving) × EndsServing network serving ended old new
-ComesOfRun network a origin bytes old new (outcome.Connected ended) =
+ComesOfRun machine a origin bytes old new (outcome.World ended) = (a ≡ asked.World) × EndsWorld ended bytes old new
+ComesOfRun machine a origin bytes old new (outcome.Served ended) =
+    (serving : Serving) × (a ≡ asked.Serve serving) × EndsServing machine serving ended old new
+ComesOfRun machine a origin bytes old new (outcome.Connected ended) =
     (connecting : Connecting) × (a ≡ asked.Connect connecting)
-    × EndsConnecting network connecting ended (foreseen origin bytes) old new
-ComesOfRun network a origin bytes old new (outcome.Talked ended) =
+    × EndsConnecting machine connecting ended (foreseen origin bytes) old new
+ComesOfRun machine a origin bytes old new (outcome.Talked ended) =
     (connecting : Connecting) × (a ≡ asked.Connect connecting)
-    × EndsTalking network connecting ended origin bytes old new
-ComesOfRun network a origin bytes old new outcome.Untraced =
+    × EndsTalking machine connecting ended origin bytes old new
+ComesOfRun machine a origin bytes old new outcome.Untraced =
     (connecting : Connecting) × (a ≡ asked.Connect connecting) × (connecting.trace ≢ None) × (new ≡ old)
-ComesOfRun network a origin bytes old new (outcome.Help ended) = ⊥
-ComesOfRun network a origin bytes old new (outcome.Version ended) = ⊥
-ComesOfRun network a origin bytes old new (outcome.Usage detail) = ⊥
-ComesOfRun network a origin bytes old new outcome.Memory = ⊥
+ComesOfRun machine a origin bytes old new (outcome.Help ended) = ⊥
+ComesOfRun machine a origin bytes old new (outcome.Version ended) = ⊥
+ComesOfRun machine a origin bytes old new (outcome.Usage detail) = ⊥
+ComesOfRun machine a origin bytes old new outcome.Memory = ⊥
 
 -- nothing was run: the words ask for help or for the version, or are not accepted, or memory ran out
 abbrev pub ComesOfNoRun : List (List ℕ) → Option (List ℕ) → Option (List ℕ) → Outcome → Type 0
@@ -107,15 +109,15 @@ ComesOfNoRun words old new (outcome.Talked ended) = ⊥
 ComesOfNoRun words old new outcome.Untraced = ⊥
 
 -- this came of the words: the run that they ask for, or none
-abbrev pub ComesOf : Asking → List (List ℕ) → Origin → Option (List ℕ) → Option (List ℕ) → Option (List ℕ) → Outcome → Type 0
-ComesOf network words origin bytes old new came =
-    ((a : Asked) × AskFor words a × ComesOfRun network a origin bytes old new came) ⊎ ComesOfNoRun words old new came
+abbrev pub ComesOf : Machine → List (List ℕ) → Origin → Option (List ℕ) → Option (List ℕ) → Option (List ℕ) → Outcome → Type 0
+ComesOf machine words origin bytes old new came =
+    ((a : Asked) × AskFor words a × ComesOfRun machine a origin bytes old new came) ⊎ ComesOfNoRun words old new came
 
 -- the status of what came of the words, of which this was told
-abbrev pub EndsWith : Asking → List (List ℕ) → Origin → Option (List ℕ) → Option (List ℕ) → Option (List ℕ)
+abbrev pub EndsWith : Machine → List (List ℕ) → Origin → Option (List ℕ) → Option (List ℕ) → Option (List ℕ)
     → (Outcome → Type 0) → ℕ → Type 0
-EndsWith network words origin bytes old new told status =
-    (came : Outcome) × ComesOf network words origin bytes old new came × told came × (status ≡ status_of came)
+EndsWith machine words origin bytes old new told status =
+    (came : Outcome) × ComesOf machine words origin bytes old new came × told came × (status ≡ status_of came)
 
 -- they ask for no run, for no help and not for the version
 abbrev pub AskForNothing : List (List ℕ) → Type 0

@@ -1,6 +1,7 @@
 -- What was asked for, as sessions over connections take it.
 use Rattle.std.specs.Prelude.{◌≡◌, ℕ, Bool, true, false, Option, None, Some, IsSome, unwrap_or, List, Result, Ok, Err, string_bytes}
 use Rattle.tn_answerer.specs.declared.answerers.Answerers.{Answerers}
+use Rattle.tn_gateway.specs.declared.cutting.Lines.{Lines}
 use Rattle.tn_gateway.specs.declared.dialing.Joiner.{Joiner}
 use Rattle.tn_loopback.specs.declared.fault.ServeFault.{ServeFault}
 use Rattle.tn_loopback.specs.declared.fault.ServeFault.TheVariants.{Network, Memory, Limit as BadLimit}
@@ -20,10 +21,10 @@ abbrev pub editing_as : Bool → Editing
 editing_as true = Local
 editing_as false = Remote
 
--- after how many connections a server ends: without end it is the greatest number of 32 bits
+-- after how many connections a server ends: without end it is the greatest number of 64 bits
 abbrev pub count_as : Option ℕ → ℕ
 count_as (Some count) = count
-count_as None = 4294967295
+count_as None = 18446744073709551615
 
 -- out of memory nothing may have been asked for
 abbrev pub UnlessMemory : {A : Type 0} → Result A ServeFault → Type 0 → Type 0
@@ -46,14 +47,23 @@ pub record AnswersAsAsked (count : ℕ) (jobs : Answerers) : Type 0 where
   pub first : jobs.first ≡ true
   pub ticks : jobs.ticks ≡ count
 
--- the jobs are still to be joined, over this network, to the service at this host and port, with this line end
-pub record JoinsAsAsked {H : Type 0} (network : H) (name : List ℕ) (number : ℕ) (end : LineEnd) (jobs : Joiner H)
+-- how lines go to the service
+abbrev pub lines_as : Serving → Lines
+lines_as asked =
+    record {
+      line_end = asked.line_end;
+      limit = asked.line_limit;
+      ends_cut = asked.ends_cut;
+    }
+
+-- the jobs are still to be joined, over this network, to the service at this host and port, where lines go so
+pub record JoinsAsAsked {H N : Type 0} (network : H) (name : List ℕ) (number : ℕ) (so : Lines) (jobs : Joiner H N)
     : Type 0 where
   pub new : IsSome jobs.hook
   pub rt : jobs.rt ≡ network
   pub host : string_bytes jobs.host ≡ name
   pub port : jobs.port ≡ number
-  pub line_end : jobs.line_end ≡ end
+  pub lines : jobs.lines ≡ so
 
 -- a window of which no size is given has 80 characters and 24 lines
 abbrev pub window_as : Connecting → Window

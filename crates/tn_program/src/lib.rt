@@ -12,10 +12,11 @@
 pub use outcome::Outcome;
 pub use program::{outcome_of_words, run_words};
 pub use seat::Seat;
-pub use serving::Joining;
+pub use serving::{Joining, Noting};
 pub use settings::Answering;
 pub use tn_connect::{Link, Origin, Screen};
 pub use tn_network::Network;
+pub use watching::Lookout;
 
 mod lines;
 mod outcome;
@@ -23,3 +24,4 @@ mod program;
 mod seat;
 mod serving;
 mod settings;
+mod watching;

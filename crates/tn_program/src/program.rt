@@ -2,7 +2,7 @@
 
 ghost use Rattle.std.specs.Prelude.{◌≡◌, ◌≢◌, ◌⊎◌, None, Some, IfErr, IfOk, IsOk, OnErr, map, string_bytes};
 ghost use Rattle.std.specs.IoError.{error_kind};
-ghost use Rattle.tn_network.specs.Asked.{asking};
+ghost use Rattle.tn_program.specs.Machine.{machine_of};
 ghost use Rattle.tn_program.specs.Outcomes.{ComesOf, ComesOfRun, EndsVersion, EndsWith, AskForNothing};
 ghost use Rattle.tn_program.specs.Runs.{DoesAsAsked};
 ghost use Rattle.tn_program.specs.Told.{IsConnecting, IsTold, UnlessConnected, UnlessTelling};
@@ -12,6 +12,7 @@ use crate::outcome::Outcome;
 use crate::seat::Seat;
 use crate::serving::serve_asked;
 use crate::settings::{connecting_of, plain_of};
+use crate::watching::Lookout;
 use std::alloc::{AllocError, Global};
 use std::fs::{File, Files, OpenOptions};
 use std::io;
@@ -31,7 +32,7 @@ const TRACE_MODE: u32 = 0o600;
 /// (`EndsWith`). A fault is told in one line on `errors`, and behind it what is wrong with words, or why; what
 /// cannot be written is dropped. Of a seat at standard input nothing is known beforehand.
 pub fn run_words<
-    H: Network + Host + Files<File = File>,
+    H: Network + Host + Lookout + Files<File = File>,
     R: Read + Drop + Send + 'static,
     W: Write,
     E: Drain,
@@ -48,11 +49,11 @@ pub fn run_words<
     ensures usage { IfErr words (λ error. error_kind error ≢ ErrorKind.OutOfMemory → result ≡ 2) }
     ensures unwritten { OnErr words (W.contents writer.new ≡ W.contents writer.old) }
     ensures done { result ≡ 0 → IfOk words (λ words. DoesAsAsked
-        (asking (H.listens rt) (H.shares rt) (H.accepts rt) (H.finds rt) (H.dials rt))
+        (machine_of (H.listens rt) (H.shares rt) (H.accepts rt) (H.finds rt) (H.dials rt) (H.sees rt))
         (map string_bytes words.items) seat.origin (R.remaining seat.reader)
         (W.contents writer.old) (W.contents writer.new)) }
     ensures ended { IfOk words (λ words. EndsWith
-        (asking (H.listens rt) (H.shares rt) (H.accepts rt) (H.finds rt) (H.dials rt))
+        (machine_of (H.listens rt) (H.shares rt) (H.accepts rt) (H.finds rt) (H.dials rt) (H.sees rt))
         (map string_bytes words.items) seat.origin (R.remaining seat.reader)
         (W.contents writer.old) (W.contents writer.new)
         (IsTold E.contents E.told errors.old errors.new) result) }
@@ -69,7 +70,7 @@ pub fn run_words<
 /// The same without the status and the lines: returns what comes of the words, and appends the causes of a
 /// fault, a line each.
 pub fn outcome_of_words<
-    H: Network + Host + Files<File = File>,
+    H: Network + Host + Lookout + Files<File = File>,
     R: Read + Drop + Send + 'static,
     W: Write,
     E: Drain,
@@ -88,7 +89,7 @@ pub fn outcome_of_words<
         result ≡ Outcome.Usage None) }
     ensures unwritten { OnErr words (W.contents writer.new ≡ W.contents writer.old) }
     ensures comes { IfOk words (λ words. ComesOf
-        (asking (H.listens rt) (H.shares rt) (H.accepts rt) (H.finds rt) (H.dials rt))
+        (machine_of (H.listens rt) (H.shares rt) (H.accepts rt) (H.finds rt) (H.dials rt) (H.sees rt))
         (map string_bytes words.items) seat.origin (R.remaining seat.reader)
         (W.contents writer.old) (W.contents writer.new) result) }
     ensures quiet { UnlessTelling result (errors.new ≡ errors.old) }
@@ -113,7 +114,7 @@ fn refusal(kind: ErrorKind) -> Outcome
 }
 
 fn run_strings<
-    H: Network + Host + Files<File = File>,
+    H: Network + Host + Lookout + Files<File = File>,
     R: Read + Drop + Send + 'static,
     W: Write,
     E: Drain,
@@ -126,7 +127,8 @@ fn run_strings<
     errors: &mut E,
     causes: &mut Vec<u8>,
 ) -> Outcome
-    ensures comes { ComesOf (asking (H.listens rt) (H.shares rt) (H.accepts rt) (H.finds rt) (H.dials rt))
+    ensures comes { ComesOf
+        (machine_of (H.listens rt) (H.shares rt) (H.accepts rt) (H.finds rt) (H.dials rt) (H.sees rt))
         (map string_bytes words.now) seat.origin (R.remaining seat.reader)
         (W.contents writer.old) (W.contents writer.new) result }
     ensures quiet { UnlessTelling result (errors.new ≡ errors.old) }
@@ -149,7 +151,7 @@ fn texts_of<'a>(alloc: Global, words: &'a [String]) -> Result<Vec<&'a str>, Allo
 }
 
 fn run_texts<
-    H: Network + Host + Files<File = File>,
+    H: Network + Host + Lookout + Files<File = File>,
     R: Read + Drop + Send + 'static,
     W: Write,
     E: Drain,
@@ -162,7 +164,8 @@ fn run_texts<
     errors: &mut E,
     causes: &mut Vec<u8>,
 ) -> Outcome
-    ensures comes { ComesOf (asking (H.listens rt) (H.shares rt) (H.accepts rt) (H.finds rt) (H.dials rt))
+    ensures comes { ComesOf
+        (machine_of (H.listens rt) (H.shares rt) (H.accepts rt) (H.finds rt) (H.dials rt) (H.sees rt))
         (map (λ word. word.now) words.now) seat.origin (R.remaining seat.reader)
         (W.contents writer.old) (W.contents writer.new) result }
     ensures quiet { UnlessTelling result (errors.new ≡ errors.old) }
@@ -190,7 +193,7 @@ fn write_version<W: Write>(writer: &mut W) -> Result<(), CliFault>
 }
 
 fn run_asked<
-    H: Network + Host + Files<File = File>,
+    H: Network + Host + Lookout + Files<File = File>,
     R: Read + Drop + Send + 'static,
     W: Write,
     E: Drain,
@@ -203,7 +206,8 @@ fn run_asked<
     errors: &mut E,
     causes: &mut Vec<u8>,
 ) -> Outcome
-    ensures comes { ComesOfRun (asking (H.listens rt) (H.shares rt) (H.accepts rt) (H.finds rt) (H.dials rt))
+    ensures comes { ComesOfRun
+        (machine_of (H.listens rt) (H.shares rt) (H.accepts rt) (H.finds rt) (H.dials rt) (H.sees rt))
         asked seat.origin (R.remaining seat.reader)
         (W.contents writer.old) (W.contents writer.new) result }
     ensures quiet { UnlessTelling result (errors.new ≡ errors.old) }
@@ -224,7 +228,7 @@ fn run_asked<
 
 // A client's session, or a talk with a service that takes lines.
 fn run_connecting<
-    H: Network + Host + Files<File = File>,
+    H: Network + Host + Lookout + Files<File = File>,
     R: Read + Drop + Send + 'static,
     W: Write,
     E: Drain,
@@ -237,7 +241,8 @@ fn run_connecting<
     errors: &mut E,
     causes: &mut Vec<u8>,
 ) -> Outcome
-    ensures comes { ComesOfRun (asking (H.listens rt) (H.shares rt) (H.accepts rt) (H.finds rt) (H.dials rt))
+    ensures comes { ComesOfRun
+        (machine_of (H.listens rt) (H.shares rt) (H.accepts rt) (H.finds rt) (H.dials rt) (H.sees rt))
         (Asked.Connect asked) seat.origin (R.remaining seat.reader)
         (W.contents writer.old) (W.contents writer.new) result }
     ensures connects { IsConnecting result }
@@ -249,7 +254,7 @@ fn run_connecting<
     }
 }
 
-fn run_plain<H: Network + Host, R: Read + Drop + Send + 'static, W: Write, E: Drain>(
+fn run_plain<H: Network + Host + Lookout, R: Read + Drop + Send + 'static, W: Write, E: Drain>(
     rt: H,
     alloc: Global,
     asked: &Connecting,
@@ -260,7 +265,8 @@ fn run_plain<H: Network + Host, R: Read + Drop + Send + 'static, W: Write, E: Dr
     causes: &mut Vec<u8>,
 ) -> Outcome
     requires { asked.now.plain ≡ Some line_end }
-    ensures comes { ComesOfRun (asking (H.listens rt) (H.shares rt) (H.accepts rt) (H.finds rt) (H.dials rt))
+    ensures comes { ComesOfRun
+        (machine_of (H.listens rt) (H.shares rt) (H.accepts rt) (H.finds rt) (H.dials rt) (H.sees rt))
         (Asked.Connect asked.now) seat.origin (R.remaining seat.reader)
         (W.contents writer.old) (W.contents writer.new) result }
     ensures connects { IsConnecting result }
@@ -294,7 +300,7 @@ fn run_plain<H: Network + Host, R: Read + Drop + Send + 'static, W: Write, E: Dr
 }
 
 fn run_connect<
-    H: Network + Host + Files<File = File>,
+    H: Network + Host + Lookout + Files<File = File>,
     R: Read + Drop + Send + 'static,
     W: Write,
     E: Drain,
@@ -308,7 +314,8 @@ fn run_connect<
     causes: &mut Vec<u8>,
 ) -> Outcome
     requires { asked.plain ≡ None }
-    ensures comes { ComesOfRun (asking (H.listens rt) (H.shares rt) (H.accepts rt) (H.finds rt) (H.dials rt))
+    ensures comes { ComesOfRun
+        (machine_of (H.listens rt) (H.shares rt) (H.accepts rt) (H.finds rt) (H.dials rt) (H.sees rt))
         (Asked.Connect asked) seat.origin (R.remaining seat.reader)
         (W.contents writer.old) (W.contents writer.new) result }
     ensures connects { IsConnecting result }

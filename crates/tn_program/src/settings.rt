@@ -2,17 +2,18 @@
 
 ghost use Rattle.std.specs.Prelude.{◌≡◌};
 ghost use Rattle.tn_connect.specs.Clients.{window_of};
-ghost use Rattle.tn_program.specs.Settings.{count_as, escape_as, options_as, plain_as, window_as};
+ghost use Rattle.tn_program.specs.Settings.{count_as, escape_as, lines_as, options_as, plain_as, window_as};
 
 use std::alloc::{AllocError, Global};
 use tn_answerer::{Answerer, Answerers};
 use tn_connect::{Connecting, Origin, Plain};
+use tn_gateway::Lines;
 use tn_loopback::{Call, Finished, Service, Serving, SessionOptions};
 use tn_server::Editing;
 use tn_words::{Escape, LineEnd, USUAL_HEIGHT, USUAL_WIDTH};
 
-/// After how many connections a server without end stops: more than are accepted in years.
-const WITHOUT_END: u32 = u32::MAX;
+/// After how many connections a server without end stops: more than can ever be accepted.
+const WITHOUT_END: u64 = u64::MAX;
 
 /// Gives each session the jobs of `tn serve`.
 #[derive(Clone, Copy, Drop)]
@@ -48,9 +49,19 @@ pub(crate) fn serving_of(asked: &tn_words::Serving) -> Serving
     Serving {
         sessions: asked.sessions,
         per_host: asked.per_host,
-        count: asked.count.unwrap_or(WITHOUT_END),
+        count: count_of(asked.count),
         options: options_of(asked),
         verbose: asked.verbose,
+    }
+}
+
+// After how many connections it ends.
+fn count_of(asked: Option<u32>) -> u64
+    ensures { result ≡ count_as asked }
+{
+    match asked {
+        Some(count) => u64::from(count),
+        None => WITHOUT_END,
     }
 }
 
@@ -59,6 +70,17 @@ pub(crate) fn answering_of(asked: &tn_words::Serving) -> Answering
     ensures { result.ticks ≡ asked.now.ticks }
 {
     Answering { ticks: asked.ticks }
+}
+
+// How lines go to the service that was asked for.
+pub(crate) fn lines_of(asked: &tn_words::Serving) -> Lines
+    ensures { result ≡ lines_as asked.now }
+{
+    Lines {
+        line_end: asked.line_end,
+        limit: asked.line_limit,
+        ends_cut: asked.ends_cut,
+    }
 }
 
 // What is the same of all sessions that were asked for.

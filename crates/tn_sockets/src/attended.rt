@@ -7,6 +7,7 @@ ghost use Rattle.tn_sockets.specs.Passing.{GivesNext};
 
 use crate::bell::{Bell, has_peer_ended};
 use crate::connection::{Closing, send_at_once};
+use crate::presence::Typed;
 use std::alloc::{AllocError, Global};
 use std::io::{ErrorKind, Read};
 use std::net::{Shutdown, TcpStream};
@@ -32,7 +33,7 @@ const HOLD: u64 = 10;
 pub struct Standing {
     /// The peer was told that no more comes.
     finished: AtomicBool,
-    /// The peer sent nothing for too long.
+    /// The peer typed nothing for too long.
     idle: AtomicBool,
     /// The session lasted too long.
     too_long: AtomicBool,
@@ -89,7 +90,7 @@ impl Standing {
         self.held.store(true, Ordering::SeqCst);
     }
 
-    /// Whether the peer sent nothing for too long.
+    /// Whether the peer typed nothing for too long.
     pub fn is_idle(&self) -> bool {
         self.idle.load(Ordering::SeqCst)
     }
@@ -99,9 +100,10 @@ impl Standing {
         self.too_long.load(Ordering::SeqCst)
     }
 
-    /// Whether the session was ended while its peer may still send: by `hang_up`, or since it lasted too long.
+    /// Whether the session was ended while its peer may still send: by `hang_up`, or since it lasted too long, or what
+    /// came was not typed.
     pub fn is_ended_here(&self) -> bool {
-        self.is_hung_up() || self.is_too_long()
+        self.is_hung_up() || self.is_too_long() || self.is_idle()
     }
 
     /// Whether nothing more comes from the peer: it has hung up, or was told that no more comes.
@@ -176,7 +178,7 @@ impl Standing {
     }
 }
 
-/// What a client sends. It ends, as by a hang-up, where the client sends nothing for too long, where the
+/// What a client sends. It ends, as by a hang-up, where the client types nothing for too long, where the
 /// session has lasted too long, where a job of it wants that, and where the client does not close in time after
 /// it was told that no more comes.
 #[derive(Drop)]
@@ -184,21 +186,24 @@ pub struct Attended<H, S> {
     rt: H,
     stream: S,
     standing: Arc<Standing, Global>,
-    /// For how many seconds a client may send nothing, or 0 for ever.
+    /// For how many seconds a client may type nothing, or 0 for ever.
     idle: u32,
     /// After how many seconds the session ends, or 0 for never.
     longest: u32,
     began: Option<Instant>,
+    /// When something was typed last.
     heard: Option<Instant>,
+    typed: Typed,
     finished: Option<Instant>,
 }
 
 impl<H: Clock + Copy + Wait> Attended<H, TcpStream> {
-    /// The reading side of a connection, whose peer may send nothing for `idle` seconds, and which ends after
-    /// `longest` seconds; 0 is for ever. A write to it that the peer does not take for the shorter of the two fails:
+    /// The reading side of a connection, whose peer may send nothing for `idle` seconds that reaches the terminal,
+    /// and which ends after `longest` seconds; 0 is for ever. A write to it that the peer does not take for the shorter of the two fails:
     /// while it waits, nobody hears that the peer is silent. The peer is told `idle` or `too long` before the end.
     pub fn new(
         rt: H,
+        alloc: Global,
         stream: TcpStream,
         standing: Arc<Standing, Global>,
         idle: u32,
@@ -223,6 +228,7 @@ impl<H: Clock + Copy + Wait> Attended<H, TcpStream> {
             longest,
             began: now,
             heard: now,
+            typed: Typed::new(alloc),
             finished: None,
         })
     }
@@ -237,17 +243,29 @@ impl<H: Clock + Copy, S: Drop> Attended<H, S> {
         }
     }
 
-    // Whether no more is read: the peer had its time to close, or sent nothing for too long.
+    // Whether no more is read: the peer had its time to close, which one that was idle is not given, or typed nothing for
+    // too long.
     fn is_over(&mut self) -> bool
         ensures { self.new.stream ≡ self.old.stream }
     {
-        if self.standing.is_finished() {
-            if self.finished.is_none() {
-                self.finished = Instant::now(&self.rt).ok();
-            }
-            return self.is_past(self.finished, LINGER);
+        if !self.standing.is_finished() {
+            return self.is_idle();
         }
-        if self.idle == 0 || !self.is_past(self.heard, u64::from(self.idle)) {
+        if self.standing.is_idle() {
+            return true;
+        }
+        if self.finished.is_none() {
+            self.finished = Instant::now(&self.rt).ok();
+        }
+        self.is_past(self.finished, LINGER)
+    }
+
+    // Whether no more is read since nothing was typed for too long.
+    fn is_idle(&self) -> bool {
+        if self.standing.is_finished() || self.idle == 0 {
+            return false;
+        }
+        if !self.is_past(self.heard, u64::from(self.idle)) {
             return false;
         }
         self.standing.idle.store(true, Ordering::SeqCst);
@@ -300,14 +318,20 @@ impl<H: Clock + Copy + Wait, S: AsRawFd + Drop + Read + Closing> Attended<H, S> 
         }
         match self.stream.read(buf) {
             Ok(count) => {
-                self.heard = Instant::now(&self.rt).ok();
+                self.hear(&buf[..count]);
                 Ok(Some(count))
             },
             Err(error) if error.kind() == ErrorKind::WouldBlock => Ok(None),
-            Err(error) => {
-                self.heard = Instant::now(&self.rt).ok();
-                Err(error)
-            },
+            Err(error) => Err(error),
+        }
+    }
+
+    // Notes when something was typed last, where that is asked for.
+    fn hear(&mut self, piece: &[u8])
+        ensures { self.new.stream ≡ self.old.stream }
+    {
+        if self.idle > 0 && self.typed.has_typed(piece) {
+            self.heard = Instant::now(&self.rt).ok();
         }
     }
 
@@ -322,6 +346,9 @@ impl<H: Clock + Copy + Wait, S: AsRawFd + Drop + Read + Closing> Attended<H, S> 
                 return Ok(0);
             }
             if self.is_too_long() {
+                return Ok(0);
+            }
+            if self.is_idle() {
                 return Ok(0);
             }
             match self.read_once(buf) {

@@ -45,6 +45,7 @@ mod link;
 mod logged;
 mod outgoing;
 mod pieces;
+mod presence;
 mod screen;
 mod sending;
 mod sizes;

@@ -11,7 +11,7 @@ use Rattle.clap.specs.declared.parser.matches.Found.{Found}
 use Rattle.clap.proofs.WalkLemmas.{first_value-rows}
 use Rattle.tn_words.proofs.Addresses.{one_place}
 use Rattle.tn_words.specs.Addresses.{WritesAddress, WritesPlace}
-use Rattle.tn_words.specs.Words.{AsksPlace, AsksPort, HasNumber, HasPlace, MayHaveAddress, MayHaveNumber, is_flagged, is_given, one_port}
+use Rattle.tn_words.specs.Words.{AsksPlace, AsksPort, HasNumber, HasPlace, IsPath, MayHaveAddress, MayHaveNumber, MayHavePath, is_flagged, is_given, one_port}
 use Rattle.tn_words.specs.declared.settings.Address.{Address}
 
 is_some-map : {A B : Type 0} (f : A → B) (o : Option A) → is_some o ≡ is_some (option_map f o)
@@ -110,6 +110,12 @@ flagged rows name o is = sym (ap (λ o. option_map_or (λ text. bytes_eq text (c
 -- an option without a text has not this one
 pub has_none : {A : Type 0} (o : Option A) (x : A) → o ≡ None → o ≡ Some x → ⊥
 has_none o x none has = let bad : true ≡ false = ap is_some (sym has ∙ none) in absurd (cc)
+
+-- a text that is no path has none
+pub no_path : (rows : List Row) (name text : Text) → first_of name rows ≡ Some text → (IsPath text → ⊥) → (path : Option Text) → MayHavePath rows name path → ⊥
+no_path rows name text has none None missing = let bad : true ≡ false = sym (ap is_some has) ∙ missing in absurd (cc)
+no_path rows name text has none (Some path) given =
+    none (subst IsPath (ap (λ o. unwrap_or o path) (sym given.0 ∙ has)) given.1)
 
 -- a text that writes no address has none
 pub no_address : (rows : List Row) (text : Text) → first_of (codes "to") rows ≡ Some text

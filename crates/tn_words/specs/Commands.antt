@@ -80,6 +80,7 @@ serve = with_rules (codes "serve") (
     ∷ with_default (whole_rule (codes "per-host") 1 64) (codes "64")
     ∷ whole_rule (codes "count") 1 1000000
     ∷ flag_rule (codes "forever")
+    ∷ text_rule (codes "until")
     ∷ with_default (whole_rule (codes "ticks") 0 1000) (codes "0")
     ∷ line_rule
     ∷ with_default (whole_rule (codes "idle") 0 86400) (codes "0")
@@ -89,6 +90,7 @@ serve = with_rules (codes "serve") (
     ∷ text_rule (codes "to")
     ∷ flag_rule (codes "crlf")
     ∷ flag_rule (codes "cr")
+    ∷ text_rule (codes "line-cut")
     ∷ []
     )
 

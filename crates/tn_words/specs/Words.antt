@@ -1,5 +1,5 @@
 -- What words ask for, of the command line that `tn` takes.
-use Rattle.std.specs.Prelude.{◌≡◌, ◌≢◌, ◌⊎◌, ◌≤◌, ◌||◌, ⊤, ℕ, Bool, true, false, unwrap_or, Option, Some, None, MatchOption, is_some, option_map, List, [], codes, string_bytes}
+use Rattle.std.specs.Prelude.{◌≡◌, ◌≢◌, ◌⊎◌, ◌<◌, ◌≤◌, ◌||◌, ⊤, ℕ, Bool, true, false, if◌then◌else◌, unwrap_or, Option, Some, None, MatchOption, is_some, option_map, List, [], length, codes, string_bytes}
 use Rattle.std.specs.Option.{option_map_or}
 use Rattle.std.specs.Str.{bytes_eq}
 use Rattle.clap.specs.Words.{Row, Text, subcommand_of, takes, fault_of, first_of, one_of, IsAmong}
@@ -93,12 +93,34 @@ service_line_end_in rows =
     service_line_end (is_given (codes "to") rows) (is_flagged (codes "crlf") rows)
     (is_flagged (codes "cr") rows)
 
+-- what is done with a line that may have been cut: it is sent, or, with `end`, ends the session; no other word is
+-- accepted, and none where no service is named
+abbrev pub chosen_cut : Bool → Option Text → Option Bool
+chosen_cut named None = Some false
+chosen_cut true (Some text) =
+    if bytes_eq text (codes "end") then Some true else (if bytes_eq text (codes "send") then Some false else None)
+chosen_cut false (Some text) = None
+
+abbrev pub ends_cut_in : List Row → Option Bool
+ends_cut_in rows = chosen_cut (is_given (codes "to") rows) (first_of (codes "line-cut") rows)
+
+-- a path has 1 to 4,095 bytes
+pub record IsPath (text : Text) : Type 0 where
+  pub some : 0 < length text
+  pub few : length text ≤ 4095
+
+-- the option of this name has this path, or it is not given
+abbrev pub MayHavePath : List Row → Text → Option Text → Type 0
+MayHavePath rows name None = is_given name rows ≡ false
+MayHavePath rows name (Some path) = HasText rows name path × IsPath path
+
 pub record AsksServe (rows : List Row) (asked : Serving) : Type 0 where
   pub host : HasText rows (codes "host") (string_bytes asked.host)
   pub port : HasNumber rows (codes "port") 1 65535 asked.port
   pub limit : HasNumber rows (codes "limit") 1 64 asked.sessions
   pub per_host : HasNumber rows (codes "per-host") 1 64 asked.per_host
   pub count : AsksCount rows asked.count
+  pub until : MayHavePath rows (codes "until") (option_map string_bytes asked.until)
   pub ticks : HasNumber rows (codes "ticks") 0 1000 asked.ticks
   pub line : HasNumber rows (codes "line") 255 4095 asked.line_limit
   pub idle : HasNumber rows (codes "idle") 0 86400 asked.idle
@@ -107,6 +129,7 @@ pub record AsksServe (rows : List Row) (asked : Serving) : Type 0 where
   pub verbose : HasFlag rows (codes "verbose") asked.verbose
   pub to : MayHaveAddress rows asked.to
   pub line_end : service_line_end_in rows ≡ Some asked.line_end
+  pub ends_cut : ends_cut_in rows ≡ Some asked.ends_cut
 
 -- HOST writes this host, and this port where it writes one; where it is not given, the host is this machine
 abbrev pub HasPlace : List Row → Text → Option ℕ → Type 0

@@ -129,9 +129,16 @@ pub(crate) const CR: &str = "cr";
 
 pub(crate) const FOREVER: &str = "forever";
 
+/// At most that many bytes has the path of a file.
+pub(crate) const MOST_PATH: usize = 4_095;
+
+pub(crate) const UNTIL: &str = "until";
+
 pub(crate) const TO: &str = "to";
 
 pub(crate) const CRLF: &str = "crlf";
+
+pub(crate) const LINE_CUT: &str = "line-cut";
 
 /// The version of `tn`, which the line that it prints has too.
 const VERSION: &str = "1.1.0";
@@ -263,7 +270,8 @@ fn serve_command<'a>(alloc: Global) -> Result<Command<'a>, AllocError>
          (^\\) `quit`, and a stop (^Z) `tstp`. One connection more than a limit is told `full` and \
          closed.\n\n\
          It ends by itself, with status 0, once it has taken as many connections as were asked for and \
-         each of their sessions has ended; with `--forever` it serves until it is stopped.",
+         each of their sessions has ended; with `--forever` it serves until it is stopped, and with `--until` \
+         until a file is there.",
         "Example:\n  tn serve --port 2323 --count 2\n\nAnd in another terminal, one after the other:\n  \
          tn connect --port 2323\n  telnet 127.0.0.1 2323",
     );
@@ -276,10 +284,10 @@ fn serve_command<'a>(alloc: Global) -> Result<Command<'a>, AllocError>
 fn with_server_options<'a>(alloc: Global, command: Command<'a>) -> Result<Command<'a>, AllocError>
     requires { (out-Command command).has_globals ≡ false }
     ensures app { IfOk result (λ new. app_of new ≡ with_rule (with_rule (with_rule (with_rule (with_rule (with_rule
-        (app_of command.entry) host_rule) port_rule)
+        (with_rule (app_of command.entry) host_rule) port_rule)
         (with_default (whole_rule (codes "limit") 1 64) (codes "8")))
         (with_default (whole_rule (codes "per-host") 1 64) (codes "64")))
-        (whole_rule (codes "count") 1 1000000)) (flag_rule (codes "forever"))) }
+        (whole_rule (codes "count") 1 1000000)) (flag_rule (codes "forever"))) (text_rule (codes "until"))) }
     ensures local { IfOk result (λ new. (out-Command new).has_globals ≡ false) }
 {
     let command = command
@@ -301,6 +309,12 @@ fn with_server_options<'a>(alloc: Global, command: Command<'a>) -> Result<Comman
             alloc,
             FOREVER,
             "Serves until it is stopped, in place of a count",
+        ))?
+        .arg(text_option(
+            alloc,
+            UNTIL,
+            "FILE",
+            "Accepts no more once this file is there, lets its sessions end, and ends with status 0",
         ))?;
     Ok(command)
 }
@@ -326,7 +340,7 @@ fn with_session_options<'a>(alloc: Global, command: Command<'a>) -> Result<Comma
             alloc,
             IDLE,
             "0",
-            "Ends a session whose client sends nothing for this many seconds; 0 never does",
+            "Ends a session whose client types nothing for this many seconds; 0 never does",
         ))?
         .arg(whole_option(
             alloc,
@@ -349,8 +363,8 @@ fn with_session_options<'a>(alloc: Global, command: Command<'a>) -> Result<Comma
 
 fn with_gateway_options<'a>(alloc: Global, command: Command<'a>) -> Result<Command<'a>, AllocError>
     requires { (out-Command command).has_globals ≡ false }
-    ensures app { IfOk result (λ new. app_of new ≡ with_rule (with_rule (with_rule (app_of command.entry)
-        (text_rule (codes "to"))) (flag_rule (codes "crlf"))) (flag_rule (codes "cr"))) }
+    ensures app { IfOk result (λ new. app_of new ≡ with_rule (with_rule (with_rule (with_rule (app_of command.entry)
+        (text_rule (codes "to"))) (flag_rule (codes "crlf"))) (flag_rule (codes "cr"))) (text_rule (codes "line-cut"))) }
     ensures local { IfOk result (λ new. (out-Command new).has_globals ≡ false) }
 {
     let command = command
@@ -369,6 +383,13 @@ fn with_gateway_options<'a>(alloc: Global, command: Command<'a>) -> Result<Comma
             alloc,
             CR,
             "Ends each line to that service with CR in place of LF",
+        ))?
+        .arg(text_option(
+            alloc,
+            LINE_CUT,
+            "WHAT",
+            "With a line as long as one may be, which may have been cut: `send` it, which is the default, or \
+             `end` the session",
         ))?;
     Ok(command)
 }

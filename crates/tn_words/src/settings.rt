@@ -127,6 +127,8 @@ pub struct Serving {
     pub per_host: u16,
     /// After how many accepted connections to end, from 1 to 1,000,000; `None` for never.
     pub count: Option<u32>,
+    /// The file that ends it before that, once it is there.
+    pub until: Option<String>,
     /// How often the job in the background ticks, from 0 to 1,000; at 0 there is no such job.
     pub ticks: u16,
     /// The most bytes in a line.
@@ -144,6 +146,8 @@ pub struct Serving {
     pub to: Option<Address>,
     /// What ends each line for that service.
     pub line_end: LineEnd,
+    /// Whether a line that may have been cut ends its session, in place of going to that service.
+    pub ends_cut: bool,
 }
 
 /// The key by which the user at a terminal speaks to the client itself.

@@ -1,16 +1,17 @@
 //! The words of the command line.
 
-ghost use Rattle.std.specs.Prelude.{◌≡◌, ◌≤◌, ℕ, List, ⊤, None, Option, IfOk, IfErr, IfSome, codes, map, option_map, string_bytes, unwrap_or};
-ghost use Rattle.clap.specs.Words.{kind_of, rows_of, first_of, found_of, subcommand_rows_of};
+ghost use Rattle.std.specs.Prelude.{◌≡◌, ◌≤◌, ℕ, List, ⊤, true, false, None, Option, Some, IfOk, IfErr, IfSome, codes, map, option_map, string_bytes, unwrap_or};
+ghost use Rattle.clap.specs.Words.{Text, kind_of, rows_of, first_of, found_of, subcommand_rows_of};
 ghost use Rattle.tn_words.specs.Words.{AskFor, AsksConnect, AsksCount, AsksIn, AsksNothing, AsksPlace, AsksPort, AsksServe};
-ghost use Rattle.tn_words.specs.Words.{HasEscape, HasNumber, HasPlace, HasText, Lacks, MayHaveAddress, MayHaveNumber, MissesNumber};
-ghost use Rattle.tn_words.specs.Words.{Refuses, TellsKind, chosen_count, chosen_line_end, detail_of, has_telnet_option};
+ghost use Rattle.tn_words.specs.Words.{HasEscape, HasNumber, HasPlace, HasText, IsPath, Lacks, MayHaveAddress, MayHaveNumber};
+ghost use Rattle.tn_words.specs.Words.{MayHavePath, MissesNumber, Refuses, TellsKind, chosen_count, chosen_cut};
+ghost use Rattle.tn_words.specs.Words.{chosen_line_end, detail_of, ends_cut_in, has_telnet_option};
 ghost use Rattle.tn_words.specs.Words.{is_flagged, is_given, line_end_in, one_port, service_line_end, service_line_end_in};
 
 use crate::commands::{
     AT, CONNECT, COUNT, CR, CRLF, DECODE, ESCAPE, FOREVER, HEIGHT, HOST, IDLE, LF, LIMIT, LINE,
-    LOCAL, LOCALLY, LONGEST, PER_HOST, PLAIN, PORT, QUIET, REPLAY, SERVE, TICKS, TO, TRACE,
-    VERBOSE, VERSION_LINE, WAIT, WIDTH, WORLD, Whole, tn_command,
+    LINE_CUT, LOCAL, LOCALLY, LONGEST, MOST_PATH, PER_HOST, PLAIN, PORT, QUIET, REPLAY, SERVE,
+    TICKS, TO, TRACE, UNTIL, VERBOSE, VERSION_LINE, WAIT, WIDTH, WORLD, Whole, tn_command,
 };
 use crate::settings::{Address, Connecting, Escape, Serving, place_in};
 use clap::error::ErrorKind;
@@ -107,6 +108,15 @@ enum Lack<'a> {
     #[error("error: '--crlf' and '--cr' exclude each other, and need '--to'\n\n\
          For more information, try '--help'.\n")]
     ServiceLineEnd,
+    #[error("error: '--line-cut' needs '--to'\n\nFor more information, try '--help'.\n")]
+    Service,
+    /// The text is no such word.
+    #[error("error: invalid value '{0}' for '--line-cut <WHAT>': it is neither `send` nor `end`\n\n\
+         For more information, try '--help'.\n")]
+    Cut(&'a str),
+    #[error("error: '--until <FILE>' needs a path of 1 to 4095 bytes\n\n\
+         For more information, try '--help'.\n")]
+    Path,
     /// The number of connections is none of its range, or is given for a server without end.
     #[error("error: '--count' and '--forever' exclude each other\n\n\
          For more information, try '--help'.\n")]
@@ -168,11 +178,15 @@ fn serving(alloc: Global, words: &ArgMatches<'_>) -> Result<Serving, WordsFault>
     let Some(line_end) = service_line_end_in(words) else {
         return Err(lacking(alloc, &Lack::ServiceLineEnd));
     };
+    let Some(ends_cut) = ends_cut_in(words) else {
+        return Err(lacking(alloc, &cut_lack(words)));
+    };
     let Some(count) = count_in(words) else {
         return Err(lacking(alloc, &Lack::Count));
     };
+    let until = until_of(alloc, words)?;
     let host = String::from_str(alloc, host)?;
-    match serving_at(host, to, line_end, count, words) {
+    match serving_at(host, to, line_end, ends_cut, count, until, words) {
         Some(serving) => Ok(serving),
         None => Err(lacking(alloc, &Lack::Value)),
     }
@@ -215,6 +229,70 @@ fn service_line_end(named: bool, crlf: bool, cr: bool) -> Option<LineEnd>
     }
 }
 
+// Whether a line that may have been cut ends its session; `None` where the option makes no sense.
+fn ends_cut_in(words: &ArgMatches<'_>) -> Option<bool>
+    ensures { result ≡ ends_cut_in (rows_of (found_of words.now)) }
+{
+    chosen_cut(is_given(words, TO), words.get_str(LINE_CUT))
+}
+
+fn chosen_cut(named: bool, given: Option<&str>) -> Option<bool>
+    ensures { result ≡ chosen_cut named (option_map (λ text. text.now) given.entry) }
+{
+    match given {
+        None => Some(false),
+        Some(text) if named => cut_of(text),
+        Some(_) => None,
+    }
+}
+
+fn cut_of(text: &str) -> Option<bool>
+    ensures { result ≡ chosen_cut true (Some text.now) }
+{
+    if text == "end" {
+        return Some(true);
+    }
+    if text == "send" {
+        return Some(false);
+    }
+    None
+}
+
+// What is wrong where the words choose nothing for such a line.
+fn cut_lack<'a>(words: &ArgMatches<'a>) -> Lack<'a> {
+    match words.get_str(LINE_CUT) {
+        Some(text) if is_given(words, TO) => Lack::Cut(text),
+        _ => Lack::Service,
+    }
+}
+
+// The file that ends the server once it is there, if one is named.
+fn until_of(alloc: Global, words: &ArgMatches<'_>) -> Result<Option<String>, WordsFault>
+    ensures asked { IfOk result (λ path.
+        MayHavePath (rows_of (found_of words.now)) (codes "until") (option_map string_bytes path)) }
+    ensures lacks { IfErr result (Lacks
+        ((path : Option Text) → ¬ MayHavePath (rows_of (found_of words.now)) (codes "until") path)) }
+{
+    let Some(text) = words.get_str(UNTIL) else {
+        return Ok(None);
+    };
+    if !is_path(text) {
+        return Err(lacking(alloc, &Lack::Path));
+    }
+    let path = String::from_str(alloc, text)?;
+    Ok(Some(path))
+}
+
+fn is_path(text: &str) -> bool
+    ensures path { result ≡ true → IsPath text.now }
+    ensures none { result ≡ false → ¬ IsPath text.now }
+{
+    if text.is_empty() {
+        return false;
+    }
+    text.len() <= MOST_PATH
+}
+
 // After how many connections to end, if ever; `None` where the words choose no such number.
 fn count_in(words: &ArgMatches<'_>) -> Option<Option<u32>>
     ensures some { IfSome result (AsksCount (rows_of (found_of words.now))) }
@@ -239,13 +317,17 @@ fn serving_at(
     host: String,
     to: Option<Address>,
     line_end: LineEnd,
+    ends_cut: bool,
     count: Option<u32>,
+    until: Option<String>,
     words: &ArgMatches<'_>,
 ) -> Option<Serving>
     requires host { HasText (rows_of (found_of words.now)) (codes "host") (string_bytes host) }
     requires to { MayHaveAddress (rows_of (found_of words.now)) to }
     requires line_end { service_line_end_in (rows_of (found_of words.now)) ≡ Some line_end }
+    requires ends_cut { ends_cut_in (rows_of (found_of words.now)) ≡ Some ends_cut }
     requires count { AsksCount (rows_of (found_of words.now)) count }
+    requires until { MayHavePath (rows_of (found_of words.now)) (codes "until") (option_map string_bytes until) }
     ensures asked { IfSome result (AsksServe (rows_of (found_of words.now))) }
     ensures none { result ≡ None → (asked : Serving) → ¬ AsksServe (rows_of (found_of words.now)) asked }
 {
@@ -255,6 +337,7 @@ fn serving_at(
         sessions: number(words, LIMIT)? as u16,
         per_host: number(words, PER_HOST)? as u16,
         count,
+        until,
         ticks: number(words, TICKS)? as u16,
         line_limit: Limit::new(number(words, LINE)? as u16)?,
         idle: number(words, IDLE)?,
@@ -263,6 +346,7 @@ fn serving_at(
         verbose: words.get_flag(VERBOSE),
         to,
         line_end,
+        ends_cut,
     })
 }
 

@@ -58,6 +58,7 @@ fn words_ask_for_a_server(rt: HostRuntime) -> Result<(), Fail> {
         sessions: 8,
         per_host: 64,
         count: Some(1),
+        until: None,
         ticks: 0,
         line_limit: Limit::standard(),
         idle: 0,
@@ -66,6 +67,7 @@ fn words_ask_for_a_server(rt: HostRuntime) -> Result<(), Fail> {
         verbose: false,
         to: None,
         line_end: LineEnd::Lf,
+        ends_cut: false,
     });
     asks(&rt, rt.alloc(), "tn serve --port 2323", Some(asked));
     Ok(())
@@ -79,6 +81,7 @@ fn words_ask_for_all_of_a_server(rt: HostRuntime) -> Result<(), Fail> {
         sessions: 64,
         per_host: 2,
         count: Some(1_000_000),
+        until: Some(String::from_str(rt.alloc(), "/run/end")?),
         ticks: 1_000,
         line_limit: Limit::new(4_095).unwrap_or(Limit::standard()),
         idle: 86_400,
@@ -90,10 +93,11 @@ fn words_ask_for_all_of_a_server(rt: HostRuntime) -> Result<(), Fail> {
             port: 7,
         }),
         line_end: LineEnd::CrLf,
+        ends_cut: true,
     });
     let line =
-        "tn serve --limit=64 --count 1000000 --ticks=1000 --host ::1 --line 4095 --idle 86400 \
-                --per-host 2 --longest=3600 --local --verbose --port=2323 --to [::1]:7 --crlf";
+        "tn serve --limit=64 --count 1000000 --ticks=1000 --host ::1 --line 4095 --idle 86400 --until /run/end \
+                --per-host 2 --longest=3600 --local --verbose --port=2323 --to [::1]:7 --crlf --line-cut end";
     asks(&rt, rt.alloc(), line, Some(asked));
     Ok(())
 }
@@ -106,6 +110,7 @@ fn words_ask_for_a_server_without_end(rt: HostRuntime) -> Result<(), Fail> {
         sessions: 8,
         per_host: 64,
         count: None,
+        until: None,
         ticks: 0,
         line_limit: Limit::standard(),
         idle: 0,
@@ -117,8 +122,9 @@ fn words_ask_for_a_server_without_end(rt: HostRuntime) -> Result<(), Fail> {
             port: 7,
         }),
         line_end: LineEnd::Cr,
+        ends_cut: false,
     });
-    let line = "tn serve --forever -p 7 --cr --to h:7";
+    let line = "tn serve --forever -p 7 --cr --to h:7 --line-cut=send";
     asks(&rt, rt.alloc(), line, Some(asked));
     Ok(())
 }
@@ -226,6 +232,12 @@ const REFUSED: &[&str] = &[
     "tn serve --port 7 --crlf",
     "tn serve --port 7 --cr",
     "tn serve --port 7 --to h:7 --cr --crlf",
+    "tn serve --port 7 --line-cut send",
+    "tn serve --port 7 --to h:7 --line-cut End",
+    "tn serve --port 7 --to h:7 --line-cut",
+    "tn serve --port 7 --to h:7 --line-cut end --line-cut end",
+    "tn serve --port 7 --until=",
+    "tn serve --port 7 --until a --until b",
     "tn serve --port 7 --forever --count 2",
     "tn serve --port 7 --line 254",
     "tn serve --port 7 --line 4096",
@@ -283,6 +295,12 @@ const TOLD: &[(&str, &str)] = &[
     ("tn connect h:x", "invalid value 'h:x' for '[HOST]'"),
     ("tn connect h --cr", "need '--plain'"),
     ("tn serve -p 7 --cr", "need '--to'"),
+    ("tn serve -p 7 --line-cut end", "'--line-cut' needs '--to'"),
+    (
+        "tn serve -p 7 --to h:7 --line-cut all",
+        "invalid value 'all' for '--line-cut <WHAT>'",
+    ),
+    ("tn serve -p 7 --until=", "needs a path of 1 to 4095 bytes"),
     (
         "tn serve -p 7 --count 1 --forever",
         "'--count' and '--forever' exclude",

@@ -13,7 +13,9 @@ use std::{io, thread};
 use tn_answerer::Answerers;
 use tn_connect::{ConnectFault, Connecting, Link, News, Notes, Origin, connect};
 use tn_discipline::Limit;
-use tn_loopback::{Host, Serving, SessionOptions, serve_connection, serve_on};
+use tn_loopback::{
+    At, Host, ServeFault, Serving, SessionOptions, Until, serve, serve_connection, serve_on,
+};
 use tn_program::Answering;
 use tn_roster::{Roster, RosterFault, note};
 use tn_server::Editing;
@@ -66,7 +68,7 @@ fn options(idle: u32) -> SessionOptions {
     }
 }
 
-fn serving(sessions: u16, count: u32) -> Serving {
+fn serving(sessions: u16, count: u64) -> Serving {
     Serving {
         sessions,
         per_host: 64,
@@ -271,4 +273,43 @@ fn connections_more_than_the_limit_are_told_so(rt: HostRuntime) -> Result<(), Fa
     drop(first);
     assert!(rt; server.join(&rt));
     Ok(())
+}
+
+/// Tells at once that no more connections are to come.
+#[derive(Drop)]
+struct Over;
+
+impl Until for Over {
+    ghost ends = { λ _. Unit {0} };
+
+    fn is_over(&self) -> bool {
+        true
+    }
+}
+
+#[test]
+fn a_server_that_is_told_to_end_accepts_nobody(rt: HostRuntime) {
+    let alloc = rt.alloc();
+    let at = At {
+        host: "127.0.0.1",
+        port: 0,
+    };
+    let mut errors: Vec<u8> = Vec::new(alloc);
+    let mut causes = Vec::new(alloc);
+    let service = Answering { ticks: 0 };
+    let served = serve(
+        rt,
+        alloc,
+        at,
+        serving(1, 3),
+        Over,
+        service,
+        &mut errors,
+        &mut causes,
+    );
+    let is_so = match served {
+        Ok(served) => served.accepted() == 0,
+        Err(fault) => fault == ServeFault::Memory,
+    };
+    assert!(rt; is_so);
 }

@@ -7,7 +7,8 @@ use std::process::Abort;
 use std::test::Fail;
 use std::thread;
 use std::thread::JoinHandle;
-use tn_gateway::LineEnd;
+use tn_discipline::Limit;
+use tn_gateway::{LineEnd, Lines};
 use tn_loopback::{Host, Serving, serve_on};
 use tn_program::{Joining, Network};
 
@@ -23,7 +24,11 @@ where
         rt,
         host: String::from_str(alloc, "127.0.0.1")?,
         port,
-        line_end: LineEnd::CrLf,
+        lines: Lines {
+            line_end: LineEnd::CrLf,
+            limit: Limit::standard(),
+            ends_cut: false,
+        },
     };
     let serving = Serving::standard();
     let server = thread::spawn(&rt, move || -> bool {

@@ -1,4 +1,4 @@
-use Rattle.std.proofs.Common.{◌≡◌, ℕ, ◌+◌, arith, subst, sym, vec_items, ◌∙◌}
+use Rattle.std.proofs.Common.{ℕ, subst, sym, vec_items, ◌∙◌}
 use Rattle.tn_loopback.proofs.Counting.{counts_from_none}
 use Rattle.tn_loopback.proofs.Hearing.{hears_all}
 use Rattle.tn_loopback.specs.Counted.{HasEnded, facts_of, server_of}
@@ -21,9 +21,10 @@ returns-clause-heard g c =
     let started = c.new-2.result in
     let joined = c.join_all.new.self in
     let served = c.served-served.result in
-    let same : served.whole + served.faulted ≡ joined.running.whole + joined.running.faulted = grind (arith, c.served-served.ensures.counts) in
-    subst (λ (n : ℕ). HearsAll g.V.Service.turns (HasEnded server) c.args.service n) (sym same)
+    let counts = c.served-served.ensures.counts in
+    subst (λ (n : ℕ). HearsAll g.V.Service.turns (HasEnded server) c.args.service n served.faulted) (sym counts.0)
+    (subst (λ (n : ℕ). HearsAll g.V.Service.turns (HasEnded server) c.args.service joined.running.whole n) (sym counts.1)
     (hears_all g.V.Service.turns (HasEnded server) (vec_items started.started) (vec_items joined.running.started) (λ s. s.caller.number)
-    (started.whole + started.faulted) (joined.running.whole + joined.running.faulted) c.args.service joined.service
-    (grind (arith, c.new-2.ensures.counts)) (sym started.started.ok.0 ∙ c.new-2.ensures.none) (sym joined.running.started.ok.0 ∙ c.join_all.ensures.none)
-    (λ first h. c.join_all.ensures.heard first (c.serve_all.ensures.heard first h)))
+    started.whole started.faulted joined.running.whole joined.running.faulted c.args.service joined.service
+    (c.new-2.ensures.counts.0, c.new-2.ensures.counts.1) (sym started.started.ok.0 ∙ c.new-2.ensures.none) (sym joined.running.started.ok.0 ∙ c.join_all.ensures.none)
+    (λ first h. c.join_all.ensures.heard first (c.serve_all.ensures.heard first h))))

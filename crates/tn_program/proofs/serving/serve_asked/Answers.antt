@@ -4,14 +4,14 @@ use Rattle.tn_program.proofs.serving.serve_asked.Goals as goal
 
 pub returns-in_default-clause-answers : goal.returns-in_default-clause-answers
 returns-in_default-clause-answers g c none =
-    answers _ _ _ _ _ _ c.answering_of.result.ticks _ c.serving_of-serving.ensures.options c.answering_of.ensures c.serve.ensures.each
+    answers _ _ _ _ _ _ c.answering_of-service.result.ticks _ c.serving_of-serving.ensures.options c.answering_of-service.ensures c.serve.ensures.each
 
 pub returns-in_err-from_str-clause-listened : goal.returns-in_err-from_str-clause-listened
-returns-in_err-from_str-clause-listened g c = unless _ _ c.from_residual.ensures.1
+returns-in_err-from_str-clause-listened g c = unless _ _ c.from_residual-in_err-from_str.ensures.1
 
 pub returns-clause-joins : goal.returns-clause-joins
 returns-clause-joins g c =
-    rw c.in-Some.is (joins _ _ _ _ c.args.rt c.in-Some.to.port _ _ _ _ _ _ c.serving_of-serving.ensures.options (c.in_ok-from_str.ensures.ok ∙ c.as_str-2.ensures.value) refl c.serve-2.ensures.each)
+    rw c.in-Some.is (joins _ _ _ _ c.args.rt c.in-Some.to.port _ _ _ _ _ _ c.serving_of-serving.ensures.options (c.in_ok-from_str.ensures.ok ∙ c.as_str-2.ensures.value) c.lines_of.ensures c.serve-2.ensures.each)
 
 pub returns-in_err-from_str-clause-caused : goal.returns-in_err-from_str-clause-caused
 returns-in_err-from_str-clause-caused g c = inl refl

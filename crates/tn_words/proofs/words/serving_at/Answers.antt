@@ -38,6 +38,7 @@ returns-clause-asked c = record {
   limit = search rules;
   per_host = search rules;
   count = c.requires.count;
+  until = c.requires.until;
   ticks = search rules;
   line = search rules;
   idle = search rules;
@@ -54,4 +55,5 @@ returns-clause-asked c = record {
   };
   to = c.requires.to;
   line_end = c.requires.line_end;
+  ends_cut = c.requires.ends_cut;
 }

@@ -1,5 +1,6 @@
-use Rattle.std.proofs.Common.{◌<◌, ℕ, inl, subst, vec_items}
-use Rattle.tn_loopback.proofs.Counting.{one_whole, one_faulted}
+use Rattle.std.proofs.Common.{◌≡◌, ◌<◌, ℕ, arith, inl, subst, vec_items}
+use Rattle.tn_loopback.proofs.Counting.{one_whole, one_faulted, whole_none, whole_one}
+use Rattle.tn_loopback.specs.Ends.{whole_of}
 use Rattle.tn_loopback.proofs.Hearing.{one_joined}
 use Rattle.tn_loopback.specs.Counted.{Joined, facts_of, server_of}
 use Rattle.tn_loopback.specs.Servers.{IsPromised}
@@ -35,6 +36,14 @@ returns-clause-each g c =
     elim c.if-is_whole.branch [
       | then-is_whole w ↦ rw w.self-is (one_whole server old.whole old.faulted old.refused joined c.finished-finished.result c.finished-finished.ensures (c.is_whole.ensures.whole w.if-is_whole.true))
       | else-is_whole w ↦ rw w.self-is (one_faulted server old.whole old.faulted old.refused joined c.finished-finished.result c.finished-finished.ensures (c.is_whole.ensures.faulted w.if-is_whole.false))
+    ]
+
+pub returns-clause-end : goal.returns-clause-end
+returns-clause-end g c =
+    let finished = c.finished-finished.result in
+    elim c.if-is_whole.branch [
+      | then-is_whole w ↦ rw w.self-is (let one : whole_of finished ≡ 1 = whole_one finished (c.is_whole.ensures.whole w.if-is_whole.true) in (omega (arith, one), omega arith))
+      | else-is_whole w ↦ rw w.self-is (let none : whole_of finished ≡ 0 = whole_none finished (c.is_whole.ensures.faulted w.if-is_whole.false) in (omega (arith, none), omega arith))
     ]
 
 pub returns-clause-closed : goal.returns-clause-closed

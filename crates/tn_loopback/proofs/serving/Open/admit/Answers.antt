@@ -1,4 +1,4 @@
-use Rattle.std.proofs.Common.{◌+◌, arith, ap, vec_items}
+use Rattle.std.proofs.Common.{ap, vec_items}
 use Rattle.tn_loopback.proofs.Hearing.{none_counted}
 use Rattle.tn_loopback.specs.Counted.{HasEnded, facts_of, server_of}
 use Rattle.tn_loopback.proofs.serving.Open.admit.Goals as goal
@@ -9,5 +9,5 @@ returns-in_default-clause-heard g c =
     let old = c.args.self.now in
     let new = c.turn_away.new.self in
     none_counted g.V.Service.turns (HasEnded server) (vec_items old.running.started) (vec_items new.running.started) (λ s. s.caller.number)
-    (old.running.whole + old.running.faulted) (new.running.whole + new.running.faulted) old.service new.service
-    (ap vec_items c.turn_away.ensures.started) (grind (arith, c.turn_away.ensures.counts)) c.turn_away.ensures.service
+    old.running.whole old.running.faulted new.running.whole new.running.faulted old.service new.service
+    (ap vec_items c.turn_away.ensures.started) c.turn_away.ensures.counts.0 c.turn_away.ensures.counts.1 c.turn_away.ensures.service

@@ -1,7 +1,7 @@
-use Rattle.std.proofs.Common.{ℕ, ◌+◌, vec_items, sym, subst}
+use Rattle.std.proofs.Common.{vec_items}
 use Rattle.tn_loopback.proofs.Hearing.{session_ended}
 use Rattle.tn_loopback.specs.Counted.{HasEnded, facts_of, server_of}
-use Rattle.tn_loopback.specs.Turns.{Hears, live_of}
+use Rattle.tn_loopback.specs.Turns.{live_of}
 use Rattle.tn_loopback.proofs.serving.Open.end_at.Goals as goal
 
 pub returns-clause-heard : goal.returns-clause-heard
@@ -11,5 +11,5 @@ returns-clause-heard g c first h =
     let joined = c.join_at-left.new.self in
     let live = live_of (vec_items old.running.started) (λ s. s.caller.number) in
     let live' = live_of (vec_items joined.started) (λ s. s.caller.number) in
-    subst (λ (k : ℕ). Hears g.V.Service.turns (HasEnded server) first k c.ended.new.self live') (sym c.join_at-left.ensures.one)
-    (session_ended g.V.Service.turns (HasEnded server) c.join_at-left.result.caller.number c.join_at-left.result.finished old.service c.ended.new.self c.ended.ensures.turns c.join_at-left.ensures.ended (old.running.whole + old.running.faulted) live live' c.join_at-left.ensures.closed first h)
+    session_ended g.V.Service.turns (HasEnded server) c.join_at-left.result.caller.number c.join_at-left.result.finished old.service c.ended.new.self c.ended.ensures.turns c.join_at-left.ensures.ended
+    old.running.whole old.running.faulted joined.whole joined.faulted live live' c.join_at-left.ensures.closed c.join_at-left.ensures.end first h

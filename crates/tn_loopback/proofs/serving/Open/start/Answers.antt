@@ -1,6 +1,7 @@
 use Rattle.std.proofs.Common.{ℕ, ap, inr, subst, sym, ◌∙◌}
 use Rattle.tn_loopback.proofs.Hearing.{jobs_made, jobs_refused, made_and_ended, not_asked, session_ended}
 use Rattle.tn_loopback.specs.Counted.{HasEnded, facts_of, server_of}
+use Rattle.tn_loopback.specs.Ends.{whole_of}
 use Rattle.tn_loopback.specs.Turns.{HearsOfJobs}
 use Rattle.tn_loopback.proofs.serving.Open.start.Goals as goal
 
@@ -23,6 +24,7 @@ returns-in-Some-start-clause-jobs g c =
 pub returns-clause-none : goal.returns-clause-none
 returns-clause-none g c =
     let server = server_of (facts_of g.V.Job.Job.fresh g.V.Jobs.Maker.gives g.V.Job.Job.reacts g.V.Job.Job.steps g.V.Job.Job.refuses) g.V.Jobs.Maker.left g.O.Asked.options g.O.Asked.made g.O.Asked.turned in
-    made_and_ended g.V.Service.turns (HasEnded server) c.args.caller.number c.args.self.now.service c.session.new.self c.ended.new.self
+    made_and_ended g.V.Service.turns (HasEnded server) c.args.caller.number c.finished.result c.args.self.now.service c.session.new.self c.ended.new.self
+    (ap whole_of (c.finished.ensures ∙ c.unstarted.ensures))
     (jobs_made g.V.Service.turns (HasEnded server) c.args.caller.number c.args.self.now.service c.session.new.self c.in-Ok.ensures.turns)
     (session_ended g.V.Service.turns (HasEnded server) c.args.caller.number c.finished.result c.session.new.self c.ended.new.self c.ended.ensures.turns (inr (c.finished.ensures ∙ c.unstarted.ensures)))

@@ -1,0 +1,21 @@
+-- What is known of the machine that the program runs on.
+use Rattle.std.specs.Prelude.{◌≡◌, ℕ, List, Result, Option}
+use Rattle.std.specs.Net.ToAddrs.{HostAddrs}
+use Rattle.std.specs.declared.io.Error.{Error}
+use Rattle.std.specs.declared.net.socket_addr.SocketAddr.{SocketAddr}
+use Rattle.std.specs.declared.net.tcp.TcpListener.{TcpListener}
+use Rattle.std.specs.declared.net.tcp.TcpStream.{TcpStream}
+use Rattle.tn_network.specs.Asked.{Asking, asking}
+
+-- What is known of one machine: what each call of its network gives evidence of, and at which paths a file was seen.
+pub record Machine : Type 1 where
+  pub network : Asking
+  pub sees : List ℕ → Type 0
+
+abbrev pub machine_of : (List ℕ → ℕ → Result TcpListener Error → Type 0)
+    → (TcpListener → Result TcpListener Error → Type 0)
+    → (TcpListener → ℕ → Result (TcpStream × SocketAddr) Error → Type 0)
+    → (List ℕ → ℕ → Result HostAddrs Error → Type 0) → (SocketAddr → Result TcpStream Error → Type 0)
+    → (List ℕ → Type 0) → Machine
+machine_of listens shares accepts finds dials sees =
+    record { network = asking listens shares accepts finds dials; sees = sees }
