@@ -1,9 +1,8 @@
 -- A queue of symbols that is kept as bytes, with a mark for each line feed among them.
-use Rattle.std.proofs.Common.{◌≡◌, ◌<◌, ◌≤◌, ℕ, zero, suc, ◌+◌, ◌-◌, ◌==◌, ◌||◌, min, Bool, true, false, List, [], ◌∷◌, ◌++◌, length, map, take, drop, get_or, replicate, count_by, refl, sym, ap, ◌∙◌, inl, inr, if◌then◌else◌, arith, append-nil, length-append}
+use Rattle.std.proofs.Common.{◌≡◌, ◌<◌, ◌≤◌, ℕ, zero, suc, ◌+◌, ◌-◌, ◌==◌, ◌||◌, min, Bool, true, false, List, [], ◌∷◌, ◌++◌, length, map, take, drop, get_or, replicate, refl, sym, ap, ◌∙◌, inl, inr, if◌then◌else◌, arith, append-nil, length-append, take-add}
 use Rattle.std.specs.Prelude.{IsOk, OnOk, ◌↔◌, Result, Ok, Err}
 use Rattle.std.proofs.lemmas.Bool.{cases_Bool, or_parts, false_from_ne_true, ne_eqb}
 use Rattle.std.proofs.lemmas.List.{take_more, take_min, take-append-drop, drop-drop, length-drop, length-take}
-use Rattle.std.proofs.lemmas.List.Sums.{sum_by-cons}
 use Rattle.memchr.specs.Find.{is_byte, is_byte3, Passes, Nowhere}
 use Rattle.tn_discipline.specs.declared.echo.Symbol.{Symbol}
 use Rattle.tn_discipline.specs.declared.echo.Symbol.TheVariants.{Byte, Newline}
@@ -30,15 +29,20 @@ feeds-append (x ∷ xs) ys =
       | inr t ↦ rw t (feeds-append xs ys)
     ]
 
--- as std counts them
-pub feeds_counted : (bytes : List ℕ) → count_by (is_byte 10) bytes ≡ feeds bytes
-feeds_counted [] = refl
-feeds_counted (b ∷ bs) =
-    sum_by-cons (λ x. if is_byte 10 x then 1 else 0) b bs
-    ∙ elim (cases_Bool (b == 10)) [
-      | inl t ↦ rw t (omega (arith, feeds_counted bs))
-      | inr t ↦ rw t (omega (arith, feeds_counted bs))
-    ]
+-- of the first bytes, of some behind them, and of the others
+pub feeds_parts : (i n : ℕ) (bytes : List ℕ) → feeds (take (i + n) bytes) ≡ feeds (take i bytes) + feeds (take n (drop i bytes))
+feeds_parts i n bytes = ap feeds (take-add i n bytes) ∙ feeds-append (take i bytes) (take n (drop i bytes))
+
+pub feeds_rest : (i : ℕ) (bytes : List ℕ) → feeds bytes ≡ feeds (take i bytes) + feeds (drop i bytes)
+feeds_rest i bytes = ap feeds (sym (take-append-drop i bytes)) ∙ feeds-append (take i bytes) (drop i bytes)
+
+-- there is none in front of the first
+pub feeds_nowhere : (bytes : List ℕ) (n : ℕ) → n ≤ length bytes → Nowhere (Passes (is_byte 10) bytes) 0 n → feeds (take n bytes) ≡ 0
+feeds_nowhere bytes zero within nowhere = refl
+feeds_nowhere [] (suc n) within nowhere = refl
+feeds_nowhere (b ∷ bs) (suc n) within nowhere =
+    let t : (b == 10) ≡ false = false_from_ne_true (b == 10) (nowhere 0 (omega arith) (omega arith)) in
+    rw t (feeds_nowhere bs n (omega (arith, within)) (λ k low high. nowhere (suc k) (omega arith) (omega (arith, high))))
 
 module _ (cs : List ℕ) (ns : List Bool) where
   -- what stands behind bytes that have a mark for each line feed

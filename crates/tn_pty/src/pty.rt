@@ -622,6 +622,11 @@ fn put_present(queue: &mut Queue, symbols: &[Option<Symbol>])
 fn put_echoes(queue: &mut Queue, bytes: &[u8])
     ensures { queue.new ≡ queue_with_each queue.old (map Byte bytes.now) }
 {
+    // Keys that come one at a time are the most common.
+    if bytes.len() == 1 {
+        queue.push(Symbol::Byte(bytes[0]));
+        return;
+    }
     let count = bytes.len().min(QUEUE_SYMBOLS - queue.len());
     queue.push_run(&bytes[..count], false);
 }

@@ -1,12 +1,12 @@
 //! The symbols that wait to be pulled. They are kept as bytes, so that runs of them go in and out at once.
 
-ghost use Rattle.std.specs.Prelude.{◌≡◌, ◌+◌, ◌≤◌, false, [], ◌++◌, ◌∷◌, length, map, take, drop, min, get_or, replicate, slice_get, IfOk, vec_len, vec_capacity};
+ghost use Rattle.std.specs.Prelude.{◌≡◌, ◌+◌, ◌<◌, ◌≤◌, false, [], ◌++◌, ◌∷◌, length, map, take, drop, min, get_or, replicate, slice_get, IfOk, vec_len, vec_capacity};
 ghost use Rattle.circular_buffer.specs.Buffer.{buffer};
 ghost use Rattle.tn_pty.specs.Terminal.{queue_with, queue_symbols};
-ghost use Rattle.tn_pty.specs.Runs.{shown_byte, leading_run, leading_bytes, marks_after, marked_symbols, feeds};
+ghost use Rattle.tn_pty.specs.Runs.{shown_byte, ends_run, leading_run, leading_bytes, marks_after, marked_symbols, feeds};
 
 use circular_buffer::HeapCircularBuffer;
-use memchr::{memchr_iter, memchr3};
+use memchr::{memchr, memchr3};
 use std::alloc::{AllocError, Global};
 use std::marker::Model;
 use tn_discipline::Symbol;
@@ -127,6 +127,9 @@ impl Queue {
     {
         let (front, back) = self.bytes.as_slices();
         let count = copy_run(front, back, max, ends, out);
+        if count == 0 {
+            return 0;
+        }
         let len = self.bytes.len();
         self.bytes.truncate_front(len - count);
         count
@@ -139,12 +142,34 @@ fn push_marks(marks: &mut HeapCircularBuffer<bool>, bytes: &[u8], newlines: bool
     ensures { let more = replicate (feeds bytes.now) newlines in
         marks.new ≡ buffer (marks.old.items ++ more) marks.old.capacity }
 {
-    for _place in memchr_iter(b'\n', bytes) {
+    let mut at = 0;
+    while at < bytes.len() {
+        at += push_mark(marks, &bytes[at..], newlines);
+    }
+}
+
+// Puts the mark of the first byte behind the others where that is a line feed, else passes over the bytes in front of
+// the next one, and returns how many bytes were done.
+fn push_mark(marks: &mut HeapCircularBuffer<bool>, bytes: &[u8], newlines: bool) -> usize
+    requires some { 0 < length bytes.now }
+    requires room { length marks.old.items + feeds bytes.now ≤ marks.old.capacity }
+    ensures some { 0 < result }
+    ensures within { result ≤ length bytes.now }
+    ensures marks { let more = replicate (feeds (take result bytes.now)) newlines in
+        marks.new ≡ buffer (marks.old.items ++ more) marks.old.capacity }
+{
+    if bytes[0] == b'\n' {
         let _room = marks.try_push_back(newlines);
+        return 1;
+    }
+    match memchr(b'\n', bytes) {
+        Some(count) => count,
+        None => bytes.len(),
     }
 }
 
 // The symbol that a byte stands for. A line feed takes the first mark.
+#[inline(always)]
 fn take_symbol(byte: u8, marks: &mut HeapCircularBuffer<bool>) -> Symbol
     ensures symbol { result ≡ shown_byte (get_or marks.old.items 0 false) byte }
     ensures marks { marks.new ≡ buffer (marks_after byte marks.old.items) marks.old.capacity }
@@ -198,7 +223,9 @@ fn copy_front(bytes: &[u8], ends: (u8, u8), out: &mut Vec<u8>) -> usize
     ensures capacity { vec_capacity out.old ≤ vec_capacity out.new }
 {
     let count = run_len(bytes, ends);
-    let _room = out.extend_from_slice(&bytes[..count]);
+    if count > 0 {
+        let _room = out.extend_from_slice(&bytes[..count]);
+    }
     count
 }
 
@@ -207,8 +234,18 @@ fn run_len(bytes: &[u8], ends: (u8, u8)) -> usize
     ensures within { result ≤ length bytes.now }
     ensures run { leading_bytes ends.0 ends.1 bytes.now ≡ take result bytes.now }
 {
+    // One byte that ends runs often follows another.
+    if bytes.len() > 0 && ends_run(bytes[0], ends) {
+        return 0;
+    }
     match memchr3(b'\n', ends.0, ends.1, bytes) {
         Some(count) => count,
         None => bytes.len(),
     }
+}
+
+fn ends_run(byte: u8, ends: (u8, u8)) -> bool
+    ensures { result ≡ ends_run ends.0 ends.1 byte }
+{
+    byte == b'\n' || byte == ends.0 || byte == ends.1
 }

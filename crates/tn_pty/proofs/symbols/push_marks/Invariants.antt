@@ -1,12 +1,15 @@
-use Rattle.std.proofs.Common.{◌≡◌, ◌≤◌, ◌-◌, ◌++◌, length, replicate}
+use Rattle.std.proofs.Common.{◌≡◌, ◌≤◌, ◌-◌, ◌++◌, length, take, replicate}
 use Rattle.circular_buffer.specs.Buffer.{buffer}
 use Rattle.tn_pty.specs.Runs.{feeds}
 use Rattle.tn_pty.proofs.symbols.push_marks.Given as goal
 
--- a mark stands behind the others for each of the places so far
-abbrev pub invariant-loop-place : goal.invariant-loop-place
-invariant-loop-place l =
+-- the marks of the bytes so far stand behind the others
+abbrev pub invariant-loop-at : goal.invariant-loop-at
+invariant-loop-at l =
     record {
-      left : length l._place-iterator ≤ feeds l.bytes;
-      marks : l.marks ≡ buffer (l.initial.marks.items ++ replicate (feeds l.bytes - length l._place-iterator) l.newlines) l.initial.marks.capacity;
+      within : l.at ≤ length l.bytes;
+      marks : l.marks ≡ buffer (l.initial.marks.items ++ replicate (feeds (take l.at l.bytes)) l.newlines) l.initial.marks.capacity;
     }
+
+abbrev pub decreases-loop-at : goal.decreases-loop-at
+decreases-loop-at l = length l.bytes - l.at

@@ -1,7 +1,6 @@
-use Rattle.std.proofs.Common.{◌≡◌, ◌+◌, ◌++◌, drop, map, take, ap, ◌∙◌, arith}
+use Rattle.std.proofs.Common.{◌++◌, drop, map, take, ap, ◌∙◌, arith}
 use Rattle.std.proofs.lemmas.List.{drop-drop}
 use Rattle.tn_nvt.specs.Spelling.{spells}
-use Rattle.tn_pty.specs.Terminal.{Terminal}
 use Rattle.tn_server.specs.Replies.{data_of}
 use Rattle.tn_server.proofs.Spelling.{spelled_both, shown_still}
 use Rattle.tn_server.proofs.screen.spell_front.Goals as goal

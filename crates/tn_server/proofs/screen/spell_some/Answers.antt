@@ -1,4 +1,4 @@
-use Rattle.std.proofs.Common.{◌≡◌, ◌<◌, ◌≤◌, ◌+◌, ◌++◌, length, suc, drop, slice_get, sym, ap, ◌∙◌, add-one, arith, vec_len, vec_capacity}
+use Rattle.std.proofs.Common.{◌≡◌, ◌<◌, ◌≤◌, ◌++◌, length, suc, drop, slice_get, sym, ap, ◌∙◌, add-one, arith, vec_len, vec_capacity}
 use Rattle.tn_nvt.specs.Spelling.{spelling}
 use Rattle.tn_pty.specs.Terminal.{Terminal}
 use Rattle.tn_pty.specs.Runs.{leading_run}

@@ -38,6 +38,14 @@ invariant_of-self c =
       c.self.invariant.2 ∙ sym run.1 ∙ sym (ap (λ (x : Buffer ℕ). feeds x.items) left),
     )
 
+pub returns-then-count-eq0-clause-count : goal.returns-then-count-eq0-clause-count
+returns-then-count-eq0-clause-count c =
+    let p = c.self.inside in
+    let a = c.args.ends.0 in
+    let b = c.args.ends.1 in
+    let same = ap (leading_bytes a b) c.as_slices.ensures ∙ sym (leading_marked a b p.bytes.items p.marks.items) ∙ ap (leading_run a b) c.self.view_is in
+    sym c.if-count-eq0.true ∙ c.copy_run-count.ensures.count ∙ ap (λ (xs : List ℕ). min c.args.max (length xs)) same
+
 pub returns-clause-count : goal.returns-clause-count
 returns-clause-count c =
     let p = c.self.inside in
