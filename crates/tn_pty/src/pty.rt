@@ -25,6 +25,9 @@ use tn_discipline::{
 /// How many entries may wait.
 const MAX_WAITING: usize = 1024;
 
+/// From how many on keys that are shown as they are go into the queue at once.
+const SHORT_RUN: usize = 8;
+
 /// The answer to AYT.
 const YES: [Option<Symbol>; 6] = [
     Some(Symbol::Byte(b'[')),
@@ -622,13 +625,21 @@ fn put_present(queue: &mut Queue, symbols: &[Option<Symbol>])
 fn put_echoes(queue: &mut Queue, bytes: &[u8])
     ensures { queue.new ≡ queue_with_each queue.old (map Byte bytes.now) }
 {
-    // Keys that come one at a time are the most common.
-    if bytes.len() == 1 {
-        queue.push(Symbol::Byte(bytes[0]));
+    if bytes.len() < SHORT_RUN {
+        put_few_echoes(queue, bytes);
         return;
     }
     let count = bytes.len().min(QUEUE_SYMBOLS - queue.len());
     queue.push_run(&bytes[..count], false);
+}
+
+// The same one by one, which is faster where they are few.
+fn put_few_echoes(queue: &mut Queue, bytes: &[u8])
+    ensures { queue.new ≡ queue_with_each queue.old (map Byte bytes.now) }
+{
+    for byte in bytes {
+        queue.push(Symbol::Byte(*byte));
+    }
 }
 
 // Puts a bell for each of the bytes into the queue, where it fits.
