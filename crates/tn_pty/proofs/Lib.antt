@@ -1,3 +1,4 @@
 pub mod Shown
 pub mod lemmas
+pub mod Marked
 pub mod Queues

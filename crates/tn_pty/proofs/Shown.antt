@@ -1,6 +1,6 @@
 -- Lists of symbols, of which some are there.
 use Rattle.std.proofs.Common.{◌≡◌, ℕ, suc, ◌+◌, ◌<◌, Option, Some, None, List, [], ◌∷◌, ◌++◌, length, take, drop, get_or, refl, sym, ap, ◌∙◌, arith, append-nil, length-append}
-use Rattle.std.specs.Prelude.{count_by, is_some, filter, IsOk, OnOk, ◌↔◌, Result, Ok, Err}
+use Rattle.std.specs.Prelude.{count_by, is_some, filter}
 use Rattle.std.proofs.lemmas.List.{take_more, take-append-drop}
 use Rattle.std.proofs.lemmas.List.Sums.{length-filter}
 use Rattle.tn_discipline.specs.declared.echo.Symbol.{Symbol}
@@ -42,8 +42,3 @@ present_room symbols i x within is =
     ∙ ap length (present-append (take (i + 1) symbols) (drop (i + 1) symbols))
     ∙ length-append (symbols_in (take (i + 1) symbols)) (symbols_in (drop (i + 1) symbols)) in
     omega (arith, whole, ap length (present_some symbols i x within is), length-append (symbols_in (take i symbols)) (x ∷ []))
-
--- what a push gives where there is room
-pub pushed : {T E : Type 0} (r : Result T E) {P Room : Type 0} → (IsOk r ↔ Room) → OnOk r P → Room → P
-pushed (Ok x) variant gives room = gives
-pushed (Err e) variant gives room = let ok = variant.1 room in cc

@@ -1,3 +1,4 @@
 pub mod Terminal
+pub mod Runs
 pub mod Typing
 pub mod Faults

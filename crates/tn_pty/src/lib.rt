@@ -13,6 +13,8 @@
 //! blocks.
 #![tactic(auto)]
 
-pub use pty::{Input, Pair, PtyFault, QUEUE_SYMBOLS};
+pub use pty::{Input, Pair, PtyFault};
+pub use symbols::QUEUE_SYMBOLS;
 
 mod pty;
+mod symbols;

@@ -4,12 +4,13 @@ ghost use Rattle.tn_discipline.specs.HalfLine.{effect_of, line_after, effect_ent
 ghost use Rattle.tn_discipline.specs.Advancing.{Advances};
 ghost use Rattle.tn_discipline.specs.RolesTable.{IsPlain};
 ghost use Rattle.tn_discipline.specs.declared.echo.Symbol.TheVariants.{Byte};
-ghost use Rattle.tn_pty.specs.Terminal.{new_terminal, queue_with, queue_with_each, output_symbols, output_symbol, fitting_count, shut_terminal, first_signal, queue_symbols, max_waiting};
+ghost use Rattle.tn_pty.specs.Terminal.{new_terminal, queue_with, queue_with_each, output_symbols, fitting_count, shut_terminal, first_signal, queue_symbols, max_waiting};
+ghost use Rattle.tn_pty.specs.Runs.{leading_run};
 ghost use Rattle.tn_pty.specs.Typing.{gain_of, symbols_in, echo_symbols, terminal_after, role_of_input, after_byte, after_all, input_gains, JoinsEdited, command_role, command_shows, IsCommandRole};
 ghost use Rattle.tn_pty.specs.Faults.{Accepts, Refuses, AcceptsAll, StopsWithin};
 ghost use Rattle.tn_pty.specs.declared.pty.Input.TheVariants.{Keys, Edited};
-ghost use Rattle.circular_buffer.specs.Buffer.{buffer};
 
+use crate::symbols::{QUEUE_SYMBOLS, Queue};
 use circular_buffer::HeapCircularBuffer;
 use memchr::memchr3;
 use std::alloc::{AllocError, Global};
@@ -21,11 +22,11 @@ use tn_discipline::{
     echo_of_role, role_of_literal,
 };
 
-/// How many symbols the output queue holds.
-pub const QUEUE_SYMBOLS: usize = 4096;
-
 /// How many entries may wait.
 const MAX_WAITING: usize = 1024;
+
+/// From how many on keys that are shown as they are go into the queue at once.
+const SHORT_RUN: usize = 8;
 
 /// The answer to AYT.
 const YES: [Option<Symbol>; 6] = [
@@ -69,7 +70,7 @@ pub struct Pair {
     roles: Roles,
     line: Line,
     entries: HeapCircularBuffer<Entry>,
-    queue: HeapCircularBuffer<Symbol>,
+    queue: Queue,
     width: u16,
     height: u16,
     closed: bool,
@@ -77,7 +78,7 @@ pub struct Pair {
 
 impl Model for Pair {
     ghost use Rattle.std.specs.Prelude.{◌≡◌};
-    ghost use Rattle.tn_pty.specs.Terminal.{Terminal, queue_symbols, max_waiting};
+    ghost use Rattle.tn_pty.specs.Terminal.{Terminal, max_waiting};
 
     ghost Value = { Terminal };
 
@@ -85,13 +86,13 @@ impl Model for Pair {
       settings = p.roles;
       line = p.line;
       entries = p.entries.items;
-      queue = p.queue.items;
+      queue = p.queue;
       width = p.width;
       height = p.height;
       closed = p.closed;
     } };
 
-    ghost invariant = { λ p. (p.queue.capacity ≡ queue_symbols) × (p.entries.capacity ≡ max_waiting) };
+    ghost invariant = { λ p. p.entries.capacity ≡ max_waiting };
 }
 
 impl Pair {
@@ -104,7 +105,7 @@ impl Pair {
             roles: Roles::new(alloc, settings)?,
             line: Line::new(alloc, limit)?,
             entries: HeapCircularBuffer::with_capacity(alloc, MAX_WAITING)?,
-            queue: HeapCircularBuffer::with_capacity(alloc, QUEUE_SYMBOLS)?,
+            queue: Queue::new(alloc)?,
             width: 0,
             height: 0,
             closed: false,
@@ -238,7 +239,7 @@ impl Pair {
     {
         let count = max.min(self.queue.len());
         out.reserve(count)?;
-        move_front(&mut self.queue, count, out);
+        self.queue.pull(count, out);
         Ok(count)
     }
 
@@ -247,7 +248,21 @@ impl Pair {
         ensures first { result ≡ slice_get self.old.queue 0 }
         ensures pair { self.new ≡ record self.old { queue = drop 1 self.old.queue } }
     {
-        self.queue.pop_front()
+        self.queue.pop()
+    }
+
+    /// The master moves the leading symbols that are bytes into `out`, as bytes: at most `max` of them, up to a
+    /// line feed or one of the two bytes `ends`. It returns how many they are. `out` has room for as many.
+    pub fn pull_run(&mut self, max: usize, ends: (u8, u8), out: &mut Vec<u8>) -> usize
+        requires { vec_len out.old + min max (length self.old.queue) ≤ vec_capacity out.old }
+        ensures count { result ≡ min max (length (leading_run ends.0 ends.1 self.old.queue)) }
+        ensures out { out.new.items ≡
+            out.old.items ++ take result (leading_run ends.0 ends.1 self.old.queue) }
+        ensures pair { self.new ≡ record self.old { queue = drop result self.old.queue } }
+        ensures len { vec_len out.new ≡ vec_len out.old + result }
+        ensures capacity { vec_capacity out.old ≤ vec_capacity out.new }
+    {
+        self.queue.pull_run(max, ends, out)
     }
 
     /// How many symbols wait to be pulled.
@@ -317,7 +332,7 @@ impl Pair {
     {
         let flags = self.roles.settings().flags;
         let count = bytes.len().min(QUEUE_SYMBOLS - self.queue.len());
-        put_bytes(&mut self.queue, &flags, &bytes[..count]);
+        self.queue.push_run(&bytes[..count], shows_newlines(&flags));
         count
     }
 
@@ -532,9 +547,7 @@ impl Pair {
         ensures { self.new ≡ record self.old { queue = queue_with self.old.queue (symbols_in shown) } }
     {
         match (shown[0], shown[1], shown[2]) {
-            (Some(symbol), None, None) => {
-                let _room = self.queue.try_push_back(symbol);
-            },
+            (Some(symbol), None, None) => self.queue.push(symbol),
             (None, None, None) => {},
             _ => self.show(&shown),
         }
@@ -597,69 +610,50 @@ fn count_present(symbols: &[Option<Symbol>]) -> usize
 }
 
 // Puts those of the symbols that are there into a queue that has room.
-fn put_present(queue: &mut HeapCircularBuffer<Symbol>, symbols: &[Option<Symbol>])
-    requires { length queue.old.items + length (symbols_in symbols.now) ≤ queue.old.capacity }
-    ensures { queue.new ≡ buffer (queue.old.items ++ symbols_in symbols.now) queue.old.capacity }
+fn put_present(queue: &mut Queue, symbols: &[Option<Symbol>])
+    requires { length queue.old + length (symbols_in symbols.now) ≤ queue_symbols }
+    ensures { queue.new ≡ queue.old ++ symbols_in symbols.now }
 {
     for symbol in symbols {
         if let Some(symbol) = symbol {
-            let _room = queue.try_push_back(*symbol);
+            queue.push(*symbol);
         }
     }
 }
 
 // Puts each of the bytes that fits into the queue, as it is shown.
-fn put_echoes(queue: &mut HeapCircularBuffer<Symbol>, bytes: &[u8])
-    requires { queue.old.capacity ≡ queue_symbols }
-    ensures { let shown = map Byte bytes.now in
-        queue.new ≡ buffer (queue_with_each queue.old.items shown) queue.old.capacity }
+fn put_echoes(queue: &mut Queue, bytes: &[u8])
+    ensures { queue.new ≡ queue_with_each queue.old (map Byte bytes.now) }
+{
+    if bytes.len() < SHORT_RUN {
+        put_few_echoes(queue, bytes);
+        return;
+    }
+    let count = bytes.len().min(QUEUE_SYMBOLS - queue.len());
+    queue.push_run(&bytes[..count], false);
+}
+
+// The same one by one, which is faster where they are few.
+fn put_few_echoes(queue: &mut Queue, bytes: &[u8])
+    ensures { queue.new ≡ queue_with_each queue.old (map Byte bytes.now) }
 {
     for byte in bytes {
-        let _room = queue.try_push_back(Symbol::Byte(*byte));
+        queue.push(Symbol::Byte(*byte));
     }
 }
 
 // Puts a bell for each of the bytes into the queue, where it fits.
-fn put_bells(queue: &mut HeapCircularBuffer<Symbol>, bytes: &[u8])
-    requires { queue.old.capacity ≡ queue_symbols }
-    ensures { let shown = map (λ byte. Byte 7) bytes.now in
-        queue.new ≡ buffer (queue_with_each queue.old.items shown) queue.old.capacity }
+fn put_bells(queue: &mut Queue, bytes: &[u8])
+    ensures { queue.new ≡ queue_with_each queue.old (map (λ byte. Byte 7) bytes.now) }
 {
     for _byte in bytes {
-        let _room = queue.try_push_back(Symbol::Byte(BELL));
+        queue.push(Symbol::Byte(BELL));
     }
 }
 
-// Puts the bytes into a queue that has room.
-fn put_bytes(queue: &mut HeapCircularBuffer<Symbol>, flags: &Flags, bytes: &[u8])
-    requires { length queue.old.items + length bytes.now ≤ queue.old.capacity }
-    ensures { queue.new ≡ buffer (queue.old.items ++ output_symbols flags.now bytes.now) queue.old.capacity }
+// Whether a line feed of output is shown as a new line.
+fn shows_newlines(flags: &Flags) -> bool
+    ensures { result ≡ (flags.now.opost && flags.now.onlcr) }
 {
-    for byte in bytes {
-        let _room = queue.try_push_back(symbol_of(flags, *byte));
-    }
-}
-
-fn symbol_of(flags: &Flags, byte: u8) -> Symbol
-    ensures { result ≡ output_symbol flags.now byte }
-{
-    if byte == b'\n' && flags.opost && flags.onlcr {
-        Symbol::Newline
-    } else {
-        Symbol::Byte(byte)
-    }
-}
-
-// Moves the first symbols of a queue into a vector that has room.
-fn move_front(queue: &mut HeapCircularBuffer<Symbol>, count: usize, out: &mut Vec<Symbol>)
-    requires enough { count ≤ length queue.old.items }
-    requires room { vec_len out.old + count ≤ vec_capacity out.old }
-    ensures out { out.new.items ≡ out.old.items ++ take count queue.old.items }
-    ensures queue { queue.new ≡ buffer (drop count queue.old.items) queue.old.capacity }
-{
-    for _i in 0..count {
-        if let Some(symbol) = queue.pop_front() {
-            out.push_reserved(symbol);
-        }
-    }
+    flags.opost && flags.onlcr
 }

@@ -1,11 +1,14 @@
 //! Symbols of the screen as bytes of the stream.
 
-ghost use Rattle.std.specs.Prelude.{◌≡◌, ◌+◌, ◌*◌, ◌≤◌, ◌++◌, map, take, drop, length, vec_len, vec_capacity};
+ghost use Rattle.std.specs.Prelude.{◌≡◌, ◌+◌, ◌*◌, ◌<◌, ◌≤◌, ◌++◌, map, take, drop, length, vec_len, vec_capacity};
 ghost use Rattle.tn_nvt.specs.Spelling.{spelling, spells};
 ghost use Rattle.tn_server.specs.Replies.{data_of};
 
+use tn_codes::IAC;
 use tn_discipline::Symbol;
 use tn_pty::Pair;
+
+const CR: u8 = b'\r';
 
 /// How many bytes a symbol takes at most.
 pub(crate) const SYMBOL_BYTES: usize = 2;
@@ -17,11 +20,32 @@ pub(crate) fn spell_front(pair: &mut Pair, count: usize, out: &mut Vec<u8>)
     ensures out { out.new.items ≡ out.old.items ++ spells (map data_of (take count pair.old.queue)) }
     ensures pair { pair.new ≡ record pair.old { queue = drop count pair.old.queue } }
 {
-    for _i in 0..count {
-        if let Some(symbol) = pair.pull_symbol() {
-            spell(symbol, out);
-        }
+    let mut done = 0;
+    while done < count {
+        done += spell_some(pair, count - done, out);
     }
+}
+
+// Moves a run of symbols that are spelled as they are, and the symbol behind it, and returns how many they are.
+fn spell_some(pair: &mut Pair, most: usize, out: &mut Vec<u8>) -> usize
+    requires some { 0 < most }
+    requires enough { most ≤ length pair.old.queue }
+    requires room { vec_len out.old + 2 * most ≤ vec_capacity out.old }
+    ensures some { 0 < result }
+    ensures within { result ≤ most }
+    ensures out { out.new.items ≡ out.old.items ++ spells (map data_of (take result pair.old.queue)) }
+    ensures pair { pair.new ≡ record pair.old { queue = drop result pair.old.queue } }
+    ensures len { vec_len out.new ≤ vec_len out.old + 2 * result }
+    ensures capacity { vec_capacity out.old ≤ vec_capacity out.new }
+{
+    let count = pair.pull_run(most, (CR, IAC), out);
+    if count == most {
+        return count;
+    }
+    if let Some(symbol) = pair.pull_symbol() {
+        spell(symbol, out);
+    }
+    count + 1
 }
 
 fn spell(symbol: Symbol, out: &mut Vec<u8>)

@@ -116,6 +116,25 @@ impl World {
         if self.server_stopped {
             return Ok(());
         }
+        if count < self.to_server.len() {
+            return self.part_reaches_server(count);
+        }
+        // All of it, which wants no memory.
+        let fed = self
+            .server
+            .feed(self.to_server.as_slice(), &mut self.to_client);
+        self.to_server.clear();
+        match fed {
+            Ok(()) => Ok(()),
+            Err(fault) => Err(Cause::Server(fault)),
+        }
+    }
+
+    fn part_reaches_server(&mut self, count: usize) -> Result<(), Cause>
+        requires { self.old.server_stopped ≡ false }
+        ensures ok { OnOk result (RunsEvent self.old (event.ToServer count) self.new) }
+        ensures err { IfErr result (λ cause. Refuses self.old (event.ToServer count) cause self.new) }
+    {
         let piece = take_front(self.alloc, &mut self.to_server, count)?;
         self.server.feed(&piece, &mut self.to_client)?;
         Ok(())
@@ -128,6 +147,26 @@ impl World {
         if self.client_stopped {
             return Ok(());
         }
+        if count < self.to_client.len() {
+            return self.part_reaches_client(count);
+        }
+        // All of it, which wants no memory.
+        let bytes = self.to_client.as_slice();
+        let fed = self
+            .client
+            .feed(bytes, &mut self.to_server, &mut self.shown);
+        self.to_client.clear();
+        match fed {
+            Ok(()) => Ok(()),
+            Err(fault) => Err(Cause::Client(fault)),
+        }
+    }
+
+    fn part_reaches_client(&mut self, count: usize) -> Result<(), Cause>
+        requires { self.old.client_stopped ≡ false }
+        ensures ok { OnOk result (RunsEvent self.old (event.ToClient count) self.new) }
+        ensures err { IfErr result (λ cause. Refuses self.old (event.ToClient count) cause self.new) }
+    {
         let piece = take_front(self.alloc, &mut self.to_client, count)?;
         self.client
             .feed(&piece, &mut self.to_server, &mut self.shown)?;

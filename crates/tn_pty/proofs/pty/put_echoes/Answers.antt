@@ -1,15 +1,12 @@
-use Rattle.std.proofs.Common.{◌≡◌, get_or, ap, ◌∙◌}
-use Rattle.circular_buffer.specs.Buffer.{Buffer}
-use Rattle.tn_discipline.specs.declared.echo.Symbol.{Symbol}
-use Rattle.tn_discipline.specs.declared.echo.Symbol.TheVariants.{Byte}
-use Rattle.tn_pty.proofs.Queues.{fitted, each_more}
+use Rattle.std.proofs.Common.{◌≡◌, ◌≤◌, ◌-◌, false, ◌++◌, length, map, take, min, ap, ◌∙◌, arith}
+use Rattle.tn_pty.specs.Runs.{shown_byte}
+use Rattle.tn_pty.proofs.Queues.{run_fits}
 use Rattle.tn_pty.proofs.pty.put_echoes.Goals as goal
 
-pub loop-byte-preserved : goal.loop-byte-preserved
-loop-byte-preserved c =
-    let queue = c.loop-byte.queue in
-    let pushed = c.try_push_back-room in
-    let room : queue.capacity ≡ 4096 = ap (λ (q : Buffer Symbol). q.capacity) c.loop-byte.invariant ∙ c.requires in
-    let shown : Symbol = Byte (get_or c.args.bytes.now c.loop-byte.byte-index 0) in
-    each_more (λ b. Byte b) c.args.queue.now.items c.args.queue.now.capacity c.args.bytes.now c.loop-byte.byte-index queue pushed.new.self c.loop-byte-test.true c.loop-byte.invariant
-    (fitted pushed.result queue pushed.new.self shown _ room pushed.ensures.variant pushed.ensures.ok pushed.ensures.err)
+pub returns : goal.returns
+returns c =
+    let queue = c.args.queue.now in
+    let bytes = c.args.bytes.now in
+    let count : c.min-count.result ≡ min (length bytes) (4096 - length queue) = c.min-count.ensures ∙ ap (λ n. min (length bytes) (4096 - n)) c.len.ensures.len in
+    let within : length queue ≤ 4096 = omega (arith, c.len.ensures.len, c.len.ensures.within) in
+    c.push_run.ensures ∙ ap (λ n. queue ++ map (shown_byte false) (take n bytes)) count ∙ run_fits queue bytes within

@@ -1,9 +1,8 @@
 use Rattle.std.proofs.Common.{◌≡◌, ◌++◌, take}
-use Rattle.circular_buffer.specs.Buffer.{buffer}
 use Rattle.tn_pty.specs.Typing.{symbols_in}
 use Rattle.tn_pty.proofs.pty.put_present.Given as goal
 
 -- the symbols so far stand behind the queue
 abbrev pub invariant-loop-symbol : goal.invariant-loop-symbol
 invariant-loop-symbol l =
-    l.queue ≡ buffer (l.initial.queue.items ++ symbols_in (take l.symbol-index l.symbols)) l.initial.queue.capacity
+    l.queue ≡ l.initial.queue ++ symbols_in (take l.symbol-index l.symbols)
