@@ -282,7 +282,8 @@ pub struct Told<H, S, N> {
     notes: N,
 }
 
-// tools/progress: d_gateway.pml, ANSWERS Writes as much as the stream takes at once, until the session is
+// tools/progress: d_gateway.pml, ANSWERS
+// Writes as much as the stream takes at once, until the session is
 // over, or the service has said all, and it takes nothing in time.
 fn tell<H: Wait, S: Write>(
     rt: &H,

@@ -369,6 +369,8 @@ module _ (canon : Canon) (editing : Editing) (jobs : Jobs) (width height : ℕ) 
         server = record { read = []; wrote = opening } ∷ map served_step h.ss;
         client = map told_step h.cs;
         carried = carried;
+        to_server = ap all_wrote (sym h.of_client) ∙ h.to_server ∙ ap (λ (xs : List Exchange). all_read xs ++ j.to_server.items) h.of_server;
+        to_client = ap all_wrote (sym h.of_server) ∙ h.to_client ∙ ap (λ (xs : List Exchange). all_read xs ++ j.to_client.items) h.of_client;
       }
     where
       steps_run : (ss : List ServerStep) (p q : term_run.Run) → FoldsTo (IsStep term.Turns terms.says terms.is_over terms.is_marked_whole) p ss q → term.Runs p (map (λ s. s.0) ss) q

@@ -21,7 +21,7 @@ use Rattle.tn_nvt.specs.Spelling.{spells}
 use Rattle.tn_server.specs.Lines.{waiting}
 use Rattle.tn_server.specs.Replies.{items_said}
 use Rattle.tn_server.specs.declared.wishes.Editing.{Editing}
-use Rattle.tn_session.specs.Transcripts.{Exchange}
+use Rattle.tn_session.specs.Transcripts.{Exchange, all_read, all_wrote}
 use Rattle.tn_streams.specs.Prefixes.{IsPrefixOf}
 use Rattle.tn_term.specs.Giving.{entries_put}
 use Rattle.tn_term.specs.Reaching as term
@@ -125,6 +125,9 @@ pub record ReadsAll (canon : Canon) (typed : List Input) (j : Joined) : Type 0 w
   pub server : List Exchange
   pub client : List Exchange
   pub carried : IsCarried server client
+  -- what one has written and the other not read is on its way
+  pub to_server : all_wrote client ≡ all_read server ++ j.to_server.items
+  pub to_client : all_wrote server ≡ all_read client ++ j.to_client.items
 
 -- from the start on, with the standard special characters, of which INTR interrupts if BRK or IP was sent
 abbrev pub LoopReads : Type 0

@@ -186,7 +186,7 @@ fn comes(listener: &TcpListener) -> bool {
         events: c::POLLIN,
         revents: 0,
     }];
-    c::poll(&mut ready, LOOK) != 0
+    c::poll(&mut ready, LOOK) > 0
 }
 
 fn is_passing(kind: ErrorKind) -> bool {

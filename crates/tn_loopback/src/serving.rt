@@ -51,7 +51,7 @@ const EVENTS: usize = 16;
 /// One that ends in a fault is reported in two lines on `errors`, the second a note of how it ended, and
 /// changes nothing else. Where it cannot listen, `causes` gets a line. Each session is a call of
 /// `serve_connection`; the clauses below count them, and say what the network was asked for. None makes it ask
-/// `until`.
+/// `until`. It takes eight, since what is lent and what is given here go together nowhere else.
 pub fn serve<H, U, V, E>(
     rt: H,
     alloc: Global,

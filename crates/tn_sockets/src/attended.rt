@@ -198,9 +198,9 @@ pub struct Attended<H, S> {
 }
 
 impl<H: Clock + Copy + Wait> Attended<H, TcpStream> {
-    /// The reading side of a connection, whose peer may send nothing for `idle` seconds that reaches the terminal,
-    /// and which ends after `longest` seconds; 0 is for ever. A write to it that the peer does not take for the shorter of the two fails:
-    /// while it waits, nobody hears that the peer is silent. The peer is told `idle` or `too long` before the end.
+    /// The reading side of a connection. It ends where for `idle` seconds nothing came that reaches the terminal, or
+    /// after `longest` seconds; 0 is never. A write to it that the peer does not take for the shorter of the two
+    /// fails: while it waits, nobody hears that the peer is silent. The peer is told `idle` or `too long` before.
     pub fn new(
         rt: H,
         alloc: Global,
@@ -243,8 +243,8 @@ impl<H: Clock + Copy, S: Drop> Attended<H, S> {
         }
     }
 
-    // Whether no more is read: the peer had its time to close, which one that was idle is not given, or typed nothing for
-    // too long.
+    // Whether no more is read: the peer typed nothing for too long, or it had its time to close. One that was idle has
+    // no such time.
     fn is_over(&mut self) -> bool
         ensures { self.new.stream ≡ self.old.stream }
     {
@@ -348,9 +348,6 @@ impl<H: Clock + Copy + Wait, S: AsRawFd + Drop + Read + Closing> Attended<H, S> 
             if self.is_too_long() {
                 return Ok(0);
             }
-            if self.is_idle() {
-                return Ok(0);
-            }
             match self.read_once(buf) {
                 Ok(Some(0)) => {
                     self.hold();
@@ -360,6 +357,10 @@ impl<H: Clock + Copy + Wait, S: AsRawFd + Drop + Read + Closing> Attended<H, S> 
                     // A session that is over discards what still comes.
                     if self.standing.is_finished() {
                         return self.discard(buf);
+                    }
+                    // What came while the session was busy was typed in time.
+                    if self.is_idle() {
+                        return Ok(0);
                     }
                     return Ok(count);
                 },
