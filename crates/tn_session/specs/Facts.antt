@@ -7,7 +7,7 @@ use Rattle.tn_jobs.specs.declared.held_jobs.JobId.{JobId}
 use Rattle.tn_jobs.specs.declared.reactions.Reaction.{Reaction}
 use Rattle.tn_server.specs.declared.wishes.Editing.{Editing}
 use Rattle.tn_session.specs.Acts.{JobActs, job_acts}
-use Rattle.tn_session.specs.Notes.{Noted}
+use Rattle.tn_session.specs.Notes.{Noted, noted_of}
 use Rattle.tn_session.specs.declared.back.Runner.{Runner}
 use Rattle.tn_session.specs.declared.channels.View.{View}
 use Rattle.tn_session.specs.EntryChannel.{EntryHand}
@@ -68,7 +68,7 @@ pub record SessionResult : Type 0 where
   pub noted : Noted
 
 abbrev pub session_result : Report → Ports → SessionResult
-session_result report ports = record { report = report; views = views_of ports; noted = ports.transcript }
+session_result report ports = record { report = report; views = views_of ports; noted = noted_of ports.transcript }
 
 -- the size of a client's window, and the limit of its lines
 pub record Window : Type 0 where
@@ -94,5 +94,5 @@ client_result report ports =
       net = view ports.net;
       core = view ports.core;
       told = view ports.told;
-      noted = ports.transcript;
+      noted = noted_of ports.transcript;
     }

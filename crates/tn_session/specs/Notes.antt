@@ -3,7 +3,7 @@
 use Rattle.std.specs.Prelude.{◌≡◌, ℕ, Bool, true, Option, Some, None, List, [], ◌∷◌, ◌++◌, map}
 use Rattle.std.specs.Io.KnownBytes.{Appends}
 use Rattle.tn_session.specs.declared.mail.Mail.{Mail}
-use Rattle.tn_session.specs.declared.transcript.Log.{Log, Begun, Took', Wrote'}
+use Rattle.tn_session.specs.declared.transcript.Transcript.{Transcript, Begun, Took', Wrote'}
 
 -- the mail that was taken, none before the first, and what was written from there on
 pub record Note : Type 0 where
@@ -45,8 +45,8 @@ pub record NotesAll (handled : List Mail) (written : List (List ℕ)) (before af
   pub took : map (λ n. n.took) more ≡ map (λ x. Some x) handled
   pub wrote : map (λ n. n.wrote) more ≡ written
 
--- what a log says
-abbrev pub noted_of : Log → Noted
-noted_of Begun = no_notes
-noted_of (Took' marker before mail) = takes (noted_of before) mail.value
-noted_of (Wrote' marker before byte) = writes (noted_of before) (byte ∷ [])
+-- what a transcript says
+abbrev pub noted_of : Transcript → Noted
+noted_of (Begun seal) = no_notes
+noted_of (Took' seal marker before mail) = takes (noted_of before) mail.value
+noted_of (Wrote' seal marker before byte) = writes (noted_of before) (byte ∷ [])

@@ -12,7 +12,7 @@ use Rattle.tn_server.specs.Replies.{items_said}
 use Rattle.tn_session.specs.Acts.{JobActs}
 use Rattle.tn_session.specs.Facts.{JobFacts, SessionJobs, SessionResult, TermSettings}
 use Rattle.tn_session.specs.Jobs.{Numbered}
-use Rattle.tn_session.specs.Notes.{Noted, NotesWrite, no_notes, notes}
+use Rattle.tn_session.specs.Notes.{Noted, NotesWrite, no_notes, noted_of, notes}
 use Rattle.tn_streams.specs.Prefixes.{IsPrefixOf}
 use Rattle.tn_session.specs.Mailbox.{Interleaves, four, sender}
 use Rattle.tn_queue.specs.Queue.{putter, taker}
@@ -168,7 +168,7 @@ pub record IsBegun {J : Type 0} (fresh : J → Type 0) (settings : TermSettings)
   pub job : fresh b.posts.job
   pub at : LeadsTo (start settings.canon settings.editing jobs) b.term
   pub words : b.output.out.items ≡ spells (items_said (opening settings.canon settings.editing))
-  pub noted : b.output.transcript ≡ no_notes
+  pub noted : noted_of b.output.transcript ≡ no_notes
 
 -- from after the opening words on, whatever these were
 abbrev pub RunsOn : {J : Type 0} → JobActs J → SessionJobs J → KnownReader → KnownWriting → Noted → Term

@@ -5,6 +5,7 @@ ghost use Rattle.crossbeam_channel.specs.Claims.{view, IsSeatAt};
 ghost use Rattle.crossbeam_channel.specs.Ends.{receives_on, sends_on};
 ghost use Rattle.tn_client_core.specs.Marks.{is_whole};
 ghost use Rattle.tn_queue.specs.Queue.{putter};
+ghost use Rattle.tn_session.specs.Notes.{noted_of};
 ghost use Rattle.tn_session.specs.CoreTurns.{TurnsTold, CoreHandles, origin_of, told_of};
 ghost use Rattle.tn_session.specs.Stops.{core_stops, leaves as leaves_of};
 ghost use Rattle.tn_session.specs.declared.mail.Sender.TheVariants.{Keys};
@@ -81,7 +82,8 @@ fn turn<W: Finish, S: Drain, G: Gate>(
     ensures out { output.new.out.items ≡ [] }
     ensures text { text.new.items ≡ [] }
     ensures turned { TurnsTold core.old told (known_writing W.contents W.told writer.old writer.new)
-        (known_writing S.contents S.told screen.old screen.new) output.old.transcript output.new.transcript core.new }
+        (known_writing S.contents S.told screen.old screen.new) (noted_of output.old.transcript)
+        (noted_of output.new.transcript) core.new }
     ensures going { StaysOpen (W.sending writer.old) (W.sending writer.new) }
     ensures silent { (core.old.progress.over || core.old.progress.closed) ≡ true →
         W.sending writer.new ≡ W.sending writer.old }
@@ -148,7 +150,7 @@ pub(crate) fn run_core<R: Wait, W: Finish, S: Drain, G: Gate>(
     ensures mailbox { IfSome result (λ r. IsSeatAt (receives_on from.now) r.0) }
     ensures acted { IfSome result (λ r.
         CoreHandles core.old (view pass) (view r.0) (known_writing W.contents W.told writer.old writer.new)
-        (known_writing S.contents S.told screen.old screen.new) r.1 (view watched.new.stops.pass) core.new) }
+        (known_writing S.contents S.told screen.old screen.new) (noted_of r.1) (view watched.new.stops.pass) core.new) }
     ensures finished { IfSome result (λ p. IsFinished (W.sending writer.old) (W.sending writer.new)) }
     ensures stops { IfSome result (λ p. (watched.new.stops.to ≡ watched.old.stops.to) ×
         IsSeatAt (sends_on watched.new.stops.to) watched.new.stops.pass) }

@@ -12,7 +12,7 @@ pub use stops::{Stop, StopPass};
 pub use tn_client_core::Terms;
 pub use tn_messages::{Ended, Message, SessionFault};
 pub use tn_streams::Finish;
-pub use transcript::Transcript;
+pub use transcript::{Seal, Transcript};
 
 mod back;
 mod channels;

@@ -7,7 +7,7 @@ ghost use Rattle.tn_session.specs.Acts.{job_acts};
 ghost use Rattle.tn_session.specs.Facts.{job_facts, session_result};
 ghost use Rattle.tn_session.specs.Joining.{IsReady, handler};
 ghost use Rattle.tn_session.specs.Makers.{AreAll, GivesJobs, IsMakerFault, begins};
-ghost use Rattle.tn_session.specs.Notes.{no_notes};
+ghost use Rattle.tn_session.specs.Notes.{no_notes, noted_of};
 ghost use Rattle.tn_queue.specs.Queue.{putter};
 ghost use Rattle.tn_session.specs.Session.{IsBegun, IsOpening, IsRun, IsRefusal, IsOfThreads, RunsOn, RunningSession, report_of};
 ghost use Rattle.tn_session.specs.Stops.{AreNewStops};
@@ -182,7 +182,8 @@ fn begin<M: Maker + Drop>(
 fn open<W: Finish>(term: &mut Term, output: &mut Output, writer: &mut W)
     ensures out { output.new.out.items ≡ [] }
     ensures opened { IsOpening term.old output.old.out.items
-        (known_writing W.contents W.told writer.old writer.new) output.old.transcript output.new.transcript term.new }
+        (known_writing W.contents W.told writer.old writer.new) (noted_of output.old.transcript)
+        (noted_of output.new.transcript) term.new }
     ensures going { StaysOpen (W.sending writer.old) (W.sending writer.new) }
 {
     if output.write_out(writer) {
@@ -244,7 +245,8 @@ where
           tostop = started.back.promise.tostop;
         })
         (known_reader Rd.remaining Rd.foretold Rd.sizes started.net.promise.reader.value)
-        (known_writing W.contents W.told writer.old writer.new) output.transcript term.old (session_result r.0 r.1)) }
+        (known_writing W.contents W.told writer.old writer.new) (noted_of output.transcript) term.old
+        (session_result r.0 r.1)) }
     ensures in_reach { IfOk result (λ r. StaysInReach term.old r.0.ended) }
     ensures finished { IfOk result (λ r. IsFinished (W.sending writer.old) (W.sending writer.new)) }
 {
@@ -291,7 +293,7 @@ where
           tostop = begun.posts.tostop;
         })
         (known_reader Rd.remaining Rd.foretold Rd.sizes reader)
-        (known_writing W.contents W.told writer.old writer.new) begun.output.transcript begun.term
+        (known_writing W.contents W.told writer.old writer.new) (noted_of begun.output.transcript) begun.term
         (session_result r.0 r.1)) }
     ensures in_reach { IfOk result (λ r. StaysInReach begun.term r.0.ended) }
     ensures finished { IfOk result (λ r. IsFinished (W.sending writer.old) (W.sending writer.new)) }
@@ -405,7 +407,7 @@ where
     J: Job + Send + 'static,
     G: Gate + Drop + Send + Sync + 'static,
     requires fresh { J.fresh begun.posts.job × IsQueue J.fresh begun.posts.queue.items }
-    requires transcript { begun.output.transcript ≡ no_notes }
+    requires transcript { noted_of begun.output.transcript ≡ no_notes }
     ensures fault { IfErr result IsRefusal }
     ensures ran { IfOk result (λ r.
         IsRun (job_acts J.reacts J.steps J.refuses)

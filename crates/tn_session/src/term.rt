@@ -8,6 +8,7 @@ ghost use Rattle.tn_discipline.specs.declared.reads.Entry.{Entry as EntryT};
 ghost use Rattle.tn_session.specs.Closing.{Closes};
 ghost use Rattle.tn_session.specs.Credits.{GivesCredits, GivesStepCredits};
 ghost use Rattle.tn_queue.specs.Queue.{putter};
+ghost use Rattle.tn_session.specs.Notes.{noted_of};
 ghost use Rattle.tn_session.specs.Stops.{term_stops, leaves as leaves_of};
 ghost use Rattle.tn_session.specs.Turns.{HandlesAll, StaysInReach, TurnsMessage, left_one};
 ghost use Rattle.tn_session.specs.declared.mail.Sender.TheVariants.{Back};
@@ -151,7 +152,7 @@ fn turn<R: Wait, W: Finish>(
     ensures out { output.new.out.items ≡ [] }
     ensures turned { IfSome result (λ h.
         TurnsMessage term.old message (known_writing W.contents W.told writer.old writer.new)
-        output.old.transcript output.new.transcript (view hand) (view h) term.new) }
+        (noted_of output.old.transcript) (noted_of output.new.transcript) (view hand) (view h) term.new) }
     ensures going { StaysOpen (W.sending writer.old) (W.sending writer.new) }
     ensures silent { term.old.progress.over ≡ true → W.sending writer.new ≡ W.sending writer.old }
 {
@@ -228,8 +229,8 @@ pub(crate) fn run_term<R: Wait, W: Finish, G: Gate>(
     ensures entries { IfSome result (λ p. IsSeatAt (sends_on ends.now.put) p.hand) }
     ensures acted { IfSome result (λ p.
         HandlesAll term.old (view passes.mails) (view p.mails) (view passes.hand) (view p.hand)
-        (known_writing W.contents W.told writer.old writer.new) output.old.transcript output.new.transcript
-        (view watched.new.stops.pass) term.new) }
+        (known_writing W.contents W.told writer.old writer.new) (noted_of output.old.transcript)
+        (noted_of output.new.transcript) (view watched.new.stops.pass) term.new) }
     ensures credits { IfSome result (λ p. GivesCredits (view passes.mails) (view p.mails) (view passes.give) (view p.give)) }
     ensures step_credits { IfSome result (λ p. GivesStepCredits (view passes.mails) (view p.mails)
         (view passes.step_credits.pass) (view p.step_credits.pass)) }

@@ -4,7 +4,7 @@ ghost use Rattle.std.specs.Prelude.{◌≡◌, ◌∷◌, [], List, Some, IfSome
 ghost use Rattle.crossbeam_channel.specs.Claims.{view, IsSeatAt};
 ghost use Rattle.crossbeam_channel.specs.Ends.{receives_on};
 ghost use Rattle.tn_session.specs.Mailbox.{handed};
-ghost use Rattle.tn_session.specs.Notes.{Noted, NotesWrite, no_notes, noted_of, takes, writes};
+ghost use Rattle.tn_session.specs.Notes.{NotesWrite, no_notes, noted_of, takes, writes};
 ghost use Rattle.tn_session.specs.Turns.{Tells};
 ghost use Rattle.tn_session.specs.declared.mail.Mail.{Mail as MailT};
 ghost use Rattle.tn_streams.specs.Sending.{StaysOpen};
@@ -13,64 +13,54 @@ use crate::channels::{Handles, MailPass, MailReceiver};
 use crate::mail::Mail;
 use crate::writing::write_front;
 use std::alloc::Global;
-use std::marker::Model;
 use std::mem;
 use std::snapshot::Snapshot;
 use std::sync::Wait;
 use tn_streams::Drain;
 
-// When it runs, it holds none of this but the last byte.
+/// What only a call of this module makes.
 #[derive(Drop)]
-enum Log {
-    Begun,
-    Took(Snapshot<Log>, Snapshot<Mail>),
-    Wrote(Snapshot<Log>, u8),
+pub struct Seal {
+    hidden: (),
 }
 
 /// What the core of a session did, for contracts: which mails it took, and what it wrote to the network before it took
-/// the next. Only a call that takes a mail, or writes, notes it.
+/// the next (`specs/Notes.antt`). Only a call that takes a mail, or writes, notes it. When it runs, it holds none of
+/// this but the last byte.
 #[derive(Drop)]
-pub struct Transcript {
-    log: Log,
-}
-
-impl Model for Transcript {
-    ghost Value = { Noted };
-
-    ghost view = { λ t. noted_of t.log };
+pub enum Transcript {
+    Begun(Seal),
+    Took(Seal, Snapshot<Transcript>, Snapshot<Mail>),
+    Wrote(Seal, Snapshot<Transcript>, u8),
 }
 
 impl Transcript {
     /// Nothing was taken or written.
     pub(crate) fn new() -> Transcript
-        ensures { result ≡ no_notes }
+        ensures { noted_of result ≡ no_notes }
     {
-        Transcript { log: Log::Begun }
+        Transcript::Begun(Seal { hidden: () })
     }
 
     // The same, and this mail was taken.
     fn taking(self, mail: &Mail) -> Transcript
-        ensures { result ≡ takes self mail.now }
+        ensures { noted_of result ≡ takes (noted_of self) mail.now }
     {
-        let before = Snapshot::of(&self.log);
-        Transcript {
-            log: Log::Took(before, Snapshot::of(mail)),
-        }
+        let before = Snapshot::of(&self);
+        Transcript::Took(Seal { hidden: () }, before, Snapshot::of(mail))
     }
 
     // The same, and this byte was written.
     fn writing_one(self, byte: u8) -> Transcript
-        ensures { result ≡ writes self (byte ∷ []) }
+        ensures { noted_of result ≡ writes (noted_of self) (byte ∷ []) }
     {
-        let before = Snapshot::of(&self.log);
-        Transcript {
-            log: Log::Wrote(before, byte),
-        }
+        let before = Snapshot::of(&self);
+        Transcript::Wrote(Seal { hidden: () }, before, byte)
     }
 
     // The same, and these bytes were written.
     fn writing(self, bytes: &[u8]) -> Transcript
-        ensures { result ≡ writes self bytes.now }
+        ensures { noted_of result ≡ writes (noted_of self) bytes.now }
     {
         let mut transcript = self;
         for byte in bytes {
@@ -90,7 +80,7 @@ impl Transcript {
         requires role { (l : List MailT) × ((view pass.old).handled ≡ Some l) }
         ensures seat { IsSeatAt (receives_on from.now) pass.new }
         ensures handled { IfSome result (λ mail. view pass.new ≡ handed (view pass.old) mail) }
-        ensures noted { IfSome result (λ mail. self.new ≡ takes self.old mail) }
+        ensures noted { IfSome result (λ mail. noted_of self.new ≡ takes (noted_of self.old) mail) }
     {
         let Ok(mail) = from.recv_as::<Handles, R>(rt, pass) else {
             return None;
@@ -101,7 +91,7 @@ impl Transcript {
 
     /// Writes these bytes, or the first of them where a write fails. A write that takes none has failed.
     pub(crate) fn write_out<W: Drain>(&mut self, writer: &mut W, bytes: &[u8]) -> bool
-        ensures writes { NotesWrite result (W.contents writer.old) (W.contents writer.new) bytes.now self.old self.new }
+        ensures writes { NotesWrite result (W.contents writer.old) (W.contents writer.new) bytes.now (noted_of self.old) (noted_of self.new) }
         ensures tells { Tells result (W.told writer.old) (W.told writer.new) }
         ensures none { bytes.now ≡ [] → result ≡ true }
         ensures going { StaysOpen (W.sending writer.old) (W.sending writer.new) }
@@ -124,7 +114,7 @@ impl Output {
     /// Nothing is to be written, and nothing was done.
     pub(crate) fn new(alloc: Global) -> Output
         ensures out { result.out.items ≡ [] }
-        ensures transcript { result.transcript ≡ no_notes }
+        ensures transcript { noted_of result.transcript ≡ no_notes }
     {
         Output {
             out: Vec::new(alloc),
@@ -136,7 +126,7 @@ impl Output {
     pub(crate) fn write_out<W: Drain>(&mut self, writer: &mut W) -> bool
         ensures out { self.new.out.items ≡ [] }
         ensures writes { NotesWrite result (W.contents writer.old) (W.contents writer.new) self.old.out.items
-            self.old.transcript self.new.transcript }
+            (noted_of self.old.transcript) (noted_of self.new.transcript) }
         ensures tells { Tells result (W.told writer.old) (W.told writer.new) }
         ensures none { self.old.out.items ≡ [] → result ≡ true }
         ensures going { StaysOpen (W.sending writer.old) (W.sending writer.new) }

@@ -8,6 +8,7 @@ use Rattle.tn_session.specs.Stops.{has_stopped}
 use Rattle.tn_session.specs.Client.{client_report}
 use Rattle.tn_session.specs.Facts.{client_result}
 use Rattle.tn_streams.specs.Known.{known_typing, known_writing}
+use Rattle.tn_session.specs.Notes.{noted_of}
 use Rattle.tn_session.proofs.client.run_beside.Goals as goal
 
 pub returns-clause-ran : goal.returns-clause-ran
@@ -24,7 +25,7 @@ returns-clause-ran g c =
     let screen = known_writing g.S.Drain.contents g.S.Drain.told c.args.screen.now c.run_core.new.screen in
     let same = ap (λ p. view p) c.settle-ports.ensures.told ∙ c.settle-told.ensures.same in
     client_ran c.args.core.now c.run_core.new.core (has_stopped returned.keys.stops) keys_reader net_reader writer screen (view c.args.pass) (view ended.pass) (view returned.net) (view returned.keys.pass) (client_result c.report.result ports)
-    c.requires.mailbox.2 (subst (λ n. CoreHandles c.args.core.now (view c.args.pass) (view ended.pass) writer screen n (view ports.told) c.run_core.new.core) (sym c.settle-ports.ensures.transcript) (subst (λ v. CoreHandles c.args.core.now (view c.args.pass) (view ended.pass) writer screen ended.transcript v c.run_core.new.core) (sym same) ended.ensures.acted))
+    c.requires.mailbox.2 (subst (λ n. CoreHandles c.args.core.now (view c.args.pass) (view ended.pass) writer screen n (view ports.told) c.run_core.new.core) (sym (ap noted_of c.settle-ports.ensures.transcript)) (subst (λ v. CoreHandles c.args.core.now (view c.args.pass) (view ended.pass) writer screen (noted_of ended.transcript) v c.run_core.new.core) (sym same) ended.ensures.acted))
     (subst (λ s. TypingSends s false net_typing (view returned.net)) c.requires.net.1 (join.ensures.net.1 c.requires.net.2)).0
     (subst (λ s. TypingSends s (has_stopped returned.keys.stops) keys_reader (view returned.keys.pass)) c.requires.keys.1 join.ensures.keys.1)
     (λ on none. c.settle-told.ensures.told on (sym same ∙ none))

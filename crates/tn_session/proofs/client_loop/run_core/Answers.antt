@@ -9,7 +9,7 @@ use Rattle.tn_session.proofs.Going.{lefts_of-push, left_small, notes_next, notes
 use Rattle.tn_session.proofs.Mailbox.{handled_more}
 use Rattle.tn_session.proofs.Stopped.{left_next, stands_first}
 use Rattle.tn_session.specs.CoreTurns.{TurnsTold, all_told, told_of}
-use Rattle.tn_session.specs.Notes.{Noted, NotesAll, no_notes}
+use Rattle.tn_session.specs.Notes.{Noted, NotesAll, no_notes, noted_of}
 use Rattle.tn_session.specs.Stops.{StandsTold, core_stops}
 use Rattle.tn_session.specs.declared.mail.Mail.{Mail}
 use Rattle.tn_session.specs.declared.mail.Sender.TheVariants.{Keys}
@@ -48,11 +48,11 @@ loop-preserved g c =
     let x = c.in_ok-mail.mail in
     let small = left_small x.message in
     let more = c.if-lefts-ge-SENDERS.false in
-    let T : Told → Type 0 = λ m. TurnsTold c.loop.core m (known_writing g.W.Drain.contents g.W.Drain.told c.loop.writer c.turn.new.writer) (known_writing g.S.Drain.contents g.S.Drain.told c.loop.screen c.turn.new.screen) c.take.new.self c.turn.new.output.transcript c.turn.new.core in
+    let T : Told → Type 0 = λ m. TurnsTold c.loop.core m (known_writing g.W.Drain.contents g.W.Drain.told c.loop.writer c.turn.new.writer) (known_writing g.S.Drain.contents g.S.Drain.told c.loop.screen c.turn.new.screen) (noted_of c.take.new.self) (noted_of c.turn.new.output.transcript) c.turn.new.core in
     let writer = known_writer g.W.Drain.contents g.W.Drain.told in
     let screen = known_writer g.S.Drain.contents g.S.Drain.told in
     let turned = subst T c.told_of.ensures c.turn.ensures.turned in
-    let told = told_next c.args.core.now c.loop.core c.turn.new.core i.0 x (writer c.args.writer.now) (writer c.loop.writer) (writer c.turn.new.writer) (writer c.finish_once-closed.new.writer) (screen c.args.screen.now) (screen c.loop.screen) (screen c.turn.new.screen) c.take.new.self c.turn.new.output.transcript c.finish_once-closed.ensures.contents c.finish_once-closed.ensures.told i.3 turned in
+    let told = told_next c.args.core.now c.loop.core c.turn.new.core i.0 x (writer c.args.writer.now) (writer c.loop.writer) (writer c.turn.new.writer) (writer c.finish_once-closed.new.writer) (screen c.args.screen.now) (screen c.loop.screen) (screen c.turn.new.screen) (noted_of c.take.new.self) (noted_of c.turn.new.output.transcript) c.finish_once-closed.ensures.contents c.finish_once-closed.ensures.told i.3 turned in
     let left = left_next Keys i.0 x c.loop.keys_left c.has_left-keys_left.result i.4 c.has_left-keys_left.ensures in (
       c.take.ensures.seat,
       (
@@ -62,7 +62,7 @@ loop-preserved g c =
         told.0,
         left,
         core_told c.args.core.now c.loop.core c.turn.new.core i.0 x _ _ _ _ _ _ _ _ c.loop.told c.is_due.result c.in_ok-told-2.told c.has_left-keys_left.result i.3 turned told.0 told.1.0 left (c.is_due.ensures ∙ ap (λ (p : Progress). core_stops p && not c.has_left-keys_left.result) c.progress-in-loop-2.ensures) c.in_ok-told-2.ensures.told i.5,
-        notes_next i.0 x i.3.steps told.0.steps (told_of x, turned.mark) turned.bytes no_notes c.loop.output.transcript c.take.new.self c.turn.new.output.transcript i.6 told.1.1 c.in_ok-mail.ensures.noted turned.noted,
+        notes_next i.0 x i.3.steps told.0.steps (told_of x, turned.mark) turned.bytes no_notes (noted_of c.loop.output.transcript) (noted_of c.take.new.self) (noted_of c.turn.new.output.transcript) i.6 told.1.1 c.in_ok-mail.ensures.noted turned.noted,
       ),
       c.turn.ensures.out,
       c.turn.ensures.text,

@@ -6,7 +6,7 @@ use Rattle.tn_client_core.specs.Reaching.{LeadsTo}
 use Rattle.tn_client_core.specs.Run.{Run}
 use Rattle.tn_session.specs.CoreTurns.{ToldAll, all_told}
 use Rattle.tn_session.specs.Mailbox.{with_handled}
-use Rattle.tn_session.specs.Notes.{NotesAll, no_notes}
+use Rattle.tn_session.specs.Notes.{NotesAll, no_notes, noted_of}
 use Rattle.tn_session.specs.Stops.{IsTold, StandsTold, has_left, core_stops}
 use Rattle.tn_session.specs.Turns.{lefts_of}
 use Rattle.tn_session.specs.declared.mail.Mail.{Mail}
@@ -24,7 +24,7 @@ invariant-loop g l =
     × (goes : ToldAll l.fn.core (all_told handled) (known_writing g.W.Drain.contents g.W.Drain.told l.fn.writer l.writer) (known_writing g.S.Drain.contents g.S.Drain.told l.fn.screen l.screen) l.core)
     × (l.keys_left ≡ has_left Keys handled)
     × ((c : Run) → LeadsTo c l.fn.core → StandsTold Keys all_told (Runs c) (λ r. core_stops r.progress) handled goes.marked (core_stops l.core.progress) l.told)
-    × NotesAll handled (map (λ s. s.1) goes.steps) no_notes l.output.transcript)
+    × NotesAll handled (map (λ s. s.1) goes.steps) no_notes (noted_of l.output.transcript))
     × (l.output.out.items ≡ []) × (l.text.items ≡ []) × (l.lefts ≤ 2)
     × StandsAt l.closed (l.core.progress.over || l.core.progress.closed) (g.W.Drain.sending l.fn.writer) (g.W.Drain.sending l.writer)
     × IsSeatAt (sends_on l.watched.stops.to) l.watched.stops.pass

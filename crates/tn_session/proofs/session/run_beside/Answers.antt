@@ -11,6 +11,7 @@ use Rattle.tn_session.specs.Turns.{HandlesAll}
 use Rattle.tn_streams.specs.Known.{known_typing, known_writer}
 use Rattle.tn_session.specs.declared.parties.Report.{Report}
 use Rattle.tn_term.specs.declared.progress.Progress.{Progress}
+use Rattle.tn_session.specs.Notes.{noted_of}
 use Rattle.tn_session.proofs.session.run_beside.Goals as goal
 
 pub returns-clause-ran : goal.returns-clause-ran
@@ -24,10 +25,10 @@ returns-clause-ran g c began words first opened settings table at ew =
     let typing = known_typing g.Rd.Source.remaining g.Rd.Source.foretold g.Rd.Source.sizes g.Rd.Source.controls started.net.promise.reader.value in
     let reader = typing.reader in
     let writer = known_writer g.W.Drain.contents g.W.Drain.told in
-    scheduled (job_acts g.J.Job.reacts g.J.Job.steps g.J.Job.refuses) (record { first = started.desk.promise.id; job = started.desk.promise.job.value; queue = back.queue.value.items; tostop = back.tostop }) (has_stopped returned.back.stops) words reader first (writer c.args.writer.now) (writer c.run_term.new.writer) c.args.output.transcript began c.args.term.now c.run_term.new.term (view c.args.passes.mails) (view c.args.passes.hand)
+    scheduled (job_acts g.J.Job.reacts g.J.Job.steps g.J.Job.refuses) (record { first = started.desk.promise.id; job = started.desk.promise.job.value; queue = back.queue.value.items; tostop = back.tostop }) (has_stopped returned.back.stops) words reader first (writer c.args.writer.now) (writer c.run_term.new.writer) (noted_of c.args.output.transcript) began c.args.term.now c.run_term.new.term (view c.args.passes.mails) (view c.args.passes.hand)
     (record { net = view returned.net; desk = view returned.desk; back = view returned.back.pass; term = view ended.passes.mails; put = view ended.passes.hand; took = view returned.took; told = view c.run_term.new.watched.stops.pass })
     (session_result c.report.result ports)
-    c.requires.mailbox.2 c.requires.entries.1 opened (subst (λ n. HandlesAll c.args.term.now (view c.args.passes.mails) (view ended.passes.mails) (view c.args.passes.hand) (view ended.passes.hand) (record { before = writer c.args.writer.now; after = writer c.run_term.new.writer }) c.args.output.transcript n (view c.run_term.new.watched.stops.pass) c.run_term.new.term) (sym c.settle-ports.ensures.transcript) ended.ensures.acted)
+    c.requires.mailbox.2 c.requires.entries.1 opened (subst (λ n. HandlesAll c.args.term.now (view c.args.passes.mails) (view ended.passes.mails) (view c.args.passes.hand) (view ended.passes.hand) (record { before = writer c.args.writer.now; after = writer c.run_term.new.writer }) (noted_of c.args.output.transcript) n (view c.run_term.new.watched.stops.pass) c.run_term.new.term) (sym (ap noted_of c.settle-ports.ensures.transcript)) ended.ensures.acted)
     (subst (λ s. TypingSends s false typing (view returned.net)) c.requires.net.1 (join.ensures.net.1 c.requires.net.2)).0 join.ensures.desk.2 join.ensures.back.1 c.settle-ports.ensures.stopped
     c.settle-ports.ensures.settled (c.report.ensures ∙ ap report_of c.progress.ensures)
     settings table at ew

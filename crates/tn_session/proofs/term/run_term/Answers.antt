@@ -18,6 +18,7 @@ use Rattle.tn_session.proofs.Stopped.{left_next, stands_first}
 use Rattle.tn_session.specs.Stops.{StandsTold, term_stops}
 use Rattle.tn_session.specs.Turns.{messages_of}
 use Rattle.tn_streams.specs.Known.{known_writer}
+use Rattle.tn_session.specs.Notes.{noted_of}
 use Rattle.tn_session.proofs.term.run_term.Goals as goal
 
 pub take-requires-clause-role : goal.take-requires-clause-role
@@ -25,7 +26,7 @@ take-requires-clause-role g c = (c.loop.invariant.2.0, ap (λ v. v.handled) c.lo
 
 pub loop-init : goal.loop-init
 loop-init g c =
-    let first = going_first c.args.term.now (known_writer g.W.Drain.contents g.W.Drain.told c.args.writer.now) (known_writer g.W.Drain.contents g.W.Drain.told c.finish_once-closed.new.writer) c.args.output.now.transcript c.finish_once-closed.ensures.contents c.finish_once-closed.ensures.told in (
+    let first = going_first c.args.term.now (known_writer g.W.Drain.contents g.W.Drain.told c.args.writer.now) (known_writer g.W.Drain.contents g.W.Drain.told c.finish_once-closed.new.writer) (noted_of c.args.output.now.transcript) c.finish_once-closed.ensures.contents c.finish_once-closed.ensures.told in (
       c.requires.mailbox.0,
       c.requires.entries.1,
       (
@@ -66,7 +67,7 @@ loop-preserved g c =
     let small = left_small x.message in
     let more = c.if-lefts-ge-SENDERS.false in
     let left = left_next Back i.0 x c.loop.back_left c.has_left-back_left.result i.8 c.has_left-back_left.ensures in
-    let goes = going_next c.args.term.now c.loop.term c.turn.new.term i.0 x (writer c.args.writer.now) (writer c.loop.writer) (writer c.turn.new.writer) (writer c.finish_once-closed-in-loop.new.writer) i.1 c.take.new.self c.turn.new.output.transcript (view c.loop.hand) (view c.in_ok-hand.hand) c.finish_once-closed-in-loop.ensures.contents c.finish_once-closed-in-loop.ensures.told i.6 t in (
+    let goes = going_next c.args.term.now c.loop.term c.turn.new.term i.0 x (writer c.args.writer.now) (writer c.loop.writer) (writer c.turn.new.writer) (writer c.finish_once-closed-in-loop.new.writer) i.1 (noted_of c.take.new.self) (noted_of c.turn.new.output.transcript) (view c.loop.hand) (view c.in_ok-hand.hand) c.finish_once-closed-in-loop.ensures.contents c.finish_once-closed-in-loop.ensures.told i.6 t in (
       c.take.ensures.seat,
       c.in_ok-hand.ensures.seat,
       (
@@ -80,7 +81,7 @@ loop-preserved g c =
         omega (arith, i.7, c.give_for.ensures.counted, steps-push i.0 x),
         left,
         term_told c.args.term.now c.loop.term c.turn.new.term i.0 x _ _ _ i.1 _ _ _ (view c.loop.hand) (view c.in_ok-hand.hand) c.loop.told c.is_told.result c.in_ok-told-2.told c.has_left-back_left.result i.6 t goes.0 goes.1.0 left (c.is_told.ensures ∙ ap (λ (p : Progress). term_stops p && not c.has_left-back_left.result) c.progress-in-loop-3.ensures) c.in_ok-told-2.ensures.told i.9,
-        notes_next i.0 x i.6.steps goes.0.steps (x.message, t.mark) t.bytes c.args.output.now.transcript c.loop.output.transcript c.take.new.self c.turn.new.output.transcript i.10 goes.1.1 c.in_ok-mail.ensures.noted t.noted,
+        notes_next i.0 x i.6.steps goes.0.steps (x.message, t.mark) t.bytes (noted_of c.args.output.now.transcript) (noted_of c.loop.output.transcript) (noted_of c.take.new.self) (noted_of c.turn.new.output.transcript) i.10 goes.1.1 c.in_ok-mail.ensures.noted t.noted,
       ),
       c.turn.ensures.out,
       omega (arith, small, more, c.leaves-left.ensures),

@@ -4,7 +4,7 @@ use Rattle.crossbeam_channel.specs.Ends.{sends_on, receives_on}
 use Rattle.tn_discipline.specs.declared.reads.Entry.{Entry}
 use Rattle.tn_session.specs.Credits.{owed_one, pieces_among, steps_among}
 use Rattle.tn_session.specs.Mailbox.{with_handled}
-use Rattle.tn_session.specs.Notes.{NotesAll}
+use Rattle.tn_session.specs.Notes.{NotesAll, noted_of}
 use Rattle.tn_queue.specs.Queue.{putter}
 use Rattle.tn_session.specs.Stops.{IsTold, StandsTold, has_left, term_stops}
 use Rattle.tn_session.specs.Turns.{GoesOn, StaysInReach, lefts_of, messages_of}
@@ -29,7 +29,7 @@ invariant-loop g l =
     × (length (view l.step_credits.pass).given ≤ length (view l.fn.passes.step_credits.pass).given + steps_among handled)
     × (l.back_left ≡ has_left Back handled)
     × ((c : Run) → LeadsTo c l.fn.term → StandsTold Back messages_of (Runs c) (λ r. term_stops r.progress) handled goes.marked (term_stops l.term.progress) l.told)
-    × NotesAll handled (map (λ s. s.1) goes.steps) l.fn.output.transcript l.output.transcript)
+    × NotesAll handled (map (λ s. s.1) goes.steps) (noted_of l.fn.output.transcript) (noted_of l.output.transcript))
     × (l.output.out.items ≡ []) × (l.lefts ≤ 3)
     × IsSeatAt (sends_on l.ends.give) l.give × StaysInReach l.fn.term l.term.progress.ended
     × StandsAt l.closed l.term.progress.over (g.W.Drain.sending l.fn.writer) (g.W.Drain.sending l.writer)
