@@ -35,7 +35,12 @@ fn carry(joined: &mut Joined, alloc: Global, count: usize, times: usize) -> Resu
 }
 
 // A line is typed key by key, with an erased key in it, and what is on its way is cut into pieces of this length.
-fn reads_a_line(rt: &impl Abort, alloc: Global, editing: Editing, count: usize) -> Result<(), Fail> {
+fn reads_a_line(
+    rt: &impl Abort,
+    alloc: Global,
+    editing: Editing,
+    count: usize,
+) -> Result<(), Fail> {
     let mut joined = start(alloc, editing)?;
     carry(&mut joined, alloc, count, 200)?;
     joined.happen(alloc, Event::Take)?;

@@ -37,7 +37,17 @@ fn a_session_asks_for_sixteen_jobs_and_no_more(rt: HostRuntime) -> Result<(), Fa
     let gate = Arc::new(alloc, Unwatched)?;
     let input = b"".as_slice();
     let limit = Limit::standard();
-    match serve_session(rt, alloc, input, &mut out, settings, limit, Editing::Remote, maker, gate) {
+    match serve_session(
+        rt,
+        alloc,
+        input,
+        &mut out,
+        settings,
+        limit,
+        Editing::Remote,
+        maker,
+        gate,
+    ) {
         Ok(_) => {},
         Err(fault) => return Err(Fail::from(fault)),
     }
