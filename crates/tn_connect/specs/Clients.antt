@@ -9,6 +9,8 @@ use Rattle.tn_connect.specs.declared.fault.ConnectFault.TheVariants.{Network, Se
 use Rattle.tn_connect.specs.declared.settings.Connecting.{Connecting}
 use Rattle.tn_connect.specs.declared.settings.Origin.{Origin}
 use Rattle.tn_connect.specs.declared.settings.Origin.TheVariants.{Reader, Input, Terminal}
+use Rattle.tn_escape.specs.Typing.{of_bytes}
+use Rattle.tn_escape.specs.declared.escaping.Keyboard.{Keyboard}
 use Rattle.tn_session.specs.Client.{RunningClient}
 use Rattle.tn_session.specs.Facts.{Window, client_result}
 use Rattle.tn_session.specs.declared.parties.ClientPorts.{ClientPorts}
@@ -27,8 +29,17 @@ foreseen Reader bytes =
     record { reader = record { bytes = bytes; failures = None; sizes = Some [] }; controls = Some [] }
 foreseen Input bytes =
     record { reader = record { bytes = None; failures = None; sizes = None }; controls = Some [] }
-foreseen Terminal bytes =
+foreseen (Terminal own) bytes =
     record { reader = record { bytes = None; failures = None; sizes = None }; controls = None }
+
+-- what the bytes of keys stand for: only at a terminal for anything but themselves
+abbrev pub keyboard_by : Origin → Option ℕ → Keyboard
+keyboard_by Reader escape = of_bytes
+keyboard_by Input escape = of_bytes
+keyboard_by (Terminal own) escape = record { escape = escape; own = own }
+
+abbrev pub keyboard_of : Connecting → Keyboard
+keyboard_of connecting = keyboard_by connecting.origin connecting.escape
 
 -- A client's session ran with these keys and this screen, before and after it, wrote these bytes, and gave back this.
 -- Of what the connection brings nothing was known before, but that it tells no size; all that was read from it stands

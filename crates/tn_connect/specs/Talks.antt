@@ -1,5 +1,5 @@
 -- Which talk a client has with a service that takes lines.
-use Rattle.std.specs.Prelude.{◌≡◌, ℕ, Bool, true, false, Option, Some, List, [], length}
+use Rattle.std.specs.Prelude.{◌≡◌, ℕ, Bool, true, false, Option, Some, List, [], length, map, option_map}
 use Rattle.std.specs.declared.net.tcp.TcpStream.{TcpStream}
 use Rattle.tn_connect.specs.declared.settings.Origin.{Origin}
 use Rattle.tn_connect.specs.declared.settings.Origin.TheVariants.{Reader, Input, Terminal}
@@ -8,6 +8,8 @@ use Rattle.tn_connect.specs.declared.talks.TalkReport.{TalkReport}
 use Rattle.tn_discipline.specs.Characters.{standard_characters}
 use Rattle.tn_discipline.specs.Keys.{standard_flags}
 use Rattle.tn_discipline.specs.declared.termios.Settings.{Settings}
+use Rattle.tn_escape.specs.Mapping.{mapped, none_own}
+use Rattle.tn_escape.specs.declared.own_characters.OwnCharacters.{OwnCharacters}
 use Rattle.tn_lines.specs.Kinds.{Kind, typed, read}
 use Rattle.tn_lines_client.specs.Logs.{bytes_in}
 use Rattle.tn_lines_client.specs.Talking.{Talked, streams}
@@ -17,7 +19,7 @@ abbrev pub standard_settings : Settings
 standard_settings = record { flags = standard_flags; chars = standard_characters }
 
 abbrev pub kind_by : Origin → Plain → Kind
-kind_by Terminal plain = typed (record { settings = standard_settings; limit = plain.line_limit }) plain.line_end
+kind_by (Terminal own) plain = typed (record { settings = standard_settings; limit = plain.line_limit }) plain.line_end
 kind_by Reader plain = read plain.line_end
 kind_by Input plain = read plain.line_end
 
@@ -26,9 +28,20 @@ abbrev pub kind_of : Plain → Kind
 kind_of plain = kind_by plain.origin plain
 
 abbrev pub is_terminal : Origin → Bool
-is_terminal Terminal = true
+is_terminal (Terminal own) = true
 is_terminal Reader = false
 is_terminal Input = false
+
+abbrev pub own_by : Origin → OwnCharacters
+own_by (Terminal own) = own
+own_by Reader = none_own
+own_by Input = none_own
+
+-- the keys that the bytes of a reader are: at a terminal its own special characters stand for the standard ones
+abbrev pub keys_in : Origin → Option (List ℕ) → Option (List ℕ)
+keys_in (Terminal own) bytes = option_map (map (mapped own)) bytes
+keys_in Reader bytes = bytes
+keys_in Input bytes = bytes
 
 -- A talk was held with these keys and this screen, before and after it: all that was typed, said and told stands in the
 -- logs, and so many bytes more were to be told.

@@ -3,7 +3,7 @@
 ghost use Rattle.std.specs.Prelude.{◌≡◌, ◌≢◌, [], Err, IfErr, IfOk, IsOk, Ok, OnErr, Some, false, true};
 ghost use Rattle.crossbeam_channel.specs.Claims.{view};
 ghost use Rattle.crossbeam_channel.specs.Ends.{sends_on};
-ghost use Rattle.tn_connect.specs.Clients.{ConnectsBy, RunsClient, RunsWriting, connection_of, foreseen, window_of};
+ghost use Rattle.tn_connect.specs.Clients.{ConnectsBy, RunsClient, RunsWriting, connection_of, foreseen, keyboard_of, window_of};
 ghost use Rattle.tn_connect.specs.Faults.{IsOfNetwork};
 ghost use Rattle.tn_connect.specs.Sent.{TookWhatWasWritten};
 ghost use Rattle.tn_messages.specs.Ending.{EndsWhole};
@@ -32,6 +32,7 @@ use std::snapshot::Snapshot;
 use std::sync::Arc;
 use std::sync::atomic::AtomicBool;
 use std::time::Duration;
+use tn_escape::Keyboard;
 use tn_network::{Network, reach};
 use tn_session::{ClientPorts, Ended, Report, SessionFault, client_session};
 use tn_sockets::{
@@ -159,16 +160,42 @@ fn talk_from<H: Host, K: Read + Drop + Send + 'static, S: Write, Q: Queue>(
         Origin::Input => {
             let keys = Patient {
                 rt,
-                keys: Console::new(rt, alloc, typing, None),
+                keys: console_of(rt, alloc, typing, connecting),
                 seconds: connecting.wait,
                 is_over,
             };
             talk(rt, alloc, incoming, outgoing, keys, screen, connecting)
         },
-        Origin::Terminal => {
-            let keys = Console::new(rt, alloc, typing, connecting.escape);
+        Origin::Terminal(_) => {
+            let keys = console_of(rt, alloc, typing, connecting);
             talk(rt, alloc, incoming, outgoing, keys, screen, connecting)
         },
+    }
+}
+
+// Standard input as keys.
+fn console_of<H: Host, K: Read + Drop>(
+    rt: H,
+    alloc: Global,
+    typing: Typing<H, K>,
+    connecting: Connecting,
+) -> Console<H, K>
+    ensures keyboard { result.escaping.keyboard ≡ keyboard_of connecting }
+    ensures keys { result.typing.keys ≡ typing.keys }
+{
+    Console::new(rt, alloc, typing, keyboard_of(connecting))
+}
+
+// Only at a terminal a byte stands for anything but itself.
+fn keyboard_of(connecting: Connecting) -> Keyboard
+    ensures { result ≡ keyboard_of connecting }
+{
+    match connecting.origin {
+        Origin::Terminal(own) => Keyboard {
+            escape: connecting.escape,
+            own,
+        },
+        Origin::Reader | Origin::Input => Keyboard::of_bytes(),
     }
 }
 

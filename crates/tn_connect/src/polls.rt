@@ -55,7 +55,7 @@ impl<'a, H, E> Polling<'a, H, E> {
 // A user who types the end of file means it at once.
 fn wait_of(plain: &Plain) -> u32 {
     match plain.origin {
-        Origin::Terminal => 0,
+        Origin::Terminal(_) => 0,
         Origin::Reader | Origin::Input => plain.wait,
     }
 }

@@ -5,6 +5,7 @@ use std::alloc::Global;
 use std::fs::File;
 use std::sync::Arc;
 use tn_discipline::Limit;
+use tn_escape::OwnCharacters;
 use tn_lines::LineEnd;
 use tn_sockets::Link;
 
@@ -16,8 +17,9 @@ pub enum Origin {
     /// Standard input, each of whose bytes is a key; it is waited for, so that the session ends though
     /// nothing comes.
     Input,
-    /// The same at a terminal, whose user speaks to the client itself behind the escape character.
-    Terminal,
+    /// The same at a terminal with these special characters, whose user speaks to the client itself behind the escape
+    /// character.
+    Terminal(OwnCharacters),
 }
 
 /// How to connect.

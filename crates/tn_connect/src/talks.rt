@@ -2,11 +2,12 @@
 
 ghost use Rattle.std.specs.Prelude.{◌≡◌, [], IfOk, Ok};
 ghost use Rattle.tn_connect.specs.Clients.{ConnectsBy};
-ghost use Rattle.tn_connect.specs.Talks.{RunsTalk, is_terminal, kind_of, talked_over};
+ghost use Rattle.tn_connect.specs.Talks.{RunsTalk, is_terminal, keys_in, kind_of, own_by, talked_over};
 ghost use Rattle.tn_lines.specs.Kinds.{LeadsTo};
 ghost use Rattle.tn_network.specs.Asked.{Reaches};
 
 use crate::fault::ConnectFault;
+use crate::mapping::MappedKeys;
 use crate::news::tell_standing;
 use crate::polls::Polling;
 use crate::settings::{Notes, Origin, Plain};
@@ -17,6 +18,7 @@ use std::os::fd::AsRawFd;
 use std::snapshot::Snapshot;
 use std::sync::Wait;
 use tn_discipline::Settings;
+use tn_escape::OwnCharacters;
 use tn_lines::{AnyLines, FileLines, KeyLines};
 use tn_lines_client::{Await, Over, ReadLog, Talk, TalkFault};
 use tn_network::{Network, reach};
@@ -44,7 +46,7 @@ fn lines_of(alloc: Global, plain: Plain) -> Result<AnyLines, AllocError>
 {
     let line_end = plain.line_end;
     match plain.origin {
-        Origin::Terminal => {
+        Origin::Terminal(_) => {
             let lines = KeyLines::new(alloc, Settings::standard(), plain.line_limit, line_end)?;
             Ok(AnyLines::Typed(lines))
         },
@@ -84,10 +86,20 @@ fn talk<H: Wait, A: Await, K: Source + Drop, N: Source + Drop, W: Finish + Drop,
     })
 }
 
+// The special characters of the terminal where keys are typed; none where they are read.
+fn own_of(origin: Origin) -> OwnCharacters
+    ensures { result ≡ own_by origin }
+{
+    match origin {
+        Origin::Terminal(own) => own,
+        Origin::Reader | Origin::Input => OwnCharacters::none(),
+    }
+}
+
 fn is_terminal(origin: Origin) -> bool
     ensures { result ≡ is_terminal origin }
 {
-    matches!(origin, Origin::Terminal)
+    matches!(origin, Origin::Terminal(_))
 }
 
 /// Connects to a host, an address or a name, and talks to the service there by lines, with these keys and this
@@ -103,7 +115,8 @@ pub fn connect_plain<H: Host + Network, K: Read + Drop, S: Write, E: Drain>(
     screen: &mut S,
     notes: Notes<'_, E>,
 ) -> Result<TalkReport, ConnectFault>
-    ensures talked { IfOk result (RunsTalk plain (K.remaining keys) (S.contents screen.old) (S.contents screen.new)) }
+    ensures talked { IfOk result
+        (RunsTalk plain (keys_in plain.origin (K.remaining keys)) (S.contents screen.old) (S.contents screen.new)) }
     ensures reached { ConnectsBy talked_over (Reaches (H.finds rt host.now plain.port) (H.dials rt)) result }
 {
     let Notes {
@@ -134,13 +147,15 @@ fn talk_over<H: Host, K: Read + Drop, S: Write, E: Drain>(
     errors: &mut E,
 ) -> Result<Result<TalkReport, TalkFault>, ConnectFault>
     ensures talked { IfOk result (λ talked. IfOk talked
-        (RunsTalk plain (K.remaining keys) (S.contents screen.old) (S.contents screen.new))) }
+        (RunsTalk plain (keys_in plain.origin (K.remaining keys)) (S.contents screen.old)
+        (S.contents screen.new))) }
     ensures connection { IfOk result (λ talked. IfOk talked (λ report. talked_over report ≡ stream)) }
 {
     let over = Snapshot::of(&stream);
     let (service, connection) = Connection::split(stream)?;
     service.set_nonblocking(true)?;
     let mut ready = Polling::new(rt, &plain, service.as_raw_fd(), errors);
+    let keys = MappedKeys::new(keys, own_of(plain.origin));
     let talked = talk(
         &rt, alloc, plain, over, &mut ready, keys, service, connection, screen,
     );

@@ -3,12 +3,18 @@
 use Rattle.std.specs.Prelude.{◌≡◌, ◌≤◌, ◌⊎◌, ℕ, nat_eq, Bool, true, false, Option, None, Some, List, [], ◌∷◌, ◌++◌, length, take, if◌then◌else◌}
 use Rattle.tn_escape.specs.declared.escaping.Command.{Command}
 use Rattle.tn_escape.specs.declared.escaping.Command.TheVariants.{Close, Help, Status, Suspend, Unknown}
+use Rattle.tn_escape.specs.Mapping.{mapped, none_own}
 use Rattle.tn_escape.specs.declared.escaping.Escaping.{Escaping}
 use Rattle.tn_escape.specs.declared.escaping.Input.{Input}
 use Rattle.tn_escape.specs.declared.escaping.Input.TheVariants as input
+use Rattle.tn_escape.specs.declared.escaping.Keyboard.{Keyboard}
 use Rattle.tn_escape.specs.declared.escaping.Typed.{Typed}
 use Rattle.tn_escape.specs.declared.escaping.Typed.TheVariants as typed
 use Rattle.tn_streams.specs.declared.control.Control.TheVariants.{Brk, Ip, Ayt}
+
+-- every byte is a key, and stands for itself
+abbrev pub of_bytes : Keyboard
+of_bytes = record { escape = None; own = none_own }
 
 abbrev pub is_escape : Option ℕ → ℕ → Bool
 is_escape None byte = false
@@ -26,26 +32,28 @@ meant byte =
     if nat_eq byte 98 then typed.Control Brk else if nat_eq byte 105 then typed.Control Ip
     else if nat_eq byte 97 then typed.Control Ayt else typed.Command (command byte)
 
--- what one byte is; of two escape characters the second is a key
-abbrev pub typed_after : Option ℕ → Bool → ℕ → Typed
-typed_after character false byte = if is_escape character byte then typed.Nothing else typed.Key byte
-typed_after character true byte = if is_escape character byte then typed.Key byte else meant byte
+-- what one byte is: a key of the user's own characters is the standard one, unless it is the escape character or
+-- stands behind it; of two escape characters the second is a key
+abbrev pub typed_after : Keyboard → Bool → ℕ → Typed
+typed_after keyboard false byte =
+    if is_escape keyboard.escape byte then typed.Nothing else typed.Key (mapped keyboard.own byte)
+typed_after keyboard true byte = if is_escape keyboard.escape byte then typed.Key byte else meant byte
 
 abbrev pub reading : Escaping → ℕ → Typed
-reading escaping byte = typed_after escaping.character escaping.waits byte
+reading escaping byte = typed_after escaping.keyboard escaping.waits byte
 
 -- whether the byte behind this one is the one that an escape character waits for
-abbrev pub waits_after : Option ℕ → Bool → ℕ → Bool
-waits_after character false byte = is_escape character byte
-waits_after character true byte = false
+abbrev pub waits_after : Keyboard → Bool → ℕ → Bool
+waits_after keyboard false byte = is_escape keyboard.escape byte
+waits_after keyboard true byte = false
 
 abbrev pub waits : Escaping → ℕ → Bool
-waits escaping byte = waits_after escaping.character escaping.waits byte
+waits escaping byte = waits_after escaping.keyboard escaping.waits byte
 
 -- whether an escape character waits behind all of it
-abbrev pub waits_behind : Option ℕ → Bool → List ℕ → Bool
-waits_behind character waits [] = waits
-waits_behind character waits (byte ∷ bytes) = waits_behind character (waits_after character waits byte) bytes
+abbrev pub waits_behind : Keyboard → Bool → List ℕ → Bool
+waits_behind keyboard waits [] = waits
+waits_behind keyboard waits (byte ∷ bytes) = waits_behind keyboard (waits_after keyboard waits byte) bytes
 
 -- what a session gets of what a byte is, and what the client itself is asked for by it
 abbrev pub input_in : Typed → List Input
@@ -58,16 +66,16 @@ command_in (typed.Command command) = command ∷ []
 command_in _ = []
 
 -- what a session gets of what is typed, in its order; where the flag is set, an escape character came before
-abbrev pub inputs : Option ℕ → Bool → List ℕ → List Input
-inputs character waits [] = []
-inputs character waits (byte ∷ bytes) =
-    input_in (typed_after character waits byte) ++ inputs character (waits_after character waits byte) bytes
+abbrev pub inputs : Keyboard → Bool → List ℕ → List Input
+inputs keyboard waits [] = []
+inputs keyboard waits (byte ∷ bytes) =
+    input_in (typed_after keyboard waits byte) ++ inputs keyboard (waits_after keyboard waits byte) bytes
 
 -- and the commands to the client itself
-abbrev pub commands : Option ℕ → Bool → List ℕ → List Command
-commands character waits [] = []
-commands character waits (byte ∷ bytes) =
-    command_in (typed_after character waits byte) ++ commands character (waits_after character waits byte) bytes
+abbrev pub commands : Keyboard → Bool → List ℕ → List Command
+commands keyboard waits [] = []
+commands keyboard waits (byte ∷ bytes) =
+    command_in (typed_after keyboard waits byte) ++ commands keyboard (waits_after keyboard waits byte) bytes
 
 -- the bytes were taken one by one, and gave these
 abbrev pub AreTaken : Escaping → List ℕ → List Typed → Escaping → Type 0
@@ -75,7 +83,7 @@ AreTaken old [] [] new = new ≡ old
 AreTaken old [] (t ∷ taken) new = ⊥
 AreTaken old (byte ∷ bytes) [] new = ⊥
 AreTaken old (byte ∷ bytes) (t ∷ taken) new =
-    (between : Escaping) × (t ≡ reading old byte) × (between.character ≡ old.character)
+    (between : Escaping) × (t ≡ reading old byte) × (between.keyboard ≡ old.keyboard)
     × (between.waits ≡ waits old byte) × AreTaken between bytes taken new
 
 -- what a session gets of what was made of bytes
@@ -93,7 +101,18 @@ abbrev pub AskToClose : List Command → Type 0
 AskToClose these = (before : List Command) × (these ≡ before ++ (Close ∷ []))
 
 -- so many bytes were taken: all, or those up to one that asks to close
-abbrev pub IsTakenUpTo : ℕ → Option ℕ → Bool → List ℕ → Type 0
-IsTakenUpTo count character waits bytes =
+abbrev pub IsTakenUpTo : ℕ → Keyboard → Bool → List ℕ → Type 0
+IsTakenUpTo count keyboard waits bytes =
     (count ≤ length bytes)
-    × ((count ≡ length bytes) ⊎ AskToClose (commands character waits (take count bytes)))
+    × ((count ≡ length bytes) ⊎ AskToClose (commands keyboard waits (take count bytes)))
+
+-- the same keyboard, where no character is the user's own
+abbrev pub unmapped : Keyboard → Keyboard
+unmapped keyboard = record keyboard { own = none_own }
+
+-- what the user's own characters make of what a session gets without them; a key that is the escape character was
+-- typed behind another one
+abbrev pub mapped_input : Keyboard → Input → Input
+mapped_input keyboard (input.Key byte) =
+    input.Key (if is_escape keyboard.escape byte then byte else mapped keyboard.own byte)
+mapped_input keyboard (input.Control control) = input.Control control

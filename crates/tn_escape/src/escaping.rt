@@ -2,8 +2,9 @@
 
 ghost use Rattle.std.specs.Prelude.{◌≡◌, ◌≤◌, ◌+◌, ◌++◌, false, List, Option, None, [], ◌∷◌, length, take};
 ghost use Rattle.std.specs.VecDeque.{deque_capacity, deque_len};
-ghost use Rattle.tn_escape.specs.Typing.{IsTakenUpTo, Obeys, command, commands, inputs, is_escape, meant, reading, waits, waits_behind};
+ghost use Rattle.tn_escape.specs.Typing.{IsTakenUpTo, Obeys, command, commands, inputs, is_escape, meant, of_bytes, reading, waits, waits_behind};
 
+use crate::own_characters::OwnCharacters;
 use std::collections::VecDeque;
 use tn_streams::Control;
 
@@ -53,30 +54,50 @@ pub trait Obey {
         ensures { Obeys (obeyed self.old) (command ∷ []) (obeyed self.new) };
 }
 
+/// What the bytes that are typed stand for.
+#[derive(Clone, Copy, Debug, PartialEq, Eq)]
+pub struct Keyboard {
+    /// The escape character, if there is one. It comes first, also where it is one of the user's own.
+    pub escape: Option<u8>,
+    pub own: OwnCharacters,
+}
+
+impl Keyboard {
+    /// Every byte is a key, and stands for itself.
+    pub fn of_bytes() -> Keyboard
+        ensures { result ≡ of_bytes }
+    {
+        Keyboard {
+            escape: None,
+            own: OwnCharacters::none(),
+        }
+    }
+}
+
 /// Sorts what is typed into keys, control functions and commands.
 #[derive(Clone, Copy, Debug, PartialEq, Eq)]
 pub struct Escaping {
-    /// The escape character, if there is one.
-    pub character: Option<u8>,
+    pub keyboard: Keyboard,
     /// Whether the last byte was an escape character that waits for the next one.
     pub waits: bool,
 }
 
 impl Escaping {
     /// Nothing was typed yet.
-    pub fn new(character: Option<u8>) -> Escaping
-        ensures { result ≡ record { character = character; waits = false } }
+    pub fn new(keyboard: Keyboard) -> Escaping
+        ensures { result ≡ record { keyboard = keyboard; waits = false } }
     {
         Escaping {
-            character,
+            keyboard,
             waits: false,
         }
     }
 
-    /// What this byte is, after those before it. The escape character typed twice is a key.
+    /// What this byte is, after those before it. The escape character typed twice is a key. Neither it nor the byte
+    /// behind it is mapped.
     pub fn take(&mut self, byte: u8) -> Typed
         ensures typed { result ≡ reading self.old byte }
-        ensures character { self.new.character ≡ self.old.character }
+        ensures keyboard { self.new.keyboard ≡ self.old.keyboard }
         ensures waits { self.new.waits ≡ waits self.old byte }
     {
         let escape = self.is_escape(byte);
@@ -91,7 +112,7 @@ impl Escaping {
         if escape {
             return Typed::Nothing;
         }
-        Typed::Key(byte)
+        Typed::Key(self.keyboard.own.mapped(byte))
     }
 
     /// Keeps what a session gets of these bytes, behind what is kept, and has each command obeyed once; both in
@@ -104,13 +125,13 @@ impl Escaping {
     ) -> usize
         requires room { deque_len kept.old + length bytes.now ≤ deque_capacity kept.old }
         ensures inputs { kept.new.items ≡ kept.old.items
-            ++ inputs self.old.character self.old.waits (take result bytes.now) }
+            ++ inputs self.old.keyboard self.old.waits (take result bytes.now) }
         ensures commands { Obeys (O.obeyed obeying.old)
-            (commands self.old.character self.old.waits (take result bytes.now)) (O.obeyed obeying.new) }
-        ensures taken { IsTakenUpTo result self.old.character self.old.waits bytes.now }
-        ensures character { self.new.character ≡ self.old.character }
+            (commands self.old.keyboard self.old.waits (take result bytes.now)) (O.obeyed obeying.new) }
+        ensures taken { IsTakenUpTo result self.old.keyboard self.old.waits bytes.now }
+        ensures keyboard { self.new.keyboard ≡ self.old.keyboard }
         ensures waits { self.new.waits
-            ≡ waits_behind self.old.character self.old.waits (take result bytes.now) }
+            ≡ waits_behind self.old.keyboard self.old.waits (take result bytes.now) }
     {
         for place in 0..bytes.len() {
             match self.take(bytes[place]) {
@@ -133,9 +154,9 @@ impl Escaping {
     }
 
     fn is_escape(&self, byte: u8) -> bool
-        ensures { result ≡ is_escape self.now.character byte }
+        ensures { result ≡ is_escape self.now.keyboard.escape byte }
     {
-        match self.character {
+        match self.keyboard.escape {
             Some(character) => byte == character,
             None => false,
         }

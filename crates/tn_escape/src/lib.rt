@@ -2,7 +2,8 @@
 //! for, and commands to the client itself.
 //!
 //! ```
-//! let mut escaping = Escaping::new(Some(0x1d)); // ^]
+//! let keyboard = Keyboard { escape: Some(0x1d), own: OwnCharacters::none() }; // ^]
+//! let mut escaping = Escaping::new(keyboard);
 //! escaping.take(b'a'); // Typed::Key(b'a')
 //! escaping.take(0x1d); // Typed::Nothing
 //! escaping.take(b'q'); // Typed::Command(Command::Close)
@@ -13,7 +14,9 @@
 //! It reads and writes nothing. A session gets keys and control functions alone, in their order.
 #![tactic(auto)]
 
-pub use escaping::{Command, Escaping, Input, Obey, Typed};
+pub use escaping::{Command, Escaping, Input, Keyboard, Obey, Typed};
+pub use own_characters::OwnCharacters;
 
 mod escaping;
 pub mod laws;
+mod own_characters;

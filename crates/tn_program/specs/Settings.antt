@@ -7,11 +7,15 @@ use Rattle.tn_loopback.specs.declared.fault.ServeFault.{ServeFault}
 use Rattle.tn_loopback.specs.declared.fault.ServeFault.TheVariants.{Network, Memory, Limit as BadLimit}
 use Rattle.tn_loopback.specs.declared.settings.SessionOptions.{SessionOptions}
 use Rattle.tn_connect.specs.declared.settings.Origin.{Origin}
+use Rattle.tn_connect.specs.declared.settings.Origin.TheVariants.{Reader, Input, Terminal}
 use Rattle.tn_connect.specs.declared.settings.Plain.{Plain}
+use Rattle.tn_escape.specs.Mapping.{none_own}
 use Rattle.tn_lines.specs.declared.line_ends.LineEnd.{LineEnd}
 use Rattle.tn_server.specs.declared.wishes.Editing.{Editing}
 use Rattle.tn_server.specs.declared.wishes.Editing.TheVariants.{Local, Remote}
 use Rattle.tn_session.specs.Facts.{Window}
+use Rattle.tn_words.specs.declared.settings.Characters.{Characters}
+use Rattle.tn_words.specs.declared.settings.Characters.TheVariants.{Own, Standard}
 use Rattle.tn_words.specs.declared.settings.Connecting.{Connecting}
 use Rattle.tn_words.specs.declared.settings.Escape.{Escape}
 use Rattle.tn_words.specs.declared.settings.Escape.TheVariants as escape
@@ -78,6 +82,13 @@ abbrev pub escape_as : Escape → Option ℕ
 escape_as (escape.Key key) = Some key
 escape_as escape.None = None
 
+-- where the keys come from: with the standard characters a terminal has none of its own
+abbrev pub origin_as : Characters → Origin → Origin
+origin_as Standard (Terminal own) = Terminal none_own
+origin_as Standard Reader = Reader
+origin_as Standard Input = Input
+origin_as Own origin = origin
+
 -- a talk with a service that takes lines
 abbrev pub plain_as : Connecting → LineEnd → Origin → Plain
 plain_as asked line_end origin =
@@ -85,6 +96,6 @@ plain_as asked line_end origin =
       port = asked.port;
       line_limit = asked.line_limit;
       line_end = line_end;
-      origin = origin;
+      origin = origin_as asked.characters origin;
       wait = asked.wait;
     }

@@ -283,7 +283,7 @@ fn run_plain<H: Network + Host + Lookout, R: Read + Drop + Send + 'static, W: Wr
     let news = News {
         writer: errors,
         alloc,
-        is_told: origin == Origin::Terminal && !asked.quiet,
+        is_told: matches!(origin, Origin::Terminal(_)) && !asked.quiet,
     };
     let notes = Notes {
         trace: None,
@@ -335,7 +335,7 @@ fn run_connect<
     let news = News {
         writer: errors,
         alloc,
-        is_told: origin == Origin::Terminal && !asked.quiet,
+        is_told: matches!(origin, Origin::Terminal(_)) && !asked.quiet,
     };
     let notes = Notes {
         trace,

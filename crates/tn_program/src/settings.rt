@@ -2,15 +2,15 @@
 
 ghost use Rattle.std.specs.Prelude.{◌≡◌};
 ghost use Rattle.tn_connect.specs.Clients.{window_of};
-ghost use Rattle.tn_program.specs.Settings.{count_as, escape_as, lines_as, options_as, plain_as, window_as};
+ghost use Rattle.tn_program.specs.Settings.{count_as, escape_as, lines_as, options_as, origin_as, plain_as, window_as};
 
 use std::alloc::{AllocError, Global};
 use tn_answerer::{Answerer, Answerers};
-use tn_connect::{Connecting, Origin, Plain};
+use tn_connect::{Connecting, Origin, OwnCharacters, Plain};
 use tn_gateway::Lines;
 use tn_loopback::{Call, Finished, Service, Serving, SessionOptions};
 use tn_server::Editing;
-use tn_words::{Escape, LineEnd, USUAL_HEIGHT, USUAL_WIDTH};
+use tn_words::{Characters, Escape, LineEnd, USUAL_HEIGHT, USUAL_WIDTH};
 
 /// After how many connections a server without end stops: more than can ever be accepted.
 const WITHOUT_END: u64 = u64::MAX;
@@ -102,7 +102,7 @@ pub(crate) fn options_of(asked: &tn_words::Serving) -> SessionOptions
 
 pub(crate) fn connecting_of(asked: &tn_words::Connecting, origin: Origin) -> Connecting
     ensures window { window_of result ≡ window_as asked.now }
-    ensures origin { result.origin ≡ origin }
+    ensures origin { result.origin ≡ origin_as asked.now.characters origin }
     ensures escape { result.escape ≡ escape_as asked.now.escape }
     ensures port { result.port ≡ asked.now.port }
     ensures wait { result.wait ≡ asked.now.wait }
@@ -112,7 +112,7 @@ pub(crate) fn connecting_of(asked: &tn_words::Connecting, origin: Origin) -> Con
         width: asked.width.unwrap_or(USUAL_WIDTH),
         height: asked.height.unwrap_or(USUAL_HEIGHT),
         line_limit: asked.line_limit,
-        origin,
+        origin: origin_of(asked.characters, origin),
         escape: escape_of(asked.escape),
         wait: asked.wait,
     }
@@ -128,8 +128,18 @@ pub(crate) fn plain_of(asked: &tn_words::Connecting, line_end: LineEnd, origin: 
         port,
         line_limit: asked.line_limit,
         line_end,
-        origin,
+        origin: origin_of(asked.characters, origin),
         wait,
+    }
+}
+
+// Where the keys come from, and by whose characters those of a terminal are taken.
+fn origin_of(characters: Characters, origin: Origin) -> Origin
+    ensures { result ≡ origin_as characters origin }
+{
+    match (characters, origin) {
+        (Characters::Standard, Origin::Terminal(_)) => Origin::Terminal(OwnCharacters::none()),
+        _ => origin,
     }
 }
 

@@ -15,7 +15,7 @@ kept_only old new escaping asked telling kept left given same gives = record {
   count = 0;
   taken = (omega arith, inl refl);
   inputs = gives ∙ ap (λ (xs : List Input). handed_on [] asked ++ xs) (sym (append-nil kept));
-  character = refl;
+  keyboard = refl;
   waits = refl;
 }
 
@@ -27,7 +27,7 @@ given_then old new was now asked middle telling kept mid left given read gives =
   count = read.count;
   taken = read.taken;
   inputs = gives ∙ read.inputs;
-  character = read.character;
+  keyboard = read.keyboard;
   waits = read.waits;
 }
 

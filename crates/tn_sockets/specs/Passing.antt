@@ -37,8 +37,8 @@ pub record GivesInputs (old new : Option (List ℕ)) (was now : Escaping) (to_te
   pub bytes : List ℕ
   pub typed : Consumes old new bytes
   pub count : ℕ
-  pub taken : IsTakenUpTo count was.character was.waits bytes
+  pub taken : IsTakenUpTo count was.keyboard was.waits bytes
   pub inputs : handed_on given telling ++ left
-      ≡ handed_on [] to_tell ++ (kept ++ inputs was.character was.waits (take count bytes))
-  pub character : now.character ≡ was.character
-  pub waits : now.waits ≡ waits_behind was.character was.waits (take count bytes)
+      ≡ handed_on [] to_tell ++ (kept ++ inputs was.keyboard was.waits (take count bytes))
+  pub keyboard : now.keyboard ≡ was.keyboard
+  pub waits : now.waits ≡ waits_behind was.keyboard was.waits (take count bytes)

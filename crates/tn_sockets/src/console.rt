@@ -22,7 +22,7 @@ use std::io::{ErrorKind, Read};
 use std::sync::Wait;
 use std::time::{Clock, Duration, Instant};
 use std::{io, mem};
-use tn_escape::{Escaping, Input};
+use tn_escape::{Escaping, Input, Keyboard};
 use tn_streams::{Control, Source, WindowSize};
 
 /// The descriptor of standard input (POSIX, `STDIN_FILENO`).
@@ -78,21 +78,25 @@ pub struct Console<H, K> {
 }
 
 impl<H: Clock + Copy + Wait, K: Read + Drop> Console<H, K> {
-    /// Keys that come from there, which is standard input. With an escape character its user speaks to the
-    /// client itself.
+    /// Keys that come from there, which is standard input, and what they stand for. With an escape character its user
+    /// speaks to the client itself.
     pub fn new(
         rt: H,
         alloc: Global,
         mut typing: Typing<H, K>,
-        escape: Option<u8>,
-    ) -> Console<H, K> {
+        keyboard: Keyboard,
+    ) -> Console<H, K>
+        ensures escaping { result.escaping ≡ record { keyboard = keyboard; waits = false } }
+        ensures keys { result.typing.keys ≡ typing.keys }
+        ensures nothing_yet { (result.kept.items ≡ []) × (result.asked ≡ None) }
+    {
         let terminal = typing.terminal.take();
         let terminal = terminal.unwrap_or(Terminal::new(None, None));
         Console {
             rt,
             alloc,
             typing,
-            escaping: Escaping::new(escape),
+            escaping: Escaping::new(keyboard),
             terminal,
             kept: VecDeque::new(alloc),
             is_ahead: false,
@@ -162,7 +166,7 @@ impl<H: Clock + Copy + Wait, K: Read + Drop> Console<H, K> {
     }
 
     fn can_read_ahead(&self) -> bool {
-        self.escaping.character.is_some() && !self.is_full && !self.has_ended
+        self.escaping.keyboard.escape.is_some() && !self.is_full && !self.has_ended
     }
 
     // A size is said between two reads.
@@ -183,12 +187,12 @@ impl<H: Clock + Copy + Wait, K: Read + Drop> Console<H, K> {
     fn sort(&mut self, bytes: &[u8])
         requires room { deque_len self.old.kept + length bytes.now ≤ deque_capacity self.old.kept }
         ensures kept { (count : ℕ)
-            × IsTakenUpTo count self.old.escaping.character self.old.escaping.waits bytes.now
+            × IsTakenUpTo count self.old.escaping.keyboard self.old.escaping.waits bytes.now
             × (self.new.kept.items ≡ self.old.kept.items
-            ++ inputs self.old.escaping.character self.old.escaping.waits (take count bytes.now))
+            ++ inputs self.old.escaping.keyboard self.old.escaping.waits (take count bytes.now))
             × (self.new.escaping.waits
-            ≡ waits_behind self.old.escaping.character self.old.escaping.waits (take count bytes.now)) }
-        ensures character { self.new.escaping.character ≡ self.old.escaping.character }
+            ≡ waits_behind self.old.escaping.keyboard self.old.escaping.waits (take count bytes.now)) }
+        ensures keyboard { self.new.escaping.keyboard ≡ self.old.escaping.keyboard }
         ensures typing { self.new.typing ≡ self.old.typing }
         ensures asked { self.new.asked ≡ self.old.asked }
     {
@@ -196,6 +200,7 @@ impl<H: Clock + Copy + Wait, K: Read + Drop> Console<H, K> {
             alloc: self.alloc,
             typing: &self.typing,
             terminal: mem::replace(&mut self.terminal, Terminal::new(None, None)),
+            own: self.escaping.keyboard.own,
         };
         let _taken = self.escaping.sort(bytes, &mut self.kept, &mut deeds);
         let Deeds { mut terminal, .. } = deeds;

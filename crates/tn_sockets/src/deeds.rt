@@ -5,7 +5,7 @@ use crate::link::Link;
 use crate::terminal::Terminal;
 use std::alloc::Global;
 use std::io::Write;
-use tn_escape::{Command, Obey};
+use tn_escape::{Command, Obey, OwnCharacters};
 
 /// What the keys of the escape character do, in lines of their own.
 const HELP: &[u8] = b"q  closes the connection and leaves\r\n?  shows these keys\r\n\
@@ -20,6 +20,7 @@ pub(crate) struct Deeds<'a, H, K> {
     pub(crate) alloc: Global,
     pub(crate) typing: &'a Typing<H, K>,
     pub(crate) terminal: Terminal,
+    pub(crate) own: OwnCharacters,
 }
 
 impl<'a, H, K> Obey for Deeds<'a, H, K> {
@@ -66,8 +67,46 @@ impl<'a, H, K> Deeds<'a, H, K> {
             link.came(),
             link.went()
         );
+        write_own(&mut text, &self.own);
         self.terminal.show(&text);
     }
+}
+
+// A line with the user's own characters that a session gets as other ones, if there are any.
+fn write_own(text: &mut Vec<u8>, own: &OwnCharacters) {
+    let characters = [
+        ("intr", own.intr),
+        ("quit", own.quit),
+        ("susp", own.susp),
+        ("erase", own.erase),
+        ("kill", own.kill),
+        ("eof", own.eof),
+    ];
+    let mut before = "your own keys:";
+    for (name, character) in characters {
+        if let Some(key) = character {
+            if own.mapped(key) != key {
+                let _ = write!(text, "{} {} ", before, name);
+                write_key(text, key);
+                before = ",";
+            }
+        }
+    }
+    if before == "," {
+        let _ = write!(text, "\r\n");
+    }
+}
+
+// A key as `stty` shows it.
+fn write_key(text: &mut Vec<u8>, key: u8) {
+    let meta = if key < 128 { "" } else { "M-" };
+    let low = key % 128;
+    let (caret, sign) = if low < 32 || low == 127 {
+        ("^", low ^ 64)
+    } else {
+        ("", low)
+    };
+    let _ = write!(text, "{}{}{}", meta, caret, char::from(sign));
 }
 
 // Who edits lines. Without LINEMODE a server that echoes takes keys one by one and edits them, as a rule; where it

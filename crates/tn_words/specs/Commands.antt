@@ -103,6 +103,7 @@ connect = with_rules (codes "connect") (
     ∷ whole_rule (codes "height") 0 65535
     ∷ line_rule
     ∷ text_rule (codes "escape")
+    ∷ text_rule (codes "keys")
     ∷ text_rule (codes "trace")
     ∷ wait_rule
     ∷ flag_rule (codes "quiet")

@@ -14,6 +14,8 @@ use Rattle.tn_words.specs.Numbers.{Writes}
 use Rattle.tn_words.specs.declared.words.Asked.{Asked}
 use Rattle.tn_words.specs.declared.words.Asked.TheVariants.{Local, Replay, Decode, World, Serve, Connect}
 use Rattle.tn_words.specs.declared.settings.Address.{Address}
+use Rattle.tn_words.specs.declared.settings.Characters.{Characters}
+use Rattle.tn_words.specs.declared.settings.Characters.TheVariants.{Own, Standard}
 use Rattle.tn_words.specs.declared.settings.Connecting.{Connecting}
 use Rattle.tn_words.specs.declared.settings.Escape.{Escape}
 use Rattle.tn_words.specs.declared.settings.Serving.{Serving}
@@ -180,12 +182,26 @@ line_end_in rows = chosen_line_end (is_flagged (codes "plain") rows) (is_flagged
 abbrev pub HasEscape : List Row → Escape → Type 0
 HasEscape rows escape = WritesEscape (unwrap_or (first_of (codes "escape") rows) (codes "^]")) escape
 
+-- the characters that a word names
+abbrev pub named_characters : Text → Option Characters
+named_characters text =
+    if bytes_eq text (codes "own") then Some Own else (if bytes_eq text (codes "standard") then Some Standard else None)
+
+-- whose special characters the keys of a terminal are taken by: the user's own ones, where none are named
+abbrev pub chosen_characters : Option Text → Option Characters
+chosen_characters None = Some Own
+chosen_characters (Some text) = named_characters text
+
+abbrev pub characters_in : List Row → Option Characters
+characters_in rows = chosen_characters (first_of (codes "keys") rows)
+
 pub record AsksConnect (rows : List Row) (asked : Connecting) : Type 0 where
   pub place : AsksPlace rows (string_bytes asked.host) asked.port
   pub width : MayHaveNumber rows (codes "width") 0 65535 asked.width
   pub height : MayHaveNumber rows (codes "height") 0 65535 asked.height
   pub line : HasNumber rows (codes "line") 255 4095 asked.line_limit
   pub escape : HasEscape rows asked.escape
+  pub characters : characters_in rows ≡ Some asked.characters
   pub trace : option_map string_bytes asked.trace ≡ first_of (codes "trace") rows
   pub wait : HasNumber rows (codes "wait") 0 86400 asked.wait
   pub quiet : HasFlag rows (codes "quiet") asked.quiet

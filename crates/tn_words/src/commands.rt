@@ -113,6 +113,8 @@ pub(crate) const HOST: &str = "host";
 
 pub(crate) const ESCAPE: &str = "escape";
 
+pub(crate) const KEYS: &str = "keys";
+
 pub(crate) const TRACE: &str = "trace";
 
 pub(crate) const LOCALLY: &str = "local";
@@ -470,12 +472,20 @@ fn with_window_options<'a>(alloc: Global, command: Command<'a>) -> Result<Comman
 
 fn with_terminal_options<'a>(alloc: Global, command: Command<'a>) -> Result<Command<'a>, AllocError>
     requires { (out-Command command).has_globals ≡ false }
-    ensures app { IfOk result (λ new. app_of new ≡ with_rule (with_rule (with_rule (with_rule
-        (app_of command.entry) (text_rule (codes "escape"))) (text_rule (codes "trace"))) wait_rule) (flag_rule (codes "quiet"))) }
+    ensures app { IfOk result (λ new. app_of new ≡ with_rule (with_rule (with_rule (with_rule (with_rule
+        (app_of command.entry) (text_rule (codes "escape"))) (text_rule (codes "keys"))) (text_rule (codes "trace")))
+        wait_rule) (flag_rule (codes "quiet"))) }
     ensures local { IfOk result (λ new. (out-Command new).has_globals ≡ false) }
 {
     let command = command
         .arg(escape_option(alloc))?
+        .arg(text_option(
+            alloc,
+            KEYS,
+            "WHOSE",
+            "Takes the keys of a terminal by its `own` special characters, which is the default, or by the \
+             `standard` ones",
+        ))?
         .arg(text_option(
             alloc,
             TRACE,

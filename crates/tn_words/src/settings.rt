@@ -4,6 +4,7 @@ ghost use Rattle.std.specs.Prelude.{◌≡◌, ℕ, Bool, List, Option, Ok, None
 ghost use Rattle.tn_words.specs.Addresses.{WritesAddress, WritesHost, WritesName, WritesPlace};
 ghost use Rattle.tn_words.specs.Addresses.{has_colon, has_one_colon, has_port};
 ghost use Rattle.tn_words.specs.Escapes.{IsControlOf, WritesEscape};
+ghost use Rattle.tn_words.specs.Words.{named_characters};
 
 use std::alloc::{AllocError, Global};
 use tn_discipline::Limit;
@@ -185,6 +186,30 @@ fn control_of(letter: u8) -> Option<u8>
     }
 }
 
+/// Whose special characters the keys of a terminal are taken by.
+#[derive(Clone, Copy, Debug, PartialEq, Eq)]
+pub enum Characters {
+    /// Those of the terminal that they are typed at.
+    Own,
+    /// The standard ones.
+    Standard,
+}
+
+impl Characters {
+    // The characters that a word names.
+    pub(crate) fn from_text(text: &str) -> Option<Characters>
+        ensures { result ≡ named_characters text.now }
+    {
+        if text == "own" {
+            return Some(Characters::Own);
+        }
+        if text == "standard" {
+            return Some(Characters::Standard);
+        }
+        None
+    }
+}
+
 /// How to connect.
 #[derive(Debug, Drop, PartialEq, Eq)]
 pub struct Connecting {
@@ -200,6 +225,8 @@ pub struct Connecting {
     pub line_limit: Limit,
     /// The key by which the user at a terminal speaks to the client itself.
     pub escape: Escape,
+    /// Whose special characters the keys of a terminal are taken by.
+    pub characters: Characters,
     /// The file that gets a trace of the connection.
     pub trace: Option<String>,
     /// How many seconds after the end of its input the server is told that no more comes, from 0 to 86,400.

@@ -5,15 +5,15 @@ ghost use Rattle.clap.specs.Words.{Text, kind_of, rows_of, first_of, found_of, s
 ghost use Rattle.tn_words.specs.Words.{AskFor, AsksConnect, AsksCount, AsksIn, AsksNothing, AsksPlace, AsksPort, AsksServe};
 ghost use Rattle.tn_words.specs.Words.{HasEscape, HasNumber, HasPlace, HasText, IsPath, Lacks, MayHaveAddress, MayHaveNumber};
 ghost use Rattle.tn_words.specs.Words.{MayHavePath, MissesNumber, Refuses, TellsKind, chosen_count, chosen_cut};
-ghost use Rattle.tn_words.specs.Words.{chosen_line_end, detail_of, ends_cut_in, has_telnet_option};
+ghost use Rattle.tn_words.specs.Words.{characters_in, chosen_line_end, detail_of, ends_cut_in, has_telnet_option};
 ghost use Rattle.tn_words.specs.Words.{is_flagged, is_given, line_end_in, one_port, service_line_end, service_line_end_in};
 
 use crate::commands::{
-    AT, CONNECT, COUNT, CR, CRLF, DECODE, ESCAPE, FOREVER, HEIGHT, HOST, IDLE, LF, LIMIT, LINE,
+    AT, CONNECT, COUNT, CR, CRLF, DECODE, ESCAPE, FOREVER, HEIGHT, HOST, IDLE, KEYS, LF, LIMIT, LINE,
     LINE_CUT, LOCAL, LOCALLY, LONGEST, MOST_PATH, PER_HOST, PLAIN, PORT, QUIET, REPLAY, SERVE,
     TICKS, TO, TRACE, UNTIL, VERBOSE, VERSION_LINE, WAIT, WIDTH, WORLD, Whole, tn_command,
 };
-use crate::settings::{Address, Connecting, Escape, Serving, place_in};
+use crate::settings::{Address, Characters, Connecting, Escape, Serving, place_in};
 use clap::error::ErrorKind;
 use clap::{ArgMatches, Error};
 use std::alloc::{AllocError, Global};
@@ -105,6 +105,10 @@ enum Lack<'a> {
     #[error("error: invalid value '{0}' for '--escape <C>': it is neither `none` nor a caret and one of \
          A to Z, [, \\, ], ^ and _\n\nFor more information, try '--help'.\n")]
     Escape(&'a str),
+    /// The text is no such word.
+    #[error("error: invalid value '{0}' for '--keys <WHOSE>': it is neither `own` nor `standard`\n\n\
+         For more information, try '--help'.\n")]
+    Characters(&'a str),
     #[error("error: '--crlf' and '--cr' exclude each other, and need '--to'\n\n\
          For more information, try '--help'.\n")]
     ServiceLineEnd,
@@ -357,11 +361,12 @@ fn connecting(alloc: Global, words: &ArgMatches<'_>) -> Result<Connecting, Words
 {
     let place = place_of(alloc, words)?;
     let escape = escape_of(alloc, words)?;
+    let characters = characters_of(alloc, words)?;
     let Some(plain) = line_end_in(words) else {
         return Err(lacking(alloc, &line_end_lack(words)));
     };
     let trace = trace_of(alloc, words)?;
-    match connecting_to(place, escape, plain, trace, words) {
+    match connecting_to(place, escape, characters, plain, trace, words) {
         Some(connecting) => Ok(connecting),
         None => Err(lacking(alloc, &Lack::Value)),
     }
@@ -370,12 +375,14 @@ fn connecting(alloc: Global, words: &ArgMatches<'_>) -> Result<Connecting, Words
 fn connecting_to(
     place: Address,
     escape: Escape,
+    characters: Characters,
     plain: Option<LineEnd>,
     trace: Option<String>,
     words: &ArgMatches<'_>,
 ) -> Option<Connecting>
     requires place { AsksPlace (rows_of (found_of words.now)) (string_bytes place.host) place.port }
     requires escape { HasEscape (rows_of (found_of words.now)) escape }
+    requires characters { characters_in (rows_of (found_of words.now)) ≡ Some characters }
     requires plain { line_end_in (rows_of (found_of words.now)) ≡ Some plain }
     requires trace { option_map string_bytes trace ≡ first_of (codes "trace") (rows_of (found_of words.now)) }
     ensures asked { IfSome result (AsksConnect (rows_of (found_of words.now))) }
@@ -389,6 +396,7 @@ fn connecting_to(
         height: size(words, HEIGHT)?,
         line_limit: Limit::new(number(words, LINE)? as u16)?,
         escape,
+        characters,
         trace,
         wait: number(words, WAIT)?,
         quiet: words.get_flag(QUIET),
@@ -481,6 +489,19 @@ fn escape_text<'a>(words: &ArgMatches<'a>) -> &'a str
     match words.get_str(ESCAPE) {
         Some(text) => text,
         None => USUAL_ESCAPE,
+    }
+}
+
+fn characters_of(alloc: Global, words: &ArgMatches<'_>) -> Result<Characters, WordsFault>
+    ensures asked { IfOk result (λ characters. characters_in (rows_of (found_of words.now)) ≡ Some characters) }
+    ensures lacks { IfErr result (Lacks (characters_in (rows_of (found_of words.now)) ≡ None)) }
+{
+    let Some(text) = words.get_str(KEYS) else {
+        return Ok(Characters::Own);
+    };
+    match Characters::from_text(text) {
+        Some(characters) => Ok(characters),
+        None => Err(lacking(alloc, &Lack::Characters(text))),
     }
 }
 

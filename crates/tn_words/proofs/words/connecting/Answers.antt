@@ -1,6 +1,7 @@
 use Rattle.std.proofs.Common.{◌≡◌, ◌∙◌, false, true, sym, ap, is_some, string_bytes}
 use Rattle.std.proofs.lemmas.Result.{err_from_is_err_and}
 use Rattle.tn_words.proofs.Asking.{lacks_by, lacks_more}
+use Rattle.tn_words.proofs.Given.{has_none}
 use Rattle.tn_words.proofs.words.connecting.Goals as goal
 
 pub returns-in_err-place-clause-lacks : goal.returns-in_err-place-clause-lacks
@@ -12,6 +13,11 @@ pub returns-in_err-escape-clause-lacks : goal.returns-in_err-escape-clause-lacks
 returns-in_err-escape-clause-lacks c =
     let p = err_from_is_err_and c.from_residual-in_err-escape.result c.from_residual-in_err-escape.ensures.1 in
     rw (p.1, p.2) (lacks_more c.in_err-escape.field-0.0 (λ none asked asks. none asked.escape asks.escape) c.in_err-escape.ensures.lacks)
+
+pub returns-in_err-characters-clause-lacks : goal.returns-in_err-characters-clause-lacks
+returns-in_err-characters-clause-lacks c =
+    let p = err_from_is_err_and c.from_residual-in_err-characters.result c.from_residual-in_err-characters.ensures.1 in
+    rw (p.1, p.2) (lacks_more c.in_err-characters.field-0.0 (λ none asked asks. has_none _ _ none asks.characters) c.in_err-characters.ensures.lacks)
 
 pub returns-in_default-clause-lacks : goal.returns-in_default-clause-lacks
 returns-in_default-clause-lacks c =

@@ -18,6 +18,7 @@ returns-clause-asked c = record {
   height = search rules;
   line = search rules;
   escape = c.requires.escape;
+  characters = c.requires.characters;
   trace = c.requires.trace;
   wait = search rules;
   quiet = record {

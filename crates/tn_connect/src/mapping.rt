@@ -1,0 +1,46 @@
+//! Keys that are typed at a terminal with special characters of its own.
+
+ghost use Rattle.std.specs.Prelude.{◌≡◌, ◌≤◌, ◌++◌, drop, length, map, option_map, take};
+ghost use Rattle.tn_escape.specs.Mapping.{mapped};
+
+use std::io;
+use std::io::Read;
+use tn_escape::OwnCharacters;
+
+/// The keys that the bytes of a reader are: each of the terminal's own special characters stands for the standard one of
+/// the same function.
+#[derive(Drop)]
+pub(crate) struct MappedKeys<K> {
+    keys: K,
+    own: OwnCharacters,
+}
+
+impl<K> MappedKeys<K> {
+    /// The keys that come from there.
+    pub(crate) fn new(keys: K, own: OwnCharacters) -> MappedKeys<K>
+        ensures keys { result.keys ≡ keys }
+        ensures own { result.own ≡ own }
+    {
+        MappedKeys { keys, own }
+    }
+}
+
+impl<K: Read> Read for MappedKeys<K> {
+    ghost remaining = { λ k. option_map (map (mapped k.own)) (K.remaining k.keys) };
+
+    fn read(&mut self, buf: &mut [u8]) -> io::Result<usize> {
+        let count = self.keys.read(buf)?;
+        map_first(self.own, buf, count);
+        Ok(count)
+    }
+}
+
+// Maps the first of these bytes.
+fn map_first(own: OwnCharacters, bytes: &mut [u8], count: usize)
+    requires { count ≤ length bytes.old }
+    ensures { bytes.new ≡ map (mapped own) (take count bytes.old) ++ drop count bytes.old }
+{
+    for place in 0..count {
+        bytes[place] = own.mapped(bytes[place]);
+    }
+}
