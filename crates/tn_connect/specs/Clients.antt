@@ -9,8 +9,8 @@ use Rattle.tn_connect.specs.declared.fault.ConnectFault.TheVariants.{Network, Se
 use Rattle.tn_connect.specs.declared.settings.Connecting.{Connecting}
 use Rattle.tn_connect.specs.declared.settings.Origin.{Origin}
 use Rattle.tn_connect.specs.declared.settings.Origin.TheVariants.{Reader, Input, Terminal}
-use Rattle.tn_escape.specs.Typing.{of_bytes}
-use Rattle.tn_escape.specs.declared.escaping.Keyboard.{Keyboard}
+use Rattle.tn_sockets.specs.Typing.{of_bytes}
+use Rattle.tn_sockets.specs.declared.escaping.Keyboard.{Keyboard}
 use Rattle.tn_session.specs.Client.{RunningClient}
 use Rattle.tn_session.specs.Facts.{Window, client_result}
 use Rattle.tn_session.specs.declared.parties.ClientPorts.{ClientPorts}

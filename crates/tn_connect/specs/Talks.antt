@@ -8,8 +8,8 @@ use Rattle.tn_connect.specs.declared.talks.TalkReport.{TalkReport}
 use Rattle.tn_discipline.specs.Characters.{standard_characters}
 use Rattle.tn_discipline.specs.Keys.{standard_flags}
 use Rattle.tn_discipline.specs.declared.termios.Settings.{Settings}
-use Rattle.tn_escape.specs.Mapping.{mapped, none_own}
-use Rattle.tn_escape.specs.declared.own_characters.OwnCharacters.{OwnCharacters}
+use Rattle.tn_sockets.specs.Mapping.{mapped, none_own}
+use Rattle.tn_sockets.specs.declared.own_characters.OwnCharacters.{OwnCharacters}
 use Rattle.tn_lines.specs.Kinds.{Kind, typed, read}
 use Rattle.tn_lines_client.specs.Logs.{bytes_in}
 use Rattle.tn_lines_client.specs.Talking.{Talked, streams}

@@ -6,7 +6,7 @@ ghost use Rattle.crossbeam_channel.specs.Ends.{sends_on};
 ghost use Rattle.tn_connect.specs.Clients.{ConnectsBy, RunsClient, RunsWriting, connection_of, foreseen, keyboard_of, window_of};
 ghost use Rattle.tn_connect.specs.Faults.{IsOfNetwork};
 ghost use Rattle.tn_connect.specs.Sent.{TookWhatWasWritten};
-ghost use Rattle.tn_messages.specs.Ending.{EndsWhole};
+ghost use Rattle.tn_machines.specs.Ending.{EndsWhole};
 ghost use Rattle.tn_network.specs.Asked.{Reaches};
 ghost use Rattle.tn_queue.specs.Queue.{putter};
 ghost use Rattle.tn_sockets.specs.Ends.{IsNew};
@@ -32,11 +32,10 @@ use std::snapshot::Snapshot;
 use std::sync::Arc;
 use std::sync::atomic::AtomicBool;
 use std::time::Duration;
-use tn_escape::Keyboard;
 use tn_network::{Network, reach};
 use tn_session::{ClientPorts, Ended, Report, SessionFault, client_session};
 use tn_sockets::{
-    Connection, Console, Host, Incoming, Keys, Link, Logged, NewQueue, Outgoing, PiecePass, Queue,
+    Connection, Console, Host, Incoming, Keyboard, Keys, Link, Logged, NewQueue, Outgoing, PiecePass, Queue,
     Sent, Sizes, Terminal, Trace, Typing, WriteLog, new_queue,
 };
 use tn_streams::{Drain, Source};

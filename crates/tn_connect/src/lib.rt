@@ -14,10 +14,9 @@ pub use fault::ConnectFault;
 pub use news::News;
 pub use settings::{Connecting, Notes, Origin, Plain};
 pub use talks::{TalkReport, connect_plain};
-pub use tn_escape::OwnCharacters;
 pub use tn_lines::LineEnd;
 pub use tn_lines_client::{Over, ReadLog};
-pub use tn_sockets::{Host, Link, Screen};
+pub use tn_sockets::{Host, Link, OwnCharacters, Screen};
 
 mod connected;
 mod connecting;

@@ -1,11 +1,11 @@
 //! Keys that are typed at a terminal with special characters of its own.
 
 ghost use Rattle.std.specs.Prelude.{◌≡◌, ◌≤◌, ◌++◌, drop, length, map, option_map, take};
-ghost use Rattle.tn_escape.specs.Mapping.{mapped};
+ghost use Rattle.tn_sockets.specs.Mapping.{mapped};
 
 use std::io;
 use std::io::Read;
-use tn_escape::OwnCharacters;
+use tn_sockets::OwnCharacters;
 
 /// The keys that the bytes of a reader are: each of the terminal's own special characters stands for the standard one of
 /// the same function.

@@ -5,9 +5,8 @@ use std::alloc::Global;
 use std::fs::File;
 use std::sync::Arc;
 use tn_discipline::Limit;
-use tn_escape::OwnCharacters;
 use tn_lines::LineEnd;
-use tn_sockets::Link;
+use tn_sockets::{Link, OwnCharacters};
 
 /// Where the keys of a client come from.
 #[derive(Clone, Copy, Debug, PartialEq, Eq)]

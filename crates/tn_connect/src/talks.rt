@@ -18,11 +18,10 @@ use std::os::fd::AsRawFd;
 use std::snapshot::Snapshot;
 use std::sync::Wait;
 use tn_discipline::Settings;
-use tn_escape::OwnCharacters;
 use tn_lines::{AnyLines, FileLines, KeyLines};
 use tn_lines_client::{Await, Over, ReadLog, Talk, TalkFault};
 use tn_network::{Network, reach};
-use tn_sockets::{Connection, Host, Logged, WriteLog};
+use tn_sockets::{Connection, Host, Logged, OwnCharacters, WriteLog};
 use tn_streams::{Drain, Finish, Source};
 
 /// A talk that is over. In its logs contracts see all that was typed, said and told.

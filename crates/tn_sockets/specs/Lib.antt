@@ -3,3 +3,5 @@ pub mod Passing
 pub mod Logs
 pub mod Ends
 pub mod Sizes
+pub mod Mapping
+pub mod Typing

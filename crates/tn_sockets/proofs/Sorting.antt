@@ -1,0 +1,110 @@
+-- Bytes that are taken one by one give what stands among them.
+use Rattle.std.proofs.Common.{◌≡◌, ◌<◌, ◌+◌, ℕ, Bool, true, false, if◌then◌else◌, Option, None, Some, List, [], ◌∷◌, ◌++◌, length, map, take, refl, sym, ap, ◌∙◌, subst, append_assoc, append-nil}
+use Rattle.std.proofs.Math.ListN.{get_or}
+use Rattle.std.proofs.lemmas.List.{take_more}
+use Rattle.tn_sockets.specs.Typing.{AreTaken, Obeys, command_in, commands, input_in, inputs, inputs_in, of_bytes, typed_after, waits_after, waits_behind}
+use Rattle.tn_sockets.specs.declared.escaping.Command.{Command}
+use Rattle.tn_sockets.specs.declared.escaping.Escaping.{Escaping}
+use Rattle.tn_sockets.specs.declared.escaping.Input.{Input}
+use Rattle.tn_sockets.specs.declared.escaping.Input.TheVariants as input
+use Rattle.tn_sockets.specs.declared.escaping.Keyboard.{Keyboard}
+use Rattle.tn_sockets.specs.declared.escaping.Typed.{Typed}
+
+pub every : (bytes : List ℕ) → inputs of_bytes false bytes ≡ map input.Key bytes
+every [] = refl
+every (byte ∷ bytes) = ap (λ (xs : List Input). input.Key byte ∷ xs) (every bytes)
+
+pub taken : (old new : Escaping) (bytes : List ℕ) (made : List Typed) → AreTaken old bytes made new → inputs_in made ≡ inputs old.keyboard old.waits bytes
+taken old new [] [] is = refl
+taken old new [] (t ∷ made) is = absurd is
+taken old new (byte ∷ bytes) [] is = absurd is
+taken old new (byte ∷ bytes) (t ∷ made) is =
+    let rest : inputs_in made ≡ inputs is.0.keyboard is.0.waits bytes = taken is.0 new bytes made is.4 in
+    let settled : inputs_in made ≡ inputs old.keyboard (waits_after old.keyboard old.waits byte) bytes = rest ∙ ap (λ (k : Keyboard). inputs k is.0.waits bytes) is.2 ∙ ap (λ (w : Bool). inputs old.keyboard w bytes) is.3 in
+    λ i. input_in (is.1 i) ++ settled i
+
+-- ONE BYTE MORE
+module _ (keyboard : Keyboard) where
+  inputs_push : (waits : Bool) (bytes : List ℕ) (byte : ℕ) → inputs keyboard waits (bytes ++ byte ∷ []) ≡ inputs keyboard waits bytes ++ input_in (typed_after keyboard (waits_behind keyboard waits bytes) byte)
+  inputs_push waits [] byte = append-nil (input_in (typed_after keyboard waits byte))
+  inputs_push waits (x ∷ bytes) byte =
+      let first = input_in (typed_after keyboard waits x) in
+      let next = waits_after keyboard waits x in
+      ap (λ (xs : List Input). first ++ xs) (inputs_push next bytes byte)
+      ∙ sym (append_assoc first (inputs keyboard next bytes) (input_in (typed_after keyboard (waits_behind keyboard next bytes) byte)))
+
+  commands_push : (waits : Bool) (bytes : List ℕ) (byte : ℕ) → commands keyboard waits (bytes ++ byte ∷ []) ≡ commands keyboard waits bytes ++ command_in (typed_after keyboard (waits_behind keyboard waits bytes) byte)
+  commands_push waits [] byte = append-nil (command_in (typed_after keyboard waits byte))
+  commands_push waits (x ∷ bytes) byte =
+      let first = command_in (typed_after keyboard waits x) in
+      let next = waits_after keyboard waits x in
+      ap (λ (cs : List Command). first ++ cs) (commands_push next bytes byte)
+      ∙ sym (append_assoc first (commands keyboard next bytes) (command_in (typed_after keyboard (waits_behind keyboard next bytes) byte)))
+
+  waits_push : (waits : Bool) (bytes : List ℕ) (byte : ℕ) → waits_behind keyboard waits (bytes ++ byte ∷ []) ≡ waits_after keyboard (waits_behind keyboard waits bytes) byte
+  waits_push waits [] byte = refl
+  waits_push waits (x ∷ bytes) byte = waits_push (waits_after keyboard waits x) bytes byte
+
+-- commands that are obeyed
+pub obeys_none : (o : Option (List Command)) → Obeys o [] o
+obeys_none None = refl
+obeys_none (Some l) = ap Some (sym (append-nil l))
+
+obeys_more : (a b c : Option (List Command)) (xs ys : List Command) → Obeys a xs b → Obeys b ys c → Obeys a (xs ++ ys) c
+obeys_more None b c xs ys one two = subst (λ (o : Option (List Command)). Obeys o ys c) one two
+obeys_more (Some l) b c xs ys one two = subst (λ (o : Option (List Command)). Obeys o ys c) one two ∙ ap Some (append_assoc l xs ys)
+
+-- THE LOOP: what these first bytes gave is kept and obeyed
+module _ (keyboard : Keyboard) (waits : Bool) (given : List ℕ) where
+  pub record IsSorted (first : List Input) (place : ℕ) (kept : List Input) (before now : Option (List Command)) (escaping : Escaping) : Type 0 where
+    pub kept_are : kept ≡ first ++ inputs keyboard waits (take place given)
+    pub obeyed : Obeys before (commands keyboard waits (take place given)) now
+    pub keyboard_is : escaping.keyboard ≡ keyboard
+    pub waits_are : escaping.waits ≡ waits_behind keyboard waits (take place given)
+
+  -- one byte more was taken
+  pub one_more : (first : List Input) (place d : ℕ) (kept more : List Input) (before now later : Option (List Command)) (escaping new : Escaping) (typed : Typed) → IsSorted first place kept before now escaping → place < length given
+      → typed ≡ typed_after escaping.keyboard escaping.waits (get_or given place d) → new.keyboard ≡ escaping.keyboard → new.waits ≡ waits_after escaping.keyboard escaping.waits (get_or given place d)
+      → more ≡ kept ++ input_in typed → Obeys now (command_in typed) later → IsSorted first (place + 1) more before later new
+  one_more first place d kept more before now later escaping new typed s few is keyboard_stays waits_is put obeyed =
+      let byte = get_or given place d in
+      let done = take place given in
+      let longer : take (place + 1) given ≡ done ++ byte ∷ [] = take_more given place d few in
+      let read : typed ≡ typed_after keyboard (waits_behind keyboard waits done) byte = is ∙ (λ i. typed_after (s.keyboard_is i) (s.waits_are i) byte) in
+      let inputs_are : inputs keyboard waits (take (place + 1) given) ≡ inputs keyboard waits done ++ input_in typed =
+      ap (λ (l : List ℕ). inputs keyboard waits l) longer ∙ inputs_push keyboard waits done byte ∙ ap (λ (t : Typed). inputs keyboard waits done ++ input_in t) (sym read) in
+      let commands_are : commands keyboard waits (take (place + 1) given) ≡ commands keyboard waits done ++ command_in typed =
+      ap (λ (l : List ℕ). commands keyboard waits l) longer ∙ commands_push keyboard waits done byte ∙ ap (λ (t : Typed). commands keyboard waits done ++ command_in t) (sym read) in
+      record {
+        kept_are = put ∙ ap (λ (l : List Input). l ++ input_in typed) s.kept_are ∙ append_assoc first (inputs keyboard waits done) (input_in typed) ∙ ap (λ (l : List Input). first ++ l) (sym inputs_are);
+        obeyed = subst (λ (l : List Command). Obeys before l later) (sym commands_are) (obeys_more before now later (commands keyboard waits done) (command_in typed) s.obeyed obeyed);
+        keyboard_is = keyboard_stays ∙ s.keyboard_is;
+        waits_are = waits_is ∙ (λ i. waits_after (s.keyboard_is i) (s.waits_are i) byte) ∙ sym (waits_push keyboard waits done byte) ∙ sym (ap (λ (l : List ℕ). waits_behind keyboard waits l) longer);
+      }
+
+  -- and the commands are those with it
+  pub commands_with : (place d : ℕ) (escaping : Escaping) (typed : Typed) → place < length given → escaping.keyboard ≡ keyboard → escaping.waits ≡ waits_behind keyboard waits (take place given)
+      → typed ≡ typed_after escaping.keyboard escaping.waits (get_or given place d) → commands keyboard waits (take (place + 1) given) ≡ commands keyboard waits (take place given) ++ command_in typed
+  commands_with place d escaping typed few keyboard_is waits_are is =
+      let byte = get_or given place d in
+      let done = take place given in
+      let read : typed ≡ typed_after keyboard (waits_behind keyboard waits done) byte = is ∙ (λ i. typed_after (keyboard_is i) (waits_are i) byte) in
+      ap (λ (l : List ℕ). commands keyboard waits l) (take_more given place d few) ∙ commands_push keyboard waits done byte ∙ ap (λ (t : Typed). commands keyboard waits done ++ command_in t) (sym read)
+
+  -- at first nothing was
+  pub none_yet : (first : List Input) (before : Option (List Command)) (escaping : Escaping) → escaping.keyboard ≡ keyboard → escaping.waits ≡ waits → IsSorted first 0 first before before escaping
+  none_yet first before escaping keyboard_is waits_is = record {
+    kept_are = sym (append-nil first);
+    obeyed = obeys_none before;
+    keyboard_is = keyboard_is;
+    waits_are = waits_is;
+  }
+
+-- what was pushed is last
+pub pushed : {A : Type 0} (b : Bool) (old new : List A) (x : A) → b ≡ true → new ≡ (if b then old ++ x ∷ [] else old) → new ≡ old ++ x ∷ []
+pushed true old new x e is = is
+pushed false old new x e is = cc
+
+pub pushed_len : (b : Bool) (m n : ℕ) → b ≡ true → n ≡ (if b then m + 1 else m) → n ≡ m + 1
+pushed_len true m n e is = is
+pushed_len false m n e is = cc

@@ -1,0 +1,47 @@
+//! Laws of what is typed, over the definitions alone.
+
+ghost use Rattle.std.specs.Prelude.{◌≡◌, ℕ, Bool, None, Some, List, [], ◌∷◌, ◌++◌, false, map};
+ghost use Rattle.tn_codes.specs.declared.codes.Func.{Func};
+ghost use Rattle.tn_discipline.specs.Characters.{is_reserved, slot, standard_characters};
+ghost use Rattle.tn_sockets.specs.Mapping.{mapped, own_function, standard_own};
+ghost use Rattle.tn_sockets.specs.Typing.{AreTaken, commands, inputs, inputs_in, mapped_input, of_bytes, unmapped};
+ghost use Rattle.tn_sockets.specs.declared.escaping.Escaping.{Escaping};
+ghost use Rattle.tn_sockets.specs.declared.escaping.Input.TheVariants.{Key};
+ghost use Rattle.tn_sockets.specs.declared.escaping.Keyboard.{Keyboard};
+ghost use Rattle.tn_sockets.specs.declared.escaping.Typed.{Typed};
+ghost use Rattle.tn_sockets.specs.declared.own_characters.OwnCharacters.{OwnCharacters};
+
+/// Where there is no escape character and no character of the user's own, every byte is a key.
+pub fn every_byte_is_a_key()
+    ensures { (bytes : List ℕ) → inputs of_bytes false bytes ≡ map Key bytes }
+{}
+
+/// Bytes that are taken one by one give what a session gets of them.
+pub fn one_by_one()
+    ensures { (old new : Escaping) (bytes : List ℕ) (taken : List Typed) → AreTaken old bytes taken new →
+        inputs_in taken ≡ inputs old.keyboard old.waits bytes }
+{}
+
+/// A character of the user's own becomes the standard one of its function, whatever it is as a standard character.
+pub fn own_characters_win()
+    ensures { (own : OwnCharacters) (byte standard : ℕ) (f : Func) → is_reserved byte ≡ false →
+        own_function own byte ≡ Some f → slot standard_characters f ≡ Some standard → mapped own byte ≡ standard }
+{}
+
+/// Every other byte stays.
+pub fn other_bytes_stay()
+    ensures { (own : OwnCharacters) (byte : ℕ) → own_function own byte ≡ None → mapped own byte ≡ byte }
+{}
+
+/// Where the user's own characters are the standard ones, every byte stays.
+pub fn standard_characters_change_nothing()
+    ensures { (byte : ℕ) → mapped standard_own byte ≡ byte }
+{}
+
+/// The user's own characters change which keys a session gets, each by itself, and nothing else.
+pub fn only_keys_are_mapped()
+    ensures inputs { (keyboard : Keyboard) (waits : Bool) (bytes : List ℕ) →
+        inputs keyboard waits bytes ≡ map (mapped_input keyboard) (inputs (unmapped keyboard) waits bytes) }
+    ensures commands { (keyboard : Keyboard) (waits : Bool) (bytes : List ℕ) →
+        commands keyboard waits bytes ≡ commands (unmapped keyboard) waits bytes }
+{}
