@@ -10,9 +10,12 @@ _tn() {
         before=${COMP_WORDS[COMP_CWORD - 2]}
     fi
     case $before in
+        --line-cut) mapfile -t COMPREPLY < <(compgen -W 'send end' -- "$word"); return ;;
+        --escape) mapfile -t COMPREPLY < <(compgen -W 'none' -- "$word"); return ;;
+        --keys) mapfile -t COMPREPLY < <(compgen -W 'own standard' -- "$word"); return ;;
         --until|--trace) mapfile -t COMPREPLY < <(compgen -f -- "$word"); return ;;
         --host|--to) mapfile -t COMPREPLY < <(compgen -A hostname -- "$word"); return ;;
-        -p|--port|--limit|--per-host|--count|--ticks|--line|--idle|--longest|--line-cut|--width|--height|--escape|-q) return ;;
+        -p|--port|--limit|--per-host|--count|--ticks|--line|--idle|--longest|--width|--height|-q) return ;;
     esac
     if ((COMP_CWORD == 1)); then
         words='local replay decode world serve connect help -h --help -V --version'
@@ -30,7 +33,7 @@ _tn() {
                 words='--host -p --port --limit --per-host --count --forever --until --ticks --line --idle --longest --local --verbose --to --crlf --cr --line-cut -h --help' ;;
             connect)
                 if [[ $word != -* ]]; then mapfile -t COMPREPLY < <(compgen -A hostname -- "$word"); return; fi
-                words='-p --port --width --height --line --escape --trace -q --quiet --plain --lf --cr -h --help' ;;
+                words='-p --port --width --height --line --escape --keys --trace -q --quiet --plain --lf --cr -h --help' ;;
             help)
                 words='local replay decode world serve connect help' ;;
             *) return ;;

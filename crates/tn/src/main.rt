@@ -20,7 +20,9 @@ use std::fs::{File, Files, OpenOptions};
 use std::process::ExitCode;
 use std::sync::Arc;
 use std::{env, io, str};
-use tn_program::{Link, Origin, Screen, Seat, run_words};
+use tn_program::{
+    Link, OWN_LENGTH, Origin, OwnCharacters, Screen, Seat, own_characters, run_words,
+};
 
 mod outlet;
 
@@ -34,6 +36,9 @@ const SIZES: &str = "TN_SIZES";
 /// The environment variable by which the launcher names the pipe in which it hears that a connection stands.
 const STANDS: &str = "TN_STANDS";
 
+/// The environment variable by which the launcher tells the special characters of the terminal.
+const KEYS: &str = "TN_KEYS";
+
 /// The terminal that a process was started at (POSIX).
 const TERMINAL_PATH: &str = "/dev/tty";
 
@@ -43,12 +48,26 @@ const MAX_PATH: usize = 4_096;
 /// The status when out of memory before anything is run.
 const NO_MEMORY: u8 = 1;
 
-fn origin_of<R: Env>(rt: &R) -> Origin {
+fn origin_of(rt: &HostRuntime) -> Origin {
     let mut value = [0; 1];
     match rt.var(TERMINAL, &mut value) {
         Err(FillError::NotPresent) => Origin::Input,
-        _ => Origin::Terminal,
+        _ => Origin::Terminal(own_of(rt)),
     }
+}
+
+// The special characters of the terminal. Where they are not told, the standard ones are taken.
+fn own_of(rt: &HostRuntime) -> OwnCharacters {
+    let mut text = [0; OWN_LENGTH];
+    let told = match rt.var(KEYS, &mut text) {
+        Err(FillError::NotPresent) => return OwnCharacters::none(),
+        Err(FillError::TooLong) => None,
+        Ok(count) => own_characters(&text[..count]),
+    };
+    if told.is_none() {
+        let _ = eprintln!(rt; "tn: TN_KEYS tells no characters of a terminal: the standard ones are taken");
+    }
+    told.unwrap_or(OwnCharacters::none())
 }
 
 // The pipe that tells the sizes of the window, if there is one.
@@ -70,7 +89,7 @@ fn stands_of<R: Env + Files<File = File>>(rt: &R) -> Option<File> {
 // The terminal that keys are typed at, though standard output may be a file.
 fn terminal_of<R: Files<File = File>>(rt: &R, origin: Origin) -> Option<File> {
     match origin {
-        Origin::Terminal => OpenOptions::new().write(true).open(rt, TERMINAL_PATH).ok(),
+        Origin::Terminal(_) => OpenOptions::new().write(true).open(rt, TERMINAL_PATH).ok(),
         Origin::Reader | Origin::Input => None,
     }
 }

@@ -1,4 +1,5 @@
 pub mod Machine
+pub mod Own
 pub mod Outcomes
 pub mod Runs
 pub mod Settings

@@ -10,16 +10,18 @@
 #![tactic(auto)]
 
 pub use outcome::Outcome;
+pub use own::{OWN_LENGTH, own_characters};
 pub use program::{outcome_of_words, run_words};
 pub use seat::Seat;
 pub use serving::{Joining, Noting};
 pub use settings::Answering;
-pub use tn_connect::{Link, Origin, Screen};
+pub use tn_connect::{Link, Origin, OwnCharacters, Screen};
 pub use tn_network::Network;
 pub use watching::Lookout;
 
 mod lines;
 mod outcome;
+mod own;
 mod program;
 mod seat;
 mod serving;

@@ -1,18 +1,70 @@
 -- Bytes that are taken one by one give what stands among them.
-use Rattle.std.proofs.Common.{◌≡◌, ◌<◌, ◌+◌, ℕ, Bool, true, false, if◌then◌else◌, Option, None, Some, List, [], ◌∷◌, ◌++◌, length, map, take, refl, sym, ap, ◌∙◌, subst, append_assoc, append-nil}
+use Rattle.std.proofs.Common.{◌≡◌, ◌<◌, ◌+◌, ℕ, Bool, true, false, if◌then◌else◌, nat_eq, Option, None, Some, List, [], ◌∷◌, ◌++◌, length, map, take, refl, sym, ap, ◌∙◌, subst, append_assoc, append-nil}
 use Rattle.std.proofs.Math.ListN.{get_or}
-use Rattle.std.proofs.lemmas.List.{take_more}
-use Rattle.tn_sockets.specs.Typing.{AreTaken, Obeys, command_in, commands, input_in, inputs, inputs_in, of_bytes, typed_after, waits_after, waits_behind}
+use Rattle.std.proofs.lemmas.List.{map-append, take_more}
+use Rattle.tn_discipline.specs.Characters.{is_reserved}
+use Rattle.tn_sockets.specs.Mapping.{mapped, none_own}
+use Rattle.tn_sockets.specs.Typing.{AreTaken, Obeys, command, command_in, commands, input_in, inputs, inputs_in, is_escape, mapped_input, meant, of_bytes, typed_after, unmapped, waits_after, waits_behind}
 use Rattle.tn_sockets.specs.declared.escaping.Command.{Command}
 use Rattle.tn_sockets.specs.declared.escaping.Escaping.{Escaping}
 use Rattle.tn_sockets.specs.declared.escaping.Input.{Input}
 use Rattle.tn_sockets.specs.declared.escaping.Input.TheVariants as input
 use Rattle.tn_sockets.specs.declared.escaping.Keyboard.{Keyboard}
 use Rattle.tn_sockets.specs.declared.escaping.Typed.{Typed}
+use Rattle.tn_sockets.specs.declared.escaping.Typed.TheVariants as typed
+use Rattle.tn_streams.specs.declared.control.Control.TheVariants.{Brk, Ip, Ayt}
+
+-- where no character is the user's own, each byte stays
+pub none_mapped : (byte : ℕ) → mapped none_own byte ≡ byte
+none_mapped byte = same_either (is_reserved byte) byte where
+  same_either : (b : Bool) (n : ℕ) → (if b then n else n) ≡ n
+  same_either true n = refl
+  same_either false n = refl
 
 pub every : (bytes : List ℕ) → inputs of_bytes false bytes ≡ map input.Key bytes
 every [] = refl
-every (byte ∷ bytes) = ap (λ (xs : List Input). input.Key byte ∷ xs) (every bytes)
+every (byte ∷ bytes) = λ i. input.Key (none_mapped byte i) ∷ every bytes i
+
+-- the user's own characters change keys alone
+module _ (keyboard : Keyboard) where
+  plain : (b : Bool) (x y : ℕ) → b ≡ false → y ≡ (if b then x else y)
+  plain false x y e = refl
+  plain true x y e = cc
+
+  held : (b : Bool) (x y : ℕ) → b ≡ true → x ≡ (if b then x else y)
+  held true x y e = refl
+  held false x y e = cc
+
+  from_key : (b : Bool) (byte : ℕ) → is_escape keyboard.escape byte ≡ b → input_in (if b then typed.Nothing else typed.Key (mapped keyboard.own byte)) ≡ map (mapped_input keyboard) (input_in (if b then typed.Nothing else typed.Key (mapped none_own byte)))
+  from_key true byte is = refl
+  from_key false byte is =
+      ap (λ (n : ℕ). input.Key n ∷ []) (plain (is_escape keyboard.escape byte) byte (mapped keyboard.own byte) is
+      ∙ ap (λ (n : ℕ). if is_escape keyboard.escape n then n else mapped keyboard.own n) (sym (none_mapped byte)))
+
+  no_key : (b c d : Bool) (command : Command) → input_in (if b then typed.Control Brk else if c then typed.Control Ip else if d then typed.Control Ayt else typed.Command command)
+      ≡ map (mapped_input keyboard) (input_in (if b then typed.Control Brk else if c then typed.Control Ip else if d then typed.Control Ayt else typed.Command command))
+  no_key true c d command = refl
+  no_key false true d command = refl
+  no_key false false true command = refl
+  no_key false false false command = refl
+
+  from_meant : (b : Bool) (byte : ℕ) → is_escape keyboard.escape byte ≡ b → input_in (if b then typed.Key byte else meant byte) ≡ map (mapped_input keyboard) (input_in (if b then typed.Key byte else meant byte))
+  from_meant true byte is = ap (λ (n : ℕ). input.Key n ∷ []) (held (is_escape keyboard.escape byte) byte (mapped keyboard.own byte) is)
+  from_meant false byte is = no_key (nat_eq byte 98) (nat_eq byte 105) (nat_eq byte 97) (command byte)
+
+  is_mapped : (waits : Bool) (byte : ℕ) → input_in (typed_after keyboard waits byte) ≡ map (mapped_input keyboard) (input_in (typed_after (unmapped keyboard) waits byte))
+  is_mapped false byte = from_key (is_escape keyboard.escape byte) byte refl
+  is_mapped true byte = from_meant (is_escape keyboard.escape byte) byte refl
+
+pub all_mapped : (keyboard : Keyboard) (waits : Bool) (bytes : List ℕ) → inputs keyboard waits bytes ≡ map (mapped_input keyboard) (inputs (unmapped keyboard) waits bytes)
+all_mapped keyboard waits [] = refl
+all_mapped keyboard false (byte ∷ bytes) =
+    let next = waits_after keyboard false byte in
+    let first = input_in (typed_after (unmapped keyboard) false byte) in
+    (λ i. is_mapped keyboard false byte i ++ all_mapped keyboard next bytes i) ∙ sym (map-append (mapped_input keyboard) first (inputs (unmapped keyboard) next bytes))
+all_mapped keyboard true (byte ∷ bytes) =
+    let first = input_in (typed_after (unmapped keyboard) true byte) in
+    (λ i. is_mapped keyboard true byte i ++ all_mapped keyboard false bytes i) ∙ sym (map-append (mapped_input keyboard) first (inputs (unmapped keyboard) false bytes))
 
 pub taken : (old new : Escaping) (bytes : List ℕ) (made : List Typed) → AreTaken old bytes made new → inputs_in made ≡ inputs old.keyboard old.waits bytes
 taken old new [] [] is = refl

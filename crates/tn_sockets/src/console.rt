@@ -1,7 +1,7 @@
 //! Standard input as keys: it is waited for, so that a session ends though nobody types, and at a terminal
 //! the user speaks to the client itself behind an escape character.
 
-ghost use Rattle.std.specs.Prelude.{◌≡◌, ◌≢◌, ◌≤◌, ◌+◌, ◌++◌, ℕ, [], None, length, take};
+ghost use Rattle.std.specs.Prelude.{◌≡◌, ◌≢◌, ◌≤◌, ◌+◌, ◌++◌, ℕ, [], None, false, length, take};
 ghost use Rattle.std.specs.Io.{ReadsAtMost};
 ghost use Rattle.std.specs.Io.KnownBytes.{ReadConsumes};
 ghost use Rattle.std.specs.VecDeque.{deque_capacity, deque_len};
