@@ -1,6 +1,6 @@
 //! Keys that are typed at a terminal with special characters of its own.
 
-ghost use Rattle.std.specs.Prelude.{◌≡◌, ◌≤◌, ◌++◌, drop, length, map, option_map, take};
+ghost use Rattle.std.specs.Prelude.{◌≡◌, ◌≤◌, length, map, option_map, take};
 ghost use Rattle.tn_sockets.specs.Mapping.{mapped};
 
 use std::io;
@@ -29,16 +29,19 @@ impl<K: Read> Read for MappedKeys<K> {
     ghost remaining = { λ k. option_map (map (mapped k.own)) (K.remaining k.keys) };
 
     fn read(&mut self, buf: &mut [u8]) -> io::Result<usize> {
-        let count = self.keys.read(buf)?;
-        map_first(self.own, buf, count);
-        Ok(count)
+        let read = self.keys.read(buf);
+        if let Ok(count) = &read {
+            map_first(self.own, buf, *count);
+        }
+        read
     }
 }
 
 // Maps the first of these bytes.
 fn map_first(own: OwnCharacters, bytes: &mut [u8], count: usize)
     requires { count ≤ length bytes.old }
-    ensures { bytes.new ≡ map (mapped own) (take count bytes.old) ++ drop count bytes.old }
+    ensures first { take count bytes.new ≡ map (mapped own) (take count bytes.old) }
+    ensures size { length bytes.new ≡ length bytes.old }
 {
     for place in 0..count {
         bytes[place] = own.mapped(bytes[place]);

@@ -5,3 +5,4 @@ pub mod lemmas
 pub mod Digits
 pub mod Giving
 pub mod Sorting
+pub mod Meaning

@@ -1,9 +1,11 @@
 -- The special characters of the user's own terminal, each of which a session gets as the standard one of the same
 -- function (POSIX.1-2017, XBD 11.1.9).
-use Rattle.std.specs.Prelude.{ℕ, Option, Some, None, if◌then◌else◌, unwrap_or}
+use Rattle.std.specs.Prelude.{◌≡◌, ℕ, Option, Some, None, if◌then◌else◌, unwrap_or}
 use Rattle.tn_codes.specs.declared.codes.Func.{Func}
 use Rattle.tn_codes.specs.declared.codes.Func.TheVariants as func
-use Rattle.tn_discipline.specs.Characters.{is_reserved, is_set_to, slot, standard_characters}
+use Rattle.tn_discipline.specs.Canon.{Canon}
+use Rattle.tn_discipline.specs.Characters.{Characters, is_reserved, is_set_to, slot, standard_characters}
+use Rattle.tn_discipline.specs.Keys.{standard_flags}
 use Rattle.tn_sockets.specs.declared.own_characters.OwnCharacters.{OwnCharacters}
 
 -- no character is the user's own
@@ -41,3 +43,25 @@ standard_for (Some f) byte = unwrap_or (slot standard_characters f) byte
 -- user's terminal
 abbrev pub mapped : OwnCharacters → ℕ → ℕ
 mapped own byte = if is_reserved byte then byte else standard_for (own_function own byte) byte
+
+-- the special characters of the user's own terminal, without EOL and EOL2
+abbrev pub characters_of : OwnCharacters → Characters
+characters_of own =
+    record {
+      intr = own.intr;
+      quit = own.quit;
+      eof = own.eof;
+      susp = own.susp;
+      erase = own.erase;
+      kill = own.kill;
+      eol = None;
+      eol2 = None;
+    }
+
+-- a terminal with standard flags, these characters and this limit
+abbrev pub terminal_with : Characters → ℕ → Canon
+terminal_with chars limit = record { settings = record { flags = standard_flags; chars = chars }; limit = limit }
+
+-- a key that is one of the user's own characters, or none of the standard ones
+abbrev pub IsOfUser : OwnCharacters → ℕ → Type 0
+IsOfUser own key = own_function own key ≡ None → own_function standard_own key ≡ None

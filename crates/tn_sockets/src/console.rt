@@ -328,7 +328,8 @@ impl<H: Clock + Copy + Wait, K: Read + Drop> Console<H, K> {
 
     // The keys that are kept are given to no session.
     fn count_dropped(&self) {
-        self.typing.link.count_dropped(self.kept.len());
+        let keys = kept::count_keys(&self.kept);
+        self.typing.link.count_dropped(keys);
     }
 }
 

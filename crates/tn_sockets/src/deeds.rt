@@ -75,27 +75,34 @@ impl<'a, H, K> Deeds<'a, H, K> {
 
 // A line with the user's own characters that a session gets as other ones, if there are any.
 fn write_own(text: &mut Vec<u8>, own: &OwnCharacters) {
-    let characters = [
-        ("intr", own.intr),
-        ("quit", own.quit),
-        ("susp", own.susp),
-        ("erase", own.erase),
-        ("kill", own.kill),
-        ("eof", own.eof),
-    ];
-    let mut before = "your own keys:";
-    for (name, character) in characters {
-        if let Some(key) = character {
-            if own.mapped(key) != key {
-                let _ = write!(text, "{} {} ", before, name);
-                write_key(text, key);
-                before = ",";
-            }
-        }
-    }
+    let before = write_one(text, own, "your own keys:", "intr", own.intr);
+    let before = write_one(text, own, before, "quit", own.quit);
+    let before = write_one(text, own, before, "susp", own.susp);
+    let before = write_one(text, own, before, "erase", own.erase);
+    let before = write_one(text, own, before, "kill", own.kill);
+    let before = write_one(text, own, before, "eof", own.eof);
     if before == "," {
         let _ = write!(text, "\r\n");
     }
+}
+
+// One of them, behind what stands before it. What stands before the next.
+fn write_one(
+    text: &mut Vec<u8>,
+    own: &OwnCharacters,
+    before: &'static str,
+    name: &'static str,
+    character: Option<u8>,
+) -> &'static str {
+    let Some(key) = character else {
+        return before;
+    };
+    if own.mapped(key) == key {
+        return before;
+    }
+    let _ = write!(text, "{} {} ", before, name);
+    write_key(text, key);
+    ","
 }
 
 // A key as `stty` shows it.

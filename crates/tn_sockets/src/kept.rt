@@ -20,6 +20,13 @@ pub(crate) fn makes_room(kept: &mut VecDeque<Input>, count: usize) -> bool
     kept.len() < MAX_KEPT && kept.reserve(count).is_ok()
 }
 
+/// How many of what is kept are keys.
+pub(crate) fn count_keys(kept: &VecDeque<Input>) -> usize {
+    kept.iter()
+        .filter(|input| matches!(input, Input::Key(_)))
+        .count()
+}
+
 /// Gives the first keys, as many as there is room for, and none behind a control function.
 pub(crate) fn give(kept: &mut VecDeque<Input>, buf: &mut [u8]) -> usize
     ensures bound { result ≤ length buf.new }

@@ -2,8 +2,10 @@
 
 ghost use Rattle.std.specs.Prelude.{◌≡◌, ℕ, Bool, None, Some, List, [], ◌∷◌, ◌++◌, false, map};
 ghost use Rattle.tn_codes.specs.declared.codes.Func.{Func};
-ghost use Rattle.tn_discipline.specs.Characters.{is_reserved, slot, standard_characters};
-ghost use Rattle.tn_sockets.specs.Mapping.{mapped, own_function, standard_own};
+ghost use Rattle.std.specs.List.{All};
+ghost use Rattle.tn_discipline.specs.Canon.{typed_entries};
+ghost use Rattle.tn_discipline.specs.Characters.{AreAllowed, is_reserved, slot, standard_characters};
+ghost use Rattle.tn_sockets.specs.Mapping.{IsOfUser, characters_of, mapped, own_function, standard_own, terminal_with};
 ghost use Rattle.tn_sockets.specs.Typing.{AreTaken, commands, inputs, inputs_in, mapped_input, of_bytes, unmapped};
 ghost use Rattle.tn_sockets.specs.declared.escaping.Escaping.{Escaping};
 ghost use Rattle.tn_sockets.specs.declared.escaping.Input.TheVariants.{Key};
@@ -44,4 +46,12 @@ pub fn only_keys_are_mapped()
         inputs keyboard waits bytes ≡ map (mapped_input keyboard) (inputs (unmapped keyboard) waits bytes) }
     ensures commands { (keyboard : Keyboard) (waits : Bool) (bytes : List ℕ) →
         commands keyboard waits bytes ≡ commands (unmapped keyboard) waits bytes }
+{}
+
+/// The keys that a session gets give at a terminal with the standard characters the entries that the typed keys give at
+/// the user's own terminal, if none of these is a standard character that is not the user's own.
+pub fn users_keys()
+    ensures { (own : OwnCharacters) (limit : ℕ) (keys : List ℕ) → AreAllowed (characters_of own) →
+        All (IsOfUser own) keys → typed_entries (terminal_with standard_characters limit) (map (mapped own) keys)
+        ≡ typed_entries (terminal_with (characters_of own) limit) keys }
 {}
