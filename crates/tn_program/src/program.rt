@@ -29,8 +29,8 @@ const TRACE_MODE: u32 = 0o600;
 
 /// Runs what the words of the command line ask for, where they could be read. The program's name is the
 /// first of them. Returns the status to end with: 0 where that was done, and else the status of its fault
-/// (`EndsWith`). A fault is told in one line on `errors`, and behind it what is wrong with words, or why; what
-/// cannot be written is dropped. Of a seat at standard input nothing is known beforehand.
+/// (`EndsWith`). A fault is told in one line on `errors`, and behind it what is wrong with words, or why;
+/// what cannot be written is dropped. Of a seat at standard input nothing is known beforehand.
 pub fn run_words<
     H: Network + Host + Lookout + Files<File = File>,
     R: Read + Drop + Send + 'static,

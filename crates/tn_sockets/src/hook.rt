@@ -36,8 +36,8 @@ impl Hook {
         self.standing.hold();
     }
 
-    /// What the job is joined to was not reached, for these causes, a line each. They are told with the session's
-    /// end.
+    /// What the job is joined to was not reached, for these causes, a line each. They are told with the
+    /// session's end.
     pub fn note_unreached<R: Wait>(&self, rt: &R, causes: Vec<u8>) {
         self.standing.note_unreached(rt, causes);
     }

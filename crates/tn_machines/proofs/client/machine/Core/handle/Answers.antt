@@ -7,4 +7,5 @@ returns-in-Ok-clause-turns c =
 
 pub returns-in-Err-clause-turns : goal.returns-in-Err-clause-turns
 returns-in-Err-clause-turns c =
-    turn_refused c.args.self.now c.act.new.self c.fails.new.self c.args.told c.in-Err.fault _ _ _ _ _ c.requires.out c.requires.screen c.if-self.false c.drop_if-in-Err.ensures c.in-Err.ensures.err c.fails.ensures c.in-Err.ensures.cause
+    turn_refused c.args.self.now c.act.new.self c.fails.new.self c.args.told c.in-Err.fault _ _ _ _ _ c.requires.out c.requires.screen c.if-self.false
+    c.drop_if-in-Err.ensures c.in-Err.ensures.err c.fails.ensures c.in-Err.ensures.cause

@@ -17,4 +17,5 @@ returns-in_err-resize-clause-err c =
 pub returns-in_err-resize-clause-cause : goal.returns-in_err-resize-clause-cause
 returns-in_err-resize-clause-cause c =
     let p = err_from_is_err_and c.from_residual.result c.from_residual.ensures.1 in
-    rw (p.1, p.2) (resize_cause c.args.from c.args.size c.args.self.now _ c.requires c.in_err-resize.ensures.fault (λ e. c.in_err-resize.ensures.grows (ap Err e)))
+    rw (p.1, p.2) (resize_cause c.args.from c.args.size c.args.self.now _ c.requires c.in_err-resize.ensures.fault
+    (λ e. c.in_err-resize.ensures.grows (ap Err e)))

@@ -6,4 +6,5 @@ use Rattle.tn_machines.proofs.server.terminal.Term.hang_up.Goals as goal
 
 pub returns-clause-does : goal.returns-clause-does
 returns-clause-does c = λ x.
-    does_end after_hang_up c.args.self.now _ _ x c.requires (ap (λ (p : Progress). record c.args.self.now { progress = p }) c.hung_up-self.ensures) c.end_if-put.ensures
+    does_end after_hang_up c.args.self.now _ _ x c.requires (ap (λ (p : Progress). record c.args.self.now { progress = p }) c.hung_up-self.ensures)
+    c.end_if-put.ensures

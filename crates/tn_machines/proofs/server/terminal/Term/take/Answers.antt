@@ -7,15 +7,18 @@ use Rattle.tn_machines.proofs.server.terminal.Term.take.Goals as goal
 
 pub returns-in-Ok-clause-ok : goal.returns-in-Ok-clause-ok
 returns-in-Ok-clause-ok c =
-    with_ok _ _ c.finish.result c.in-Ok.put (λ d. handled_take c.args.self.now c.ask.new.self c.finish.new.self _ _ _ c.in-Ok.put c.requires c.in-Ok.ensures.ok d) c.finish.ensures.ok
+    with_ok _ _ c.finish.result c.in-Ok.put (λ d. handled_take c.args.self.now c.ask.new.self c.finish.new.self _ _ _ c.in-Ok.put c.requires c.in-Ok.ensures.ok
+    d) c.finish.ensures.ok
 
 pub returns-in-Ok-clause-err : goal.returns-in-Ok-clause-err
 returns-in-Ok-clause-err c =
-    with_stuck c.args.self.now Take _ _ c.finish.new.self _ c.finish.result c.in-Ok.put (λ d. stops_take c.args.self.now c.ask.new.self c.finish.new.self _ _ _ c.in-Ok.put c.requires c.in-Ok.ensures.ok d) c.finish.ensures.err
+    with_stuck c.args.self.now Take _ _ c.finish.new.self _ c.finish.result c.in-Ok.put
+    (λ d. stops_take c.args.self.now c.ask.new.self c.finish.new.self _ _ _ c.in-Ok.put c.requires c.in-Ok.ensures.ok d) c.finish.ensures.err
 
 pub returns-in-Err-clause-err : goal.returns-in-Err-clause-err
 returns-in-Err-clause-err c =
-    stops_ask c.args.self.now c.ask.new.self _ _ _ c.requires c.in-Err.ensures.err c.in-Err.ensures.err_appends (ap (λ (p : Progress). record c.ask.new.self { progress = p }) c.asking-self.ensures)
+    stops_ask c.args.self.now c.ask.new.self _ _ _ c.requires c.in-Err.ensures.err c.in-Err.ensures.err_appends
+    (ap (λ (p : Progress). record c.ask.new.self { progress = p }) c.asking-self.ensures)
 
 pub returns-in-Ok-clause-grows : goal.returns-in-Ok-clause-grows
 returns-in-Ok-clause-grows c =
