@@ -74,8 +74,8 @@ impl Standing {
         Ok(Arc::new(alloc, standing)?)
     }
 
-    /// Ends the session as by a hang-up, at once where the system has a bell to give, else within half a
-    /// second.
+    /// Ends the session as by a hang-up: at once where it is held and the system has a bell to give, else
+    /// within half a second.
     pub fn hang_up(&self) {
         self.hung_up.store(true, Ordering::SeqCst);
         self.bell.ring();
@@ -290,9 +290,9 @@ impl<H: Clock + Copy, S: Drop> Attended<H, S> {
 
 impl<H: Clock + Copy + Wait, S: AsRawFd + Drop + Read + Closing> Attended<H, S> {
     // Waits for what the client sends, for a short time, or until a job wants the session to end. Whether it
-    // is to be read; once a job wants that, the read waits itself, for the client to close.
+    // is to be read; where no job holds the session, and once one wants that, the read waits itself.
     fn comes(&self) -> bool {
-        if self.standing.is_hung_up() {
+        if !self.standing.held.load(Ordering::SeqCst) || self.standing.is_hung_up() {
             return true;
         }
         self.standing.bell.wait(self.stream.as_raw_fd(), LOOK)
