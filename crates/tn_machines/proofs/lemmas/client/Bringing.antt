@@ -3,7 +3,7 @@ use Rattle.std.proofs.Common.{◌≡◌, ℕ, Bool, true, false, List, [], ◌�
 use Rattle.std.proofs.lemmas.Grind.{flat_map-append}
 use Rattle.tn_client.proofs.lemmas.Histories.{items-gets}
 use Rattle.tn_client.specs.Events.{History, next, typed, got, gets, items}
-use Rattle.tn_machines.proofs.client.Typing.{items-types}
+use Rattle.tn_machines.proofs.of_core.Typing.{items-types}
 use Rattle.tn_machines.specs.client.Bringing.{Input, key_typed, key_in, keys_in, inputs, inputs_from, inputs_brought, brought_from, brought, TakesInOrder}
 use Rattle.tn_machines.specs.client.Marks.{Turns, Runs}
 use Rattle.tn_machines.specs.client.Run.{Run, Acts, ActsUnless, Asks, Handles, TakesPiece, types, start}

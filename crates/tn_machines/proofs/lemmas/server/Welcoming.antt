@@ -8,7 +8,7 @@ use Rattle.tn_server.specs.declared.faults.ServerFault.{ServerFault}
 use Rattle.tn_server.specs.declared.faults.ServerFault.TheVariants.{Pty, Memory}
 use Rattle.tn_server.proofs.lemmas.Room.{completes_few, waits_few}
 use Rattle.tn_wire.specs.Prefixes.{IsRead}
-use Rattle.tn_machines.proofs.server.Ending.{turned}
+use Rattle.tn_machines.proofs.of_terminal.Ending.{turned}
 use Rattle.tn_machines.specs.server.Ending.{EndsAt}
 use Rattle.tn_machines.specs.server.Marks.{Turns}
 use Rattle.tn_machines.specs.server.Reaching.{LeadsTo}

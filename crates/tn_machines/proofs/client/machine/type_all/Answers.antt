@@ -1,8 +1,8 @@
 use Rattle.std.proofs.Common.{ap, Err, drop, sym, take-append-drop}
 use Rattle.std.proofs.lemmas.List.{take_more}
 use Rattle.std.proofs.lemmas.Result.{err_from_is_err_and}
-use Rattle.tn_machines.proofs.client.Refusing.{key_cause}
-use Rattle.tn_machines.proofs.client.Typing.{types_none, types_more, types_kept}
+use Rattle.tn_machines.proofs.of_core.Refusing.{key_cause}
+use Rattle.tn_machines.proofs.of_core.Typing.{types_none, types_more, types_kept}
 use Rattle.tn_machines.proofs.client.machine.type_all.Goals as goal
 
 pub loop-key-init : goal.loop-key-init

@@ -1,6 +1,6 @@
 use Rattle.std.proofs.lemmas.Result.{err_from_is_err_and}
-use Rattle.tn_machines.proofs.server.Following.{follows_pulled}
-use Rattle.tn_machines.proofs.server.Refusing.{symbols_wait}
+use Rattle.tn_machines.proofs.of_terminal.Following.{follows_pulled}
+use Rattle.tn_machines.proofs.of_terminal.Refusing.{symbols_wait}
 use Rattle.tn_machines.proofs.server.terminal.pull_all.Goals as goal
 
 pub returns-clause-ok : goal.returns-clause-ok

@@ -1,5 +1,5 @@
 use Rattle.std.proofs.Common.{◌≡◌, true, ℕ, List, OnOk, OnErr, sym, subst}
-use Rattle.tn_machines.proofs.client.Doing.{does_step, stays_closed, is_plain, shows_ok, shows_err}
+use Rattle.tn_machines.proofs.of_core.Doing.{does_step, stays_closed, is_plain, shows_ok, shows_err}
 use Rattle.tn_machines.specs.declared.client.machine.Core.{Core}
 use Rattle.tn_machines.specs.client.Reaching.{DoesWhole, StopsWithin}
 use Rattle.tn_machines.specs.declared.messages.Message.{Message}

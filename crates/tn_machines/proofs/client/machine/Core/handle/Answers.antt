@@ -1,4 +1,4 @@
-use Rattle.tn_machines.proofs.client.Marking.{turn_whole, turn_refused}
+use Rattle.tn_machines.proofs.of_core.Marking.{turn_whole, turn_refused}
 use Rattle.tn_machines.proofs.client.machine.Core.handle.Goals as goal
 
 pub returns-in-Ok-clause-turns : goal.returns-in-Ok-clause-turns

@@ -1,6 +1,6 @@
 use Rattle.std.proofs.Common.{ap}
 use Rattle.std.proofs.lemmas.Result.{err_from_is_err_and}
-use Rattle.tn_machines.proofs.client.Doing.{does_keys, stops_keys}
+use Rattle.tn_machines.proofs.of_core.Doing.{does_keys, stops_keys}
 use Rattle.tn_machines.specs.declared.client.progress.Progress.{Progress}
 use Rattle.tn_machines.proofs.client.machine.Core.keys.Goals as goal
 

@@ -5,11 +5,11 @@ use Rattle.tn_machines.specs.declared.faults.SessionFault.TheVariants as fault
 use Rattle.tn_machines.specs.declared.messages.Message.TheVariants.{Said, Refused}
 use Rattle.tn_machines.specs.server.Reaching.{RefusesFor}
 use Rattle.tn_machines.specs.server.Run.{hang_up, ends_by}
-use Rattle.tn_machines.proofs.server.Doing.{does_nothing, does_then}
-use Rattle.tn_machines.proofs.server.Refusing.{take_cause, said_cause, quiet_cause}
+use Rattle.tn_machines.proofs.of_terminal.Doing.{does_nothing, does_then}
+use Rattle.tn_machines.proofs.of_terminal.Refusing.{take_cause, said_cause, quiet_cause}
 use Rattle.tn_machines.specs.declared.server.messages.Put.TheVariants.{Nothing}
-use Rattle.tn_machines.proofs.server.Handling.{with_ok, with_stuck, handled_hang_up, handled_fault, handled_left, handled_resized, handled_asked, stops_hang_up}
-use Rattle.tn_machines.proofs.server.Handling.{stops_fault, stops_left, stops_resized, stops_asked}
+use Rattle.tn_machines.proofs.of_terminal.Handling.{with_ok, with_stuck, handled_hang_up, handled_fault, handled_left, handled_resized, handled_asked, stops_hang_up}
+use Rattle.tn_machines.proofs.of_terminal.Handling.{stops_fault, stops_left, stops_resized, stops_asked}
 use Rattle.tn_machines.proofs.server.terminal.Term.act.Goals as goal
 
 pub returns-in-HangUp-clause-ok : goal.returns-in-HangUp-clause-ok

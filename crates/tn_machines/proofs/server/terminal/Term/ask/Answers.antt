@@ -1,6 +1,6 @@
 use Rattle.std.proofs.Common.{ap}
 use Rattle.tn_machines.specs.declared.server.progress.Progress.{Progress}
-use Rattle.tn_machines.proofs.server.Doing.{does_answer, does_wait, of_some, of_none}
+use Rattle.tn_machines.proofs.of_terminal.Doing.{does_answer, does_wait, of_some, of_none}
 use Rattle.tn_machines.proofs.server.terminal.Term.ask.Goals as goal
 
 pub returns-in-Ok-Some-clause-ok : goal.returns-in-Ok-Some-clause-ok

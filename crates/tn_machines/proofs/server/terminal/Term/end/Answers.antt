@@ -3,7 +3,7 @@ use Rattle.tn_jobs.specs.Jobs.{Jobs, with_state}
 use Rattle.tn_machines.specs.server.Counting.{after_end}
 use Rattle.tn_machines.specs.declared.server.progress.Progress.{Progress}
 use Rattle.tn_machines.specs.declared.faults.Ended.TheVariants.{Done}
-use Rattle.tn_machines.proofs.server.Doing.{does_turn}
+use Rattle.tn_machines.proofs.of_terminal.Doing.{does_turn}
 use Rattle.tn_machines.proofs.server.terminal.Term.end.Goals as goal
 
 pub returns-then-in_foreground-clause-does : goal.returns-then-in_foreground-clause-does

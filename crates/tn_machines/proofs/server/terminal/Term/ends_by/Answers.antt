@@ -1,7 +1,7 @@
 use Rattle.std.proofs.Common.{ap}
 use Rattle.tn_machines.specs.server.Counting.{after_end}
 use Rattle.tn_machines.specs.declared.server.progress.Progress.{Progress}
-use Rattle.tn_machines.proofs.server.Doing.{does_turn}
+use Rattle.tn_machines.proofs.of_terminal.Doing.{does_turn}
 use Rattle.tn_machines.proofs.server.terminal.Term.ends_by.Goals as goal
 
 pub returns-clause-does : goal.returns-clause-does

@@ -1,4 +1,4 @@
-use Rattle.tn_machines.proofs.server.Turning.{turn_idle, turn_whole, turn_refused}
+use Rattle.tn_machines.proofs.of_terminal.Turning.{turn_idle, turn_whole, turn_refused}
 use Rattle.tn_machines.proofs.server.terminal.Term.handle.Goals as goal
 
 pub returns-then-self-clause-turns : goal.returns-then-self-clause-turns

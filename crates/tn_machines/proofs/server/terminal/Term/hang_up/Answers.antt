@@ -1,7 +1,7 @@
 use Rattle.std.proofs.Common.{ap}
 use Rattle.tn_machines.specs.server.Counting.{after_hang_up}
 use Rattle.tn_machines.specs.declared.server.progress.Progress.{Progress}
-use Rattle.tn_machines.proofs.server.Doing.{does_end}
+use Rattle.tn_machines.proofs.of_terminal.Doing.{does_end}
 use Rattle.tn_machines.proofs.server.terminal.Term.hang_up.Goals as goal
 
 pub returns-clause-does : goal.returns-clause-does

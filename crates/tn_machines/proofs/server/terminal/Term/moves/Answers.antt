@@ -1,4 +1,4 @@
-use Rattle.tn_machines.proofs.server.Doing.{does_stop, does_leave}
+use Rattle.tn_machines.proofs.of_terminal.Doing.{does_stop, does_leave}
 use Rattle.tn_machines.proofs.server.terminal.Term.moves.Goals as goal
 
 pub returns-in-Stopped-clause-does : goal.returns-in-Stopped-clause-does

@@ -4,7 +4,7 @@ use Rattle.tn_machines.specs.server.Reaching.{LeadsTo, SayBreaksOff}
 use Rattle.tn_machines.specs.server.Refusing.{WaitsWithText}
 use Rattle.tn_machines.specs.server.Run.{Run, writes}
 use Rattle.tn_machines.specs.declared.server.messages.Put.TheVariants.{Nothing}
-use Rattle.tn_machines.proofs.server.Handling.{with_ok, with_broken, says_none, breaks_none, verdict_none, verdict_judged}
+use Rattle.tn_machines.proofs.of_terminal.Handling.{with_ok, with_broken, says_none, breaks_none, verdict_none, verdict_judged}
 use Rattle.tn_machines.proofs.server.terminal.Term.said.Goals as goal
 
 pub returns-in_default-clause-ok : goal.returns-in_default-clause-ok

@@ -1,8 +1,8 @@
 use Rattle.std.proofs.Common.{refl, []}
 use Rattle.std.proofs.lemmas.Result.{err_from_is_err_and}
 use Rattle.tn_server.specs.Events.{next, wrote}
-use Rattle.tn_machines.proofs.server.Breaking.{breaks_part}
-use Rattle.tn_machines.proofs.server.Doing.{does_part}
+use Rattle.tn_machines.proofs.of_terminal.Breaking.{breaks_part}
+use Rattle.tn_machines.proofs.of_terminal.Doing.{does_part}
 use Rattle.tn_machines.proofs.server.terminal.Term.show_part.Goals as goal
 
 pub returns-clause-ok : goal.returns-clause-ok

@@ -1,6 +1,6 @@
 use Rattle.std.proofs.Common.{ap}
 use Rattle.tn_machines.specs.declared.server.progress.Progress.{Progress}
-use Rattle.tn_machines.proofs.server.Doing.{starts, start_sends}
+use Rattle.tn_machines.proofs.of_terminal.Doing.{starts, start_sends}
 use Rattle.tn_machines.proofs.server.terminal.Term.start.Goals as goal
 
 pub returns-clause-at : goal.returns-clause-at

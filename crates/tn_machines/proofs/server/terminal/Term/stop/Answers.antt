@@ -3,7 +3,7 @@ use Rattle.tn_jobs.specs.Jobs.{Jobs, with_state}
 use Rattle.tn_jobs.specs.declared.verdicts.JobState.TheVariants.{Stopped}
 use Rattle.tn_machines.specs.server.Counting.{after_stop}
 use Rattle.tn_machines.specs.declared.server.progress.Progress.{Progress}
-use Rattle.tn_machines.proofs.server.Doing.{does_turn}
+use Rattle.tn_machines.proofs.of_terminal.Doing.{does_turn}
 use Rattle.tn_machines.proofs.server.terminal.Term.stop.Goals as goal
 
 pub returns-then-in_foreground-clause-does : goal.returns-then-in_foreground-clause-does

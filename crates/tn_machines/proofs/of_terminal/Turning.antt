@@ -7,7 +7,7 @@ use Rattle.tn_nvt.specs.declared.items.Item.{Item}
 use Rattle.tn_server.specs.Events.{History}
 use Rattle.tn_server.specs.Replies.{items_said}
 use Rattle.tn_server.specs.declared.faults.ServerFault.{ServerFault}
-use Rattle.tn_machines.proofs.server.Doing.{is_over}
+use Rattle.tn_machines.proofs.of_terminal.Doing.{is_over}
 use Rattle.tn_machines.specs.server.Counting.{after_end, after_halt}
 use Rattle.tn_machines.specs.server.Marks.{put_or_not}
 use Rattle.tn_machines.specs.server.Reaching.{DoesWhole, StopsWithin, RefusesFor, IsTurn}

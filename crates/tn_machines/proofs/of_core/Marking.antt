@@ -4,7 +4,7 @@ use Rattle.tn_client.specs.Events.{History}
 use Rattle.tn_client.specs.Replies.{items_said}
 use Rattle.tn_client.specs.Screen.{text_shown}
 use Rattle.tn_client.specs.declared.faults.ClientFault.{ClientFault}
-use Rattle.tn_machines.proofs.client.Doing.{is_over}
+use Rattle.tn_machines.proofs.of_core.Doing.{is_over}
 use Rattle.tn_machines.specs.client.Counting.{after_failure}
 use Rattle.tn_machines.specs.client.Reaching.{DoesWhole, StopsWithin, RefusesFor, SendsPrefix, IsTurn, sent_bytes}
 use Rattle.tn_machines.specs.client.Run.{Run, ActsUnless, fail, sent_after}

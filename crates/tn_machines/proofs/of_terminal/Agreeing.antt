@@ -13,7 +13,7 @@ use Rattle.tn_server.specs.Events.{History, next, took, items}
 use Rattle.tn_server.specs.Lines.{waiting}
 use Rattle.tn_server.specs.Screen.{queue}
 use Rattle.tn_server.specs.declared.wishes.Editing.{Editing}
-use Rattle.tn_machines.proofs.server.Alike.{Alike, alike_self, alike_gets, alike_took, alike_flushed, alike_parts, none_left, same_entries}
+use Rattle.tn_machines.proofs.of_terminal.Alike.{Alike, alike_self, alike_gets, alike_took, alike_flushed, alike_parts, none_left, same_entries}
 use Rattle.tn_machines.proofs.lemmas.server.Hearing.{move_keeps}
 use Rattle.tn_machines.specs.server.Agreeing.{Agree}
 use Rattle.tn_machines.specs.server.Counting as counting

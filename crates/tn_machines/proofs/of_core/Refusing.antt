@@ -9,7 +9,7 @@ use Rattle.tn_client.specs.Events.{History, typed, resized, gets, items}
 use Rattle.tn_client.specs.Replies.{replies}
 use Rattle.tn_client.specs.declared.faults.ClientFault.{ClientFault}
 use Rattle.tn_client.specs.declared.faults.ClientFault.TheVariants as client_fault
-use Rattle.tn_machines.proofs.client.Doing.{read_past}
+use Rattle.tn_machines.proofs.of_core.Doing.{read_past}
 use Rattle.tn_machines.specs.client.Reaching.{TypesAll, RefusesFor}
 use Rattle.tn_machines.specs.client.Refusing.{RefusesAtKey, RefusesAtItem, RefusesAtByte}
 use Rattle.tn_machines.specs.client.Run.{Run, Reads, types}

@@ -24,7 +24,7 @@ use Rattle.tn_machines.specs.declared.server.terminal.Term.{Term}
 use Rattle.tn_machines.specs.server.Counting.{after_answer, after_no_entry, after_piece, after_halt, nothing_yet}
 use Rattle.tn_machines.specs.server.Run.{Run, flushed_history, ask, answer, end_if, show, move, stop_job, end_job, in_foreground, halt, halt_if, start, opening}
 use Rattle.tn_machines.specs.server.Reaching.{LeadsTo, FollowsPath, AdvancesRun, Feeds, HaltsIf}
-use Rattle.tn_machines.proofs.server.Following.{follows_took, follows_wrote, follows_then, follows_none, in_parts-push, spelled_on}
+use Rattle.tn_machines.proofs.of_terminal.Following.{follows_took, follows_wrote, follows_then, follows_none, in_parts-push, spelled_on}
 use Rattle.tn_server.proofs.lemmas.Histories.{items-gets, opening-gets}
 use Rattle.tn_nvt.specs.Spelling.{spells}
 use Rattle.tn_nvt.proofs.lemmas.Reading.{spells-append}

@@ -23,9 +23,9 @@ use Rattle.tn_machines.specs.declared.server.terminal.Stuck.{Stuck}
 use Rattle.tn_machines.specs.server.Run.{Run, puts_of, flush, hang_up, ends_by, feed, ask, ask_if, show, move, after_said, halt, halt_if, is_end, in_foreground}
 use Rattle.tn_machines.specs.server.Run.{verdict, verdict_at, has_text, writes, answer, Cuts, Acts, ActsUnless}
 use Rattle.tn_machines.specs.server.Reaching.{LeadsTo, AdvancesRun, BreaksOff, Feeds, FeedBreaksOff, Says, SayBreaksOff, DoesWhole, StopsWithin, HaltsIf}
-use Rattle.tn_machines.proofs.server.Doing.{does_then, does_same, does_halt_if, foreground_as}
-use Rattle.tn_machines.proofs.server.Breaking.{breaks_after, breaks_same, breaks_halt_if, grows_then, grows_ask, grows_ask_if, grows_flushed, spelled_more}
-use Rattle.tn_machines.proofs.server.Breaking.{rest_more}
+use Rattle.tn_machines.proofs.of_terminal.Doing.{does_then, does_same, does_halt_if, foreground_as}
+use Rattle.tn_machines.proofs.of_terminal.Breaking.{breaks_after, breaks_same, breaks_halt_if, grows_then, grows_ask, grows_ask_if, grows_flushed, spelled_more}
+use Rattle.tn_machines.proofs.of_terminal.Breaking.{rest_more}
 use Rattle.tn_machines.specs.server.Counting.{after_request, after_piece}
 use Rattle.tn_machines.specs.server.Marks.{unput}
 use Rattle.tn_server.specs.Events.{next, took}

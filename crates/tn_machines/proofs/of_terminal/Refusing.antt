@@ -27,8 +27,8 @@ use Rattle.tn_server.specs.Screen.{queue}
 use Rattle.tn_server.specs.Terms.{settings}
 use Rattle.tn_server.specs.declared.faults.ServerFault.{ServerFault}
 use Rattle.tn_server.specs.declared.faults.ServerFault.TheVariants as server
-use Rattle.tn_machines.proofs.server.Breaking.{read_past, kept_history}
-use Rattle.tn_machines.proofs.server.Handling.{same_verdict}
+use Rattle.tn_machines.proofs.of_terminal.Breaking.{read_past, kept_history}
+use Rattle.tn_machines.proofs.of_terminal.Handling.{same_verdict}
 use Rattle.tn_machines.specs.server.Reaching.{LeadsTo, RefusesFor, AdvancesRun, Feeds}
 use Rattle.tn_machines.specs.server.Refusing.{SymbolsWait, SymbolsWaitWithin, WaitsWithText, WaitsWithRequest, WaitsIf, RefusesAtItem, RefusesAtByte}
 use Rattle.tn_machines.specs.server.Refusing.{IsRefusalCause}

@@ -6,7 +6,7 @@ use Rattle.tn_jobs.specs.declared.verdicts.JobState.{JobState}
 use Rattle.tn_jobs.specs.declared.verdicts.JobState.TheVariants as job
 use Rattle.tn_jobs.specs.declared.verdicts.Verdict.{Verdict}
 use Rattle.tn_server.specs.declared.wishes.Editing.{Editing}
-use Rattle.tn_machines.proofs.server.Hanging.{ended_of, ask_ended, halt_ended}
+use Rattle.tn_machines.proofs.of_terminal.Hanging.{ended_of, ask_ended, halt_ended}
 use Rattle.tn_machines.proofs.lemmas.Ending.{Moves, first_cases, moves_as, moves_first, run_moves, fault_came}
 use Rattle.tn_machines.specs.Counting.{first_end}
 use Rattle.tn_machines.specs.server.Ending.{EndsAt, IsEndedAt, IsFaultCause}

@@ -11,7 +11,7 @@ use Rattle.tn_client.specs.Replies.{items_said, replies}
 use Rattle.tn_client.specs.Screen.{text_shown}
 use Rattle.tn_client.specs.declared.faults.ClientFault.{ClientFault}
 use Rattle.tn_client.specs.declared.faults.ClientFault.TheVariants as client_fault
-use Rattle.tn_machines.proofs.client.Typing.{items-types, said_front, shown_front}
+use Rattle.tn_machines.proofs.of_core.Typing.{items-types, said_front, shown_front}
 use Rattle.tn_machines.specs.client.Commands.{command_of}
 use Rattle.tn_machines.specs.client.Counting.{nothing_yet, after_piece, after_message}
 use Rattle.tn_machines.specs.client.Reaching.{LeadsTo, TypesAll, TypesPrefix, DoesWhole, StopsWithin}
