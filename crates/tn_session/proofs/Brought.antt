@@ -138,7 +138,9 @@ keys_brought stopped reader v handled mails sent e is =
     let P : List ℕ → Type 0 = λ bs. Consumes reader.bytes r.0 bs in
     (r.0, subst P (sym (keys_all handled ∙ ap bytes_sent is)) r.1)
 
-pub net_brought : (reader : KnownReader) (v : View) (handled mails : List Mail) → ReaderSends Net false reader v → v ≡ sender Net mails → from Net handled ≡ mails → from Desk handled ≡ [] → from Back handled ≡ [] → (left : Option (List ℕ)) × Consumes reader.bytes left (brought origin.Net (all_told handled))
+pub net_brought : (reader : KnownReader) (v : View) (handled mails : List Mail) → ReaderSends Net false reader v → v ≡ sender Net mails
+    → from Net handled ≡ mails → from Desk handled ≡ [] → from Back handled ≡ [] → (left : Option (List ℕ))
+    × Consumes reader.bytes left (brought origin.Net (all_told handled))
 net_brought reader v handled mails sent e is desk back =
     let r = reader_bytes Net false reader v mails sent e in
     let P : List ℕ → Type 0 = λ bs. Consumes reader.bytes r.0 bs in

@@ -77,7 +77,8 @@ never_and true b e = e
 never_and false b e = refl
 
 -- one of these messages was not written
-pub write_failed : (marked before : List (Message × Mark)) (last : Message × Mark) (after : List (Message × Mark)) → marked ≡ before ++ last ∷ after → last.1 ≡ mark.WriteFailed → no_writes_failed marked ≡ false
+pub write_failed : (marked before : List (Message × Mark)) (last : Message × Mark) (after : List (Message × Mark)) → marked ≡ before ++ last ∷ after
+    → last.1 ≡ mark.WriteFailed → no_writes_failed marked ≡ false
 write_failed marked before last after whole e = ap no_writes_failed whole ∙ at before
   where
     at : (front : List (Message × Mark)) → no_writes_failed (front ++ last ∷ after) ≡ false

@@ -55,7 +55,11 @@ close_cause may_stop foretold told left close closes h =
     (λ x. absurd (failure_never told (subst Fails x.2 h)))
     closes
 
-pub read_cause : (stopped : Bool) (keys_reader net_reader : KnownReader) (from_keys from_net handled : List Mail) (keys net : View) (marked : List (Told × Mark)) → keys ≡ sender Keys from_keys → net ≡ sender Net from_net → Interleaves handled (four from_net [] [] from_keys) → (typed : ReaderSends Keys stopped keys_reader keys) → (read : ReaderSends Net false net_reader net) → map (λ m. m.0) marked ≡ all_told handled → (c : Run) → IsEndedAt c marked (ended.Fault fault.Read) → WillFail max_reads (length (pieces_in typed.0)) keys_reader.failures ⊎ WillFail max_reads (length (pieces_in read.0)) net_reader.failures
+pub read_cause : (stopped : Bool) (keys_reader net_reader : KnownReader) (from_keys from_net handled : List Mail) (keys net : View)
+    (marked : List (Told × Mark)) → keys ≡ sender Keys from_keys → net ≡ sender Net from_net → Interleaves handled (four from_net [] [] from_keys)
+    → (typed : ReaderSends Keys stopped keys_reader keys) → (read : ReaderSends Net false net_reader net) → map (λ m. m.0) marked ≡ all_told handled → (c : Run)
+    → IsEndedAt c marked (ended.Fault fault.Read) → WillFail max_reads (length (pieces_in typed.0)) keys_reader.failures
+    ⊎ WillFail max_reads (length (pieces_in read.0)) net_reader.failures
 read_cause stopped keys_reader net_reader from_keys from_net handled keys net marked keys_is net_is woven typed read messages c r =
     let who = failure_from handled (failure_told marked r.before r.last r.after handled r.whole messages r.ends) in
     by who.0 who.1
@@ -65,14 +69,16 @@ read_cause stopped keys_reader net_reader from_keys from_net handled keys net ma
 
     by : (s : Sender) → HasFailure (messages_of (from s handled)) → WillFail max_reads (length (pieces_in typed.0)) keys_reader.failures
         ⊎ WillFail max_reads (length (pieces_in read.0)) net_reader.failures
-    by Net h = inr (close_cause false net_reader.failures read.0 read.1 read.2 read.4 (subst HasFailure (messages_from Net net from_net handled (told_messages read.0 ++ read.2) net_is read.5 (woven Net)) h))
+    by Net h = inr (close_cause false net_reader.failures read.0 read.1 read.2 read.4
+        (subst HasFailure (messages_from Net net from_net handled (told_messages read.0 ++ read.2) net_is read.5 (woven Net)) h))
     by Keys h = inl (close_cause stopped keys_reader.failures typed.0 typed.1 typed.2 typed.4
         (subst HasFailure (messages_from Keys keys from_keys handled (told_messages typed.0 ++ typed.2) keys_is typed.5 (woven Keys)) h))
     by Desk h = absurd (none Desk (woven Desk) h)
     by Back h = absurd (none Back (woven Back) h)
 
 -- a mark that says otherwise
-by_false : (is : Mark → Bool) (marked before : List (Told × Mark)) (last : Told × Mark) (after : List (Told × Mark)) → marked ≡ before ++ last ∷ after → is last.1 ≡ false → all_by is marked ≡ false
+by_false : (is : Mark → Bool) (marked before : List (Told × Mark)) (last : Told × Mark) (after : List (Told × Mark)) → marked ≡ before ++ last ∷ after
+    → is last.1 ≡ false → all_by is marked ≡ false
 by_false is marked before last after whole e = ap (all_by is) whole ∙ at before
   where
     at : (front : List (Told × Mark)) → all_by is (front ++ last ∷ after) ≡ false
@@ -83,6 +89,8 @@ pub write_cause : (p q r t : Option Calls) (marked : List (Told × Mark)) → Te
     → (c : Run) → IsEndedAt c marked (ended.Fault fault.Write) → SomeFailed max_writes p q ⊎ SomeFailed max_writes r t
 write_cause p q r t marked tells shows c at =
     ⊎_elim
-    (λ e. inl (some_failed max_writes (all_by no_write_failed marked) p q tells (by_false no_write_failed marked at.before at.last at.after at.whole (ap no_write_failed e))))
-    (λ e. inr (some_failed max_writes (all_by no_show_failed marked) r t shows (by_false no_show_failed marked at.before at.last at.after at.whole (ap no_show_failed e))))
+    (λ e. inl (some_failed max_writes (all_by no_write_failed marked) p q tells
+    (by_false no_write_failed marked at.before at.last at.after at.whole (ap no_write_failed e))))
+    (λ e. inr (some_failed max_writes (all_by no_show_failed marked) r t shows
+    (by_false no_show_failed marked at.before at.last at.after at.whole (ap no_show_failed e))))
     at.ends

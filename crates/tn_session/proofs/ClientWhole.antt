@@ -99,7 +99,8 @@ client_noted begin last steps marked handled bytes noted goes of_steps messages 
 -- all of a client's session that ran
 pub client_ran : (core last : Core) (stopped : Bool) (keys_reader : KnownTyping) (net_reader : KnownReader) (writer screen : KnownWriting)
     (pass₀ pass₁ net keys : View) (result : ClientResult)
-    → pass₀ ≡ core_view [] → (acted : CoreHandles core pass₀ pass₁ writer screen result.noted result.told last) → ReaderSends Net false net_reader net → TypingSends Keys stopped keys_reader keys
+    → pass₀ ≡ core_view [] → (acted : CoreHandles core pass₀ pass₁ writer screen result.noted result.told last) → ReaderSends Net false net_reader net
+    → TypingSends Keys stopped keys_reader keys
     → (stopped ≡ true → result.told ≡ putter [] → ⊥)
     → AreTwoSettled pass₁ net keys result.net result.keys result.core → result.report ≡ client_report last.progress
     → IsClientRun core keys_reader net_reader writer screen result

@@ -1,5 +1,6 @@
 -- What the core's thread wrote and showed, one message after another.
-use Rattle.std.proofs.Common.{◌≡◌, ℕ, Bool, true, false, not, ◌||◌, ◌&&◌, ◌⊎◌, ⊎_elim, inl, inr, List, [], ◌∷◌, ◌++◌, map, Option, refl, sym, ap, ◌∙◌, subst, append_assoc, append-nil}
+use Rattle.std.proofs.Common.{◌≡◌, ℕ, Bool, true, false, not, ◌||◌, ◌&&◌, ◌⊎◌, ⊎_elim, inl, inr, List, [], ◌∷◌, ◌++◌, map, Option, refl, sym, ap, ◌∙◌, subst}
+use Rattle.std.proofs.Common.{append_assoc, append-nil}
 use Rattle.std.proofs.lemmas.Bool.{false_from_ne_true}
 use Rattle.std.proofs.lemmas.Fn.{FoldsTo-push}
 use Rattle.std.proofs.lemmas.List.{map-append}
@@ -152,7 +153,10 @@ writes_failed true k l told = told
 writes_failed false k l told = told
 
 -- a write failed after a message that was done wholly
-turn_off : (w s : Bool) (old mid new : Core) (told : Told) (bytes text : List ℕ) (writer screen : KnownWriting) (n o : Noted) → (old.progress.over ≡ true → ⊥) → (w && s) ≡ false → NotesWrite w writer.before.bytes writer.after.bytes bytes n o → Tells w writer.before.calls writer.after.calls → Written s screen.before.bytes screen.after.bytes text → Tells s screen.before.calls screen.after.calls → IsTurn mark.Whole old told bytes text mid → ((c : Run) → LeadsTo c mid → LeadsTo (fail fault.Write c) new) → new.progress.over ≡ true → TurnsTold old told writer screen n o new
+turn_off : (w s : Bool) (old mid new : Core) (told : Told) (bytes text : List ℕ) (writer screen : KnownWriting) (n o : Noted) → (old.progress.over ≡ true → ⊥)
+    → (w && s) ≡ false → NotesWrite w writer.before.bytes writer.after.bytes bytes n o → Tells w writer.before.calls writer.after.calls
+    → Written s screen.before.bytes screen.after.bytes text → Tells s screen.before.calls screen.after.calls → IsTurn mark.Whole old told bytes text mid
+    → ((c : Run) → LeadsTo c mid → LeadsTo (fail fault.Write c) new) → new.progress.over ≡ true → TurnsTold old told writer screen n o new
 turn_off w s old mid new told bytes text writer screen n o on broken a tells b shows t leads over = record {
   mark = failed_mark w;
   bytes = a.front;
@@ -185,7 +189,11 @@ pub turned_on : (w s : Bool) (m : Mark) (old new : Core) (told : Told) (bytes te
 turned_on w s m old new told bytes text writer screen n o e well clear a tells b shows t =
     turn_on w s m old new told bytes text writer screen n o e well clear a tells (written s screen.before.bytes screen.after.bytes text b) shows t
 
-pub turned_off : (w s : Bool) (m : Mark) (old mid new : Core) (told : Told) (bytes text : List ℕ) (writer screen : KnownWriting) (n o : Noted) → ((w && s) || not (is_whole m)) ≡ false → NotesWrite w writer.before.bytes writer.after.bytes bytes n o → Tells w writer.before.calls writer.after.calls → Writes s screen.before.bytes screen.after.bytes text → Tells s screen.before.calls screen.after.calls → (bytes ≡ [] → w ≡ true) → (text ≡ [] → s ≡ true) → IsTurn m old told bytes text mid → ((c : Run) → LeadsTo c mid → LeadsTo (fail fault.Write c) new) → new.progress.over ≡ true → TurnsTold old told writer screen n o new
+pub turned_off : (w s : Bool) (m : Mark) (old mid new : Core) (told : Told) (bytes text : List ℕ) (writer screen : KnownWriting) (n o : Noted)
+    → ((w && s) || not (is_whole m)) ≡ false → NotesWrite w writer.before.bytes writer.after.bytes bytes n o → Tells w writer.before.calls writer.after.calls
+    → Writes s screen.before.bytes screen.after.bytes text → Tells s screen.before.calls screen.after.calls → (bytes ≡ [] → w ≡ true) → (text ≡ [] → s ≡ true)
+    → IsTurn m old told bytes text mid → ((c : Run) → LeadsTo c mid → LeadsTo (fail fault.Write c) new) → new.progress.over ≡ true
+    → TurnsTold old told writer screen n o new
 turned_off w s m old mid new told bytes text writer screen n o e a tells b shows some_bytes some_text t leads over =
     let broken = by_test w s (is_whole m) e in
     let M : Mark → Type 0 = λ n. IsTurn n old told bytes text mid in

@@ -1,5 +1,6 @@
 -- What was written, and one message after another.
-use Rattle.std.proofs.Common.{◌≡◌, ℕ, ◌+◌, ◌≤◌, Bool, true, false, not, ◌||◌, ◌&&◌, ◌⊎◌, ⊎_elim, inl, inr, map, List, [], ◌∷◌, ◌++◌, Option, Some, None, Result, Ok, refl, sym, ap, ◌∙◌, subst, append_assoc, append-nil, take-append-drop, arith, length, take, drop, zero, suc, ◌==◌, nat_eq}
+use Rattle.std.proofs.Common.{◌≡◌, ℕ, ◌+◌, ◌≤◌, Bool, true, false, not, ◌||◌, ◌&&◌, ◌⊎◌, ⊎_elim, inl, inr, map, List, [], ◌∷◌, ◌++◌, Option, Some, None, Result}
+use Rattle.std.proofs.Common.{Ok, refl, sym, ap, ◌∙◌, subst, append_assoc, append-nil, take-append-drop, arith, length, take, drop, zero, suc, ◌==◌, nat_eq}
 use Rattle.std.proofs.lemmas.Bool.{false_from_ne_true, not-false, not-true}
 use Rattle.std.proofs.lemmas.Fn.{FoldsTo-push}
 use Rattle.std.proofs.lemmas.List.{map-append}
@@ -114,7 +115,8 @@ notes_as w v x y bytes others t u f e h =
     subst P e (subst Q f h)
 
 -- where less was written than is to be, as if the rest had not been sent
-turn_front : (m : Mark) (old new : Term) (message : Message) (front back bytes : List ℕ) (put last : Put) → bytes ≡ front ++ back → is_whole m ≡ false → IsTurn m old message bytes put last new → IsTurn m old message front put last new
+turn_front : (m : Mark) (old new : Term) (message : Message) (front back bytes : List ℕ) (put last : Put) → bytes ≡ front ++ back → is_whole m ≡ false
+    → IsTurn m old message bytes put last new → IsTurn m old message front put last new
 turn_front m old new message front back bytes put last e broken t = record {
   leads = λ c at.
       let l = t.leads c at in (
@@ -197,7 +199,12 @@ whole_mark mark.WriteFailed e = absurd (false_true e)
 whole_mark (mark.Refused f put) e = absurd (false_true e)
 
 -- a write failed
-pub turned_off : (written : Bool) (m : Mark) (old mid new : Term) (message : Message) (bytes : List ℕ) (writer : KnownWriting) (t u : Noted) (v w : EntryHand) (put other last : Put) → (written || not (is_whole m)) ≡ false → NotesWrite written writer.before.bytes writer.after.bytes bytes t u → Tells written writer.before.calls writer.after.calls → (bytes ≡ [] → written ≡ true) → IsTurn m old message bytes put other mid → (is_whole m ≡ true → other ≡ Nothing) → ((c : Run) → LeadsTo c mid → LeadsTo (fail fault.Write c) new) → ((c : Run) → LeadsTo c mid → (fail fault.Write c).puts ≡ c.puts ++ puts_of last) → new.progress.over ≡ true → Puts v (puts_of put ++ puts_of last) w → TurnsMessage old message writer t u v w new
+pub turned_off : (written : Bool) (m : Mark) (old mid new : Term) (message : Message) (bytes : List ℕ) (writer : KnownWriting) (t u : Noted) (v w : EntryHand)
+    (put other last : Put) → (written || not (is_whole m)) ≡ false → NotesWrite written writer.before.bytes writer.after.bytes bytes t u
+    → Tells written writer.before.calls writer.after.calls → (bytes ≡ [] → written ≡ true) → IsTurn m old message bytes put other mid
+    → (is_whole m ≡ true → other ≡ Nothing) → ((c : Run) → LeadsTo c mid → LeadsTo (fail fault.Write c) new)
+    → ((c : Run) → LeadsTo c mid → (fail fault.Write c).puts ≡ c.puts ++ puts_of last) → new.progress.over ≡ true → Puts v (puts_of put ++ puts_of last) w
+    → TurnsMessage old message writer t u v w new
 turned_off true m old mid new message bytes writer t u v w put other last e h told some turn unsaid leads puts over p = absurd (true_false e)
 turned_off false m old mid new message bytes writer t u v w put other last e h told some turn unsaid leads puts over p =
     let is_all = not-false (is_whole m) e in
@@ -229,7 +236,8 @@ map-push [] m xs e = ap (λ (ys : List Message). ys ++ m.0 ∷ []) e
 map-push (n ∷ ms) m xs e = ap (λ (ys : List Message). n.0 ∷ ys) (map-push ms m (map (λ u. u.0) ms) refl) ∙ ap (λ (ys : List Message). ys ++ m.0 ∷ []) e
 
 -- what is left over after one more
-pub left_over : (a b : Bool) (s₀ s₁ s₂ b₁ b₂ r₁ r₂ : List ℕ) → s₁ ≡ s₀ ++ (b₁ ++ r₁) → s₂ ≡ s₁ ++ (b₂ ++ r₂) → (a ≡ true → r₁ ≡ []) → (b ≡ true → r₂ ≡ []) → (a ≡ false → (b₂ ≡ []) × (b ≡ true)) → (rest : List ℕ) × (s₂ ≡ s₀ ++ ((b₁ ++ b₂) ++ rest)) × ((a && b) ≡ true → rest ≡ [])
+pub left_over : (a b : Bool) (s₀ s₁ s₂ b₁ b₂ r₁ r₂ : List ℕ) → s₁ ≡ s₀ ++ (b₁ ++ r₁) → s₂ ≡ s₁ ++ (b₂ ++ r₂) → (a ≡ true → r₁ ≡ []) → (b ≡ true → r₂ ≡ [])
+    → (a ≡ false → (b₂ ≡ []) × (b ≡ true)) → (rest : List ℕ) × (s₂ ≡ s₀ ++ ((b₁ ++ b₂) ++ rest)) × ((a && b) ≡ true → rest ≡ [])
 left_over true b s₀ s₁ s₂ b₁ b₂ r₁ r₂ e₁ e₂ w₁ w₂ q = (
   r₂,
   e₂ ∙ ap (λ (s : List ℕ). s ++ (b₂ ++ r₂)) (e₁ ∙ ap (λ (r : List ℕ). s₀ ++ (b₁ ++ r)) (w₁ refl) ∙ ap (λ (r : List ℕ). s₀ ++ r) (append-nil b₁))
@@ -302,7 +310,8 @@ going_on a b d ms m x y z puts n o v w one t = (
             idle = λ off. (t.turn.idle (ap (λ (r : Progress). r.over) p.2.progress ∙ off)).0;
           }),
         );
-    over = λ e. ⊎_elim (λ f. t.turn.stays (one.over f)) (λ f. t.turn.over f) (and_false (all_whole one.marked) (is_whole t.mark) (sym (whole-push one.marked m t.mark) ∙ e));
+    over = λ e. ⊎_elim (λ f. t.turn.stays (one.over f)) (λ f. t.turn.over f)
+        (and_false (all_whole one.marked) (is_whole t.mark) (sym (whole-push one.marked m t.mark) ∙ e));
     stays = λ off. t.turn.stays (one.stays off);
     idle = λ off. ap (λ (bs : List ℕ). bs ++ t.bytes) (one.idle off) ∙ (t.turn.idle (one.stays off)).0;
   },

@@ -12,8 +12,10 @@ lefts-append [] b = omega arith
 lefts-append (x ∷ xs) b = let ih = lefts-append xs b in omega arith
 
 -- the Lefts of all are those of each sender
-one_each : (f : Sender) (n a b c d : ℕ) (na nb nc nd : ℕ) → (same f Net ≡ true → na ≡ n + a) → (same f Net ≡ false → na ≡ a) → (same f Desk ≡ true → nb ≡ n + b) → (same f Desk ≡ false → nb ≡ b)
-    → (same f Back ≡ true → nc ≡ n + c) → (same f Back ≡ false → nc ≡ c) → (same f Keys ≡ true → nd ≡ n + d) → (same f Keys ≡ false → nd ≡ d) → na + nb + nc + nd ≡ n + (a + b + c + d)
+one_each : (f : Sender) (n a b c d : ℕ) (na nb nc nd : ℕ) → (same f Net ≡ true → na ≡ n + a) → (same f Net ≡ false → na ≡ a) → (same f Desk ≡ true → nb ≡ n + b)
+    → (same f Desk ≡ false → nb ≡ b)
+    → (same f Back ≡ true → nc ≡ n + c) → (same f Back ≡ false → nc ≡ c) → (same f Keys ≡ true → nd ≡ n + d) → (same f Keys ≡ false → nd ≡ d)
+    → na + nb + nc + nd ≡ n + (a + b + c + d)
 one_each Net n a b c d na nb nc nd a1 a0 b1 b0 c1 c0 d1 d0 = let x = a1 refl in let y = b0 refl in let z = c0 refl in let w = d0 refl in omega arith
 one_each Desk n a b c d na nb nc nd a1 a0 b1 b0 c1 c0 d1 d0 = let x = a0 refl in let y = b1 refl in let z = c0 refl in let w = d0 refl in omega arith
 one_each Back n a b c d na nb nc nd a1 a0 b1 b0 c1 c0 d1 d0 = let x = a0 refl in let y = b0 refl in let z = c1 refl in let w = d0 refl in omega arith

@@ -1,5 +1,6 @@
 -- A sender's list, message by message, and that of a thread that reads.
-use Rattle.std.proofs.Common.{◌≡◌, ◌≢◌, ℕ, Bool, true, false, List, [], ◌∷◌, ◌++◌, Option, Some, None, option_to_list, append-nil, refl, sym, ap, ◌∙◌, ⊎_elim, inl, inr, append_assoc, length, map, subst, All}
+use Rattle.std.proofs.Common.{◌≡◌, ◌≢◌, ℕ, Bool, true, false, List, [], ◌∷◌, ◌++◌, Option, Some, None, option_to_list, append-nil, refl, sym, ap, ◌∙◌, ⊎_elim}
+use Rattle.std.proofs.Common.{inl, inr, append_assoc, length, map, subst, All}
 use Rattle.std.proofs.lemmas.List.{map-append}
 use Rattle.std.proofs.lemmas.List.Elements.{All-push}
 use Rattle.std.specs.Io.KnownBytes.{Consumes}
@@ -183,7 +184,8 @@ reader_stops who may_stop typing left told p v w u consumed may old small fits s
     )
 
 -- a thread that is never stopped says how its reading ended
-pub closes_ending : (pieces : List (List ℕ)) (left : Option (List ℕ)) (foretold : Option Failures) (close : List Message) → Closes false pieces left foretold close → (last : Message) × (IsEnding last left × IsReadCause foretold (length pieces) last) × (close ≡ last ∷ Left ∷ [])
+pub closes_ending : (pieces : List (List ℕ)) (left : Option (List ℕ)) (foretold : Option Failures) (close : List Message)
+    → Closes false pieces left foretold close → (last : Message) × (IsEnding last left × IsReadCause foretold (length pieces) last) × (close ≡ last ∷ Left ∷ [])
 closes_ending pieces left foretold close closes = ⊎_elim (λ x. x) (λ x. absurd (false_true x.0)) closes
   where
     false_true : false ≡ true → ⊥

@@ -1,5 +1,6 @@
 -- The word to stop: how it is told and taken, and after which messages.
-use Rattle.std.proofs.Common.{◌≡◌, Bool, true, false, not, ◌||◌, ◌&&◌, List, [], ◌∷◌, ◌++◌, Option, Some, None, IfSome, refl, sym, ap, ◌∙◌, subst, map, append_assoc, arith}
+use Rattle.std.proofs.Common.{◌≡◌, Bool, true, false, not, ◌||◌, ◌&&◌, List, [], ◌∷◌, ◌++◌, Option, Some, None, IfSome, refl, sym, ap, ◌∙◌, subst, map}
+use Rattle.std.proofs.Common.{append_assoc, arith}
 use Rattle.crossbeam_channel.specs.Claims.{view, IsSeatAt}
 use Rattle.crossbeam_channel.specs.Ends.{sends_on, receives_on}
 use Rattle.tn_machines.specs.declared.messages.Message.{Message}
@@ -179,7 +180,8 @@ left_mail who x e =
     λ i. record { from = from i; message = message i }
 
 -- as long as it has not left, it is told where that is due
-here_now : (told due now mid next gone : Bool) → gone ≡ false → told ≡ mid → (mid ≡ true → next ≡ true) → due ≡ (next && not gone) → now ≡ (told || due) → now ≡ next
+here_now : (told due now mid next gone : Bool) → gone ≡ false → told ≡ mid → (mid ≡ true → next ≡ true) → due ≡ (next && not gone) → now ≡ (told || due)
+    → now ≡ next
 here_now true due now mid next gone g e more d n = n ∙ sym (more (sym e))
 here_now false due now mid next gone g e more d n = n ∙ d ∙ ap (λ (b : Bool). next && not b) g ∙ and_true next
 
@@ -209,7 +211,8 @@ module _ {Said Mark Run : Type 0} (who : Sender) (said : List Mail → List Said
     same ∙ e,
   )
 
-  now_gone : (xs : List Mail) (x : Mail) (ms : List (Said × Mark)) (k : Said × Mark) (mid : Run) (now : Bool) → has_left who xs ≡ false → x ≡ mail who Left → map (λ m. m.0) ms ≡ said xs → runs ms mid → now ≡ stops mid → (at : LeavesAt who said runs (xs ++ x ∷ []) (ms ++ k ∷ [])) × (now ≡ stops at.by_then)
+  now_gone : (xs : List Mail) (x : Mail) (ms : List (Said × Mark)) (k : Said × Mark) (mid : Run) (now : Bool) → has_left who xs ≡ false → x ≡ mail who Left
+      → map (λ m. m.0) ms ≡ said xs → runs ms mid → now ≡ stops mid → (at : LeavesAt who said runs (xs ++ x ∷ []) (ms ++ k ∷ [])) × (now ≡ stops at.by_then)
   now_gone xs x ms k mid now here is messages leads e = (
     record {
       before = xs;

@@ -1,5 +1,6 @@
 -- One more step of a background job.
-use Rattle.std.proofs.Common.{◌≡◌, ℕ, ◌==◌, Bool, true, false, not, List, [], ◌∷◌, ◌++◌, ◌⊎◌, ⊎_elim, inl, inr, map, drop, length, length-drop, arith, ◌<◌, None, append_assoc, refl, sym, ap, ◌∙◌, subst, if◌then◌else◌, eq-eqb, eqb-true}
+use Rattle.std.proofs.Common.{◌≡◌, ℕ, ◌==◌, Bool, true, false, not, List, [], ◌∷◌, ◌++◌, ◌⊎◌, ⊎_elim, inl, inr, map, drop, length, length-drop, arith, ◌<◌}
+use Rattle.std.proofs.Common.{None, append_assoc, refl, sym, ap, ◌∙◌, subst, if◌then◌else◌, eq-eqb, eqb-true}
 use Rattle.std.proofs.lemmas.Fn.{FoldsTo-push}
 use Rattle.std.proofs.lemmas.List.{map-append}
 use Rattle.std.specs.List.{FoldsTo}
@@ -58,7 +59,8 @@ module _ {J : Type 0} (began : ℕ → J → Type 0) (steps : J → Reaction →
       let P : List Reaction → Type 0 = λ xs. FoldsTo steps c.0 xs new in
       (c.0, c.1, subst P (sym (same-push said s s.0.0 (eq-eqb s.0.0 s.0.0 refl))) (FoldsTo-push steps c.0 (reactions_of s.0.0 said) job s.1 new c.2 step))
 
-  chain_stays : (said : List Said) (s : Said) (id : ℕ) (job : J) → (s.0.0 == id) ≡ false → Chain began steps said id job → Chain began steps (said ++ s ∷ []) id job
+  chain_stays : (said : List Said) (s : Said) (id : ℕ) (job : J) → (s.0.0 == id) ≡ false → Chain began steps said id job
+      → Chain began steps (said ++ s ∷ []) id job
   chain_stays said s id job e c = let P : List Reaction → Type 0 = λ xs. FoldsTo steps c.0 xs job in (c.0, c.1, subst P (sym (other-push said s id e)) c.2)
 
   is_other : (a b : ℕ) → (a ≡ b → ⊥) → (a == b) ≡ false

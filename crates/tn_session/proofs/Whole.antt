@@ -1,5 +1,6 @@
 -- A whole session: its passes joined, and what its threads did.
-use Rattle.std.proofs.Common.{◌≡◌, ℕ, Bool, true, false, ◌&&◌, List, [], ◌∷◌, ◌++◌, Option, Some, None, refl, sym, ap, ◌∙◌, ⊎_elim, inl, inr, map, subst, append-nil, append_assoc, arith}
+use Rattle.std.proofs.Common.{◌≡◌, ℕ, Bool, true, false, ◌&&◌, List, [], ◌∷◌, ◌++◌, Option, Some, None, refl, sym, ap, ◌∙◌, ⊎_elim, inl, inr, map, subst}
+use Rattle.std.proofs.Common.{append-nil, append_assoc, arith}
 use Rattle.std.specs.Io.KnownBytes.{Appends}
 use Rattle.std.specs.List.{FoldsTo}
 use Rattle.tn_discipline.specs.Canon.{Canon}
@@ -139,7 +140,9 @@ back_sent began acts jobs stopped v s =
     (is_close began acts stopped s.0 s.1 s.6 s.8)
 
 -- what was written, with the opening words
-wrote_all : (b : Bool) (words front back bytes rest sends : List ℕ) (x y z : Option (List ℕ)) (whole : Bool) → words ≡ front ++ back → (b ≡ true → back ≡ []) → Appends x y front → Appends y z bytes → (b ≡ false → bytes ≡ []) → sends ≡ words ++ (bytes ++ rest) → (whole ≡ true → rest ≡ []) → (unwritten : List ℕ) × Appends x z (front ++ bytes) × (sends ≡ (front ++ bytes) ++ unwritten) × ((b && whole) ≡ true → unwritten ≡ [])
+wrote_all : (b : Bool) (words front back bytes rest sends : List ℕ) (x y z : Option (List ℕ)) (whole : Bool) → words ≡ front ++ back → (b ≡ true → back ≡ [])
+    → Appends x y front → Appends y z bytes → (b ≡ false → bytes ≡ []) → sends ≡ words ++ (bytes ++ rest) → (whole ≡ true → rest ≡ []) → (unwritten : List ℕ)
+    × Appends x z (front ++ bytes) × (sends ≡ (front ++ bytes) ++ unwritten) × ((b && whole) ≡ true → unwritten ≡ [])
 wrote_all true words front back bytes rest sends x y z whole split none one two idle is all =
     let same : words ≡ front = split ∙ ap (λ (bs : List ℕ). front ++ bs) (none refl) ∙ append-nil front in
     (rest, appends_more x y z front bytes one two, is ∙ ap (λ (bs : List ℕ). bs ++ (bytes ++ rest)) same ∙ sym (append_assoc front bytes rest), all)
@@ -152,7 +155,8 @@ wrote_all false words front back bytes rest sends x y z whole split none one two
 )
 
 -- the run as it begins, and what was written by then
-opened_up : (b : Bool) (begin : Run) (words front back : List ℕ) (x y : Option (List ℕ)) → says begin ≡ words → words ≡ front ++ back → (b ≡ true → back ≡ []) → (b ≡ false → is_over begin ≡ true) → IsUpTo Turns says is_over is_marked_whole begin front
+opened_up : (b : Bool) (begin : Run) (words front back : List ℕ) (x y : Option (List ℕ)) → says begin ≡ words → words ≡ front ++ back → (b ≡ true → back ≡ [])
+    → (b ≡ false → is_over begin ≡ true) → IsUpTo Turns says is_over is_marked_whole begin front
 opened_up true begin words front back x y is split none off =
     let same : front ≡ says begin = sym (append-nil front) ∙ ap (λ (bs : List ℕ). front ++ bs) (sym (none refl)) ∙ sym split ∙ sym is in
     (([], append-nil front ∙ same), inl same)
@@ -197,7 +201,8 @@ pub scheduled : {J : Type 0} (facts : JobActs J) (jobs : SessionJobs J) (stopped
     (noted₀ : Noted) (term mid last : Term) (pass₀ : View) (hand₀ : EntryHand) (ended : SessionViews) (result : SessionResult)
     → pass₀ ≡ handler [] → hand₀ ≡ putter [] → IsOpening term words (from_to x y) no_notes noted₀ mid
     → HandlesAll mid pass₀ ended.term hand₀ ended.put (from_to y z) noted₀ result.noted ended.told last
-    → ReaderSends Net false reader ended.net → IsTalk {J = J} jobs.first (IsJob jobs.job) facts ended.desk ended.took → AreSteps {J = J} (Holds jobs.queue) facts (queue_of jobs.tostop jobs.queue) stopped ended.back → (stopped ≡ true → ended.told ≡ putter [] → ⊥)
+    → ReaderSends Net false reader ended.net → IsTalk {J = J} jobs.first (IsJob jobs.job) facts ended.desk ended.took
+    → AreSteps {J = J} (Holds jobs.queue) facts (queue_of jobs.tostop jobs.queue) stopped ended.back → (stopped ≡ true → ended.told ≡ putter [] → ⊥)
     → AreSettled ended result.views → result.report ≡ report_of last.progress
     → IsRun {J = J} facts jobs term words reader (from_to x z) result
 scheduled {J} facts jobs stopped words reader x y z noted₀ term mid last pass₀ hand₀ ended result ep eh o acted sn talked stepped never settled er settings

@@ -83,7 +83,8 @@ module _ (T : History → Type 0) (said : List Item) (s : ClientKeeps T said) wh
   }
 
   -- it did not
-  stood : (c new : Run) → new.sent ≡ c.sent → new.history ≡ c.history → (new.progress.closed ≡ false → c.progress.closed ≡ false) → ClientAt T c → ClientAt T new
+  stood : (c new : Run) → new.sent ≡ c.sent → new.history ≡ c.history → (new.progress.closed ≡ false → c.progress.closed ≡ false) → ClientAt T c
+      → ClientAt T new
   stood c new e f g t = record { latest = λ o. e ∙ t.latest (g o) ∙ sym f; tied = subst T (sym e) t.tied }
 
   turned : (c new : Run) (from : Origin) (m : Message) → new.sent ≡ c.sent → new.history ≡ c.history → new.progress ≡ after_message from m c.progress

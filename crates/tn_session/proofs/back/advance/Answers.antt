@@ -34,5 +34,8 @@ returns g c = record {
   was = c.pop_front.ensures.items ∙ ap (λ o. option_to_list o ++ c.pop_front.new.self.items) c.in-Some.is;
   number = refl;
   step = c.in-Ok.ensures.stepped;
-  left = kept_on (stays c.args.tostop c.in-Ok.reaction) c.pop_front.new.self.items c.push_back_reserved.new.self.items (record { id = c.in-Some.field-0.id; job = c.step.new.self }) (stays_is c.args.tostop c.in-Ok.reaction c.as_slice.result.now c.is_empty.result c.goes_on-on.result c.as_slice.ensures c.is_empty.ensures c.goes_on-on.ensures ∙ c.if-not-on.false) c.push_back_reserved.ensures.items;
+  left = kept_on (stays c.args.tostop c.in-Ok.reaction) c.pop_front.new.self.items c.push_back_reserved.new.self.items
+      (record { id = c.in-Some.field-0.id; job = c.step.new.self })
+      (stays_is c.args.tostop c.in-Ok.reaction c.as_slice.result.now c.is_empty.result c.goes_on-on.result c.as_slice.ensures c.is_empty.ensures
+      c.goes_on-on.ensures ∙ c.if-not-on.false) c.push_back_reserved.ensures.items;
 }

@@ -20,7 +20,10 @@ returns-clause-turned g c =
     let text = c.handle-mark.new.screen.items in
     let w = c.write_out-written in
     let s = c.write_out-shown in
-    turned_off w.result s.result c.handle-mark.result c.args.core.now c.handle-mark.new.self c.write_failed.new.self c.args.told bytes text _ _ _ _ (sym c.is_done.ensures ∙ c.if-is_done.false) w.ensures.writes w.ensures.tells (writes_as s.result s.result _ _ _ text refl c.deref.ensures.value s.ensures.writes) s.ensures.tells w.ensures.none (λ f. s.ensures.none (c.deref.ensures.value ∙ f)) c.handle-mark.ensures.turns c.write_failed.ensures.leads c.write_failed.ensures.over
+    turned_off w.result s.result c.handle-mark.result c.args.core.now c.handle-mark.new.self c.write_failed.new.self c.args.told bytes text _ _ _ _
+    (sym c.is_done.ensures ∙ c.if-is_done.false) w.ensures.writes w.ensures.tells
+    (writes_as s.result s.result _ _ _ text refl c.deref.ensures.value s.ensures.writes) s.ensures.tells w.ensures.none
+    (λ f. s.ensures.none (c.deref.ensures.value ∙ f)) c.handle-mark.ensures.turns c.write_failed.ensures.leads c.write_failed.ensures.over
 
 pub returns-then-is_done-clause-silent : goal.returns-then-is_done-clause-silent
 returns-then-is_done-clause-silent g c done = c.write_out-written.ensures.silent

@@ -16,4 +16,5 @@ pub returns-clause-gives : goal.returns-clause-gives
 returns-clause-gives g c = (consumes_none _ _ c.in-Err-2.ensures.bytes, tt)
 
 pub returns-clause-foretold : goal.returns-clause-foretold
-returns-clause-foretold g c = come_failed c.in-Err.error 4294967295 0 0 _ _ _ (c.is_interrupted.ensures.failed c.if-is_interrupted.false) (come_none _) c.in-Err.ensures.foretells
+returns-clause-foretold g c = come_failed c.in-Err.error 4294967295 0 0 _ _ _ (c.is_interrupted.ensures.failed c.if-is_interrupted.false)
+    (come_none _) c.in-Err.ensures.foretells

@@ -43,7 +43,8 @@ returns-clause-ran g c began words first opened settings table at ew =
     HandlesAll c.args.term.now (view c.args.passes.mails) (view ended.passes.mails) (view c.args.passes.hand) (view ended.passes.hand)
     (record { before = writer c.args.writer.now; after = writer c.run_term.new.writer }) (noted_of c.args.output.transcript) n
     (view c.run_term.new.watched.stops.pass) c.run_term.new.term) (sym (ap noted_of c.settle-ports.ensures.transcript)) ended.ensures.acted)
-    (subst (λ s. TypingSends s false typing (view returned.net)) c.requires.net.1 (join.ensures.net.1 c.requires.net.2)).0 join.ensures.desk.2 join.ensures.back.1 c.settle-ports.ensures.stopped
+    (subst (λ s. TypingSends s false typing (view returned.net)) c.requires.net.1 (join.ensures.net.1 c.requires.net.2)).0 join.ensures.desk.2
+    join.ensures.back.1 c.settle-ports.ensures.stopped
     c.settle-ports.ensures.settled (c.report.ensures ∙ ap report_of c.progress.ensures)
     settings table at ew
 

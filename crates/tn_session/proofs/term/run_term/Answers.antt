@@ -49,7 +49,8 @@ loop-init g c =
       omega arith,
       c.give_credit-owed.ensures.seat,
       reach_start c.args.term.now,
-      stands_next c.progress.result.over false c.finish_once-closed.result false c.args.term.now.progress.over _ _ _ _ (open_none _) (open_none _) (λ e. refl) (λ e. absurd (false_true e)) (ap (λ (p : Progress). p.over) c.progress.ensures) c.finish_once-closed.ensures.closes,
+      stands_next c.progress.result.over false c.finish_once-closed.result false c.args.term.now.progress.over _ _ _ _ (open_none _) (open_none _) (λ e. refl)
+          (λ e. absurd (false_true e)) (ap (λ (p : Progress). p.over) c.progress.ensures) c.finish_once-closed.ensures.closes,
       c.tell.ensures.seat,
       c.tell.ensures.to,
       c.in_ok-told.ensures.word,
@@ -97,7 +98,8 @@ loop-preserved g c =
       c.turn.ensures.out,
       omega (arith, small, more, c.leaves-left.ensures),
       c.give_credit-owed-in-loop.ensures.seat,
-      reach_next c.args.term.now c.loop.term c.turn.new.term _ x.message _ _ i.1 _ _ _ _ i.6 t (λ d at. c.welcomes.ensures.welcome d at c.if-not-welcomes.false) c.loop.invariant.6,
+      reach_next c.args.term.now c.loop.term c.turn.new.term _ x.message _ _ i.1 _ _ _ _ i.6 t
+          (λ d at. c.welcomes.ensures.welcome d at c.if-not-welcomes.false) c.loop.invariant.6,
       stands_next c.progress-in-loop-2.result.over c.loop.closed c.finish_once-closed-in-loop.result c.loop.term.progress.over c.turn.new.term.progress.over _ _
           _ _ c.loop.invariant.7 c.turn.ensures.going c.turn.ensures.silent t.turn.stays
           (ap (λ (p : Progress). p.over) c.progress-in-loop-2.ensures) c.finish_once-closed-in-loop.ensures.closes,

@@ -40,7 +40,9 @@ returns-in-Err-2-clause-writes g c =
 
 pub returns-in-Err-2-clause-tells : goal.returns-in-Err-2-clause-tells
 returns-in-Err-2-clause-tells g c =
-    accounts_failed (CountsWrite c.args.bytes.now (Err c.in-Err.error)) max_writes c.loop-write._write _ _ _ _ (write_fails c.args.bytes.now c.in-Err.error (c.is_interrupted.ensures.failed c.if-is_interrupted.false)) c.loop-write.invariant.2 c.in-Err.ensures.tells
+    accounts_failed (CountsWrite c.args.bytes.now (Err c.in-Err.error)) max_writes c.loop-write._write _ _ _ _
+    (write_fails c.args.bytes.now c.in-Err.error (c.is_interrupted.ensures.failed c.if-is_interrupted.false)) c.loop-write.invariant.2
+    c.in-Err.ensures.tells
 
 pub returns-clause-tells : goal.returns-clause-tells
 returns-clause-tells g c =

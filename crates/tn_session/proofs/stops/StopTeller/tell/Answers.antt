@@ -12,4 +12,5 @@ send_as-requires-clause-rule g c =
     )
 
 pub returns-in-Ok-clause-word : goal.returns-in-Ok-clause-word
-returns-in-Ok-clause-word g c = told_now (view c.args.self.now.pass) _ _ (not_told c.args.told (view c.args.self.now.pass) c.if-told.false c.requires.word) c.in-Ok.ensures.rule
+returns-in-Ok-clause-word g c = told_now (view c.args.self.now.pass) _ _
+    (not_told c.args.told (view c.args.self.now.pass) c.if-told.false c.requires.word) c.in-Ok.ensures.rule
