@@ -22,8 +22,9 @@ abbrev pub window_of : Connecting → Window
 window_of connecting =
     record { width = connecting.width; height = connecting.height; limit = connecting.line_limit }
 
--- What is known beforehand of the keys of a reader with these bytes: the bytes, and that no size of a window is told
--- and nothing asked for; or nothing where they are waited for, but that only at a terminal anything is asked for.
+-- What is known beforehand of the keys of a reader with these bytes: the bytes, and that no size of a window
+-- is told and nothing asked for; or nothing where they are waited for, but that only at a terminal anything
+-- is asked for.
 abbrev pub foreseen : Origin → Option (List ℕ) → KnownTyping
 foreseen Reader bytes =
     record { reader = record { bytes = bytes; failures = None; sizes = Some [] }; controls = Some [] }
@@ -47,7 +48,10 @@ keyboard_of connecting = keyboard_by connecting.origin connecting.escape
 abbrev pub RunsWriting : Window → KnownTyping → Option (List ℕ) → Option (List ℕ) → Option (List ℕ) → Report → ClientPorts → Type 0
 RunsWriting window keys seen now written report ports =
     RunningClient window keys (record { bytes = None; failures = None; sizes = Some [] })
-    (record { before = record { bytes = Some []; calls = None }; after = record { bytes = written; calls = None } })
+    (record {
+      before = record { bytes = Some []; calls = None };
+      after = record { bytes = written; calls = None };
+    })
     (record { before = record { bytes = seen; calls = None }; after = record { bytes = now; calls = None } })
     (client_result report ports)
 
@@ -61,13 +65,15 @@ abbrev pub connection_of : Connected → TcpStream
 connection_of connected = connected.connection.value
 
 -- a session ran over the connection that there is; where one was to run, there was a connection
-abbrev pub NeedsConnection : {A : Type 0} → (A → TcpStream) → Result A ConnectFault → Result TcpStream Error → Type 0
+abbrev pub NeedsConnection : {A : Type 0} → (A → TcpStream) → Result A ConnectFault → Result TcpStream Error
+    → Type 0
 NeedsConnection over (Ok ran) reached = reached ≡ Ok (over ran)
 NeedsConnection over (Err Session) reached = IsOk reached
 NeedsConnection over (Err Network) reached = Unit {0}
 NeedsConnection over (Err Memory) reached = Unit {0}
 
 -- it was asked for a connection, and this came of it, over that connection
-abbrev pub ConnectsBy : {A : Type 0} → (A → TcpStream) → (Result TcpStream Error → Type 0) → Result A ConnectFault → Type 0
+abbrev pub ConnectsBy : {A : Type 0} → (A → TcpStream) → (Result TcpStream Error → Type 0)
+    → Result A ConnectFault → Type 0
 ConnectsBy over reaches result =
     (reached : Result TcpStream Error) × reaches reached × NeedsConnection over result reached

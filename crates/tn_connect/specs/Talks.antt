@@ -19,7 +19,8 @@ abbrev pub standard_settings : Settings
 standard_settings = record { flags = standard_flags; chars = standard_characters }
 
 abbrev pub kind_by : Origin → Plain → Kind
-kind_by (Terminal own) plain = typed (record { settings = standard_settings; limit = plain.line_limit }) plain.line_end
+kind_by (Terminal own) plain = typed (record { settings = standard_settings; limit = plain.line_limit })
+    plain.line_end
 kind_by Reader plain = read plain.line_end
 kind_by Input plain = read plain.line_end
 
@@ -52,7 +53,8 @@ pub record RunsTalk (plain : Plain) (bytes seen now : Option (List ℕ)) (report
   pub service_left : Option (List ℕ)
   pub warned : Option ℕ
   pub warned_at_last : Option ℕ
-  pub ran : Talked (kind_of plain) (is_terminal plain.origin) (bytes_in report.typed) (bytes_in report.heard) unsent
+  pub ran : Talked (kind_of plain) (is_terminal plain.origin) (bytes_in report.typed)
+      (bytes_in report.heard) unsent
       (streams bytes service (Some []) seen warned)
       (streams keys_left service_left (Some (logged report.told)) now warned_at_last)
   pub count : report.unsent ≡ length unsent

@@ -21,15 +21,17 @@ terminal_of options =
       editing = options.editing;
     }
 
--- A server's session ran with such jobs, and gave back this. Of the connection nothing was known before, but that
--- it tells no size; all that was written to it stands in the log, and all that was read from it in the ports.
+-- A server's session ran with such jobs, and gave back this. Of the connection nothing was known before, but
+-- that it tells no size; all that was written to it stands in the log, and all that was read from it in the
+-- ports.
 abbrev pub RunsServer : {J : Type 0} → JobFacts J → Option ℕ → SessionOptions → Conversed → Type 0
 RunsServer facts to_make options conversed =
-    RunningSession facts to_make (terminal_of options) (record { bytes = None; failures = None; sizes = Some [] })
+    RunningSession facts to_make (terminal_of options)
+    (record { bytes = None; failures = None; sizes = Some [] })
     (wrote conversed.log) (session_result conversed.report conversed.ports)
 
--- What the thread of a session gives back: where that came to its report, such a session ran, in which never too
--- many entries waited; else why it did not.
+-- What the thread of a session gives back: where that came to its report, such a session ran, in which never
+-- too many entries waited; else why it did not.
 abbrev pub IsPromised : {J : Type 0} → JobFacts J → Option ℕ → SessionOptions → Ran → Type 0
 IsPromised facts to_make options ran =
     IfErr ran.ended IsRefusal

@@ -58,7 +58,8 @@ where
             options: self.options,
         };
         let work = move || -> Ran
-            ensures { IsPromised (job_facts (begins M.Job.fresh M.gives self.jobs) M.Job.reacts M.Job.steps M.Job.refuses)
+            ensures { IsPromised (job_facts (begins M.Job.fresh M.gives self.jobs) M.Job.reacts M.Job.steps
+                M.Job.refuses)
                 (M.left self.jobs) self.options result }
         {
             let ran = self.run();

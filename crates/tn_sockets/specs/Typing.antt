@@ -1,6 +1,7 @@
 -- What is typed at a terminal, of which an escape character makes commands to the client itself, and control
 -- functions that are asked of the session.
-use Rattle.std.specs.Prelude.{◌≡◌, ◌≤◌, ◌⊎◌, ℕ, nat_eq, Bool, true, false, Option, None, Some, List, [], ◌∷◌, ◌++◌, length, take, if◌then◌else◌}
+use Rattle.std.specs.Prelude.{◌≡◌, ◌≤◌, ◌⊎◌, ℕ, nat_eq, Bool, true, false, Option, None, Some, List, [], ◌∷◌}
+use Rattle.std.specs.Prelude.{◌++◌, length, take, if◌then◌else◌}
 use Rattle.tn_sockets.specs.declared.escaping.Command.{Command}
 use Rattle.tn_sockets.specs.declared.escaping.Command.TheVariants.{Close, Help, Status, Suspend, Unknown}
 use Rattle.tn_sockets.specs.Mapping.{mapped, none_own}

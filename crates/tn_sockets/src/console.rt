@@ -55,7 +55,8 @@ enum Ready {
 }
 
 /// Keys from standard input, and what its user asks the client itself for. Of what is typed nothing is known
-/// beforehand. While keys are held back, a user who speaks to the client itself is heard: what is typed is read ahead.
+/// beforehand. While keys are held back, a user who speaks to the client itself is heard: what is typed is
+/// read ahead.
 #[derive(Drop)]
 pub struct Console<H, K> {
     rt: H,
@@ -208,8 +209,8 @@ impl<H: Clock + Copy + Wait, K: Read + Drop> Console<H, K> {
         self.terminal = terminal;
     }
 
-    // Gives the first of the keys that are kept, or has a control function told; where there is neither, it is as if
-    // a signal had come.
+    // Gives the first of the keys that are kept, or has a control function told; where there is neither, it
+    // is as if a signal had come.
     fn give(&mut self, buf: &mut [u8]) -> io::Result<usize>
         ensures bound { ReadsAtMost result buf.new }
         ensures inputs { handed_on (given_of result buf.new) self.new.asked ++ self.new.kept.items

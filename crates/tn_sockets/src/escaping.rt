@@ -2,7 +2,8 @@
 
 ghost use Rattle.std.specs.Prelude.{◌≡◌, ◌≤◌, ◌+◌, ◌++◌, false, List, Option, None, [], ◌∷◌, length, take};
 ghost use Rattle.std.specs.VecDeque.{deque_capacity, deque_len};
-ghost use Rattle.tn_sockets.specs.Typing.{IsTakenUpTo, Obeys, command, commands, inputs, is_escape, meant, of_bytes, reading, waits, waits_behind};
+ghost use Rattle.tn_sockets.specs.Typing.{IsTakenUpTo, Obeys, command, commands, inputs, is_escape, meant};
+ghost use Rattle.tn_sockets.specs.Typing.{of_bytes, reading, waits, waits_behind};
 
 use crate::own_characters::OwnCharacters;
 use std::collections::VecDeque;
@@ -115,8 +116,8 @@ impl Escaping {
         Typed::Key(self.keyboard.own.mapped(byte))
     }
 
-    /// Keeps what a session gets of these bytes, behind what is kept, and has each command obeyed once; both in
-    /// their order. Answers how many bytes were taken: what stands behind one that asks to close is not.
+    /// Keeps what a session gets of these bytes, behind what is kept, and has each command obeyed once; both
+    /// in their order. Returns how many bytes were taken: what stands behind one that asks to close is not.
     pub fn sort<O: Obey>(
         &mut self,
         bytes: &[u8],

@@ -7,8 +7,8 @@ use crate::write_log::WriteLog;
 use std::io;
 use tn_streams::{Drain, Finish};
 
-/// A writer with a log of the bytes that it took, so that contracts see them though it tells nothing itself, as
-/// a socket does.
+/// A writer with a log of the bytes that it took, so that contracts see them though it tells nothing itself,
+/// as a socket does.
 #[derive(Drop)]
 pub struct Logged<W> {
     writer: W,
