@@ -65,7 +65,9 @@ fn own_of(rt: &HostRuntime) -> OwnCharacters {
         Ok(count) => own_characters(&text[..count]),
     };
     if told.is_none() {
-        let _ = eprintln!(rt; "tn: TN_KEYS tells no characters of a terminal: the standard ones are taken");
+        let _ = eprintln!(rt;
+            "tn: TN_KEYS tells no characters of a terminal: the standard ones are taken"
+        );
     }
     told.unwrap_or(OwnCharacters::none())
 }

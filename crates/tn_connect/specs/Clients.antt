@@ -42,10 +42,11 @@ keyboard_by (Terminal own) escape = record { escape = escape; own = own }
 abbrev pub keyboard_of : Connecting → Keyboard
 keyboard_of connecting = keyboard_by connecting.origin connecting.escape
 
--- A client's session ran with these keys and this screen, before and after it, wrote these bytes, and gave back this.
--- Of what the connection brings nothing was known before, but that it tells no size; all that was read from it stands
--- in the ports.
-abbrev pub RunsWriting : Window → KnownTyping → Option (List ℕ) → Option (List ℕ) → Option (List ℕ) → Report → ClientPorts → Type 0
+-- A client's session ran with these keys and this screen, before and after it, wrote these bytes, and gave
+-- back this. Of what the connection brings nothing was known before, but that it tells no size; all that was
+-- read from it stands in the ports.
+abbrev pub RunsWriting : Window → KnownTyping → Option (List ℕ) → Option (List ℕ) → Option (List ℕ) → Report
+    → ClientPorts → Type 0
 RunsWriting window keys seen now written report ports =
     RunningClient window keys (record { bytes = None; failures = None; sizes = Some [] })
     (record {

@@ -38,14 +38,15 @@ own_by (Terminal own) = own
 own_by Reader = none_own
 own_by Input = none_own
 
--- the keys that the bytes of a reader are: at a terminal its own special characters stand for the standard ones
+-- the keys that the bytes of a reader are: at a terminal its own special characters stand for the standard
+-- ones
 abbrev pub keys_in : Origin → Option (List ℕ) → Option (List ℕ)
 keys_in (Terminal own) bytes = option_map (map (mapped own)) bytes
 keys_in Reader bytes = bytes
 keys_in Input bytes = bytes
 
--- A talk was held with these keys and this screen, before and after it: all that was typed, said and told stands in the
--- logs, and so many bytes more were to be told.
+-- A talk was held with these keys and this screen, before and after it: all that was typed, said and told
+-- stands in the logs, and so many bytes more were to be told.
 pub record RunsTalk (plain : Plain) (bytes seen now : Option (List ℕ)) (report : TalkReport) : Type 0 where
   pub unsent : List ℕ
   pub keys_left : Option (List ℕ)

@@ -36,8 +36,8 @@ use std::time::Duration;
 use tn_network::{Network, reach};
 use tn_session::{ClientPorts, Ended, Report, SessionFault, client_session};
 use tn_sockets::{
-    Connection, Console, Host, Incoming, Keyboard, Keys, Link, Logged, NewQueue, Outgoing, PiecePass, Queue,
-    Sent, Sizes, Terminal, Trace, Typing, WriteLog, new_queue,
+    Connection, Console, Host, Incoming, Keyboard, Keys, Link, Logged, NewQueue, Outgoing,
+    PiecePass, Queue, Sent, Sizes, Terminal, Trace, Typing, WriteLog, new_queue,
 };
 use tn_streams::{Drain, Source};
 

@@ -7,8 +7,8 @@ use std::io;
 use std::io::Read;
 use tn_sockets::OwnCharacters;
 
-/// The keys that the bytes of a reader are: each of the terminal's own special characters stands for the standard one of
-/// the same function.
+/// The keys that the bytes of a reader are: each of the terminal's own special characters stands for the
+/// standard one of the same function.
 #[derive(Drop)]
 pub(crate) struct MappedKeys<K> {
     keys: K,

@@ -16,8 +16,8 @@ pub enum Origin {
     /// Standard input, each of whose bytes is a key; it is waited for, so that the session ends though
     /// nothing comes.
     Input,
-    /// The same at a terminal with these special characters, whose user speaks to the client itself behind the escape
-    /// character.
+    /// The same at a terminal with these special characters, whose user speaks to the client itself behind
+    /// the escape character.
     Terminal(OwnCharacters),
 }
 

@@ -115,8 +115,8 @@ pub fn connect_plain<H: Host + Network, K: Read + Drop, S: Write, E: Drain>(
     screen: &mut S,
     notes: Notes<'_, E>,
 ) -> Result<TalkReport, ConnectFault>
-    ensures talked { IfOk result
-        (RunsTalk plain (keys_in plain.origin (K.remaining keys)) (S.contents screen.old) (S.contents screen.new)) }
+    ensures talked { IfOk result (RunsTalk plain (keys_in plain.origin (K.remaining keys))
+        (S.contents screen.old) (S.contents screen.new)) }
     ensures reached { ConnectsBy talked_over (Reaches (H.finds rt host.now plain.port) (H.dials rt)) result }
 {
     let Notes {

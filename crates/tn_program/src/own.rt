@@ -9,8 +9,8 @@ use tn_connect::OwnCharacters;
 /// How many bytes tell the characters of a terminal.
 pub const OWN_LENGTH: usize = 12;
 
-/// The characters that a text tells: two hexadecimal digits each, of INTR, QUIT, SUSP, ERASE, KILL and EOF, and `00`
-/// where there is none.
+/// The characters that a text tells: two hexadecimal digits each, of INTR, QUIT, SUSP, ERASE, KILL and EOF,
+/// and `00` where there is none.
 pub fn own_characters(text: &[u8]) -> Option<OwnCharacters>
     ensures { result ≡ own_in text.now }
 {

@@ -69,8 +69,10 @@ module _ (own : OwnCharacters) (allowed : AreAllowed (characters_of own)) (key :
   Means = (role_of_mapped (with_chars standard_characters) (mapped own key) ≡ role_of_mapped (with_chars chars) key)
       × ((mapped own key == 13) ≡ (key == 13))
 
-  role_by : (eof erase kill intr quit susp : Bool) → (key == 10) ≡ false → is_set_to own.eof key ≡ eof → is_set_to own.erase key ≡ erase → is_set_to own.kill key ≡ kill
-      → is_set_to own.intr key ≡ intr → is_set_to own.quit key ≡ quit → is_set_to own.susp key ≡ susp → role_of_mapped (with_chars chars) key ≡ by eof erase kill intr quit susp key
+  role_by : (eof erase kill intr quit susp : Bool) → (key == 10) ≡ false → is_set_to own.eof key ≡ eof → is_set_to own.erase key ≡ erase
+      → is_set_to own.kill key ≡ kill
+      → is_set_to own.intr key ≡ intr → is_set_to own.quit key ≡ quit → is_set_to own.susp key ≡ susp
+      → role_of_mapped (with_chars chars) key ≡ by eof erase kill intr quit susp key
   role_by eof erase kill intr quit susp n e1 e2 e3 e4 e5 e6 = λ i. if n i then Nl else by (e1 i) (e2 i) (e3 i) (e4 i) (e5 i) (e6 i) key
 
   mapped_by : (o : Option Func) → is_reserved key ≡ false → own_function own key ≡ o → mapped own key ≡ standard_for o key
@@ -84,61 +86,74 @@ module _ (own : OwnCharacters) (allowed : AreAllowed (characters_of own)) (key :
 
   as_intr : slot chars func.Ip ≡ Some key → Means
   as_intr has =
-      let o : own_function own key ≡ Some func.Ip = λ i. of (is_set own.intr key has i) (is_set_to own.quit key) (is_set_to own.susp key) (is_set_to own.erase key) (is_set_to own.kill key) (is_set_to own.eof key) in
+      let o : own_function own key ≡ Some func.Ip = λ i. of (is_set own.intr key has i) (is_set_to own.quit key) (is_set_to own.susp key)
+      (is_set_to own.erase key) (is_set_to own.kill key) (is_set_to own.eof key) in
       let m : mapped own key ≡ 3 = mapped_by (Some func.Ip) (unreserved func.Ip has) o in
       let r : role_of_mapped (with_chars chars) key ≡ Signal Int =
-      role_by false false false true (is_set_to own.quit key) (is_set_to own.susp key) (no_feed func.Ip has) (other func.Ip func.Eof has (λ e. cc)) (other func.Ip func.Ec has (λ e. cc)) (other func.Ip func.El has (λ e. cc)) (is_set own.intr key has) refl refl in
+      role_by false false false true (is_set_to own.quit key) (is_set_to own.susp key) (no_feed func.Ip has) (other func.Ip func.Eof has (λ e. cc))
+      (other func.Ip func.Ec has (λ e. cc)) (other func.Ip func.El has (λ e. cc)) (is_set own.intr key has) refl refl in
       (ap (role_of_mapped (with_chars standard_characters)) m ∙ sym r, ap (λ n. n == 13) m ∙ sym (no_return func.Ip has))
 
   as_quit : slot chars func.Abort ≡ Some key → Means
   as_quit has =
       let no : (g : Func) → (func.Abort ≡ g → ⊥) → is_set_to (slot chars g) key ≡ false = λ g apart. other func.Abort g has apart in
-      let o : own_function own key ≡ Some func.Abort = λ i. of (no func.Ip (λ e. cc) i) (is_set own.quit key has i) (is_set_to own.susp key) (is_set_to own.erase key) (is_set_to own.kill key) (is_set_to own.eof key) in
+      let o : own_function own key ≡ Some func.Abort = λ i. of (no func.Ip (λ e. cc) i) (is_set own.quit key has i) (is_set_to own.susp key)
+      (is_set_to own.erase key) (is_set_to own.kill key) (is_set_to own.eof key) in
       let m : mapped own key ≡ 28 = mapped_by (Some func.Abort) (unreserved func.Abort has) o in
       let r : role_of_mapped (with_chars chars) key ≡ Signal Quit =
-      role_by false false false false true (is_set_to own.susp key) (no_feed func.Abort has) (no func.Eof (λ e. cc)) (no func.Ec (λ e. cc)) (no func.El (λ e. cc)) (no func.Ip (λ e. cc)) (is_set own.quit key has) refl in
+      role_by false false false false true (is_set_to own.susp key) (no_feed func.Abort has) (no func.Eof (λ e. cc)) (no func.Ec (λ e. cc))
+      (no func.El (λ e. cc)) (no func.Ip (λ e. cc)) (is_set own.quit key has) refl in
       (ap (role_of_mapped (with_chars standard_characters)) m ∙ sym r, ap (λ n. n == 13) m ∙ sym (no_return func.Abort has))
 
   as_susp : slot chars func.Susp ≡ Some key → Means
   as_susp has =
       let no : (g : Func) → (func.Susp ≡ g → ⊥) → is_set_to (slot chars g) key ≡ false = λ g apart. other func.Susp g has apart in
-      let o : own_function own key ≡ Some func.Susp = λ i. of (no func.Ip (λ e. cc) i) (no func.Abort (λ e. cc) i) (is_set own.susp key has i) (is_set_to own.erase key) (is_set_to own.kill key) (is_set_to own.eof key) in
+      let o : own_function own key ≡ Some func.Susp = λ i. of (no func.Ip (λ e. cc) i) (no func.Abort (λ e. cc) i) (is_set own.susp key has i)
+      (is_set_to own.erase key) (is_set_to own.kill key) (is_set_to own.eof key) in
       let m : mapped own key ≡ 26 = mapped_by (Some func.Susp) (unreserved func.Susp has) o in
       let r : role_of_mapped (with_chars chars) key ≡ Signal Tstp =
-      role_by false false false false false true (no_feed func.Susp has) (no func.Eof (λ e. cc)) (no func.Ec (λ e. cc)) (no func.El (λ e. cc)) (no func.Ip (λ e. cc)) (no func.Abort (λ e. cc)) (is_set own.susp key has) in
+      role_by false false false false false true (no_feed func.Susp has) (no func.Eof (λ e. cc)) (no func.Ec (λ e. cc)) (no func.El (λ e. cc))
+      (no func.Ip (λ e. cc)) (no func.Abort (λ e. cc)) (is_set own.susp key has) in
       (ap (role_of_mapped (with_chars standard_characters)) m ∙ sym r, ap (λ n. n == 13) m ∙ sym (no_return func.Susp has))
 
   as_erase : slot chars func.Ec ≡ Some key → Means
   as_erase has =
       let no : (g : Func) → (func.Ec ≡ g → ⊥) → is_set_to (slot chars g) key ≡ false = λ g apart. other func.Ec g has apart in
-      let o : own_function own key ≡ Some func.Ec = λ i. of (no func.Ip (λ e. cc) i) (no func.Abort (λ e. cc) i) (no func.Susp (λ e. cc) i) (is_set own.erase key has i) (is_set_to own.kill key) (is_set_to own.eof key) in
+      let o : own_function own key ≡ Some func.Ec = λ i. of (no func.Ip (λ e. cc) i) (no func.Abort (λ e. cc) i) (no func.Susp (λ e. cc) i)
+      (is_set own.erase key has i) (is_set_to own.kill key) (is_set_to own.eof key) in
       let m : mapped own key ≡ 127 = mapped_by (Some func.Ec) (unreserved func.Ec has) o in
       let r : role_of_mapped (with_chars chars) key ≡ Erase =
-      role_by false true (is_set_to own.kill key) (is_set_to own.intr key) (is_set_to own.quit key) (is_set_to own.susp key) (no_feed func.Ec has) (no func.Eof (λ e. cc)) (is_set own.erase key has) refl refl refl refl in
+      role_by false true (is_set_to own.kill key) (is_set_to own.intr key) (is_set_to own.quit key) (is_set_to own.susp key) (no_feed func.Ec has)
+      (no func.Eof (λ e. cc)) (is_set own.erase key has) refl refl refl refl in
       (ap (role_of_mapped (with_chars standard_characters)) m ∙ sym r, ap (λ n. n == 13) m ∙ sym (no_return func.Ec has))
 
   as_kill : slot chars func.El ≡ Some key → Means
   as_kill has =
       let no : (g : Func) → (func.El ≡ g → ⊥) → is_set_to (slot chars g) key ≡ false = λ g apart. other func.El g has apart in
-      let o : own_function own key ≡ Some func.El = λ i. of (no func.Ip (λ e. cc) i) (no func.Abort (λ e. cc) i) (no func.Susp (λ e. cc) i) (no func.Ec (λ e. cc) i) (is_set own.kill key has i) (is_set_to own.eof key) in
+      let o : own_function own key ≡ Some func.El = λ i. of (no func.Ip (λ e. cc) i) (no func.Abort (λ e. cc) i) (no func.Susp (λ e. cc) i)
+      (no func.Ec (λ e. cc) i) (is_set own.kill key has i) (is_set_to own.eof key) in
       let m : mapped own key ≡ 21 = mapped_by (Some func.El) (unreserved func.El has) o in
       let r : role_of_mapped (with_chars chars) key ≡ Kill =
-      role_by false false true (is_set_to own.intr key) (is_set_to own.quit key) (is_set_to own.susp key) (no_feed func.El has) (no func.Eof (λ e. cc)) (no func.Ec (λ e. cc)) (is_set own.kill key has) refl refl refl in
+      role_by false false true (is_set_to own.intr key) (is_set_to own.quit key) (is_set_to own.susp key) (no_feed func.El has) (no func.Eof (λ e. cc))
+      (no func.Ec (λ e. cc)) (is_set own.kill key has) refl refl refl in
       (ap (role_of_mapped (with_chars standard_characters)) m ∙ sym r, ap (λ n. n == 13) m ∙ sym (no_return func.El has))
 
   as_eof : slot chars func.Eof ≡ Some key → Means
   as_eof has =
       let no : (g : Func) → (func.Eof ≡ g → ⊥) → is_set_to (slot chars g) key ≡ false = λ g apart. other func.Eof g has apart in
-      let o : own_function own key ≡ Some func.Eof = λ i. of (no func.Ip (λ e. cc) i) (no func.Abort (λ e. cc) i) (no func.Susp (λ e. cc) i) (no func.Ec (λ e. cc) i) (no func.El (λ e. cc) i) (is_set own.eof key has i) in
+      let o : own_function own key ≡ Some func.Eof = λ i. of (no func.Ip (λ e. cc) i) (no func.Abort (λ e. cc) i) (no func.Susp (λ e. cc) i)
+      (no func.Ec (λ e. cc) i) (no func.El (λ e. cc) i) (is_set own.eof key has i) in
       let m : mapped own key ≡ 4 = mapped_by (Some func.Eof) (unreserved func.Eof has) o in
       let r : role_of_mapped (with_chars chars) key ≡ Eof =
-      role_by true (is_set_to own.erase key) (is_set_to own.kill key) (is_set_to own.intr key) (is_set_to own.quit key) (is_set_to own.susp key) (no_feed func.Eof has) (is_set own.eof key has) refl refl refl refl refl in
+      role_by true (is_set_to own.erase key) (is_set_to own.kill key) (is_set_to own.intr key) (is_set_to own.quit key) (is_set_to own.susp key)
+      (no_feed func.Eof has) (is_set own.eof key has) refl refl refl refl refl in
       (ap (role_of_mapped (with_chars standard_characters)) m ∙ sym r, ap (λ n. n == 13) m ∙ sym (no_return func.Eof has))
 
   -- any other key
   as_other : own_function own key ≡ None → own_function standard_own key ≡ None → Means
   as_other o s =
-      let x = none_of (is_set_to own.intr key) (is_set_to own.quit key) (is_set_to own.susp key) (is_set_to own.erase key) (is_set_to own.kill key) (is_set_to own.eof key) o in
+      let x = none_of (is_set_to own.intr key) (is_set_to own.quit key) (is_set_to own.susp key) (is_set_to own.erase key) (is_set_to own.kill key)
+      (is_set_to own.eof key) o in
       let y = none_of (3 == key) (28 == key) (26 == key) (127 == key) (21 == key) (4 == key) s in
       let m : mapped own key ≡ key = (λ i. if is_reserved key then key else standard_for (o i) key) ∙ either (is_reserved key) key in
       let r : role_of_mapped (with_chars chars) key ≡ (if key == 10 then Nl else Ordinary key) =
@@ -150,16 +165,19 @@ module _ (own : OwnCharacters) (allowed : AreAllowed (characters_of own)) (key :
   -- each key
   means : IsOfUser own key → Means
   means user = by_intr (is_set_to own.intr key) refl where
-    by_eof : (b : Bool) → is_set_to own.eof key ≡ b → is_set_to own.intr key ≡ false → is_set_to own.quit key ≡ false → is_set_to own.susp key ≡ false → is_set_to own.erase key ≡ false → is_set_to own.kill key ≡ false → Means
+    by_eof : (b : Bool) → is_set_to own.eof key ≡ b → is_set_to own.intr key ≡ false → is_set_to own.quit key ≡ false → is_set_to own.susp key ≡ false
+        → is_set_to own.erase key ≡ false → is_set_to own.kill key ≡ false → Means
     by_eof true e e1 e2 e3 e4 e5 = as_eof (set_to own.eof key e)
     by_eof false e e1 e2 e3 e4 e5 =
         let o : own_function own key ≡ None = λ i. of (e1 i) (e2 i) (e3 i) (e4 i) (e5 i) (e i) in as_other o (user o)
 
-    by_kill : (b : Bool) → is_set_to own.kill key ≡ b → is_set_to own.intr key ≡ false → is_set_to own.quit key ≡ false → is_set_to own.susp key ≡ false → is_set_to own.erase key ≡ false → Means
+    by_kill : (b : Bool) → is_set_to own.kill key ≡ b → is_set_to own.intr key ≡ false → is_set_to own.quit key ≡ false → is_set_to own.susp key ≡ false
+        → is_set_to own.erase key ≡ false → Means
     by_kill true e e1 e2 e3 e4 = as_kill (set_to own.kill key e)
     by_kill false e e1 e2 e3 e4 = by_eof (is_set_to own.eof key) refl e1 e2 e3 e4 e
 
-    by_erase : (b : Bool) → is_set_to own.erase key ≡ b → is_set_to own.intr key ≡ false → is_set_to own.quit key ≡ false → is_set_to own.susp key ≡ false → Means
+    by_erase : (b : Bool) → is_set_to own.erase key ≡ b → is_set_to own.intr key ≡ false → is_set_to own.quit key ≡ false → is_set_to own.susp key ≡ false
+        → Means
     by_erase true e e1 e2 e3 = as_erase (set_to own.erase key e)
     by_erase false e e1 e2 e3 = by_kill (is_set_to own.kill key) refl e1 e2 e3 e
 
@@ -190,10 +208,14 @@ first chars key b keys e = λ i. map (role_of_mapped (with_chars chars)) (cons_o
 pub same_roles : (own : OwnCharacters) → AreAllowed (characters_of own) → (keys : List ℕ) → All (IsOfUser own) keys
     → roles_of (with_chars standard_characters) (map (mapped own) keys) ≡ roles_of (with_chars (characters_of own)) keys
 same_roles own allowed [] users = refl
-same_roles own allowed (key ∷ keys) users = by_return (means own allowed key (All-head (IsOfUser own) key keys users)) (same_roles own allowed keys (All-tail (IsOfUser own) key keys users)) (key == 13) refl where
-  by_return : Means own allowed key → roles_of (with_chars standard_characters) (map (mapped own) keys) ≡ roles_of (with_chars (characters_of own)) keys → (b : Bool) → (key == 13) ≡ b
-      → roles_of (with_chars standard_characters) (map (mapped own) (key ∷ keys)) ≡ roles_of (with_chars (characters_of own)) (key ∷ keys)
-  by_return key_means rest true e =
-      first standard_characters (mapped own key) true (map (mapped own) keys) (key_means.1 ∙ e) ∙ (λ i. Nl ∷ rest i) ∙ sym (first (characters_of own) key true keys e)
-  by_return key_means rest false e =
-      first standard_characters (mapped own key) false (map (mapped own) keys) (key_means.1 ∙ e) ∙ (λ i. key_means.0 i ∷ rest i) ∙ sym (first (characters_of own) key false keys e)
+same_roles own allowed (key ∷ keys) users = by_return (means own allowed key (All-head (IsOfUser own) key keys users))
+    (same_roles own allowed keys (All-tail (IsOfUser own) key keys users)) (key == 13) refl where
+      by_return : Means own allowed key → roles_of (with_chars standard_characters) (map (mapped own) keys) ≡ roles_of (with_chars (characters_of own)) keys
+          → (b : Bool) → (key == 13) ≡ b
+          → roles_of (with_chars standard_characters) (map (mapped own) (key ∷ keys)) ≡ roles_of (with_chars (characters_of own)) (key ∷ keys)
+      by_return key_means rest true e =
+          first standard_characters (mapped own key) true (map (mapped own) keys) (key_means.1 ∙ e) ∙ (λ i. Nl ∷ rest i)
+          ∙ sym (first (characters_of own) key true keys e)
+      by_return key_means rest false e =
+          first standard_characters (mapped own key) false (map (mapped own) keys) (key_means.1 ∙ e) ∙ (λ i. key_means.0 i ∷ rest i)
+          ∙ sym (first (characters_of own) key false keys e)

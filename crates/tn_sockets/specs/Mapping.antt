@@ -1,5 +1,5 @@
--- The special characters of the user's own terminal, each of which a session gets as the standard one of the same
--- function (POSIX.1-2017, XBD 11.1.9).
+-- The special characters of the user's own terminal, each of which a session gets as the standard one of the
+-- same function (POSIX.1-2017, XBD 11.1.9).
 use Rattle.std.specs.Prelude.{◌≡◌, ℕ, Option, Some, None, if◌then◌else◌, unwrap_or}
 use Rattle.tn_codes.specs.declared.codes.Func.{Func}
 use Rattle.tn_codes.specs.declared.codes.Func.TheVariants as func
@@ -39,8 +39,8 @@ abbrev pub standard_for : Option Func → ℕ → ℕ
 standard_for None byte = byte
 standard_for (Some f) byte = unwrap_or (slot standard_characters f) byte
 
--- what a session gets of a byte: a line feed, a carriage return and 255 stay what they are, whatever they are to the
--- user's terminal
+-- what a session gets of a byte: a line feed, a carriage return and 255 stay what they are, whatever they are
+-- to the user's terminal
 abbrev pub mapped : OwnCharacters → ℕ → ℕ
 mapped own byte = if is_reserved byte then byte else standard_for (own_function own byte) byte
 
@@ -60,7 +60,10 @@ characters_of own =
 
 -- a terminal with standard flags, these characters and this limit
 abbrev pub terminal_with : Characters → ℕ → Canon
-terminal_with chars limit = record { settings = record { flags = standard_flags; chars = chars }; limit = limit }
+terminal_with chars limit = record {
+  settings = record { flags = standard_flags; chars = chars };
+  limit = limit;
+}
 
 -- a key that is one of the user's own characters, or none of the standard ones
 abbrev pub IsOfUser : OwnCharacters → ℕ → Type 0

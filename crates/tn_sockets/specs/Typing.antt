@@ -33,8 +33,8 @@ meant byte =
     if nat_eq byte 98 then typed.Control Brk else if nat_eq byte 105 then typed.Control Ip
     else if nat_eq byte 97 then typed.Control Ayt else typed.Command (command byte)
 
--- what one byte is: a key of the user's own characters is the standard one, unless it is the escape character or
--- stands behind it; of two escape characters the second is a key
+-- what one byte is: a key of the user's own characters is the standard one, unless it is the escape character
+-- or stands behind it; of two escape characters the second is a key
 abbrev pub typed_after : Keyboard → Bool → ℕ → Typed
 typed_after keyboard false byte =
     if is_escape keyboard.escape byte then typed.Nothing else typed.Key (mapped keyboard.own byte)
@@ -111,8 +111,8 @@ IsTakenUpTo count keyboard waits bytes =
 abbrev pub unmapped : Keyboard → Keyboard
 unmapped keyboard = record keyboard { own = none_own }
 
--- what the user's own characters make of what a session gets without them; a key that is the escape character was
--- typed behind another one
+-- what the user's own characters make of what a session gets without them; a key that is the escape character
+-- was typed behind another one
 abbrev pub mapped_input : Keyboard → Input → Input
 mapped_input keyboard (input.Key byte) =
     input.Key (if is_escape keyboard.escape byte then byte else mapped keyboard.own byte)

@@ -79,14 +79,9 @@ pub struct Console<H, K> {
 }
 
 impl<H: Clock + Copy + Wait, K: Read + Drop> Console<H, K> {
-    /// Keys that come from there, which is standard input, and what they stand for. With an escape character its user
-    /// speaks to the client itself.
-    pub fn new(
-        rt: H,
-        alloc: Global,
-        mut typing: Typing<H, K>,
-        keyboard: Keyboard,
-    ) -> Console<H, K>
+    /// Keys that come from there, which is standard input, and what they stand for. With an escape character
+    /// its user speaks to the client itself.
+    pub fn new(rt: H, alloc: Global, mut typing: Typing<H, K>, keyboard: Keyboard) -> Console<H, K>
         ensures escaping { result.escaping ≡ record { keyboard = keyboard; waits = false } }
         ensures keys { result.typing.keys ≡ typing.keys }
         ensures nothing_yet { (result.kept.items ≡ []) × (result.asked ≡ None) }

@@ -117,8 +117,8 @@ fn write_key(text: &mut Vec<u8>, key: u8) {
     let _ = write!(text, "{}{}{}", meta, caret, char::from(sign));
 }
 
-// Who edits lines. Without LINEMODE a server that echoes takes keys one by one and edits them, as a rule; where it
-// does not echo, they are not edited by anybody.
+// Who edits lines. Without LINEMODE a server that echoes takes keys one by one and edits them, as a rule;
+// where it does not echo, they are not edited by anybody.
 fn editing_of(link: &Link) -> &'static str {
     if link.edits_here() {
         return "lines are edited here";

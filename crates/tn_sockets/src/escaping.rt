@@ -94,8 +94,8 @@ impl Escaping {
         }
     }
 
-    /// What this byte is, after those before it. The escape character typed twice is a key. Neither it nor the byte
-    /// behind it is mapped.
+    /// What this byte is, after those before it. The escape character typed twice is a key. Neither it nor
+    /// the byte behind it is mapped.
     pub fn take(&mut self, byte: u8) -> Typed
         ensures typed { result ≡ reading self.old byte }
         ensures keyboard { self.new.keyboard ≡ self.old.keyboard }

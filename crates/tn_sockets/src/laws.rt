@@ -5,8 +5,10 @@ ghost use Rattle.tn_codes.specs.declared.codes.Func.{Func};
 ghost use Rattle.std.specs.List.{All};
 ghost use Rattle.tn_discipline.specs.Canon.{typed_entries};
 ghost use Rattle.tn_discipline.specs.Characters.{AreAllowed, is_reserved, slot, standard_characters};
-ghost use Rattle.tn_sockets.specs.Mapping.{IsOfUser, characters_of, mapped, own_function, standard_own, terminal_with};
-ghost use Rattle.tn_sockets.specs.Typing.{AreTaken, commands, inputs, inputs_in, mapped_input, of_bytes, unmapped};
+ghost use Rattle.tn_sockets.specs.Mapping.{IsOfUser, characters_of, mapped, own_function, standard_own};
+ghost use Rattle.tn_sockets.specs.Mapping.{terminal_with};
+ghost use Rattle.tn_sockets.specs.Typing.{AreTaken, commands, inputs, inputs_in, mapped_input, of_bytes};
+ghost use Rattle.tn_sockets.specs.Typing.{unmapped};
 ghost use Rattle.tn_sockets.specs.declared.escaping.Escaping.{Escaping};
 ghost use Rattle.tn_sockets.specs.declared.escaping.Input.TheVariants.{Key};
 ghost use Rattle.tn_sockets.specs.declared.escaping.Keyboard.{Keyboard};
@@ -24,10 +26,12 @@ pub fn one_by_one()
         inputs_in taken ≡ inputs old.keyboard old.waits bytes }
 {}
 
-/// A character of the user's own becomes the standard one of its function, whatever it is as a standard character.
+/// A character of the user's own becomes the standard one of its function, whatever it is as a standard
+/// character.
 pub fn own_characters_win()
     ensures { (own : OwnCharacters) (byte standard : ℕ) (f : Func) → is_reserved byte ≡ false →
-        own_function own byte ≡ Some f → slot standard_characters f ≡ Some standard → mapped own byte ≡ standard }
+        own_function own byte ≡ Some f → slot standard_characters f ≡ Some standard →
+        mapped own byte ≡ standard }
 {}
 
 /// Every other byte stays.
@@ -48,10 +52,11 @@ pub fn only_keys_are_mapped()
         commands keyboard waits bytes ≡ commands (unmapped keyboard) waits bytes }
 {}
 
-/// The keys that a session gets give at a terminal with the standard characters the entries that the typed keys give at
-/// the user's own terminal, if none of these is a standard character that is not the user's own.
+/// The keys that a session gets give at a terminal with the standard characters the entries that the typed
+/// keys give at the user's own terminal, if none of these is a standard character that is not the user's own.
 pub fn users_keys()
     ensures { (own : OwnCharacters) (limit : ℕ) (keys : List ℕ) → AreAllowed (characters_of own) →
-        All (IsOfUser own) keys → typed_entries (terminal_with standard_characters limit) (map (mapped own) keys)
+        All (IsOfUser own) keys →
+        typed_entries (terminal_with standard_characters limit) (map (mapped own) keys)
         ≡ typed_entries (terminal_with (characters_of own) limit) keys }
 {}

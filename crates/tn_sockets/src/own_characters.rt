@@ -7,8 +7,8 @@ ghost use Rattle.tn_sockets.specs.Mapping.{mapped, none_own, own_function, stand
 use tn_codes::Func;
 use tn_discipline::Chars;
 
-/// The special characters of the user's own terminal (POSIX.1-2017, XBD 11.1.9), each a byte, or none where it is
-/// disabled. Two may be the same byte.
+/// The special characters of the user's own terminal (POSIX.1-2017, XBD 11.1.9), each a byte, or none where
+/// it is disabled. Two may be the same byte.
 #[derive(Clone, Copy, Debug, PartialEq, Eq)]
 pub struct OwnCharacters {
     pub intr: Option<u8>,
@@ -34,8 +34,8 @@ impl OwnCharacters {
         }
     }
 
-    /// What a session gets of a byte that is typed: of a character of the user's own the standard one of the same
-    /// function, and every other byte as it is.
+    /// What a session gets of a byte that is typed: of a character of the user's own the standard one of the
+    /// same function, and every other byte as it is.
     pub fn mapped(&self, byte: u8) -> u8
         ensures { result ≡ mapped self.now byte }
     {

@@ -188,7 +188,8 @@ HasEscape rows escape = WritesEscape (unwrap_or (first_of (codes "escape") rows)
 -- the characters that a word names
 abbrev pub named_characters : Text → Option Characters
 named_characters text =
-    if bytes_eq text (codes "own") then Some Own else (if bytes_eq text (codes "standard") then Some Standard else None)
+    if bytes_eq text (codes "own") then Some Own
+    else (if bytes_eq text (codes "standard") then Some Standard else None)
 
 -- whose special characters the keys of a terminal are taken by: the user's own ones, where none are named
 abbrev pub chosen_characters : Option Text → Option Characters

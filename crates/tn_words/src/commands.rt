@@ -477,8 +477,8 @@ fn with_window_options<'a>(alloc: Global, command: Command<'a>) -> Result<Comman
 fn with_terminal_options<'a>(alloc: Global, command: Command<'a>) -> Result<Command<'a>, AllocError>
     requires { (out-Command command).has_globals ≡ false }
     ensures app { IfOk result (λ new. app_of new ≡ with_rule (with_rule (with_rule (with_rule (with_rule
-        (app_of command.entry) (text_rule (codes "escape"))) (text_rule (codes "keys"))) (text_rule (codes "trace")))
-        wait_rule) (flag_rule (codes "quiet"))) }
+        (app_of command.entry) (text_rule (codes "escape"))) (text_rule (codes "keys")))
+        (text_rule (codes "trace"))) wait_rule) (flag_rule (codes "quiet"))) }
     ensures local { IfOk result (λ new. (out-Command new).has_globals ≡ false) }
 {
     let command = command

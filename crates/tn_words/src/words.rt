@@ -9,14 +9,15 @@ ghost use Rattle.tn_words.specs.Words.{HasEscape, HasNumber, HasPlace, HasText, 
 ghost use Rattle.tn_words.specs.Words.{MayHaveAddress, MayHaveNumber};
 ghost use Rattle.tn_words.specs.Words.{MayHavePath, MissesNumber, Refuses, TellsKind, chosen_count};
 ghost use Rattle.tn_words.specs.Words.{chosen_cut};
-ghost use Rattle.tn_words.specs.Words.{characters_in, chosen_line_end, detail_of, ends_cut_in, has_telnet_option};
+ghost use Rattle.tn_words.specs.Words.{characters_in, chosen_line_end, detail_of, ends_cut_in};
+ghost use Rattle.tn_words.specs.Words.{has_telnet_option};
 ghost use Rattle.tn_words.specs.Words.{is_flagged, is_given, line_end_in, one_port, service_line_end};
 ghost use Rattle.tn_words.specs.Words.{service_line_end_in};
 
 use crate::commands::{
-    AT, CONNECT, COUNT, CR, CRLF, DECODE, ESCAPE, FOREVER, HEIGHT, HOST, IDLE, KEYS, LF, LIMIT, LINE,
-    LINE_CUT, LOCAL, LOCALLY, LONGEST, MOST_PATH, PER_HOST, PLAIN, PORT, QUIET, REPLAY, SERVE,
-    TICKS, TO, TRACE, UNTIL, VERBOSE, VERSION_LINE, WAIT, WIDTH, WORLD, Whole, tn_command,
+    AT, CONNECT, COUNT, CR, CRLF, DECODE, ESCAPE, FOREVER, HEIGHT, HOST, IDLE, KEYS, LF, LIMIT,
+    LINE, LINE_CUT, LOCAL, LOCALLY, LONGEST, MOST_PATH, PER_HOST, PLAIN, PORT, QUIET, REPLAY,
+    SERVE, TICKS, TO, TRACE, UNTIL, VERBOSE, VERSION_LINE, WAIT, WIDTH, WORLD, Whole, tn_command,
 };
 use crate::settings::{Address, Characters, Connecting, Escape, Serving, place_in};
 use clap::error::ErrorKind;
@@ -499,7 +500,8 @@ fn escape_text<'a>(words: &ArgMatches<'a>) -> &'a str
 }
 
 fn characters_of(alloc: Global, words: &ArgMatches<'_>) -> Result<Characters, WordsFault>
-    ensures asked { IfOk result (λ characters. characters_in (rows_of (found_of words.now)) ≡ Some characters) }
+    ensures asked { IfOk result (λ characters.
+        characters_in (rows_of (found_of words.now)) ≡ Some characters) }
     ensures lacks { IfErr result (Lacks (characters_in (rows_of (found_of words.now)) ≡ None)) }
 {
     let Some(text) = words.get_str(KEYS) else {
@@ -511,7 +513,8 @@ fn characters_of(alloc: Global, words: &ArgMatches<'_>) -> Result<Characters, Wo
     }
 }
 
-// What ends a line that is sent without Telnet, where that is asked for; `None` where the flags make no sense.
+// What ends a line that is sent without Telnet, where that is asked for; `None` where the flags make no
+// sense.
 fn line_end_in(words: &ArgMatches<'_>) -> Option<Option<LineEnd>>
     ensures { result ≡ line_end_in (rows_of (found_of words.now)) }
 {

@@ -11,8 +11,11 @@ returns-in_default-clause-asked c =
 
 pub returns-in-Some-clause-asked : goal.returns-in-Some-clause-asked
 returns-in-Some-clause-asked c =
-    ap chosen_characters (given_some (found_of c.args.words.now) (codes "keys") c.get_str.result c.get_str.ensures c.in-Some.text c.in-Some.is) ∙ (sym c.from_text.ensures ∙ c.in-Some-from_text.is)
+    ap chosen_characters (given_some (found_of c.args.words.now) (codes "keys") c.get_str.result c.get_str.ensures c.in-Some.text c.in-Some.is)
+    ∙ (sym c.from_text.ensures ∙ c.in-Some-from_text.is)
 
 pub returns-in-None-clause-lacks : goal.returns-in-None-clause-lacks
 returns-in-None-clause-lacks c =
-    lacks_by c.lacking.result c.lacking.ensures (ap chosen_characters (given_some (found_of c.args.words.now) (codes "keys") c.get_str.result c.get_str.ensures c.in-Some.text c.in-Some.is) ∙ (sym c.from_text.ensures ∙ c.in-None.is))
+    lacks_by c.lacking.result c.lacking.ensures (ap chosen_characters
+    (given_some (found_of c.args.words.now) (codes "keys") c.get_str.result c.get_str.ensures c.in-Some.text c.in-Some.is)
+    ∙ (sym c.from_text.ensures ∙ c.in-None.is))
