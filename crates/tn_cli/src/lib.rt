@@ -14,7 +14,9 @@ pub use fault::CliFault;
 pub use local::run_local;
 pub use replay::run_replay;
 pub use tn_roster::note;
-pub use tn_words::{Address, Asked, Connecting, Escape, Serving, WordsFault, read_words};
+pub use tn_words::{
+    Address, Asked, Characters, Connecting, Escape, Serving, WordsFault, read_words,
+};
 pub use unprinted::{Dropped, Left, Unprinted};
 pub use world::run_world;
 

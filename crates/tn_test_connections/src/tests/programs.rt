@@ -3,7 +3,7 @@
 use std::alloc::{AllocError, Global};
 use std::io::{self, Cursor, ErrorKind, Write};
 use std::sync::Arc;
-use tn_program::{Link, Origin, Seat, run_words};
+use tn_program::{Link, Origin, OwnCharacters, Seat, own_characters, run_words};
 
 /// Takes all that is written, or fails.
 #[derive(Drop)]
@@ -155,5 +155,26 @@ fn what_of_a_stream_is_not_printed_is_told(rt: HostRuntime) {
         };
         let ended = run_words(rt, alloc, Ok(words), seat, &mut output, &mut errors);
         assert!(rt; is_unread_told(ended, &errors, told));
+    }
+}
+
+#[test]
+fn the_characters_of_a_terminal_are_read(rt: HostRuntime) {
+    let own = OwnCharacters {
+        intr: Some(3),
+        quit: None,
+        susp: Some(26),
+        erase: Some(8),
+        kill: Some(255),
+        eof: None,
+    };
+    assert!(rt; own_characters(b"03001a08ff00") == Some(own));
+    for text in [
+        b"".as_slice(),
+        b"03001a08ff",
+        b"03001a08ff0000",
+        b"03001a08fg00",
+    ] {
+        assert!(rt; own_characters(text).is_none());
     }
 }

@@ -10,8 +10,8 @@ use std::io::{self, ErrorKind, Read};
 use std::process::Abort;
 use std::test::Fail;
 use tn_cli::{
-    Address, Asked, CliFault, Connecting, Escape, Serving, WordsFault, read_words, run_local,
-    run_replay,
+    Address, Asked, Characters, CliFault, Connecting, Escape, Serving, WordsFault, read_words,
+    run_local, run_replay,
 };
 use tn_discipline::Limit;
 use tn_lines::LineEnd;
@@ -138,6 +138,7 @@ fn connecting(alloc: Global) -> Result<Connecting, AllocError> {
         height: None,
         line_limit: Limit::standard(),
         escape: Escape::Key(29),
+        characters: Characters::Own,
         trace: None,
         wait: 0,
         quiet: false,
@@ -159,9 +160,11 @@ fn words_ask_for_a_connection(rt: HostRuntime) -> Result<(), Fail> {
     wide.width = Some(65_535);
     wide.height = Some(0);
     wide.escape = Escape::Key(1);
+    wide.characters = Characters::Standard;
     wide.wait = 86_400;
     wide.quiet = true;
-    let line = "tn connect -p7 --width 65535 --height 0 --escape ^a -q 86400 --quiet";
+    let line =
+        "tn connect -p7 --width 65535 --height 0 --escape ^a -q 86400 --quiet --keys standard";
     asks(&rt, alloc, line, Some(Asked::Connect(wide)));
     Ok(())
 }
@@ -257,6 +260,8 @@ const REFUSED: &[&str] = &[
     "tn connect [::1]7",
     "tn connect h 7 8",
     "tn connect h -q 86401",
+    "tn connect h --keys ours",
+    "tn connect h --keys own --keys own",
     "tn connect h --lf",
     "tn connect h --plain --lf --cr",
     "tn connect h --escape ^`",
