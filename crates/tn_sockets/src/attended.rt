@@ -7,7 +7,7 @@ ghost use Rattle.tn_sockets.specs.Passing.{GivesNext};
 
 use crate::bell::{Bell, has_peer_ended};
 use crate::connection::{Closing, send_at_once};
-use crate::presence::Typed;
+use crate::presence::TypedPieces;
 use std::alloc::{AllocError, Global};
 use std::io::{ErrorKind, Read};
 use std::net::{Shutdown, TcpStream};
@@ -195,7 +195,7 @@ pub struct Attended<H, S> {
     began: Option<Instant>,
     /// When something was typed last.
     heard: Option<Instant>,
-    typed: Typed,
+    typed: TypedPieces,
     finished: Option<Instant>,
 }
 
@@ -231,7 +231,7 @@ impl<H: Clock + Copy + Wait> Attended<H, TcpStream> {
             longest,
             began: now,
             heard: now,
-            typed: Typed::new(alloc),
+            typed: TypedPieces::new(alloc),
             finished: None,
         })
     }

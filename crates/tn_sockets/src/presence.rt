@@ -7,14 +7,14 @@ use tn_nvt::{Decoder, Item, Params, Refused, Sink};
 /// Tells of each piece of what a client sends whether something of it reaches the terminal: data, and the
 /// commands that stand for keys there. Options, a size, NOP and AYT do not.
 #[derive(Drop)]
-pub(crate) struct Typed {
+pub(crate) struct TypedPieces {
     decoder: Decoder,
 }
 
-impl Typed {
+impl TypedPieces {
     /// Nothing came yet.
-    pub(crate) fn new(alloc: Global) -> Typed {
-        Typed {
+    pub(crate) fn new(alloc: Global) -> TypedPieces {
+        TypedPieces {
             decoder: Decoder::new(alloc),
         }
     }
