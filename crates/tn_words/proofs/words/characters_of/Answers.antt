@@ -9,8 +9,8 @@ pub returns-in_default-clause-asked : goal.returns-in_default-clause-asked
 returns-in_default-clause-asked c =
     ap chosen_characters (given_none (found_of c.args.words.now) (codes "keys") c.get_str.result c.get_str.ensures c.in_default.is)
 
-pub returns-in-Some-clause-asked : goal.returns-in-Some-clause-asked
-returns-in-Some-clause-asked c =
+pub returns-in-Some-from_text-clause-asked : goal.returns-in-Some-from_text-clause-asked
+returns-in-Some-from_text-clause-asked c =
     ap chosen_characters (given_some (found_of c.args.words.now) (codes "keys") c.get_str.result c.get_str.ensures c.in-Some.text c.in-Some.is)
     ∙ (sym c.from_text.ensures ∙ c.in-Some-from_text.is)
 
