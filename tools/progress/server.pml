@@ -1,5 +1,5 @@
-/* A server's session: of crates/tn_session `session`, `term`, `net`, `desk`, `back`, `credit` and `closing`, tn_term, of
-   tn_sockets `Attended` with its `Standing`, and of tn_loopback `linger`. */
+/* A server's session: of crates/tn_session `session`, `term`, `net`, `desk`, `back`, `credit` and `closing`, tn_machines, of
+   tn_sockets `Attended` with its `Standing`, and of tn_serve `linger`. */
 
 #ifndef L
 #define L 1		/* how many entries may wait for one more piece to be welcome: MAX_BEFORE_PIECE, 511 */

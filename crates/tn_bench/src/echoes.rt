@@ -6,10 +6,10 @@ use std::io::{Read, Write};
 use std::net::{Ipv4Addr, Net, TcpListener, TcpStream};
 use std::thread;
 use std::time::Clock;
-use tn_answerer::Answerers;
 use tn_discipline::Limit;
-use tn_loopback::{Host, SessionOptions, serve_connection};
+use tn_serve::{Host, SessionOptions, serve_connection};
 use tn_server::Editing;
+use tn_services::Answerers;
 
 /// The length of a server's opening words.
 const OPENING: usize = 15;

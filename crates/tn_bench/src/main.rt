@@ -11,7 +11,7 @@ use std::io::Write;
 use std::net::{Net, TcpListener, TcpStream};
 use std::process::ExitCode;
 use std::time::Clock;
-use tn_loopback::Host;
+use tn_serve::Host;
 
 mod decoding;
 mod echoes;

@@ -5,7 +5,7 @@
 //! ```
 //!
 //! `run_decode` writes as it reads, and so filters a pipe that never ends; the others read all of their
-//! input first. `tn_loopback` serves, `tn_connect` connects, and `tn_program` is the program that runs what
+//! input first. `tn_serve` serves, `tn_connect` connects, and `tn_program` is the program that runs what
 //! its words ask for.
 #![tactic(auto)]
 

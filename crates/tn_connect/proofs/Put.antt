@@ -3,7 +3,7 @@ use Rattle.std.proofs.Common.{◌≡◌, ℕ, List, [], Option, Some, None, Resu
 use Rattle.crossbeam_channel.specs.Claims.{view}
 use Rattle.tn_connect.specs.Clients.{RunsClient, RunsWriting}
 use Rattle.tn_connect.specs.declared.connected.Connected.{Connected}
-use Rattle.tn_messages.specs.declared.faults.SessionFault.{SessionFault}
+use Rattle.tn_machines.specs.declared.faults.SessionFault.{SessionFault}
 use Rattle.tn_queue.specs.Queue.{putter}
 use Rattle.tn_session.specs.Client.{RunningClient}
 use Rattle.tn_session.specs.Facts.{Window, client_result}

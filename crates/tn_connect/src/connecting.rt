@@ -6,7 +6,7 @@ ghost use Rattle.crossbeam_channel.specs.Ends.{sends_on};
 ghost use Rattle.tn_connect.specs.Clients.{ConnectsBy, RunsClient, RunsWriting, connection_of, foreseen, window_of};
 ghost use Rattle.tn_connect.specs.Faults.{IsOfNetwork};
 ghost use Rattle.tn_connect.specs.Sent.{TookWhatWasWritten};
-ghost use Rattle.tn_messages.specs.Ending.{EndsWhole};
+ghost use Rattle.tn_machines.specs.Ending.{EndsWhole};
 ghost use Rattle.tn_network.specs.Asked.{Reaches};
 ghost use Rattle.tn_queue.specs.Queue.{putter};
 ghost use Rattle.tn_sockets.specs.Ends.{IsNew};

@@ -4,13 +4,13 @@ use Rattle.std.proofs.lemmas.List.Elements.{All-nil, All-cons}
 use Rattle.std.specs.Io.KnownBytes.{Appends}
 use Rattle.crossbeam_channel.specs.Claims.{view}
 use Rattle.tn_client.specs.declared.commands.UserCommand.TheVariants as user
-use Rattle.tn_client_core.specs.Bringing.{Input, key_typed, command_sent}
+use Rattle.tn_machines.specs.client.Bringing.{Input, key_typed, command_sent}
 use Rattle.tn_discipline.specs.Canon.{typed_entries}
 use Rattle.tn_discipline.specs.declared.reads.Entry.{Entry}
 use Rattle.tn_ends.specs.Programs.{Programs, AreTheirs, ReadsWhatIsTyped, HeadlineOfPrograms}
-use Rattle.tn_joint.specs.Transcripts.{Served, Connected, IsCarried, Headline, HasKey, keys_of}
-use Rattle.tn_loopback.specs.Servers.{terminal_of}
-use Rattle.tn_messages.specs.declared.faults.Ended.TheVariants.{HangUp}
+use Rattle.tn_two_sessions.specs.Transcripts.{Served, Connected, IsCarried, Headline, HasKey, keys_of}
+use Rattle.tn_serve.specs.Servers.{terminal_of}
+use Rattle.tn_machines.specs.declared.faults.Ended.TheVariants.{HangUp}
 use Rattle.tn_session.specs.Client.{RunningClient}
 use Rattle.tn_session.specs.Facts.{JobFacts, session_result, client_result}
 use Rattle.tn_session.specs.Transcripts.{all_read, all_wrote}

@@ -8,11 +8,11 @@ use Rattle.tn_connect.specs.declared.connected.Connected.{Connected}
 use Rattle.tn_connect.specs.declared.settings.Connecting.{Connecting}
 use Rattle.tn_discipline.specs.Canon.{typed_entries}
 use Rattle.tn_discipline.specs.declared.reads.Entry.{Entry}
-use Rattle.tn_joint.specs.Transcripts.{IsCarried, keys_of}
-use Rattle.tn_loopback.specs.Servers.{RunsServer, terminal_of}
-use Rattle.tn_loopback.specs.declared.conversed.Conversed.{Conversed}
-use Rattle.tn_loopback.specs.declared.settings.SessionOptions.{SessionOptions}
-use Rattle.tn_messages.specs.declared.faults.Ended.TheVariants.{HangUp}
+use Rattle.tn_two_sessions.specs.Transcripts.{IsCarried, keys_of}
+use Rattle.tn_serve.specs.Servers.{RunsServer, terminal_of}
+use Rattle.tn_serve.specs.declared.conversed.Conversed.{Conversed}
+use Rattle.tn_serve.specs.declared.settings.SessionOptions.{SessionOptions}
+use Rattle.tn_machines.specs.declared.faults.Ended.TheVariants.{HangUp}
 use Rattle.tn_session.specs.Facts.{JobFacts}
 use Rattle.tn_session.specs.Transcripts.{Exchange, all_read, all_wrote, came_by}
 use Rattle.tn_sockets.specs.Logs.{logged}

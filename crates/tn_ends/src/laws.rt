@@ -4,8 +4,8 @@ ghost use Rattle.tn_ends.specs.Programs.{HeadlineOfPrograms};
 ghost use Rattle.tn_session.specs.Facts.{job_facts};
 ghost use Rattle.tn_session.specs.Makers.{begins};
 
-use tn_joint::laws::what_you_type_is_what_the_job_reads;
 use tn_session::Maker;
+use tn_two_sessions::laws::what_you_type_is_what_the_job_reads;
 
 /// Of what `serve_connection` and `connect` return: where a socket carries what each wrote, what the job took is a
 /// prefix of the entries of the keys that the client read, and all of them where both ran to the end.

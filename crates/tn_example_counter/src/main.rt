@@ -13,7 +13,7 @@ use std::sync::{Arc, Mutex, Wait};
 use std::{io, thread};
 use tn_discipline::{Entry, Text};
 use tn_jobs::{After, Job, Reaction};
-use tn_loopback::{Call, Finished, Host, Service, Serving, serve_on};
+use tn_serve::{Call, Finished, Host, Service, Serving, serve_on};
 use tn_session::Maker;
 
 fn main(rt: HostRuntime) -> io::Result<()> {

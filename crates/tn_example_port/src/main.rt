@@ -10,7 +10,7 @@ use std::net::{Ipv4Addr, TcpListener, TcpStream};
 use std::{io, thread};
 use tn_discipline::{Entry, Text};
 use tn_jobs::{After, Job, Reaction};
-use tn_loopback::{Call, Finished, Service, Serving, serve_on};
+use tn_serve::{Call, Finished, Service, Serving, serve_on};
 use tn_session::Maker;
 
 fn main(rt: HostRuntime) -> io::Result<()> {

@@ -2,9 +2,9 @@
 use Rattle.std.proofs.Common.{◌≡◌, ℕ, inl, inr, List, Result, Ok, Err}
 use Rattle.std.specs.declared.io.Error.{Error}
 use Rattle.std.specs.declared.net.tcp.TcpListener.{TcpListener}
-use Rattle.tn_loopback.specs.Causes.{IsCaused}
-use Rattle.tn_loopback.specs.declared.fault.ServeFault.{ServeFault}
-use Rattle.tn_loopback.specs.declared.fault.ServeFault.TheVariants as serve
+use Rattle.tn_serve.specs.Causes.{IsCaused}
+use Rattle.tn_serve.specs.declared.fault.ServeFault.{ServeFault}
+use Rattle.tn_serve.specs.declared.fault.ServeFault.TheVariants as serve
 use Rattle.tn_program.specs.Told.{UnlessNetwork}
 
 pub uncaused : {A : Type 0} (listens : Result TcpListener Error → Type 0) (old new : List ℕ) (result : Result A ServeFault) → IsCaused listens old new result → UnlessNetwork result (new ≡ old)

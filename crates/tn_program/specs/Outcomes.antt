@@ -10,11 +10,11 @@ use Rattle.tn_connect.specs.declared.connected.Connected.{Connected}
 use Rattle.tn_connect.specs.declared.fault.ConnectFault.{ConnectFault}
 use Rattle.tn_connect.specs.declared.fault.ConnectFault.TheVariants as connect
 use Rattle.tn_lines.specs.declared.line_ends.LineEnd.{LineEnd}
-use Rattle.tn_loopback.specs.Ends.{IfAny, ServesUntil}
-use Rattle.tn_loopback.specs.declared.fault.ServeFault.{ServeFault}
-use Rattle.tn_loopback.specs.declared.fault.ServeFault.TheVariants as serve
-use Rattle.tn_loopback.specs.declared.served.Served.{Served}
-use Rattle.tn_messages.specs.Ending.{EndsWhole}
+use Rattle.tn_serve.specs.Ends.{IfAny, ServesUntil}
+use Rattle.tn_serve.specs.declared.fault.ServeFault.{ServeFault}
+use Rattle.tn_serve.specs.declared.fault.ServeFault.TheVariants as serve
+use Rattle.tn_serve.specs.declared.served.Served.{Served}
+use Rattle.tn_machines.specs.Ending.{EndsWhole}
 use Rattle.tn_network.specs.Asked.{Listens, Reaches}
 use Rattle.tn_program.specs.Machine.{Machine}
 use Rattle.tn_program.specs.Statuses.{status_of}

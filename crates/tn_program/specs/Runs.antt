@@ -11,10 +11,10 @@ use Rattle.tn_connect.specs.declared.talks.TalkReport.{TalkReport}
 use Rattle.tn_connect.specs.declared.connected.Connected.{Connected}
 use Rattle.tn_connect.specs.declared.fault.ConnectFault.{ConnectFault}
 use Rattle.tn_lines.specs.declared.line_ends.LineEnd.{LineEnd}
-use Rattle.tn_loopback.specs.Ends.{IfAny, ServesUntil}
-use Rattle.tn_loopback.specs.declared.fault.ServeFault.{ServeFault}
-use Rattle.tn_loopback.specs.declared.served.Served.{Served}
-use Rattle.tn_messages.specs.Ending.{EndsWhole}
+use Rattle.tn_serve.specs.Ends.{IfAny, ServesUntil}
+use Rattle.tn_serve.specs.declared.fault.ServeFault.{ServeFault}
+use Rattle.tn_serve.specs.declared.served.Served.{Served}
+use Rattle.tn_machines.specs.Ending.{EndsWhole}
 use Rattle.tn_network.specs.Asked.{Listens, Reaches}
 use Rattle.tn_program.specs.Machine.{Machine}
 use Rattle.tn_program.specs.Settings.{count_as, plain_as, window_as}

@@ -1,11 +1,11 @@
 -- What was asked for, as sessions over connections take it.
 use Rattle.std.specs.Prelude.{◌≡◌, ℕ, Bool, true, false, Option, None, Some, IsSome, unwrap_or, List, Result, Ok, Err, string_bytes}
-use Rattle.tn_answerer.specs.declared.answerers.Answerers.{Answerers}
-use Rattle.tn_gateway.specs.declared.cutting.Lines.{Lines}
-use Rattle.tn_gateway.specs.declared.dialing.Joiner.{Joiner}
-use Rattle.tn_loopback.specs.declared.fault.ServeFault.{ServeFault}
-use Rattle.tn_loopback.specs.declared.fault.ServeFault.TheVariants.{Network, Memory, Limit as BadLimit}
-use Rattle.tn_loopback.specs.declared.settings.SessionOptions.{SessionOptions}
+use Rattle.tn_services.specs.declared.answerers.Answerers.{Answerers}
+use Rattle.tn_services.specs.declared.cutting.Lines.{Lines}
+use Rattle.tn_services.specs.declared.dialing.Joiner.{Joiner}
+use Rattle.tn_serve.specs.declared.fault.ServeFault.{ServeFault}
+use Rattle.tn_serve.specs.declared.fault.ServeFault.TheVariants.{Network, Memory, Limit as BadLimit}
+use Rattle.tn_serve.specs.declared.settings.SessionOptions.{SessionOptions}
 use Rattle.tn_connect.specs.declared.settings.Origin.{Origin}
 use Rattle.tn_connect.specs.declared.settings.Plain.{Plain}
 use Rattle.tn_lines.specs.declared.line_ends.LineEnd.{LineEnd}

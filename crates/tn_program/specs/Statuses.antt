@@ -6,8 +6,8 @@ use Rattle.tn_connect.specs.declared.fault.ConnectFault.TheVariants as connect
 use Rattle.tn_connect.specs.declared.talks.TalkReport.{TalkReport}
 use Rattle.tn_lines_client.specs.declared.talk.Over.{Over}
 use Rattle.tn_lines_client.specs.declared.talk.Over.TheVariants as over
-use Rattle.tn_loopback.specs.declared.fault.ServeFault.{ServeFault}
-use Rattle.tn_loopback.specs.declared.fault.ServeFault.TheVariants as serve
+use Rattle.tn_serve.specs.declared.fault.ServeFault.{ServeFault}
+use Rattle.tn_serve.specs.declared.fault.ServeFault.TheVariants as serve
 use Rattle.tn_program.specs.declared.outcome.Outcome.{Outcome}
 use Rattle.tn_program.specs.declared.outcome.Outcome.TheVariants as outcome
 

@@ -8,8 +8,8 @@ use Rattle.tn_cli.specs.declared.unprinted.Left.TheVariants as left
 use Rattle.tn_cli.specs.declared.unprinted.Unprinted.{Unprinted}
 use Rattle.tn_connect.specs.declared.fault.ConnectFault.{ConnectFault}
 use Rattle.tn_connect.specs.declared.fault.ConnectFault.TheVariants as connect
-use Rattle.tn_loopback.specs.declared.fault.ServeFault.{ServeFault}
-use Rattle.tn_loopback.specs.declared.fault.ServeFault.TheVariants as serve
+use Rattle.tn_serve.specs.declared.fault.ServeFault.{ServeFault}
+use Rattle.tn_serve.specs.declared.fault.ServeFault.TheVariants as serve
 use Rattle.tn_program.specs.Statuses.{status_of}
 use Rattle.tn_program.specs.declared.outcome.Outcome.{Outcome}
 use Rattle.tn_program.specs.declared.outcome.Outcome.TheVariants as outcome

@@ -11,8 +11,8 @@ ghost use Rattle.tn_streams.specs.Known.{known_writing};
 use std::alloc::{AllocError, Global};
 use tn_cli::{CliFault, Dropped, Left, Unprinted};
 use tn_connect::{ConnectFault, Connected, Over, TalkReport};
-use tn_gateway::write_whole;
-use tn_loopback::{ServeFault, Served};
+use tn_serve::{ServeFault, Served};
+use tn_services::write_whole;
 use tn_streams::Drain;
 
 /// The status of a process whose words were not accepted.

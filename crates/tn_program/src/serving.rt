@@ -1,10 +1,10 @@
 //! `tn serve`: its own job, or a line service that each session is joined to.
 
 ghost use Rattle.std.specs.Prelude.{◌≡◌, None, IfOk, IfSome, IsErrOf, option_map, string_bytes};
-ghost use Rattle.tn_loopback.specs.Causes.{IsCaused};
-ghost use Rattle.tn_loopback.specs.Counted.{CountsSessions, facts_of, server_of};
-ghost use Rattle.tn_loopback.specs.Ends.{IfAny, ServesUntil};
-ghost use Rattle.tn_loopback.specs.Services.{WasTurnedAway};
+ghost use Rattle.tn_serve.specs.Causes.{IsCaused};
+ghost use Rattle.tn_serve.specs.Counted.{CountsSessions, facts_of, server_of};
+ghost use Rattle.tn_serve.specs.Ends.{IfAny, ServesUntil};
+ghost use Rattle.tn_serve.specs.Services.{WasTurnedAway};
 ghost use Rattle.tn_network.specs.Asked.{Listens};
 ghost use Rattle.tn_program.specs.Settings.{AnswersAsAsked, JoinsAsAsked, UnlessMemory, count_as, lines_as, options_as};
 ghost use Rattle.tn_roster.specs.Held.{IsLimit};
@@ -15,11 +15,10 @@ use std::alloc::{AllocError, Global};
 use std::io::Write;
 use std::net::TcpStream;
 use std::sync::Wait;
-use tn_answerer::{Answerer, Answerers};
-use tn_gateway::{Gateway, Heard, HearsCut, Joiner, Lines, Told};
 use tn_jobs::Job;
-use tn_loopback::{At, Call, Finished, Host, Notes, ServeFault, Served, Service, serve};
 use tn_network::Network;
+use tn_serve::{At, Call, Finished, Host, Notes, ServeFault, Served, Service, serve};
+use tn_services::{Answerer, Answerers, Gateway, Heard, HearsCut, Joiner, Lines, Told};
 use tn_session::Maker;
 
 /// Serves as was asked for. Where it cannot listen, `causes` gets a line.

@@ -5,11 +5,10 @@ ghost use Rattle.tn_connect.specs.Clients.{window_of};
 ghost use Rattle.tn_program.specs.Settings.{count_as, escape_as, lines_as, options_as, plain_as, window_as};
 
 use std::alloc::{AllocError, Global};
-use tn_answerer::{Answerer, Answerers};
 use tn_connect::{Connecting, Origin, Plain};
-use tn_gateway::Lines;
-use tn_loopback::{Call, Finished, Service, Serving, SessionOptions};
+use tn_serve::{Call, Finished, Service, Serving, SessionOptions};
 use tn_server::Editing;
+use tn_services::{Answerer, Answerers, Lines};
 use tn_words::{Escape, LineEnd, USUAL_HEIGHT, USUAL_WIDTH};
 
 /// After how many connections a server without end stops: more than can ever be accepted.

@@ -4,7 +4,7 @@ ghost use Rattle.std.specs.Prelude.{◌≡◌, true};
 
 use std::fs;
 use std::fs::{File, Files};
-use tn_loopback::Until;
+use tn_serve::Until;
 
 /// A machine whose files can be looked for. The relation holds of a path at which a file was seen; nothing else gives
 /// it. A thread may rest on this trait: it names no types of the files.

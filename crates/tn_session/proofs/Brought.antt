@@ -4,9 +4,9 @@ use Rattle.std.proofs.lemmas.List.{map-append}
 use Rattle.std.proofs.lemmas.Grind.{flat_map-append}
 use Rattle.std.specs.Io.KnownBytes.{Consumes}
 use Rattle.std.specs.List.{concat}
-use Rattle.tn_client_core.specs.Bringing.{key_typed, command_in, commands_in, inputs_in, inputs_brought, brought_from, brought}
-use Rattle.tn_client_core.specs.Commands.{command_of}
-use Rattle.tn_client_core.specs.declared.messages.Origin.TheVariants as origin
+use Rattle.tn_machines.specs.client.Bringing.{key_typed, command_in, commands_in, inputs_in, inputs_brought, brought_from, brought}
+use Rattle.tn_machines.specs.client.Commands.{command_of}
+use Rattle.tn_machines.specs.declared.client.messages.Origin.TheVariants as origin
 use Rattle.tn_session.proofs.Mailbox.{sender_share}
 use Rattle.tn_session.specs.CoreTurns.{all_told}
 use Rattle.tn_session.specs.Mailbox.{same, from, mail, sender}
@@ -20,9 +20,9 @@ use Rattle.tn_session.specs.declared.mail.Sender.TheVariants.{Net, Desk, Back, K
 use Rattle.tn_streams.specs.Foretelling.{Failures}
 use Rattle.tn_streams.specs.Known.{KnownReader}
 use Rattle.tn_streams.specs.declared.control.Control.{Control}
-use Rattle.tn_messages.specs.Pieces.{bytes_in}
-use Rattle.tn_messages.specs.declared.messages.Message.{Message}
-use Rattle.tn_messages.specs.declared.messages.Message.TheVariants.{Piece, HangUp, ReadFailed, Take, Said, Refused, Left, Resized, Asked}
+use Rattle.tn_machines.specs.Pieces.{bytes_in}
+use Rattle.tn_machines.specs.declared.messages.Message.{Message}
+use Rattle.tn_machines.specs.declared.messages.Message.TheVariants.{Piece, HangUp, ReadFailed, Take, Said, Refused, Left, Resized, Asked}
 
 keys_bytes : (m : Message) → brought_from origin.Keys origin.Keys m ≡ bytes_in m
 keys_bytes (Piece piece) = refl

@@ -6,13 +6,13 @@ use Rattle.tn_session.specs.Reading.{Telling, piece_told, size_told, control_tol
 use Rattle.tn_session.specs.Turns.{messages_of}
 use Rattle.tn_session.specs.declared.mail.Mail.{Mail}
 use Rattle.tn_session.specs.declared.mail.Sender.{Sender}
-use Rattle.tn_term.specs.Marks.{no_write_failed, no_writes_failed}
-use Rattle.tn_term.specs.declared.messages.Mark.{Mark}
-use Rattle.tn_term.specs.declared.messages.Mark.TheVariants as mark
+use Rattle.tn_machines.specs.server.Marks.{no_write_failed, no_writes_failed}
+use Rattle.tn_machines.specs.declared.server.messages.Mark.{Mark}
+use Rattle.tn_machines.specs.declared.server.messages.Mark.TheVariants as mark
 use Rattle.tn_streams.specs.declared.control.Control.{Control}
 use Rattle.tn_streams.specs.declared.window.WindowSize.{WindowSize}
-use Rattle.tn_messages.specs.declared.messages.Message.{Message}
-use Rattle.tn_messages.specs.declared.messages.Message.TheVariants.{Piece, ReadFailed, Left, Resized, Asked}
+use Rattle.tn_machines.specs.declared.messages.Message.{Message}
+use Rattle.tn_machines.specs.declared.messages.Message.TheVariants.{Piece, ReadFailed, Left, Resized, Asked}
 
 pub from_hit : (s : Sender) (x : Mail) (xs : List Mail) → same x.from s ≡ true → from s (x ∷ xs) ≡ x ∷ from s xs
 from_hit s x xs is = rw is refl

@@ -1,10 +1,10 @@
 -- Why a client's session ended by a read or a write.
 use Rattle.std.proofs.Common.{◌≡◌, ℕ, Bool, false, ◌&&◌, ◌⊎◌, inl, inr, ⊎_elim, List, [], ◌∷◌, ◌++◌, Option, refl, sym, ap, ◌∙◌, subst, map, length}
-use Rattle.tn_client_core.specs.Ending.{IsEndedAt}
-use Rattle.tn_client_core.specs.Marks.{no_write_failed, no_show_failed, all_by}
-use Rattle.tn_client_core.specs.Run.{Run}
-use Rattle.tn_client_core.specs.declared.messages.Mark.{Mark}
-use Rattle.tn_client_core.specs.declared.messages.Told.{Told}
+use Rattle.tn_machines.specs.client.Ending.{IsEndedAt}
+use Rattle.tn_machines.specs.client.Marks.{no_write_failed, no_show_failed, all_by}
+use Rattle.tn_machines.specs.client.Run.{Run}
+use Rattle.tn_machines.specs.declared.client.messages.Mark.{Mark}
+use Rattle.tn_machines.specs.declared.client.messages.Told.{Told}
 use Rattle.tn_session.proofs.Causes.{HasFailure, has_split, failure_from, failure_last, failure_never, never_and}
 use Rattle.tn_session.proofs.Ending.{messages_from}
 use Rattle.tn_session.specs.CoreTurns.{all_told}
@@ -20,10 +20,10 @@ use Rattle.tn_streams.proofs.lemmas.Telling.{some_failed}
 use Rattle.tn_streams.specs.Foretelling.{Failures, WillFail}
 use Rattle.tn_streams.specs.Known.{KnownReader}
 use Rattle.tn_streams.specs.Telling.{Calls, SomeFailed}
-use Rattle.tn_messages.specs.declared.faults.Ended.TheVariants as ended
-use Rattle.tn_messages.specs.declared.faults.SessionFault.TheVariants as fault
-use Rattle.tn_messages.specs.declared.messages.Message.{Message}
-use Rattle.tn_messages.specs.declared.messages.Message.TheVariants.{ReadFailed}
+use Rattle.tn_machines.specs.declared.faults.Ended.TheVariants as ended
+use Rattle.tn_machines.specs.declared.faults.SessionFault.TheVariants as fault
+use Rattle.tn_machines.specs.declared.messages.Message.{Message}
+use Rattle.tn_machines.specs.declared.messages.Message.TheVariants.{ReadFailed}
 
 messages_told : (mails : List Mail) → map (λ (t : Told). t.message) (all_told mails) ≡ messages_of mails
 messages_told [] = refl

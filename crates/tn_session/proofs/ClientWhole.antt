@@ -1,16 +1,16 @@
 -- A whole client session: its passes joined, and what its threads did.
 use Rattle.std.proofs.Common.{◌≡◌, ℕ, Bool, true, false, refl, List, [], ◌∷◌, ◌++◌, map, Some, None, sym, ap, ◌∙◌, subst, append-nil, arith}
 use Rattle.std.specs.List.{FoldsTo}
-use Rattle.tn_client_core.proofs.lemmas.Bringing.{in_order, keys-brought}
-use Rattle.tn_client_core.proofs.lemmas.Ending.{fault_cause}
-use Rattle.tn_client_core.specs.Bringing.{TakesInOrder, inputs_brought, brought, brought_from}
-use Rattle.tn_client_core.specs.Marks.{Turns, all_written, all_whole}
-use Rattle.tn_client_core.specs.Run.{Run, start}
-use Rattle.tn_client_core.specs.declared.machine.Core.{Core}
-use Rattle.tn_client_core.specs.declared.messages.Mark.{Mark}
-use Rattle.tn_client_core.specs.declared.messages.Origin.TheVariants as origin
-use Rattle.tn_client_core.specs.declared.messages.Told.{Told}
-use Rattle.tn_client_core.specs.declared.progress.Progress.{Progress}
+use Rattle.tn_machines.proofs.lemmas.client.Bringing.{in_order, keys-brought}
+use Rattle.tn_machines.proofs.lemmas.client.Ending.{fault_cause}
+use Rattle.tn_machines.specs.client.Bringing.{TakesInOrder, inputs_brought, brought, brought_from}
+use Rattle.tn_machines.specs.client.Marks.{Turns, all_written, all_whole}
+use Rattle.tn_machines.specs.client.Run.{Run, start}
+use Rattle.tn_machines.specs.declared.client.machine.Core.{Core}
+use Rattle.tn_machines.specs.declared.client.messages.Mark.{Mark}
+use Rattle.tn_machines.specs.declared.client.messages.Origin.TheVariants as origin
+use Rattle.tn_machines.specs.declared.client.messages.Told.{Told}
+use Rattle.tn_machines.specs.declared.client.progress.Progress.{Progress}
 use Rattle.tn_session.proofs.Brought.{keys_brought, commands_brought, net_all, net_brought}
 use Rattle.tn_session.proofs.ClientCauses.{read_cause, write_cause}
 use Rattle.tn_session.proofs.CoreGoing.{unwritten}
@@ -36,9 +36,9 @@ use Rattle.tn_session.specs.declared.mail.Mail.{Mail}
 use Rattle.tn_session.specs.declared.mail.Sender.TheVariants.{Net, Desk, Back, Keys}
 use Rattle.tn_session.specs.declared.parties.Report.{Report}
 use Rattle.tn_streams.specs.Known.{KnownReader, KnownTyping, KnownWriting}
-use Rattle.tn_messages.specs.declared.faults.Ended.TheVariants as ended
-use Rattle.tn_messages.specs.declared.faults.SessionFault.{SessionFault}
-use Rattle.tn_messages.specs.declared.faults.SessionFault.TheVariants as fault
+use Rattle.tn_machines.specs.declared.faults.Ended.TheVariants as ended
+use Rattle.tn_machines.specs.declared.faults.SessionFault.{SessionFault}
+use Rattle.tn_machines.specs.declared.faults.SessionFault.TheVariants as fault
 
 -- the passes before anything was sent
 pub ready_two : (v₀ v₁ v₂ n k : View) → v₀ ≡ everyone → v₁ ≡ record v₀ { net = None } → n ≡ record nobody { net = v₀.net } → v₂ ≡ record v₁ { keys = None } → k ≡ record nobody { keys = v₁.keys } → (v₂ ≡ core_view []) × (n ≡ sender Net []) × (k ≡ sender Keys [])

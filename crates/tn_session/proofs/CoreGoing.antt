@@ -6,14 +6,14 @@ use Rattle.std.proofs.lemmas.List.{map-append}
 use Rattle.std.specs.Io.KnownBytes.{Appends, Keeps}
 use Rattle.tn_client.specs.Replies.{items_said}
 use Rattle.tn_client.specs.Screen.{text_shown}
-use Rattle.tn_client_core.specs.Marks.{Runs, Turns, no_write_failed, no_show_failed, is_written, is_whole, all_by, all_written, all_whole}
-use Rattle.tn_client_core.specs.Reaching.{LeadsTo, IsTurn, SendsPrefix, ShowsPrefix}
-use Rattle.tn_client_core.specs.Run.{Run, fail}
-use Rattle.tn_client_core.specs.declared.machine.Core.{Core}
-use Rattle.tn_client_core.specs.declared.messages.Mark.{Mark}
-use Rattle.tn_client_core.specs.declared.messages.Mark.TheVariants as mark
-use Rattle.tn_client_core.specs.declared.messages.Told.{Told}
-use Rattle.tn_client_core.specs.declared.progress.Progress.{Progress}
+use Rattle.tn_machines.specs.client.Marks.{Runs, Turns, no_write_failed, no_show_failed, is_written, is_whole, all_by, all_written, all_whole}
+use Rattle.tn_machines.specs.client.Reaching.{LeadsTo, IsTurn, SendsPrefix, ShowsPrefix}
+use Rattle.tn_machines.specs.client.Run.{Run, fail}
+use Rattle.tn_machines.specs.declared.client.machine.Core.{Core}
+use Rattle.tn_machines.specs.declared.client.messages.Mark.{Mark}
+use Rattle.tn_machines.specs.declared.client.messages.Mark.TheVariants as mark
+use Rattle.tn_machines.specs.declared.client.messages.Told.{Told}
+use Rattle.tn_machines.specs.declared.client.progress.Progress.{Progress}
 use Rattle.tn_nvt.specs.Spelling.{spells}
 use Rattle.tn_session.proofs.Going.{true_false, false_true, appends_more, appends_kept, appends_none, from_to, left_over}
 use Rattle.tn_session.proofs.lemmas.Noting.{total-push}
@@ -29,7 +29,7 @@ use Rattle.tn_session.specs.declared.mail.Sender.TheVariants.{Keys}
 use Rattle.tn_streams.proofs.lemmas.Telling.{accounts_none, accounts_well, accounts_both}
 use Rattle.tn_streams.specs.Known.{KnownWriter, KnownWriting}
 use Rattle.tn_streams.specs.Telling.{Calls}
-use Rattle.tn_messages.specs.declared.faults.SessionFault.TheVariants as fault
+use Rattle.tn_machines.specs.declared.faults.SessionFault.TheVariants as fault
 
 -- a front was shown, and all where no write failed
 record Written (b : Bool) (x y : Option (List ℕ)) (bytes : List ℕ) : Type 0 where

@@ -34,17 +34,17 @@ use Rattle.tn_streams.proofs.lemmas.Telling.{some_failed}
 use Rattle.tn_streams.specs.Foretelling.{WillFail}
 use Rattle.tn_streams.specs.Known.{KnownReader, KnownWriting}
 use Rattle.tn_streams.specs.Telling.{SomeFailed}
-use Rattle.tn_term.proofs.lemmas.Hearing.{entries_grow, entries_same}
-use Rattle.tn_term.specs.Giving.{GivesPrefix, entries_put}
-use Rattle.tn_messages.specs.Pieces.{bytes_in}
-use Rattle.tn_term.specs.Hearing.{heard, at_end_after, MayCome, MayAllCome, KeepsOn, AllKeepOn, Hears, HangsUp}
-use Rattle.tn_term.specs.Ending.{IsEndedAt, IsFaultCause}
-use Rattle.tn_term.specs.Marks.{no_writes_failed}
-use Rattle.tn_term.specs.Run.{Run}
-use Rattle.tn_messages.specs.declared.faults.Ended.TheVariants as ended
-use Rattle.tn_messages.specs.declared.faults.SessionFault.TheVariants as fault
-use Rattle.tn_messages.specs.declared.messages.Message.{Message}
-use Rattle.tn_messages.specs.declared.messages.Message.TheVariants.{Piece, HangUp, ReadFailed, Take, Said, Refused, Left, Resized, Asked}
+use Rattle.tn_machines.proofs.lemmas.server.Hearing.{entries_grow, entries_same}
+use Rattle.tn_machines.specs.server.Giving.{GivesPrefix, entries_put}
+use Rattle.tn_machines.specs.Pieces.{bytes_in}
+use Rattle.tn_machines.specs.server.Hearing.{heard, at_end_after, MayCome, MayAllCome, KeepsOn, AllKeepOn, Hears, HangsUp}
+use Rattle.tn_machines.specs.server.Ending.{IsEndedAt, IsFaultCause}
+use Rattle.tn_machines.specs.server.Marks.{no_writes_failed}
+use Rattle.tn_machines.specs.server.Run.{Run}
+use Rattle.tn_machines.specs.declared.faults.Ended.TheVariants as ended
+use Rattle.tn_machines.specs.declared.faults.SessionFault.TheVariants as fault
+use Rattle.tn_machines.specs.declared.messages.Message.{Message}
+use Rattle.tn_machines.specs.declared.messages.Message.TheVariants.{Piece, HangUp, ReadFailed, Take, Said, Refused, Left, Resized, Asked}
 use Rattle.tn_wire.specs.Prefixes.{IsRead}
 
 true_false : true ≡ false → ⊥

@@ -21,18 +21,18 @@ use Rattle.tn_session.specs.declared.mail.Sender.TheVariants.{Back}
 use Rattle.tn_streams.proofs.lemmas.Telling.{accounts_none, accounts_well, accounts_both}
 use Rattle.tn_streams.specs.Known.{KnownWriter, KnownWriting}
 use Rattle.tn_streams.specs.Telling.{Calls}
-use Rattle.tn_term.specs.Marks.{Runs, Turns, is_whole, all_whole, no_write_failed, no_writes_failed}
-use Rattle.tn_term.specs.Reaching.{IsTurn, LeadsTo}
-use Rattle.tn_term.specs.Run.{Run, fail, puts_of}
-use Rattle.tn_messages.specs.declared.faults.SessionFault.TheVariants as fault
-use Rattle.tn_term.specs.declared.messages.Put.{Put}
-use Rattle.tn_term.specs.declared.messages.Put.TheVariants.{Nothing}
-use Rattle.tn_term.specs.declared.messages.Mark.{Mark}
-use Rattle.tn_term.specs.declared.messages.Mark.TheVariants as mark
-use Rattle.tn_messages.specs.declared.messages.Message.{Message}
-use Rattle.tn_messages.specs.declared.messages.Message.TheVariants.{Left}
-use Rattle.tn_term.specs.declared.progress.Progress.{Progress}
-use Rattle.tn_term.specs.declared.terminal.Term.{Term}
+use Rattle.tn_machines.specs.server.Marks.{Runs, Turns, is_whole, all_whole, no_write_failed, no_writes_failed}
+use Rattle.tn_machines.specs.server.Reaching.{IsTurn, LeadsTo}
+use Rattle.tn_machines.specs.server.Run.{Run, fail, puts_of}
+use Rattle.tn_machines.specs.declared.faults.SessionFault.TheVariants as fault
+use Rattle.tn_machines.specs.declared.server.messages.Put.{Put}
+use Rattle.tn_machines.specs.declared.server.messages.Put.TheVariants.{Nothing}
+use Rattle.tn_machines.specs.declared.server.messages.Mark.{Mark}
+use Rattle.tn_machines.specs.declared.server.messages.Mark.TheVariants as mark
+use Rattle.tn_machines.specs.declared.messages.Message.{Message}
+use Rattle.tn_machines.specs.declared.messages.Message.TheVariants.{Left}
+use Rattle.tn_machines.specs.declared.server.progress.Progress.{Progress}
+use Rattle.tn_machines.specs.declared.server.terminal.Term.{Term}
 
 pub true_false : true ≡ false → ⊥
 true_false e = cc

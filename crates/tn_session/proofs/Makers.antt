@@ -5,8 +5,8 @@ use Rattle.std.specs.List.{FoldsTo}
 use Rattle.tn_session.specs.Turning.{EachFresh, ids_of, jobs_of}
 use Rattle.tn_session.specs.declared.back.Runner.{Runner}
 use Rattle.tn_session.specs.Makers.{AreFresh, HasMade, MayBeDone, MayGoOn, MakesJob, AreAll, IsMakerFault}
-use Rattle.tn_messages.specs.declared.faults.SessionFault.{SessionFault}
-use Rattle.tn_messages.specs.declared.faults.SessionFault.TheVariants as fault
+use Rattle.tn_machines.specs.declared.faults.SessionFault.{SessionFault}
+use Rattle.tn_machines.specs.declared.faults.SessionFault.TheVariants as fault
 
 pub none_came : (J E : Type 0) (old new : Option ℕ) → MakesJob {J = J} {E = E} old new (Ok None) → MayBeDone old
 none_came J E None new m = tt

@@ -1,10 +1,10 @@
 -- A session whose messages are welcome doesn't end because too many entries wait.
 use Rattle.std.proofs.Common.{◌≡◌, ℕ, Bool, true, false, List, sym, ap, ◌∙◌, subst}
-use Rattle.tn_messages.specs.Counting.{first_end}
-use Rattle.tn_messages.specs.declared.faults.Ended.{Ended}
-use Rattle.tn_messages.specs.declared.faults.Ended.TheVariants.{HangUp, Done, Fault}
-use Rattle.tn_messages.specs.declared.faults.SessionFault.TheVariants as fault
-use Rattle.tn_messages.specs.declared.messages.Message.{Message}
+use Rattle.tn_machines.specs.Counting.{first_end}
+use Rattle.tn_machines.specs.declared.faults.Ended.{Ended}
+use Rattle.tn_machines.specs.declared.faults.Ended.TheVariants.{HangUp, Done, Fault}
+use Rattle.tn_machines.specs.declared.faults.SessionFault.TheVariants as fault
+use Rattle.tn_machines.specs.declared.messages.Message.{Message}
 use Rattle.tn_discipline.specs.declared.reads.Entry.{Entry}
 use Rattle.std.specs.Prelude.{Option}
 use Rattle.tn_session.specs.Notes.{Noted, no_notes}
@@ -12,13 +12,13 @@ use Rattle.tn_session.specs.Session.{IsOpening}
 use Rattle.tn_session.specs.Turns.{GoesOn, TurnsMessage, StaysInReach}
 use Rattle.tn_session.specs.EntryChannel.{EntryHand}
 use Rattle.tn_streams.specs.Known.{KnownWriting}
-use Rattle.tn_term.proofs.lemmas.Welcoming.{stays_in_reach}
-use Rattle.tn_term.specs.Marks.{run_after_opening}
-use Rattle.tn_term.specs.Reaching.{LeadsTo}
-use Rattle.tn_term.specs.Run.{Run}
-use Rattle.tn_term.specs.Welcoming.{IsWelcome, too_far_ahead}
-use Rattle.tn_term.specs.declared.progress.Progress.{Progress}
-use Rattle.tn_term.specs.declared.terminal.Term.{Term}
+use Rattle.tn_machines.proofs.lemmas.server.Welcoming.{stays_in_reach}
+use Rattle.tn_machines.specs.server.Marks.{run_after_opening}
+use Rattle.tn_machines.specs.server.Reaching.{LeadsTo}
+use Rattle.tn_machines.specs.server.Run.{Run}
+use Rattle.tn_machines.specs.server.Welcoming.{IsWelcome, too_far_ahead}
+use Rattle.tn_machines.specs.declared.server.progress.Progress.{Progress}
+use Rattle.tn_machines.specs.declared.server.terminal.Term.{Term}
 
 ended_as : (c : Run) (t : Term) → LeadsTo c t → t.progress.ended ≡ c.progress.ended
 ended_as c t at = ap (λ (p : Progress). p.ended) at.progress

@@ -6,7 +6,7 @@ use Rattle.std.proofs.lemmas.Fn.{FoldsTo-push}
 use Rattle.tn_discipline.specs.declared.reads.Entry.{Entry}
 use Rattle.tn_jobs.specs.declared.reactions.Reaction.{Reaction}
 use Rattle.tn_jobs.specs.declared.verdicts.After.TheVariants.{Done}
-use Rattle.tn_messages.specs.declared.messages.Message.TheVariants.{Take, Said}
+use Rattle.tn_machines.specs.declared.messages.Message.TheVariants.{Take, Said}
 use Rattle.tn_jobs.specs.declared.held_jobs.JobId.{JobId}
 use Rattle.tn_session.specs.Talk.{turn_said, turns_said, Answers, entries_of, ends_done}
 

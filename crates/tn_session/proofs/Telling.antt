@@ -14,8 +14,8 @@ use Rattle.tn_session.specs.declared.channels.View.{View}
 use Rattle.tn_session.specs.declared.credit.CreditSeat.{CreditSeat}
 use Rattle.tn_session.specs.declared.mail.Mail.{Mail}
 use Rattle.tn_session.specs.declared.mail.Sender.{Sender}
-use Rattle.tn_messages.specs.declared.messages.Message.{Message}
-use Rattle.tn_messages.specs.declared.messages.Message.TheVariants.{Piece, ReadFailed, Left}
+use Rattle.tn_machines.specs.declared.messages.Message.{Message}
+use Rattle.tn_machines.specs.declared.messages.Message.TheVariants.{Piece, ReadFailed, Left}
 use Rattle.tn_streams.proofs.lemmas.Foretelling.{come_none, come_passed}
 use Rattle.tn_streams.specs.Foretelling.{Failures, HasCome}
 use Rattle.tn_streams.specs.Beside.{TellsList}

@@ -13,9 +13,9 @@ use Rattle.tn_session.specs.Stepping.{IsIn, AreBy, Steps, AreSteps, LeavesFor, L
 use Rattle.tn_session.specs.Mailbox.{sender, mail}
 use Rattle.tn_session.specs.declared.channels.View.{View}
 use Rattle.tn_session.specs.declared.mail.Sender.TheVariants.{Back}
-use Rattle.tn_term.specs.Run.{has_text}
-use Rattle.tn_messages.specs.declared.messages.Message.{Message}
-use Rattle.tn_messages.specs.declared.messages.Message.TheVariants.{Refused, Left}
+use Rattle.tn_machines.specs.server.Run.{has_text}
+use Rattle.tn_machines.specs.declared.messages.Message.{Message}
+use Rattle.tn_machines.specs.declared.messages.Message.TheVariants.{Refused, Left}
 use Rattle.tn_session.specs.Turning.{ids_of, AreApart, EachBegan, Holds, Chain, EachRuns, AllStay, EachStays, Running, standing, AdvancesQueue}
 
 abbrev Said : Type 0

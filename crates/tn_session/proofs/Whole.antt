@@ -39,14 +39,14 @@ use Rattle.tn_session.specs.declared.mail.Mail.{Mail}
 use Rattle.tn_session.specs.declared.mail.Sender.TheVariants.{Net, Desk, Back}
 use Rattle.tn_streams.proofs.lemmas.Telling.{accounts_both}
 use Rattle.tn_streams.specs.Known.{KnownReader, KnownWriter}
-use Rattle.tn_term.specs.Marks.{Turns, run_after_opening, all_whole, no_writes_failed}
-use Rattle.tn_term.specs.Run.{Run, start, opening}
-use Rattle.tn_term.specs.declared.messages.Mark.{Mark}
-use Rattle.tn_term.specs.declared.progress.Progress.{Progress}
-use Rattle.tn_messages.specs.Pieces.{bytes_in}
-use Rattle.tn_messages.specs.declared.messages.Message.{Message}
-use Rattle.tn_messages.specs.declared.messages.Message.TheVariants.{Take, Refused, Left}
-use Rattle.tn_term.specs.declared.terminal.Term.{Term}
+use Rattle.tn_machines.specs.server.Marks.{Turns, run_after_opening, all_whole, no_writes_failed}
+use Rattle.tn_machines.specs.server.Run.{Run, start, opening}
+use Rattle.tn_machines.specs.declared.server.messages.Mark.{Mark}
+use Rattle.tn_machines.specs.declared.server.progress.Progress.{Progress}
+use Rattle.tn_machines.specs.Pieces.{bytes_in}
+use Rattle.tn_machines.specs.declared.messages.Message.{Message}
+use Rattle.tn_machines.specs.declared.messages.Message.TheVariants.{Take, Refused, Left}
+use Rattle.tn_machines.specs.declared.server.terminal.Term.{Term}
 
 -- the passes are joined and cut again
 

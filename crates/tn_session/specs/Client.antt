@@ -5,17 +5,17 @@ use Rattle.crossbeam_channel.specs.Claims.{view, IsSeatAt}
 use Rattle.crossbeam_channel.specs.Ends.{sends_on, receives_on, ruled_capacity}
 use Rattle.tn_client.specs.Replies.{items_said}
 use Rattle.tn_client.specs.Screen.{text_shown}
-use Rattle.tn_client_core.specs.Bringing.{Input, inputs_brought, keys_in, commands_in, brought_from, brought, TakesInOrder}
-use Rattle.tn_client_core.specs.Commands.{command_of}
-use Rattle.tn_client_core.specs.Ending.{IsEndedAt}
-use Rattle.tn_client_core.specs.Marks.{Turns, Runs, no_write_failed, no_show_failed, all_by, all_written, all_whole}
-use Rattle.tn_client_core.specs.Reaching.{LeadsTo}
-use Rattle.tn_client_core.specs.Run.{Run, start}
-use Rattle.tn_client_core.specs.declared.machine.Core.{Core}
-use Rattle.tn_client_core.specs.declared.messages.Mark.{Mark}
-use Rattle.tn_client_core.specs.declared.messages.Origin.TheVariants as origin
-use Rattle.tn_client_core.specs.declared.messages.Told.{Told}
-use Rattle.tn_client_core.specs.declared.progress.Progress.{Progress}
+use Rattle.tn_machines.specs.client.Bringing.{Input, inputs_brought, keys_in, commands_in, brought_from, brought, TakesInOrder}
+use Rattle.tn_machines.specs.client.Commands.{command_of}
+use Rattle.tn_machines.specs.client.Ending.{IsEndedAt}
+use Rattle.tn_machines.specs.client.Marks.{Turns, Runs, no_write_failed, no_show_failed, all_by, all_written, all_whole}
+use Rattle.tn_machines.specs.client.Reaching.{LeadsTo}
+use Rattle.tn_machines.specs.client.Run.{Run, start}
+use Rattle.tn_machines.specs.declared.client.machine.Core.{Core}
+use Rattle.tn_machines.specs.declared.client.messages.Mark.{Mark}
+use Rattle.tn_machines.specs.declared.client.messages.Origin.TheVariants as origin
+use Rattle.tn_machines.specs.declared.client.messages.Told.{Told}
+use Rattle.tn_machines.specs.declared.client.progress.Progress.{Progress}
 use Rattle.tn_nvt.specs.Spelling.{spells}
 use Rattle.tn_session.specs.CoreTurns as turns
 use Rattle.tn_session.specs.CoreTurns.{all_told, origin_of}
@@ -36,9 +36,9 @@ use Rattle.tn_streams.specs.Foretelling.{WillFail}
 use Rattle.tn_streams.specs.Beside.{TellsFirst}
 use Rattle.tn_streams.specs.Known.{KnownReader, KnownTyping, KnownWriting}
 use Rattle.tn_streams.specs.Telling.{SomeFailed}
-use Rattle.tn_messages.specs.declared.faults.Ended.TheVariants.{Fault}
-use Rattle.tn_messages.specs.declared.faults.SessionFault.{SessionFault}
-use Rattle.tn_messages.specs.declared.faults.SessionFault.TheVariants as fault
+use Rattle.tn_machines.specs.declared.faults.Ended.TheVariants.{Fault}
+use Rattle.tn_machines.specs.declared.faults.SessionFault.{SessionFault}
+use Rattle.tn_machines.specs.declared.faults.SessionFault.TheVariants as fault
 
 -- the view of the one that handles, in a session of two senders; nobody sends as Desk or Back
 abbrev pub core_view : List Mail → View

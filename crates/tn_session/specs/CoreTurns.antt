@@ -3,14 +3,14 @@ use Rattle.std.specs.Prelude.{◌≡◌, ℕ, ◌≤◌, Bool, true, false, List
 use Rattle.std.specs.List.{FoldsTo}
 use Rattle.std.specs.Io.KnownBytes.{Appends}
 use Rattle.tn_client.specs.Replies.{items_said}
-use Rattle.tn_client_core.specs.Marks.{Turns, Runs, is_written, no_write_failed, no_show_failed, all_by, all_written, all_whole}
-use Rattle.tn_client_core.specs.Reaching.{LeadsTo, IsTurn, SendsPrefix, ShowsPrefix}
-use Rattle.tn_client_core.specs.Run.{Run}
-use Rattle.tn_client_core.specs.declared.machine.Core.{Core}
-use Rattle.tn_client_core.specs.declared.messages.Mark.{Mark}
-use Rattle.tn_client_core.specs.declared.messages.Origin.{Origin}
-use Rattle.tn_client_core.specs.declared.messages.Origin.TheVariants as origin
-use Rattle.tn_client_core.specs.declared.messages.Told.{Told}
+use Rattle.tn_machines.specs.client.Marks.{Turns, Runs, is_written, no_write_failed, no_show_failed, all_by, all_written, all_whole}
+use Rattle.tn_machines.specs.client.Reaching.{LeadsTo, IsTurn, SendsPrefix, ShowsPrefix}
+use Rattle.tn_machines.specs.client.Run.{Run}
+use Rattle.tn_machines.specs.declared.client.machine.Core.{Core}
+use Rattle.tn_machines.specs.declared.client.messages.Mark.{Mark}
+use Rattle.tn_machines.specs.declared.client.messages.Origin.{Origin}
+use Rattle.tn_machines.specs.declared.client.messages.Origin.TheVariants as origin
+use Rattle.tn_machines.specs.declared.client.messages.Told.{Told}
 use Rattle.tn_nvt.specs.Spelling.{spells}
 use Rattle.tn_session.specs.Mailbox.{with_handled}
 use Rattle.tn_session.specs.Notes.{Noted, NotesAll, no_notes, writes}

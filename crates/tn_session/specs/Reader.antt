@@ -12,8 +12,8 @@ use Rattle.tn_streams.specs.Known.{KnownReader, KnownTyping}
 use Rattle.tn_session.specs.declared.mail.Mail.{Mail}
 use Rattle.tn_streams.specs.declared.control.Control.{Control}
 use Rattle.tn_streams.specs.declared.window.WindowSize.{WindowSize}
-use Rattle.tn_messages.specs.declared.messages.Message.{Message}
-use Rattle.tn_messages.specs.declared.messages.Message.TheVariants.{Left}
+use Rattle.tn_machines.specs.declared.messages.Message.{Message}
+use Rattle.tn_machines.specs.declared.messages.Message.TheVariants.{Left}
 
 -- After the pieces comes how the reading ended, for its cause, and then Left. A thread that may be stopped
 -- may leave right after a piece.

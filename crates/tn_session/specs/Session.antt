@@ -34,21 +34,21 @@ use Rattle.tn_session.specs.declared.session.Begun.{Begun}
 use Rattle.tn_streams.specs.Foretelling.{WillFail}
 use Rattle.tn_streams.specs.Known.{KnownReader, KnownWriter, KnownWriting}
 use Rattle.tn_streams.specs.Telling.{SomeFailed}
-use Rattle.tn_term.specs.Ending.{IsFaultCause}
-use Rattle.tn_term.specs.Giving.{GivesPrefix, entries_put}
-use Rattle.tn_term.specs.Hearing.{entries_by}
-use Rattle.tn_term.specs.Marks.{Turns, Runs, run_after_opening, all_whole, no_writes_failed}
-use Rattle.tn_term.specs.Reaching.{LeadsTo}
-use Rattle.tn_term.specs.Run.{Run, start, opening}
-use Rattle.tn_messages.specs.Pieces.{bytes_in}
-use Rattle.tn_messages.specs.declared.faults.Ended.{Ended}
-use Rattle.tn_messages.specs.declared.faults.Ended.TheVariants.{HangUp, Fault}
-use Rattle.tn_messages.specs.declared.faults.SessionFault.{SessionFault}
-use Rattle.tn_messages.specs.declared.faults.SessionFault.TheVariants as fault
-use Rattle.tn_term.specs.declared.messages.Mark.{Mark}
-use Rattle.tn_messages.specs.declared.messages.Message.{Message}
-use Rattle.tn_term.specs.declared.progress.Progress.{Progress}
-use Rattle.tn_term.specs.declared.terminal.Term.{Term}
+use Rattle.tn_machines.specs.server.Ending.{IsFaultCause}
+use Rattle.tn_machines.specs.server.Giving.{GivesPrefix, entries_put}
+use Rattle.tn_machines.specs.server.Hearing.{entries_by}
+use Rattle.tn_machines.specs.server.Marks.{Turns, Runs, run_after_opening, all_whole, no_writes_failed}
+use Rattle.tn_machines.specs.server.Reaching.{LeadsTo}
+use Rattle.tn_machines.specs.server.Run.{Run, start, opening}
+use Rattle.tn_machines.specs.Pieces.{bytes_in}
+use Rattle.tn_machines.specs.declared.faults.Ended.{Ended}
+use Rattle.tn_machines.specs.declared.faults.Ended.TheVariants.{HangUp, Fault}
+use Rattle.tn_machines.specs.declared.faults.SessionFault.{SessionFault}
+use Rattle.tn_machines.specs.declared.faults.SessionFault.TheVariants as fault
+use Rattle.tn_machines.specs.declared.server.messages.Mark.{Mark}
+use Rattle.tn_machines.specs.declared.messages.Message.{Message}
+use Rattle.tn_machines.specs.declared.server.progress.Progress.{Progress}
+use Rattle.tn_machines.specs.declared.server.terminal.Term.{Term}
 use Rattle.tn_wire.specs.Prefixes.{IsRead}
 
 abbrev pub report_of : Progress → Report

@@ -11,9 +11,9 @@ use Rattle.tn_session.specs.declared.mail.Sender.TheVariants.{Back}
 use Rattle.tn_session.specs.declared.channels.View.{View}
 use Rattle.tn_session.specs.Acts.{JobActs}
 use Rattle.tn_session.specs.Mailbox.{mail, sender}
-use Rattle.tn_term.specs.Run.{has_text}
-use Rattle.tn_messages.specs.declared.messages.Message.{Message}
-use Rattle.tn_messages.specs.declared.messages.Message.TheVariants.{Said, Refused, Left}
+use Rattle.tn_machines.specs.server.Run.{has_text}
+use Rattle.tn_machines.specs.declared.messages.Message.{Message}
+use Rattle.tn_machines.specs.declared.messages.Message.TheVariants.{Said, Refused, Left}
 
 -- a job's number, and what it did
 abbrev pub step_said : JobId × Reaction → Message

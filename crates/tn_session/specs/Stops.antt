@@ -3,9 +3,9 @@
 use Rattle.std.specs.Prelude.{◌≡◌, Bool, true, false, ◌||◌, ◌&&◌, Option, Some, None, List, [], ◌∷◌, ◌++◌, map, ⊤}
 use Rattle.crossbeam_channel.specs.Claims.{view, IsSeatAt}
 use Rattle.crossbeam_channel.specs.Ends.{sends_on, receives_on}
-use Rattle.tn_client_core.specs.declared.progress.Progress.{Progress as CoreProgress}
-use Rattle.tn_messages.specs.declared.messages.Message.{Message}
-use Rattle.tn_messages.specs.declared.messages.Message.TheVariants.{Left}
+use Rattle.tn_machines.specs.declared.client.progress.Progress.{Progress as CoreProgress}
+use Rattle.tn_machines.specs.declared.messages.Message.{Message}
+use Rattle.tn_machines.specs.declared.messages.Message.TheVariants.{Left}
 use Rattle.tn_queue.specs.Queue.{putter, taker}
 use Rattle.tn_queue.specs.declared.Hand.{Hand}
 use Rattle.tn_session.specs.Mailbox.{same, mail}
@@ -14,7 +14,7 @@ use Rattle.tn_session.specs.declared.mail.Sender.{Sender}
 use Rattle.tn_session.specs.declared.stops.Stop.{Stop}
 use Rattle.tn_session.specs.declared.stops.StopSeat.{StopSeat}
 use Rattle.tn_session.specs.declared.stops.StopTeller.{StopTeller}
-use Rattle.tn_term.specs.declared.progress.Progress.{Progress as TermProgress}
+use Rattle.tn_machines.specs.declared.server.progress.Progress.{Progress as TermProgress}
 
 abbrev pub StopHand : Type 0
 StopHand = Hand Stop

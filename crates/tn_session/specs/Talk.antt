@@ -4,8 +4,8 @@ use Rattle.std.specs.List.{FoldsTo}
 use Rattle.tn_discipline.specs.declared.reads.Entry.{Entry}
 use Rattle.tn_jobs.specs.declared.reactions.Reaction.{Reaction}
 use Rattle.tn_jobs.specs.declared.held_jobs.JobId.{JobId}
-use Rattle.tn_messages.specs.declared.messages.Message.{Message}
-use Rattle.tn_messages.specs.declared.messages.Message.TheVariants.{Take, Said, Refused, Left}
+use Rattle.tn_machines.specs.declared.messages.Message.{Message}
+use Rattle.tn_machines.specs.declared.messages.Message.TheVariants.{Take, Said, Refused, Left}
 use Rattle.tn_session.specs.declared.mail.Sender.TheVariants.{Desk}
 use Rattle.tn_jobs.specs.declared.verdicts.After.TheVariants.{Done}
 use Rattle.tn_session.specs.declared.channels.View.{View}

@@ -3,7 +3,7 @@
 use Rattle.std.specs.Prelude.{◌≡◌, ◌⊎◌, ℕ, Bool, true, false, Option, Some, None, List, [], ◌∷◌, ◌++◌, map}
 use Rattle.std.specs.Io.KnownBytes.{Consumes}
 use Rattle.std.specs.List.{FoldsTo}
-use Rattle.tn_messages.specs.Pieces.{bytes_in}
+use Rattle.tn_machines.specs.Pieces.{bytes_in}
 use Rattle.tn_session.specs.Notes.{Note}
 use Rattle.tn_session.specs.declared.mail.Mail.{Mail}
 use Rattle.tn_streams.specs.Prefixes.{IsPrefixOf}

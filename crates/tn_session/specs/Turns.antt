@@ -16,16 +16,16 @@ use Rattle.tn_session.specs.declared.mail.Mail.{Mail}
 use Rattle.tn_session.specs.declared.mail.Sender.TheVariants.{Back}
 use Rattle.tn_streams.specs.Known.{KnownWriting}
 use Rattle.tn_streams.specs.Telling.{Calls, AccountsFor}
-use Rattle.tn_term.specs.Marks.{Turns, Runs, is_whole, all_whole, no_write_failed, no_writes_failed}
-use Rattle.tn_term.specs.Reaching.{LeadsTo, IsTurn}
-use Rattle.tn_term.specs.Run.{Run, puts_of}
-use Rattle.tn_term.specs.Welcoming.{too_far_ahead}
-use Rattle.tn_term.specs.declared.messages.Mark.{Mark}
-use Rattle.tn_term.specs.declared.messages.Put.{Put}
-use Rattle.tn_messages.specs.declared.faults.Ended.{Ended}
-use Rattle.tn_messages.specs.declared.messages.Message.{Message}
-use Rattle.tn_messages.specs.declared.messages.Message.TheVariants.{Left}
-use Rattle.tn_term.specs.declared.terminal.Term.{Term}
+use Rattle.tn_machines.specs.server.Marks.{Turns, Runs, is_whole, all_whole, no_write_failed, no_writes_failed}
+use Rattle.tn_machines.specs.server.Reaching.{LeadsTo, IsTurn}
+use Rattle.tn_machines.specs.server.Run.{Run, puts_of}
+use Rattle.tn_machines.specs.server.Welcoming.{too_far_ahead}
+use Rattle.tn_machines.specs.declared.server.messages.Mark.{Mark}
+use Rattle.tn_machines.specs.declared.server.messages.Put.{Put}
+use Rattle.tn_machines.specs.declared.faults.Ended.{Ended}
+use Rattle.tn_machines.specs.declared.messages.Message.{Message}
+use Rattle.tn_machines.specs.declared.messages.Message.TheVariants.{Left}
+use Rattle.tn_machines.specs.declared.server.terminal.Term.{Term}
 
 -- all of these bytes were written, or the first of them
 abbrev pub Writes : Bool → Option (List ℕ) → Option (List ℕ) → List ℕ → Type 0

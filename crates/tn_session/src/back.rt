@@ -24,7 +24,7 @@ use std::alloc::Global;
 use std::collections::VecDeque;
 use std::sync::Wait;
 use tn_jobs::{After, Job, JobId, JobState, Reaction, judge};
-use tn_messages::Message;
+use tn_machines::Message;
 
 /// A background job that runs.
 #[derive(Drop)]

@@ -26,9 +26,9 @@ use crossbeam_channel::bounded_with;
 use std::alloc::{AllocError, Global};
 use std::sync::{Arc, Wait};
 use std::thread::Threads;
-use tn_client_core::{Core, Progress};
 use tn_discipline::Limit;
-use tn_messages::SessionFault;
+use tn_machines::SessionFault;
+use tn_machines::client::{Core, Progress};
 use tn_streams::{Drain, Finish, Source};
 
 // The core's ends of the mailbox.

@@ -3,7 +3,7 @@
 ghost use Rattle.std.specs.Prelude.{◌≡◌, ◌&&◌, ◌||◌, not, true, Some, [], IfSome};
 ghost use Rattle.crossbeam_channel.specs.Claims.{view, IsSeatAt};
 ghost use Rattle.crossbeam_channel.specs.Ends.{receives_on, sends_on};
-ghost use Rattle.tn_client_core.specs.Marks.{is_whole};
+ghost use Rattle.tn_machines.specs.client.Marks.{is_whole};
 ghost use Rattle.tn_queue.specs.Queue.{putter};
 ghost use Rattle.tn_session.specs.Notes.{noted_of};
 ghost use Rattle.tn_session.specs.CoreTurns.{TurnsTold, CoreHandles, origin_of, told_of};
@@ -22,8 +22,8 @@ use crate::transcript::{Output, Transcript};
 use crate::writing::write_out;
 use std::alloc::Global;
 use std::sync::Wait;
-use tn_client_core::{Core, Mark, Origin, Progress, Told};
-use tn_messages::Message;
+use tn_machines::Message;
+use tn_machines::client::{Core, Mark, Origin, Progress, Told};
 use tn_streams::{Drain, Finish};
 
 /// How many threads send mails.

@@ -8,8 +8,8 @@ ghost use Rattle.crossbeam_channel.specs.Claims.{view, IsSeatAt};
 ghost use Rattle.crossbeam_channel.specs.Ends.{sends_on, receives_on};
 ghost use Rattle.tn_server.specs.Lines.{waiting};
 ghost use Rattle.tn_session.specs.Credits.{AnyTally, AreNewCredits, HaveUsed, none_taken, one_given, one_taken, owed_one, piece_one, step_one, IsSeated, HaveTaken};
-ghost use Rattle.tn_term.specs.Reaching.{LeadsTo};
-ghost use Rattle.tn_term.specs.Run.{Run};
+ghost use Rattle.tn_machines.specs.server.Reaching.{LeadsTo};
+ghost use Rattle.tn_machines.specs.server.Run.{Run};
 
 use crate::mail::{Mail, Sender};
 use crossbeam_channel::protocol::{Lesson, Outcome, Protocol, Split};
@@ -17,8 +17,8 @@ use crossbeam_channel::{Pass, RuledReceiver, RuledSender, bounded_with};
 use std::alloc::{AllocError, Global};
 use std::collections::LinkedList;
 use std::sync::Wait;
-use tn_messages::Message;
-use tn_term::Term;
+use tn_machines::Message;
+use tn_machines::server::Term;
 
 /// How many credits there are.
 pub(crate) const CREDITS: usize = 1;

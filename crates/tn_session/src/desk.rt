@@ -19,7 +19,7 @@ use std::alloc::Global;
 use std::sync::Wait;
 use tn_discipline::Entry;
 use tn_jobs::{After, Job, JobId, Reaction};
-use tn_messages::Message;
+use tn_machines::Message;
 
 // Takes one entry or the end. `None` where the other end is gone.
 fn next_entry<R: Wait>(

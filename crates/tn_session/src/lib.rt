@@ -9,8 +9,8 @@ pub use mail::{Mail, Sender};
 pub use parties::{ClientPorts, Gate, Maker, Place, Ports, Report, Unwatched};
 pub use session::serve_session;
 pub use stops::{Stop, StopPass};
-pub use tn_client_core::Terms;
-pub use tn_messages::{Ended, Message, SessionFault};
+pub use tn_machines::client::Terms;
+pub use tn_machines::{Ended, Message, SessionFault};
 pub use tn_streams::Finish;
 pub use transcript::{Seal, Transcript};
 

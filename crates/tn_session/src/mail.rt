@@ -1,6 +1,6 @@
 //! What the mailbox carries.
 
-use tn_messages::Message;
+use tn_machines::Message;
 
 /// Who sends a mail.
 #[derive(Clone, Copy, Debug, PartialEq, Eq)]

@@ -11,7 +11,7 @@ use std::alloc::Global;
 use std::collections::VecDeque;
 use tn_jobs::laws::one_job_changes;
 use tn_jobs::{Job, JobId, Table};
-use tn_messages::SessionFault;
+use tn_machines::SessionFault;
 
 /// How many jobs run in the background at most.
 const MAX_OTHERS: u8 = 15;

@@ -20,9 +20,9 @@ use crate::stops::{StopSeat, is_stopped};
 use std::alloc::Global;
 use std::sync::{Arc, Wait};
 use tn_discipline::Text;
-use tn_messages::Message;
+use tn_machines::Message;
+use tn_machines::server::MAX_PIECE;
 use tn_streams::{Source, is_interrupted};
-use tn_term::MAX_PIECE;
 
 /// What a read gave.
 #[derive(Drop)]

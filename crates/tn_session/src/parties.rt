@@ -8,9 +8,9 @@ use crate::entries::EntryPass;
 use crate::stops::StopPass;
 use crate::transcript::Transcript;
 use std::alloc::{AllocError, Global};
-use tn_client_core::Terms;
 use tn_jobs::{Job, JobId};
-use tn_messages::Ended;
+use tn_machines::Ended;
+use tn_machines::client::Terms;
 
 /// Who makes the jobs of a session: the first is the foreground job, and up to fifteen more run in the
 /// background.

@@ -10,7 +10,7 @@ ghost use Rattle.tn_session.specs.declared.mail.Mail.{Mail as MailT};
 use crate::channels::{MailPass, MailSender, Sends};
 use crate::mail::{Mail, Sender};
 use std::sync::Wait;
-use tn_messages::Message;
+use tn_machines::Message;
 
 /// Sends one message. `None` where the other end is gone.
 pub(crate) fn say<R: Wait>(

@@ -15,7 +15,7 @@ ghost use Rattle.tn_session.specs.Turning.{IsQueue, ids_of, jobs_of};
 ghost use Rattle.tn_session.specs.Turns.{StaysInReach};
 ghost use Rattle.tn_streams.specs.Known.{known_reader, known_writing};
 ghost use Rattle.tn_streams.specs.Sending.{StaysOpen, IsFinished};
-ghost use Rattle.tn_term.specs.Welcoming.{too_far_ahead};
+ghost use Rattle.tn_machines.specs.server.Welcoming.{too_far_ahead};
 
 use crate::back::Runner;
 use crate::channels::{AllRoles, CutBack, CutDesk, CutNet, MailSeat, View};
@@ -39,11 +39,11 @@ use std::sync::{Arc, Wait};
 use std::thread::Threads;
 use tn_discipline::{Entry, Limit, Settings};
 use tn_jobs::{Job, JobId};
-use tn_messages::SessionFault;
+use tn_machines::SessionFault;
+use tn_machines::server::laws::{all_goes_before_a_hang_up, faults_have_causes, pieces_are_heard};
+use tn_machines::server::{Progress, Term};
 use tn_server::Editing;
 use tn_streams::{Finish, Source};
-use tn_term::laws::{all_goes_before_a_hang_up, faults_have_causes, pieces_are_heard};
-use tn_term::{Progress, Term};
 
 /// How many mails the mailbox holds.
 pub(crate) const MAILS: usize = 64;

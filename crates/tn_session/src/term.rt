@@ -14,8 +14,8 @@ ghost use Rattle.tn_session.specs.Turns.{HandlesAll, StaysInReach, TurnsMessage,
 ghost use Rattle.tn_session.specs.declared.mail.Sender.TheVariants.{Back};
 ghost use Rattle.tn_streams.specs.Known.{known_writing};
 ghost use Rattle.tn_streams.specs.Sending.{StaysOpen, IsFinished};
-ghost use Rattle.tn_term.specs.Marks.{is_whole};
-ghost use Rattle.tn_term.specs.Run.{puts_of};
+ghost use Rattle.tn_machines.specs.server.Marks.{is_whole};
+ghost use Rattle.tn_machines.specs.server.Run.{puts_of};
 
 use crate::channels::{MailPass, MailReceiver, MailSender};
 use crate::closing::finish_once;
@@ -28,9 +28,9 @@ use crate::transcript::Output;
 use std::sync::Wait;
 use tn_discipline::Entry;
 use tn_jobs::JobId;
-use tn_messages::Message;
+use tn_machines::Message;
+use tn_machines::server::{Mark, Outcome, Progress, Put, Term};
 use tn_streams::Finish;
-use tn_term::{Mark, Outcome, Progress, Put, Term};
 
 /// How many threads send mails.
 const SENDERS: u64 = 3;

@@ -4,3 +4,4 @@ pub mod Passing
 pub mod lemmas
 pub mod Digits
 pub mod Typed
+pub mod Sorting

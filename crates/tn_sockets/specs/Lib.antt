@@ -3,3 +3,4 @@ pub mod Passing
 pub mod Logs
 pub mod Ends
 pub mod Sizes
+pub mod Typing

@@ -1,10 +1,10 @@
 -- What passes through: a write that fails on the way, and what a reader hands on.
 use Rattle.std.specs.Prelude.{◌≡◌, ◌≢◌, ℕ, List, [], ◌++◌, map, take, Option, option_to_list, Result, Ok, Err, IfOk, MatchResult}
 use Rattle.std.specs.Io.KnownBytes.{Appends, Consumes, Keeps}
-use Rattle.tn_escape.specs.Typing.{IsTakenUpTo, inputs, waits_behind}
-use Rattle.tn_escape.specs.declared.escaping.Escaping.{Escaping}
-use Rattle.tn_escape.specs.declared.escaping.Input.{Input}
-use Rattle.tn_escape.specs.declared.escaping.Input.TheVariants as input
+use Rattle.tn_sockets.specs.Typing.{IsTakenUpTo, inputs, waits_behind}
+use Rattle.tn_sockets.specs.declared.escaping.Escaping.{Escaping}
+use Rattle.tn_sockets.specs.declared.escaping.Input.{Input}
+use Rattle.tn_sockets.specs.declared.escaping.Input.TheVariants as input
 use Rattle.tn_streams.specs.declared.control.Control.{Control}
 use Rattle.tn_streams.specs.Prefixes.{IsPrefixOf}
 

@@ -5,12 +5,13 @@ ghost use Rattle.std.specs.Prelude.{◌≡◌, ◌≢◌, ◌≤◌, ◌+◌, �
 ghost use Rattle.std.specs.Io.{ReadsAtMost};
 ghost use Rattle.std.specs.Io.KnownBytes.{ReadConsumes};
 ghost use Rattle.std.specs.VecDeque.{deque_capacity, deque_len};
-ghost use Rattle.tn_escape.specs.Typing.{IsTakenUpTo, inputs, waits_behind};
+ghost use Rattle.tn_sockets.specs.Typing.{IsTakenUpTo, inputs, waits_behind};
 ghost use Rattle.tn_sockets.specs.Passing.{GivesInputs, given_of, handed_on};
 ghost use Rattle.tn_streams.specs.Foretelling.{ForetellsCall};
 ghost use Rattle.tn_streams.specs.Telling.{CountsRead, TellsCall};
 
 use crate::deeds::Deeds;
+use crate::escaping::{Escaping, Input};
 use crate::kept;
 use crate::keys::Typing;
 use crate::terminal::Terminal;
@@ -22,7 +23,6 @@ use std::io::{ErrorKind, Read};
 use std::sync::Wait;
 use std::time::{Clock, Duration, Instant};
 use std::{io, mem};
-use tn_escape::{Escaping, Input};
 use tn_streams::{Control, Source, WindowSize};
 
 /// The descriptor of standard input (POSIX, `STDIN_FILENO`).

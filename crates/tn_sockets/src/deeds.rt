@@ -1,11 +1,11 @@
 //! What the user at a terminal asks the client itself for.
 
+use crate::escaping::{Command, Obey};
 use crate::keys::Typing;
 use crate::link::Link;
 use crate::terminal::Terminal;
 use std::alloc::Global;
 use std::io::Write;
-use tn_escape::{Command, Obey};
 
 /// What the keys of the escape character do, in lines of their own.
 const HELP: &[u8] = b"q  closes the connection and leaves\r\n?  shows these keys\r\n\

@@ -3,10 +3,10 @@
 
 ghost use Rattle.std.specs.Prelude.{◌≡◌, ◌≤◌, ◌+◌, ◌++◌, true, length, map, option_to_list, take};
 ghost use Rattle.std.specs.VecDeque.{deque_capacity, deque_len};
-ghost use Rattle.tn_escape.specs.declared.escaping.Input.TheVariants as input;
+ghost use Rattle.tn_sockets.specs.declared.escaping.Input.TheVariants as input;
 
+use crate::escaping::Input;
 use std::collections::VecDeque;
-use tn_escape::Input;
 use tn_streams::Control;
 
 /// How many keys are kept at most: 16 million.

@@ -1,11 +1,17 @@
 //! What a session over a connection needs besides its threads: both sides of the connection, the terminal
-//! and its window, a screen, a trace of what passes, and how a job hangs up.
+//! and its window, what is typed there and what an escape character makes of it, a screen, a trace of what passes,
+//! and how a job hangs up.
 //!
 //! ```
 //! let (reader, writer) = Connection::split(stream)?;
 //! let (queue, throttle) = new_queue(rt, alloc)?;
 //! let (outgoing, mut sending) = queue.sides::<H, W, Brand>(rt, alloc, writer, link, trace)?;
 //! let sent = sending.run()?; // in a thread of its own
+//!
+//! let mut escaping = Escaping::new(Some(0x1d)); // ^]
+//! escaping.take(b'a'); // Typed::Key(b'a')
+//! escaping.take(0x1d); // Typed::Nothing
+//! escaping.take(b'q'); // Typed::Command(Command::Close)
 //! ```
 //!
 //! It starts no thread and no session. Nothing is proved of what a socket or a terminal carries. It is proved that
@@ -16,6 +22,7 @@
 pub use attended::{Attended, Standing};
 pub use connection::{Closing, Connection};
 pub use console::Console;
+pub use escaping::{Command, Escaping, Input, Obey, Typed};
 pub use hook::Hook;
 pub use host::Host;
 pub use incoming::Incoming;
@@ -36,11 +43,13 @@ mod bell;
 mod connection;
 mod console;
 mod deeds;
+mod escaping;
 mod hook;
 mod host;
 mod incoming;
 mod kept;
 mod keys;
+pub mod laws;
 mod link;
 mod logged;
 mod outgoing;

@@ -5,19 +5,19 @@ use Rattle.tn_client.proofs.lemmas.Histories.{items-gets}
 use Rattle.tn_client.specs.Events as events
 use Rattle.tn_client.specs.Events.{History, next, typed, got, resized, items, gets}
 use Rattle.tn_client.specs.declared.commands.UserCommand.{UserCommand}
-use Rattle.tn_client_core.specs.Commands.{command_of}
-use Rattle.tn_client_core.specs.Counting.{after_message}
-use Rattle.tn_client_core.specs.Marks.{Turns}
-use Rattle.tn_client_core.specs.Run.{Run, Acts, ActsUnless, types, sent_after}
-use Rattle.tn_client_core.specs.declared.messages.Mark.{Mark}
-use Rattle.tn_client_core.specs.declared.messages.Mark.TheVariants as mark
-use Rattle.tn_client_core.specs.declared.messages.Origin.{Origin}
-use Rattle.tn_client_core.specs.declared.messages.Origin.TheVariants.{Keys, Net}
-use Rattle.tn_client_core.specs.declared.messages.Told.{Told}
-use Rattle.tn_client_core.specs.declared.progress.Progress.{Progress}
+use Rattle.tn_machines.specs.client.Commands.{command_of}
+use Rattle.tn_machines.specs.client.Counting.{after_message}
+use Rattle.tn_machines.specs.client.Marks.{Turns}
+use Rattle.tn_machines.specs.client.Run.{Run, Acts, ActsUnless, types, sent_after}
+use Rattle.tn_machines.specs.declared.client.messages.Mark.{Mark}
+use Rattle.tn_machines.specs.declared.client.messages.Mark.TheVariants as mark
+use Rattle.tn_machines.specs.declared.client.messages.Origin.{Origin}
+use Rattle.tn_machines.specs.declared.client.messages.Origin.TheVariants.{Keys, Net}
+use Rattle.tn_machines.specs.declared.client.messages.Told.{Told}
+use Rattle.tn_machines.specs.declared.client.progress.Progress.{Progress}
 use Rattle.tn_nvt.specs.declared.items.Item.{Item}
-use Rattle.tn_messages.specs.declared.messages.Message.{Message}
-use Rattle.tn_messages.specs.declared.messages.Message.TheVariants.{Piece, HangUp, ReadFailed, Take, Said, Refused, Left, Resized, Asked}
+use Rattle.tn_machines.specs.declared.messages.Message.{Message}
+use Rattle.tn_machines.specs.declared.messages.Message.TheVariants.{Piece, HangUp, ReadFailed, Take, Said, Refused, Left, Resized, Asked}
 use Rattle.tn_streams.specs.Prefixes.{IsPrefixOf}
 
 pub record ClientKeeps (T : History → Type 0) (said : List Item) : Type 0 where

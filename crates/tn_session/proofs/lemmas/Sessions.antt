@@ -3,14 +3,14 @@ use Rattle.std.proofs.Common.{◌≡◌, inl, ℕ, false, Option, Some, None, Li
 use Rattle.std.specs.List.{FoldsTo}
 use Rattle.tn_client.specs.Events as client
 use Rattle.tn_client.specs.Replies as client_says
-use Rattle.tn_client_core.specs.Bringing.{brought, brought_from}
-use Rattle.tn_client_core.specs.Marks as core
-use Rattle.tn_client_core.specs.Run as core_run
-use Rattle.tn_client_core.specs.declared.messages.Mark as core_mark
-use Rattle.tn_client_core.specs.declared.messages.Origin.TheVariants as origin
-use Rattle.tn_client_core.specs.declared.messages.Told.{Told}
-use Rattle.tn_messages.specs.Pieces.{bytes_in}
-use Rattle.tn_messages.specs.declared.messages.Message.{Message}
+use Rattle.tn_machines.specs.client.Bringing.{brought, brought_from}
+use Rattle.tn_machines.specs.client.Marks as core
+use Rattle.tn_machines.specs.client.Run as core_run
+use Rattle.tn_machines.specs.declared.client.messages.Mark as core_mark
+use Rattle.tn_machines.specs.declared.client.messages.Origin.TheVariants as origin
+use Rattle.tn_machines.specs.declared.client.messages.Told.{Told}
+use Rattle.tn_machines.specs.Pieces.{bytes_in}
+use Rattle.tn_machines.specs.declared.messages.Message.{Message}
 use Rattle.tn_nvt.proofs.lemmas.Reading.{spells-append}
 use Rattle.tn_nvt.specs.Spelling.{spells}
 use Rattle.tn_nvt.specs.declared.items.Item.{Item}
@@ -30,10 +30,10 @@ use Rattle.tn_session.specs.Turns as terms
 use Rattle.tn_session.specs.Turns.{messages_of}
 use Rattle.tn_session.specs.declared.mail.Mail.{Mail}
 use Rattle.tn_streams.specs.Prefixes.{IsPrefixOf}
-use Rattle.tn_term.specs.Hearing.{heard}
-use Rattle.tn_term.specs.Marks as term
-use Rattle.tn_term.specs.Run as term_run
-use Rattle.tn_term.specs.declared.messages.Mark as term_mark
+use Rattle.tn_machines.specs.server.Hearing.{heard}
+use Rattle.tn_machines.specs.server.Marks as term
+use Rattle.tn_machines.specs.server.Run as term_run
+use Rattle.tn_machines.specs.declared.server.messages.Mark as term_mark
 
 -- what is spelled grows with its items
 spells_grow : (xs ys : List Item) → IsPrefixOf xs ys → IsPrefixOf (spells xs) (spells ys)

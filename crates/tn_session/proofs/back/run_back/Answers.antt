@@ -7,7 +7,7 @@ use Rattle.tn_session.specs.Acts.{job_acts}
 use Rattle.tn_session.specs.Credits.{HaveUsed}
 use Rattle.tn_session.specs.Stepping.{step_said}
 use Rattle.tn_session.specs.Turning.{Holds, ids_of}
-use Rattle.tn_messages.specs.declared.messages.Message.TheVariants.{Refused, Left}
+use Rattle.tn_machines.specs.declared.messages.Message.TheVariants.{Refused, Left}
 use Rattle.tn_session.proofs.Credits.{used_none, used_more, used_still, used_for}
 use Rattle.tn_session.proofs.Readers.{said, said_two, role}
 use Rattle.tn_session.specs.declared.mail.Sender.TheVariants.{Back}

@@ -1,8 +1,8 @@
 use Rattle.std.proofs.Common.{◌∙◌, ◌||◌, ◌&&◌, not, ap, refl, sym, [], ◌∷◌, ◌++◌, Option, List, map, subst, arith}
 use Rattle.crossbeam_channel.specs.Claims.{view}
-use Rattle.tn_client_core.specs.declared.messages.Mark.{Mark}
-use Rattle.tn_client_core.specs.declared.messages.Told.{Told}
-use Rattle.tn_client_core.specs.declared.progress.Progress.{Progress}
+use Rattle.tn_machines.specs.declared.client.messages.Mark.{Mark}
+use Rattle.tn_machines.specs.declared.client.messages.Told.{Told}
+use Rattle.tn_machines.specs.declared.client.progress.Progress.{Progress}
 use Rattle.tn_session.proofs.CoreGoing.{told_first, told_next, told_kept, core_told}
 use Rattle.tn_session.proofs.Finishing.{open_none, stands_next, stands_last, stays_done}
 use Rattle.tn_session.proofs.Going.{lefts_of-push, left_small, notes_next, notes_kept}
@@ -13,7 +13,7 @@ use Rattle.tn_session.specs.Notes.{Noted, NotesAll, no_notes, noted_of}
 use Rattle.tn_session.specs.Stops.{StandsTold, core_stops}
 use Rattle.tn_session.specs.declared.mail.Mail.{Mail}
 use Rattle.tn_session.specs.declared.mail.Sender.TheVariants.{Keys}
-use Rattle.tn_client_core.specs.Marks.{Runs}
+use Rattle.tn_machines.specs.client.Marks.{Runs}
 use Rattle.tn_streams.specs.Known.{known_writer, known_writing}
 use Rattle.tn_session.proofs.client_loop.run_core.Goals as goal
 

@@ -1,9 +1,9 @@
 use Rattle.std.proofs.Common.{◌≡◌, ◌≤◌, ◌||◌, List, [], map}
 use Rattle.crossbeam_channel.specs.Claims.{view, IsSeatAt}
 use Rattle.crossbeam_channel.specs.Ends.{sends_on, receives_on}
-use Rattle.tn_client_core.specs.Marks.{Runs}
-use Rattle.tn_client_core.specs.Reaching.{LeadsTo}
-use Rattle.tn_client_core.specs.Run.{Run}
+use Rattle.tn_machines.specs.client.Marks.{Runs}
+use Rattle.tn_machines.specs.client.Reaching.{LeadsTo}
+use Rattle.tn_machines.specs.client.Run.{Run}
 use Rattle.tn_session.specs.CoreTurns.{ToldAll, all_told}
 use Rattle.tn_session.specs.Mailbox.{with_handled}
 use Rattle.tn_session.specs.Notes.{NotesAll, no_notes, noted_of}

@@ -1,6 +1,6 @@
 use Rattle.std.proofs.Common.{◌≡◌, arith, None}
 use Rattle.std.proofs.lemmas.Option.{IfSome_then}
-use Rattle.tn_messages.specs.declared.messages.Message.TheVariants.{ReadFailed}
+use Rattle.tn_machines.specs.declared.messages.Message.TheVariants.{ReadFailed}
 use Rattle.tn_session.proofs.Readers.{said, role}
 use Rattle.tn_session.proofs.Stopped.{stays_on, stays_here}
 use Rattle.tn_session.proofs.Telling.{told_nothing, told_beside, told_one, told_none, told_end, told_all, told_stop, paid_end, paid_stop}

@@ -10,7 +10,7 @@ use Rattle.tn_session.specs.Stops.{has_stopped}
 use Rattle.tn_session.specs.Turns.{HandlesAll}
 use Rattle.tn_streams.specs.Known.{known_typing, known_writer}
 use Rattle.tn_session.specs.declared.parties.Report.{Report}
-use Rattle.tn_term.specs.declared.progress.Progress.{Progress}
+use Rattle.tn_machines.specs.declared.server.progress.Progress.{Progress}
 use Rattle.tn_session.specs.Notes.{noted_of}
 use Rattle.tn_session.proofs.session.run_beside.Goals as goal
 

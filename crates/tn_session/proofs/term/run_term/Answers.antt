@@ -1,13 +1,13 @@
 use Rattle.std.proofs.Common.{false, not, ◌&&◌, ap, refl, sym, ◌∙◌, subst, [], ◌∷◌, ◌++◌, Option, List, arith, append-nil, length}
 use Rattle.crossbeam_channel.specs.Claims.{view}
 use Rattle.tn_queue.specs.Queue.{putter}
-use Rattle.tn_messages.specs.declared.messages.Message.{Message}
+use Rattle.tn_machines.specs.declared.messages.Message.{Message}
 use Rattle.tn_session.specs.declared.mail.Mail.{Mail}
 use Rattle.tn_session.specs.declared.mail.Sender.TheVariants.{Back}
-use Rattle.tn_term.specs.Marks.{Runs}
-use Rattle.tn_term.specs.declared.messages.Mark.{Mark}
-use Rattle.tn_term.specs.Run.{puts_of}
-use Rattle.tn_term.specs.declared.progress.Progress.{Progress}
+use Rattle.tn_machines.specs.server.Marks.{Runs}
+use Rattle.tn_machines.specs.declared.server.messages.Mark.{Mark}
+use Rattle.tn_machines.specs.server.Run.{puts_of}
+use Rattle.tn_machines.specs.declared.server.progress.Progress.{Progress}
 use Rattle.tn_session.proofs.Mailbox.{handled_more}
 use Rattle.tn_session.proofs.Credits.{among-push, counts_on, steps-push}
 use Rattle.tn_session.specs.Credits.{pieces_among}

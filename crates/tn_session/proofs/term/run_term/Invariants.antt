@@ -11,9 +11,9 @@ use Rattle.tn_session.specs.Turns.{GoesOn, StaysInReach, lefts_of, messages_of}
 use Rattle.tn_session.specs.declared.mail.Mail.{Mail}
 use Rattle.tn_session.specs.declared.mail.Sender.TheVariants.{Back}
 use Rattle.tn_streams.specs.Known.{known_writing}
-use Rattle.tn_term.specs.Marks.{Runs}
-use Rattle.tn_term.specs.Reaching.{LeadsTo}
-use Rattle.tn_term.specs.Run.{Run}
+use Rattle.tn_machines.specs.server.Marks.{Runs}
+use Rattle.tn_machines.specs.server.Reaching.{LeadsTo}
+use Rattle.tn_machines.specs.server.Run.{Run}
 use Rattle.tn_session.proofs.Finishing.{StandsAt}
 use Rattle.tn_session.proofs.term.run_term.Given as goal
 

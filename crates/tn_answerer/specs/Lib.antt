@@ -1,2 +1,0 @@
-pub mod Answerers
-pub mod Answering

@@ -1,5 +1,0 @@
-pub mod Typing
-pub mod Doing
-pub mod Marking
-pub mod Refusing
-pub mod lemmas

@@ -1,6 +1,0 @@
-pub mod Written
-pub mod Ends
-pub mod Talks
-pub mod Shown
-pub mod Steps
-pub mod NewLines

@@ -1,9 +1,0 @@
-use Rattle.std.proofs.Common.{◌≤◌, length, take}
-use Rattle.std.specs.Io.KnownBytes.{Appends}
-use Rattle.tn_streams.specs.Telling.{HasMade}
-use Rattle.tn_gateway.proofs.writing.write_whole.Given as goal
-
-abbrev pub invariant-loop-write : goal.invariant-loop-write
-invariant-loop-write g l =
-    let contents = g.W.Drain.contents in
-    (l.at ≤ length l.bytes) × Appends (contents l.fn.writer) (contents l.writer) (take l.at l.bytes) × HasMade l._write (g.W.Drain.told l.fn.writer) (g.W.Drain.told l.writer)

@@ -1,6 +1,0 @@
-use Rattle.std.specs.List.{FoldsTo}
-use Rattle.tn_joint.specs.OneLoop.{Happens}
-use Rattle.tn_joint.proofs.one_loop.Joined.run.Given as goal
-
-abbrev pub invariant-loop-event : goal.invariant-loop-event
-invariant-loop-event l = FoldsTo Happens l.fn.self l.yielded l.self

@@ -1,7 +1,0 @@
-use Rattle.std.proofs.Common.{◌≡◌, take}
-use Rattle.tn_loopback.specs.Places.{count_at}
-use Rattle.tn_loopback.proofs.running.count_of.Given as goal
-
--- those so far are counted
-abbrev pub invariant-loop-one : goal.invariant-loop-one
-invariant-loop-one g l = l.count ≡ count_at (λ s. s.caller.peer) l.address (take l.one-index l.started)

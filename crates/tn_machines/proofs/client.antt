@@ -1,0 +1,4 @@
+pub mod Typing
+pub mod Doing
+pub mod Marking
+pub mod Refusing

@@ -1,0 +1,5 @@
+pub mod Folding
+pub mod Pieces
+pub mod Ending
+pub mod server
+pub mod client

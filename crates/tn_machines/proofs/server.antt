@@ -1,0 +1,11 @@
+pub mod Alike
+pub mod Following
+pub mod Doing
+pub mod Breaking
+pub mod Refusing
+pub mod Ending
+pub mod Hanging
+pub mod Agreeing
+pub mod Handling
+pub mod Turning
+pub mod Requesting

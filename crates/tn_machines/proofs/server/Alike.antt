@@ -1,0 +1,235 @@
+-- Histories whose ends can't be told apart.
+use Rattle.std.proofs.Common.{◌≡◌, ℕ, zero, suc, ◌+◌, nat_lt, Bool, true, false, not, ◌||◌, List, [], ◌∷◌, ◌++◌, length, take, drop, map, arith, refl, sym, ap, ◌∙◌, subst, append-nil, append_assoc, length-append, if◌then◌else◌}
+use Rattle.std.proofs.lemmas.Bool.{lt-ltb}
+use Rattle.std.proofs.lemmas.List.{append_cancel_left, drop_all, length-map}
+use Rattle.std.specs.List.{concat, flat_map}
+use Rattle.std.specs.Prelude.{All}
+use Rattle.tn_discipline.specs.Entries.{entries_of, half_of}
+use Rattle.tn_discipline.specs.Keys.{roles_from}
+use Rattle.tn_discipline.specs.declared.echo.Symbol.{Symbol}
+use Rattle.tn_discipline.specs.declared.termios.Flags.{Flags}
+use Rattle.tn_linemode.specs.Modes.{edits}
+use Rattle.tn_codes.specs.declared.codes.Command.TheVariants.{Ga}
+use Rattle.tn_nvt.specs.declared.items.Item.{Item}
+use Rattle.tn_nvt.specs.declared.items.Item.TheVariants.{Cmd}
+use Rattle.tn_pty.specs.Terminal.{queue_with, output_symbols}
+use Rattle.tn_server.proofs.lemmas.Courses.{parts_say}
+use Rattle.tn_server.proofs.lemmas.Histories.{gets-push}
+use Rattle.tn_server.specs.Course.{in_parts}
+use Rattle.tn_server.specs.Events.{History, next, got, took, wrote, pulled, items, gets, limit, opening_settings}
+use Rattle.tn_server.specs.Lines.{roles, role_at, entries, taken_count}
+use Rattle.tn_server.specs.Replies.{items_said, items_at, list_replies, data_of}
+use Rattle.tn_server.specs.Screen.{queue, shows, due, sends_ga, none_waits}
+use Rattle.tn_server.specs.Terms.{terms, terms_after, flags, chars, chars_after, settings, mode, mask_after, changes, echoes, payload_at}
+use Rattle.tn_machines.specs.server.Run.{flushed_history, IsPart}
+
+-- THE SAME LINES
+
+pub record SameLines (h k : History) : Type 0 where
+  pub roles_are : roles h ≡ roles k
+  pub limit_is : limit h ≡ limit k
+  pub terms_are : terms h ≡ terms k
+  pub flags_are : flags h ≡ flags k
+  pub chars_are : chars h ≡ chars k
+  pub mode_is : mode h ≡ mode k
+
+pub lines_self : (h : History) → SameLines h h
+lines_self h = record { roles_are = refl; limit_is = refl; terms_are = refl; flags_are = refl; chars_are = refl; mode_is = refl }
+
+pub lines_got : (h k : History) (x : Item) → SameLines h k → SameLines (next h (got x)) (next k (got x))
+lines_got h k x s = record {
+  roles_are = λ i. s.roles_are i ++ roles_from (role_at (record { flags = s.flags_are i; chars = s.chars_are i }) (edits (s.mode_is i)) x);
+  limit_is = s.limit_is;
+  terms_are = λ i. terms_after (s.flags_are i) (s.terms_are i) (got x);
+  flags_are = s.flags_are;
+  chars_are = λ i. chars_after (s.chars_are i) (payload_at (s.terms_are i).options x);
+  mode_is = λ i. mask_after (changes (s.terms_are i).options (terms_after (s.flags_are i) (s.terms_are i) (got x)).options) (s.mode_is i) (payload_at (s.terms_are i).options x);
+}
+
+-- what the owner does leaves the lines as they are
+pub lines_took : (h k : History) → SameLines h k → SameLines (next h took) k
+lines_took h k s = record { roles_are = s.roles_are; limit_is = s.limit_is; terms_are = s.terms_are; flags_are = s.flags_are; chars_are = s.chars_are; mode_is = s.mode_is }
+
+pub lines_wrote : (h k : History) (part : List ℕ) → SameLines h k → SameLines (next h (wrote part)) k
+lines_wrote h k part s = record { roles_are = s.roles_are; limit_is = s.limit_is; terms_are = s.terms_are; flags_are = s.flags_are; chars_are = s.chars_are; mode_is = s.mode_is }
+
+pub lines_pulled : (h k : History) (n : ℕ) → SameLines h k → SameLines (next h (pulled n)) k
+lines_pulled h k n s = record { roles_are = s.roles_are; limit_is = s.limit_is; terms_are = s.terms_are; flags_are = s.flags_are; chars_are = s.chars_are; mode_is = s.mode_is }
+
+pub lines_flushed : (h k : History) → SameLines h k → SameLines (flushed_history h) k
+lines_flushed h k s = lines_pulled h k (length (queue h)) s
+
+pub lines_parts : (h k : History) (parts : List (List ℕ)) → SameLines h k → SameLines (in_parts h parts) k
+lines_parts h k [] s = s
+lines_parts h k (part ∷ parts) s = lines_parts (flushed_history (next h (wrote part))) k parts (lines_flushed (next h (wrote part)) k (lines_wrote h k part s))
+
+pub same_entries : (h k : History) → SameLines h k → entries h ≡ entries k
+same_entries h k s = λ i. entries_of (s.limit_is i) (s.roles_are i)
+
+-- the lines are those of the items alone
+abbrev pub OfItems : History → History → Type 0
+OfItems first h = SameLines h (gets first (items h))
+
+pub of_items_got : (first h : History) (x : Item) → OfItems first h → OfItems first (next h (got x))
+of_items_got first h x s =
+    let P : History → Type 0 = λ k. SameLines (next h (got x)) k in
+    subst P (sym (gets-push first (items h) x)) (lines_got h (gets first (items h)) x s)
+
+pub of_items_gets : (first h : History) (xs : List Item) → OfItems first h → OfItems first (gets h xs)
+of_items_gets first h [] s = s
+of_items_gets first h (x ∷ xs) s = of_items_gets first (next h (got x)) xs (of_items_got first h x s)
+
+-- parts bring no items
+pub items_parts : (h : History) (parts : List (List ℕ)) → items (in_parts h parts) ≡ items h
+items_parts h [] = refl
+items_parts h (part ∷ parts) = items_parts (flushed_history (next h (wrote part))) parts
+
+-- ALL THAT AN END DOES
+
+-- of these, nothing tells one from the other but the parts in which texts were written
+pub record Alike (h k : History) : Type 0 where
+  pub lines : SameLines h k
+  pub taken : taken_count h ≡ taken_count k
+  pub queues : queue h ≡ queue k
+  pub dues : due h ≡ due k
+  pub items_are : items h ≡ items k
+  pub said : items_said h ≡ items_said k
+  pub opened : opening_settings h ≡ opening_settings k
+
+pub alike_self : (h : History) → Alike h h
+alike_self h = record { lines = lines_self h; taken = refl; queues = refl; dues = refl; items_are = refl; said = refl; opened = refl }
+
+-- the settings of alike histories
+settings_by : (h k : History) → SameLines h k → settings h ≡ settings k
+settings_by h k s = λ i. record { flags = s.flags_are i; chars = s.chars_are i }
+
+pub alike_got : (h k : History) (x : Item) → Alike h k → Alike (next h (got x)) (next k (got x))
+alike_got h k x a =
+    let s = a.lines in
+    record {
+      lines = lines_got h k x s;
+      taken = a.taken;
+      queues = λ i. queue_with (a.queues i) (shows (settings_by h k s i) (edits (s.mode_is i)) (echoes (s.terms_are i).options) (record { held = half_of (s.limit_is i) (s.roles_are i); ahead = 0; limit = s.limit_is i }) x);
+      dues = a.dues;
+      items_are = ap (λ (xs : List Item). xs ++ x ∷ []) a.items_are;
+      said = λ i. a.said i ++ (items_at (s.flags_are i) (s.chars_are i) (s.terms_are i) (got x) ++ list_replies (s.chars_are i) (payload_at (s.terms_are i).options x));
+      opened = a.opened;
+    }
+
+pub alike_gets : (h k : History) (xs : List Item) → Alike h k → Alike (gets h xs) (gets k xs)
+alike_gets h k [] a = a
+alike_gets h k (x ∷ xs) a = alike_gets (next h (got x)) (next k (got x)) xs (alike_got h k x a)
+
+none_waits_by : (h k : History) → Alike h k → none_waits h ≡ none_waits k
+none_waits_by h k a = λ i. not (nat_lt (a.taken i) (length (same_entries h k a.lines i)))
+
+both_lines : (h k h' k' : History) → SameLines h k → SameLines h' h → SameLines k' k → SameLines h' k'
+both_lines h k h' k' s one two = record {
+  roles_are = one.roles_are ∙ s.roles_are ∙ sym two.roles_are;
+  limit_is = one.limit_is ∙ s.limit_is ∙ sym two.limit_is;
+  terms_are = one.terms_are ∙ s.terms_are ∙ sym two.terms_are;
+  flags_are = one.flags_are ∙ s.flags_are ∙ sym two.flags_are;
+  chars_are = one.chars_are ∙ s.chars_are ∙ sym two.chars_are;
+  mode_is = one.mode_is ∙ s.mode_is ∙ sym two.mode_is;
+}
+
+pub alike_took : (h k : History) → Alike h k → Alike (next h took) (next k took)
+alike_took h k a =
+    let s = a.lines in
+    let es = same_entries h k s in
+    let none = none_waits_by h k a in
+    record {
+      lines = both_lines h k (next h took) (next k took) s (lines_took h h (lines_self h)) (lines_took k k (lines_self k));
+      taken = λ i. if nat_lt (a.taken i) (length (es i)) then a.taken i + 1 else a.taken i;
+      queues = a.queues;
+      dues = λ i. if sends_ga (none i) (s.terms_are i).options (a.dues i) then false else a.dues i;
+      items_are = a.items_are;
+      said = λ i. a.said i ++ (if sends_ga (none i) (s.terms_are i).options (a.dues i) then Cmd Ga ∷ [] else []);
+      opened = a.opened;
+    }
+
+-- all symbols are pulled
+pub alike_flushed : (h k : History) → Alike h k → Alike (flushed_history h) (flushed_history k)
+alike_flushed h k a = record {
+  lines = both_lines h k (flushed_history h) (flushed_history k) a.lines (lines_flushed h h (lines_self h)) (lines_flushed k k (lines_self k));
+  taken = a.taken;
+  queues = ap (λ (q : List Symbol). drop (length q) q) a.queues;
+  dues = λ i. a.dues i || nat_lt 0 (length (take (length (a.queues i)) (a.queues i)));
+  items_are = a.items_are;
+  said = λ i. a.said i ++ map data_of (take (length (a.queues i)) (a.queues i));
+  opened = a.opened;
+}
+
+pub none_left : (h : History) → queue (flushed_history h) ≡ []
+none_left h = drop_all (length (queue h)) (queue h) (omega arith)
+
+-- GA is due where more was sent
+or_more : (a b c : Bool) (m n : ℕ) → b ≡ (a || nat_lt 0 m) → c ≡ (b || nat_lt 0 n) → c ≡ (a || nat_lt 0 (m + n))
+or_more true b c m n e f = f ∙ ap (λ (u : Bool). u || nat_lt 0 n) e
+or_more false b c zero n e f = f ∙ ap (λ (u : Bool). u || nat_lt 0 n) e ∙ ap (λ (k : ℕ). nat_lt 0 k) (let same : n ≡ 0 + n = omega arith in same)
+or_more false b c (suc m) n e f = f ∙ ap (λ (u : Bool). u || nat_lt 0 n) (e ∙ lt-ltb 0 (suc m) (omega arith)) ∙ sym (lt-ltb 0 (suc m + n) (omega arith))
+
+record SaysMore (h k : History) : Type 0 where
+  more : List Item
+  said : items_said k ≡ items_said h ++ more
+  dues : due k ≡ (due h || nat_lt 0 (length more))
+
+says_parts : (h : History) (parts : List (List ℕ)) → SaysMore h (in_parts h parts)
+says_parts h [] = record { more = []; said = sym (append-nil (items_said h)); dues = or_none (due h) }
+  where
+    or_none : (b : Bool) → b ≡ (b || false)
+    or_none true = refl
+    or_none false = refl
+says_parts h (part ∷ parts) =
+    let here = next h (wrote part) in
+    let q = queue here in
+    let first = map data_of (take (length q) q) in
+    let on = says_parts (flushed_history here) parts in
+    let size : length first ≡ length (take (length q) q) = length-map (take (length q) q) data_of in
+    record {
+      more = first ++ on.more;
+      said = on.said ∙ ap (λ (xs : List Item). (xs ++ first) ++ on.more) (append-nil (items_said h)) ∙ append_assoc (items_said h) first on.more;
+      dues =
+          or_more (due h) (due (flushed_history here)) (due (in_parts h (part ∷ parts))) (length first) (length on.more) (ap (λ (n : ℕ). due h || nat_lt 0 n) (sym size)) on.dues
+          ∙ ap (λ (n : ℕ). due h || nat_lt 0 n) (sym (length-append first on.more));
+    }
+
+flat_concat : (parts : List (List ℕ)) → flat_map (λ part. part) parts ≡ concat parts
+flat_concat [] = refl
+flat_concat (part ∷ parts) = ap (λ (bs : List ℕ). part ++ bs) (flat_concat parts)
+
+-- what parts of one text send
+parts_sent : (h : History) (parts : List (List ℕ)) (text : List ℕ) → queue h ≡ [] → concat parts ≡ text → All IsPart parts → items_said (in_parts h parts) ≡ items_said h ++ map data_of (output_symbols (settings h).flags text)
+parts_sent h parts text none e few =
+    (parts_say h parts none few).0 ∙ ap (λ (bs : List ℕ). items_said h ++ map data_of (output_symbols (settings h).flags bs)) (flat_concat parts ∙ e)
+
+taken_parts : (h : History) (parts : List (List ℕ)) → taken_count (in_parts h parts) ≡ taken_count h
+taken_parts h [] = refl
+taken_parts h (part ∷ parts) = taken_parts (flushed_history (next h (wrote part))) parts
+
+opened_parts : (h : History) (parts : List (List ℕ)) → opening_settings (in_parts h parts) ≡ opening_settings h
+opened_parts h [] = refl
+opened_parts h (part ∷ parts) = opened_parts (flushed_history (next h (wrote part))) parts
+
+-- the same text, in whatever parts
+pub alike_parts : (h k : History) (parts others : List (List ℕ)) (text : List ℕ) → queue h ≡ [] → concat parts ≡ text → All IsPart parts → concat others ≡ text → All IsPart others → Alike h k → Alike (in_parts h parts) (in_parts k others)
+alike_parts h k parts others text none e few f fews a =
+    let s = a.lines in
+    let none' : queue k ≡ [] = sym a.queues ∙ none in
+    let one = says_parts h parts in
+    let two = says_parts k others in
+    let sent : Flags → List Item = λ flags. map data_of (output_symbols flags text) in
+    let here = parts_sent h parts text none e few in
+    let there = parts_sent k others text none' f fews in
+    let mine : one.more ≡ sent (flags h) = append_cancel_left (items_said h) one.more (sent (flags h)) (sym one.said ∙ here) in
+    let its : two.more ≡ sent (flags k) = append_cancel_left (items_said k) two.more (sent (flags k)) (sym two.said ∙ there) in
+    let same : one.more ≡ two.more = mine ∙ ap sent s.flags_are ∙ sym its in
+    record {
+      lines = both_lines h k (in_parts h parts) (in_parts k others) s (lines_parts h h parts (lines_self h)) (lines_parts k k others (lines_self k));
+      taken = taken_parts h parts ∙ a.taken ∙ sym (taken_parts k others);
+      queues = (parts_say h parts none few).1 ∙ sym (parts_say k others none' fews).1;
+      dues = one.dues ∙ (λ i. a.dues i || nat_lt 0 (length (same i))) ∙ sym two.dues;
+      items_are = items_parts h parts ∙ a.items_are ∙ sym (items_parts k others);
+      said = one.said ∙ (λ i. a.said i ++ same i) ∙ sym two.said;
+      opened = opened_parts h parts ∙ a.opened ∙ sym (opened_parts k others);
+    }

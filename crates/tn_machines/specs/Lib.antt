@@ -1,0 +1,5 @@
+pub mod Counting
+pub mod Pieces
+pub mod Ending
+pub mod server
+pub mod client

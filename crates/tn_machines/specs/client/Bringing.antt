@@ -1,0 +1,77 @@
+-- What the messages brought, and what came of it at the client end.
+use Rattle.std.specs.Prelude.{◌≡◌, ℕ, false, List, [], ◌∷◌, ◌++◌, flat_map, map}
+use Rattle.tn_client.specs.Events.{History, begun, next, items}
+use Rattle.tn_client.specs.Events as client
+use Rattle.tn_client.specs.declared.commands.UserCommand.{UserCommand}
+use Rattle.tn_machines.specs.client.Commands.{command_of}
+use Rattle.tn_machines.specs.client.Run.{Run}
+use Rattle.tn_machines.specs.declared.client.messages.Origin.{Origin}
+use Rattle.tn_machines.specs.declared.client.messages.Origin.TheVariants.{Keys, Net}
+use Rattle.tn_machines.specs.declared.client.messages.Told.{Told}
+use Rattle.tn_machines.specs.Pieces.{bytes_in}
+use Rattle.tn_machines.specs.declared.messages.Message.{Message}
+use Rattle.tn_machines.specs.declared.messages.Message.TheVariants.{Piece, Asked}
+use Rattle.tn_wire.specs.Prefixes.{IsRead}
+
+-- WHAT A USER TYPES: keys, and commands between them
+pub data Input : Type 0 where
+  key_typed : ℕ → Input
+  command_sent : UserCommand → Input
+
+abbrev pub key_in : Input → List ℕ
+key_in (key_typed key) = key ∷ []
+key_in (command_sent command) = []
+
+abbrev pub command_in : Input → List UserCommand
+command_in (key_typed key) = []
+command_in (command_sent command) = command ∷ []
+
+-- the keys alone, and the commands alone
+abbrev pub keys_in : List Input → List ℕ
+keys_in given = flat_map key_in given
+
+abbrev pub commands_in : List Input → List UserCommand
+commands_in given = flat_map command_in given
+
+-- what was typed at a client end
+abbrev pub inputs : History → List Input
+inputs (begun width height limit) = []
+inputs (next h (client.typed key)) = inputs h ++ key_typed key ∷ []
+inputs (next h (client.sent command)) = inputs h ++ command_sent command ∷ []
+inputs (next h _) = inputs h
+
+-- what a message brings of it
+abbrev pub inputs_in : Message → List Input
+inputs_in (Piece piece) = map key_typed piece
+inputs_in (Asked control) = command_sent (command_of control) ∷ []
+inputs_in _ = []
+
+abbrev pub inputs_from : Origin → Message → List Input
+inputs_from Keys m = inputs_in m
+inputs_from Net m = []
+
+-- what all messages bring of it
+abbrev pub inputs_brought : List Told → List Input
+inputs_brought all_told = flat_map (λ told. inputs_from told.from told.message) all_told
+
+-- the bytes that a message from one side brings from the other or the same
+abbrev pub brought_from : Origin → Origin → Message → List ℕ
+brought_from Keys Keys m = bytes_in m
+brought_from Net Net m = bytes_in m
+brought_from Keys Net m = []
+brought_from Net Keys m = []
+
+-- the bytes that all messages bring from one side
+abbrev pub brought : Origin → List Told → List ℕ
+brought side all_told = flat_map (λ told. brought_from side told.from told.message) all_told
+
+-- What was typed is a prefix of what the messages brought of it, keys and commands in their order, and the
+-- history's items those of a prefix of the bytes from the network; both are all of it as long as the messages have
+-- their effect.
+pub record TakesInOrder (all_told : List Told) (new : Run) : Type 0 where
+  pub untyped : List Input
+  pub typed : inputs_brought all_told ≡ inputs new.history ++ untyped
+  pub unread : List ℕ
+  pub fed : brought Net all_told ≡ new.stream ++ unread
+  pub read : IsRead new.stream (items new.history)
+  pub all : new.progress.over ≡ false → (untyped ≡ []) × (unread ≡ [])

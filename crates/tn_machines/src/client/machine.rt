@@ -1,0 +1,310 @@
+//! The core of a client session, which alone uses the client end.
+
+ghost use Rattle.std.specs.Prelude.{◌≡◌, ℕ, List, true, false, OnOk, OnErr, IfOk, IfErr, []};
+ghost use Rattle.tn_client.specs.Calls as client;
+ghost use Rattle.tn_client.specs.Events.{History};
+ghost use Rattle.tn_machines.specs.client.Counting as counting;
+ghost use Rattle.tn_machines.specs.client.Marks.{no_write_failed, no_show_failed};
+ghost use Rattle.tn_machines.specs.client.Reaching.{LeadsTo, TypesAll, TypesPrefix, DoesWhole, StopsWithin, RefusesFor, IsTurn, sent_bytes};
+ghost use Rattle.tn_machines.specs.client.Refusing.{RefusesAtKey};
+ghost use Rattle.tn_machines.specs.client.Run as run;
+ghost use Rattle.tn_machines.specs.client.Run.{Run};
+ghost use Rattle.tn_machines.specs.client.Terms.{terms_at};
+
+use crate::client::commands::command_of;
+use crate::client::messages::{Mark, Origin, Told};
+use crate::client::progress::Progress;
+use crate::client::terms::Terms;
+use crate::faults::SessionFault;
+use crate::messages::Message;
+use std::alloc::Global;
+use tn_client::{ClientEnd, ClientFault};
+use tn_codes::EDIT;
+use tn_discipline::Limit;
+use tn_option::{ECHO, LINEMODE, QState, Side};
+use tn_streams::{Control, WindowSize};
+
+/// The core of a client session.
+#[derive(Drop)]
+pub struct Core {
+    pub(crate) end: ClientEnd,
+    pub(crate) progress: Progress,
+}
+
+// Types these keys, one after another.
+fn type_all(
+    end: &mut ClientEnd,
+    keys: &[u8],
+    out: &mut Vec<u8>,
+    screen: &mut Vec<u8>,
+) -> Result<(), ClientFault>
+    ensures ok { OnOk result
+        (TypesAll end.old keys.now out.old.items out.new.items screen.old.items screen.new.items end.new) }
+    ensures err { OnErr result
+        (TypesPrefix end.old keys.now out.old.items out.new.items screen.old.items screen.new.items end.new) }
+    ensures cause { IfErr result (λ fault. (h : History) → client.LeadsTo h end.old →
+        end.old.failed ≡ false → (fault ≡ ClientFault.Memory) × RefusesAtKey h keys.now) }
+{
+    for key in keys {
+        end.key(*key, out, screen)?;
+    }
+    Ok(())
+}
+
+// Drops what was appended for the network once nothing more goes there.
+fn drop_if(closed: bool, out: &mut Vec<u8>)
+    ensures { out.new.items ≡ sent_bytes closed out.old.items }
+{
+    if closed {
+        out.clear();
+    }
+}
+
+impl Core {
+    /// Starts the end of a client whose window has this size and whose lines have at most `limit` bytes.
+    pub fn start(alloc: Global, width: u16, height: u16, limit: Limit) -> Result<Core, ClientFault>
+        ensures leads { IfOk result (λ core. LeadsTo (run.start width height limit) core) }
+        ensures fault { IfErr result (λ fault. fault ≡ ClientFault.Memory) }
+    {
+        let end = ClientEnd::start(alloc, width, height, limit)?;
+        Ok(Core {
+            end,
+            progress: Progress::new(),
+        })
+    }
+
+    fn keys(
+        &mut self,
+        keys: &[u8],
+        out: &mut Vec<u8>,
+        screen: &mut Vec<u8>,
+    ) -> Result<(), ClientFault>
+        requires { self.old.progress.over ≡ false }
+        ensures ok { OnOk result (DoesWhole self.old
+            (record { from = Origin.Keys; message = Message.Piece keys.now })
+            out.old.items out.new.items screen.old.items screen.new.items self.new) }
+        ensures err { OnErr result (StopsWithin self.old
+            (record { from = Origin.Keys; message = Message.Piece keys.now })
+            out.old.items out.new.items screen.old.items screen.new.items self.new) }
+        ensures cause { IfErr result (RefusesFor self.old
+            (record { from = Origin.Keys; message = Message.Piece keys.now })) }
+        ensures closed { self.new.progress.closed ≡ self.old.progress.closed }
+    {
+        self.progress = self.progress.fed();
+        type_all(&mut self.end, keys, out, screen)?;
+        Ok(())
+    }
+
+    // What comes from the network.
+    fn feed(
+        &mut self,
+        piece: &[u8],
+        out: &mut Vec<u8>,
+        screen: &mut Vec<u8>,
+    ) -> Result<(), ClientFault>
+        requires { self.old.progress.over ≡ false }
+        ensures ok { OnOk result (DoesWhole self.old
+            (record { from = Origin.Net; message = Message.Piece piece.now })
+            out.old.items out.new.items screen.old.items screen.new.items self.new) }
+        ensures err { OnErr result (StopsWithin self.old
+            (record { from = Origin.Net; message = Message.Piece piece.now })
+            out.old.items out.new.items screen.old.items screen.new.items self.new) }
+        ensures cause { IfErr result (RefusesFor self.old
+            (record { from = Origin.Net; message = Message.Piece piece.now })) }
+        ensures closed { self.new.progress.closed ≡ self.old.progress.closed }
+    {
+        self.progress = self.progress.fed();
+        self.end.feed(piece, out, screen)?;
+        Ok(())
+    }
+
+    fn piece(
+        &mut self,
+        from: Origin,
+        piece: &[u8],
+        out: &mut Vec<u8>,
+        screen: &mut Vec<u8>,
+    ) -> Result<(), ClientFault>
+        requires { self.old.progress.over ≡ false }
+        ensures ok { OnOk result (DoesWhole self.old
+            (record { from = from; message = Message.Piece piece.now })
+            out.old.items out.new.items screen.old.items screen.new.items self.new) }
+        ensures err { OnErr result (StopsWithin self.old
+            (record { from = from; message = Message.Piece piece.now })
+            out.old.items out.new.items screen.old.items screen.new.items self.new) }
+        ensures cause { IfErr result (RefusesFor self.old
+            (record { from = from; message = Message.Piece piece.now })) }
+        ensures closed { self.new.progress.closed ≡ self.old.progress.closed }
+    {
+        match from {
+            Origin::Keys => self.keys(piece, out, screen),
+            Origin::Net => self.feed(piece, out, screen),
+        }
+    }
+
+    // The window has another size.
+    fn resize(
+        &mut self,
+        from: Origin,
+        size: WindowSize,
+        out: &mut Vec<u8>,
+    ) -> Result<(), ClientFault>
+        requires { self.old.progress.over ≡ false }
+        ensures ok { OnOk result ((seen : List ℕ) → DoesWhole self.old
+            (record { from = from; message = Message.Resized size })
+            out.old.items out.new.items seen seen self.new) }
+        ensures err { OnErr result ((seen : List ℕ) → StopsWithin self.old
+            (record { from = from; message = Message.Resized size })
+            out.old.items out.new.items seen seen self.new) }
+        ensures cause { IfErr result (RefusesFor self.old
+            (record { from = from; message = Message.Resized size })) }
+        ensures closed { self.new.progress.closed ≡ self.old.progress.closed }
+    {
+        self.end.resize(size.width, size.height, out)?;
+        Ok(())
+    }
+
+    // The user asks for this control function: it is sent behind the keys that were typed.
+    fn send(&mut self, control: Control, out: &mut Vec<u8>) -> Result<(), ClientFault>
+        requires { self.old.progress.over ≡ false }
+        ensures ok { OnOk result ((seen : List ℕ) → DoesWhole self.old
+            (record { from = Origin.Keys; message = Message.Asked control })
+            out.old.items out.new.items seen seen self.new) }
+        ensures err { OnErr result ((seen : List ℕ) → StopsWithin self.old
+            (record { from = Origin.Keys; message = Message.Asked control })
+            out.old.items out.new.items seen seen self.new) }
+        ensures cause { IfErr result (RefusesFor self.old
+            (record { from = Origin.Keys; message = Message.Asked control })) }
+        ensures closed { self.new.progress.closed ≡ self.old.progress.closed }
+    {
+        self.end.send(command_of(control), out)?;
+        Ok(())
+    }
+
+    // The same of whoever asks: only the keys have a user.
+    fn ask(&mut self, from: Origin, control: Control, out: &mut Vec<u8>) -> Result<(), ClientFault>
+        requires { self.old.progress.over ≡ false }
+        ensures ok { OnOk result ((seen : List ℕ) → DoesWhole self.old
+            (record { from = from; message = Message.Asked control })
+            out.old.items out.new.items seen seen self.new) }
+        ensures err { OnErr result ((seen : List ℕ) → StopsWithin self.old
+            (record { from = from; message = Message.Asked control })
+            out.old.items out.new.items seen seen self.new) }
+        ensures cause { IfErr result (RefusesFor self.old
+            (record { from = from; message = Message.Asked control })) }
+        ensures closed { self.new.progress.closed ≡ self.old.progress.closed }
+    {
+        match from {
+            Origin::Keys => self.send(control, out),
+            Origin::Net => Ok(()),
+        }
+    }
+
+    // What a message that brings no bytes changes.
+    fn step(&mut self, from: Origin, message: &Message)
+        ensures { self.new ≡ record self.old {
+          progress =
+              counting.after_message from message.now self.old.progress;
+        } }
+    {
+        let progress = self.progress;
+        self.progress = match (from, message) {
+            (Origin::Net, Message::HangUp) => progress.hung_up(),
+            (Origin::Net, Message::ReadFailed) => progress.faulted(SessionFault::Read).hung_up(),
+            (Origin::Keys, Message::ReadFailed) => progress.faulted(SessionFault::Read),
+            (Origin::Keys, Message::Left) => progress.closed(),
+            (_, Message::Refused) => progress.failed(SessionFault::Memory),
+            _ => progress,
+        };
+    }
+
+    // A message that has its effect.
+    fn act(
+        &mut self,
+        told: Told,
+        out: &mut Vec<u8>,
+        screen: &mut Vec<u8>,
+    ) -> Result<(), ClientFault>
+        requires { self.old.progress.over ≡ false }
+        ensures ok { OnOk result (DoesWhole self.old told
+            out.old.items out.new.items screen.old.items screen.new.items self.new) }
+        ensures err { OnErr result (StopsWithin self.old told
+            out.old.items out.new.items screen.old.items screen.new.items self.new) }
+        ensures cause { IfErr result (RefusesFor self.old told) }
+        ensures closed { self.old.progress.closed ≡ true → self.new.progress.closed ≡ true }
+    {
+        let Told { from, message } = told;
+        match message {
+            Message::Piece(piece) => self.piece(from, piece.as_slice(), out, screen),
+            Message::Resized(size) => self.resize(from, size, out),
+            Message::Asked(control) => self.ask(from, control, out),
+            other => {
+                self.step(from, &other);
+                Ok(())
+            },
+        }
+    }
+
+    // Something failed: nothing has any effect from here on.
+    fn fails(&mut self, fault: SessionFault)
+        ensures { self.new ≡ record self.old { progress = counting.after_failure fault self.old.progress } }
+    {
+        self.progress = self.progress.failed(fault);
+    }
+
+    /// Tells that a write failed: nothing has any effect from here on.
+    pub fn write_failed(&mut self)
+        ensures leads { (c : Run) → LeadsTo c self.old → LeadsTo (run.fail SessionFault.Write c) self.new }
+        ensures over { self.new.progress.over ≡ true }
+        ensures closed { self.new.progress.closed ≡ self.old.progress.closed }
+    {
+        self.fails(SessionFault::Write);
+    }
+
+    /// How far the session is.
+    pub fn progress(&self) -> Progress
+        ensures { result ≡ self.now.progress }
+    {
+        self.progress
+    }
+
+    /// Who edits and who echoes now, as the user is told; of a session that is over nothing is known.
+    pub fn terms(&self) -> Terms
+        ensures { (c : Run) → LeadsTo c self.now → self.now.progress.over ≡ false → result ≡ terms_at c.history }
+    {
+        Terms {
+            linemode: self.end.option(Side::Us, LINEMODE) == QState::Yes,
+            edits: self.end.mode() & EDIT != 0,
+            echoed: self.end.option(Side::Them, ECHO) == QState::Yes,
+            held: self.end.half().len(),
+        }
+    }
+
+    /// Handles one message: appends what is to be sent to the network to `out`, and what is to be shown to
+    /// `screen`.
+    pub fn handle(&mut self, told: Told, out: &mut Vec<u8>, screen: &mut Vec<u8>) -> Mark
+        requires out { out.old.items ≡ [] }
+        requires screen { screen.old.items ≡ [] }
+        ensures turns { IsTurn result self.old told out.new.items screen.new.items self.new }
+        ensures unwritten { no_write_failed result ≡ true }
+        ensures unshown { no_show_failed result ≡ true }
+        ensures closed { self.old.progress.closed ≡ true → self.new.progress.closed ≡ true }
+        ensures silent { self.old.progress.closed ≡ true → out.new.items ≡ [] }
+    {
+        if self.progress.over {
+            return Mark::Whole;
+        }
+        let closed = self.progress.closed;
+        match self.act(told, out, screen) {
+            Ok(()) => {
+                drop_if(closed, out);
+                Mark::Whole
+            },
+            Err(fault) => {
+                self.fails(SessionFault::Client(fault));
+                drop_if(closed, out);
+                Mark::Refused(fault)
+            },
+        }
+    }
+}

@@ -1,3 +1,0 @@
-pub mod Folding
-pub mod Pieces
-pub mod Ending

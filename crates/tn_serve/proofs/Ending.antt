@@ -1,0 +1,17 @@
+-- When a server has served what it was asked for.
+use Rattle.std.proofs.Common.{◌≡◌, ◌≤◌, ◌⊎◌, inl, inr, ℕ, true, Result, Ok, Err, IfOk, sym, subst, ◌∙◌}
+use Rattle.tn_serve.specs.Ends.{AreEnough, ServesAll, ServesUntil}
+use Rattle.tn_serve.specs.declared.acceptor.Accepted.{Accepted}
+use Rattle.tn_serve.specs.declared.fault.ServeFault.{ServeFault}
+use Rattle.tn_serve.specs.declared.served.Served.{Served}
+
+-- where nothing tells so, all were accepted
+pub only_all : (count : ℕ) (result : Result Served ServeFault) → IfOk result (ServesUntil count ⊥) → IfOk result (ServesAll count)
+only_all count (Ok served) (inl all) = all
+only_all count (Ok served) (inr few) = absurd few.1
+only_all count (Err fault) is = tt
+
+pub enough : (count : ℕ) (told : Type 0) (accepted : Accepted) (served : Served) → served.accepted ≡ accepted.count → (accepted.is_told ≡ true → told) → AreEnough count accepted
+    → ServesUntil count told served
+enough count told accepted served same tells (inl all) = inl (same ∙ all)
+enough count told accepted served same tells (inr few) = inr (subst (λ (n : ℕ). n ≤ count) (sym same) few.0, tells few.1)

@@ -1,0 +1,38 @@
+use Rattle.std.proofs.Common.{◌≡◌, ℕ, List, Option, Some, None, [], refl, subst}
+use Rattle.tn_discipline.specs.Characters.{standard_characters}
+use Rattle.tn_discipline.specs.Keys.{standard_flags}
+use Rattle.tn_discipline.specs.declared.characters.Chars.{Chars}
+use Rattle.tn_discipline.specs.declared.termios.Flags.{Flags}
+use Rattle.tn_discipline.specs.declared.termios.Settings.{Settings}
+use Rattle.tn_serve.specs.declared.settings.SessionOptions.{SessionOptions}
+use Rattle.tn_session.specs.Facts.{JobFacts, SessionResult, job_facts, session_result}
+use Rattle.tn_session.specs.Makers.{begins}
+use Rattle.tn_session.specs.Session.{RunningSession}
+use Rattle.tn_sockets.specs.Logs.{logged}
+use Rattle.tn_serve.proofs.session.talk.Goals as goal
+
+standard_is : (s : Settings) → s.flags ≡ standard_flags → s.chars ≡ standard_characters
+    → s ≡ record { flags = standard_flags; chars = standard_characters }
+standard_is s flags chars =
+    subst (λ (f : Flags). s ≡ record { flags = f; chars = standard_characters }) flags
+    (subst (λ (cs : Chars). s ≡ record { flags = s.flags; chars = cs }) chars refl)
+
+-- with standard settings, and a log that held nothing
+module _ {J : Type 0} (facts : JobFacts J) (to_make : Option ℕ) (options : SessionOptions) (result : SessionResult) where
+  abbrev Ran : Settings → List ℕ → List ℕ → Type 0
+  Ran settings before after =
+      RunningSession facts to_make (record { canon = record { settings = settings; limit = options.line_limit }; editing = options.editing })
+      (record { bytes = None; failures = None; sizes = Some [] })
+      (record { before = record { bytes = Some before; calls = None }; after = record { bytes = Some after; calls = None } }) result
+
+  as_asked : (s : Settings) (before after : List ℕ) → s ≡ record { flags = standard_flags; chars = standard_characters } → before ≡ [] → Ran s before after → Ran (record { flags = standard_flags; chars = standard_characters }) [] after
+  as_asked s before after standard none ran =
+      subst (λ (l : List ℕ). Ran (record { flags = standard_flags; chars = standard_characters }) l after) none
+      (subst (λ (t : Settings). Ran t before after) standard ran)
+
+pub returns-clause-ran : goal.returns-clause-ran
+returns-clause-ran g c =
+    let standard = standard_is c.standard-settings.result c.standard-settings.ensures.flags c.standard-settings.ensures.chars in
+    as_asked (job_facts (begins g.M.Job.Job.fresh g.M.Maker.gives c.args.jobs) g.M.Job.Job.reacts g.M.Job.Job.steps g.M.Job.Job.refuses) (g.M.Maker.left c.args.jobs) c.args.options
+    (session_result c.in_ok-report.report c.in_ok-report.ports) c.standard-settings.result (logged c.args.writer.now.log) (logged c.serve_session.new.writer.log)
+    standard c.requires.new c.in_ok-report.ensures.ran

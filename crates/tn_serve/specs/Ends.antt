@@ -1,0 +1,70 @@
+-- How the sessions of a server ended.
+use Rattle.std.specs.Prelude.{◌≡◌, ◌≤◌, ◌⊎◌, ℕ, true, false, Option, Some, None, Result, Ok, Err, IfOk, IsOk}
+use Rattle.std.specs.declared.io.Error.{Error}
+use Rattle.std.specs.declared.net.socket_addr.SocketAddr.{SocketAddr}
+use Rattle.std.specs.declared.net.tcp.TcpStream.{TcpStream}
+use Rattle.tn_serve.specs.declared.acceptor.Accepted.{Accepted}
+use Rattle.tn_serve.specs.declared.conversed.Conversed.{Conversed}
+use Rattle.tn_serve.specs.declared.conversed.Ran.{Ran}
+use Rattle.tn_serve.specs.declared.finished.Finished.{Finished}
+use Rattle.tn_serve.specs.declared.served.Served.{Served}
+use Rattle.tn_machines.specs.Ending.{EndsWhole}
+use Rattle.tn_machines.specs.declared.faults.Ended.{Ended}
+use Rattle.tn_machines.specs.declared.faults.Ended.TheVariants.{HangUp, Done, Fault}
+use Rattle.tn_machines.specs.declared.faults.SessionFault.{SessionFault}
+use Rattle.tn_machines.specs.declared.faults.SessionFault.TheVariants.{Start}
+use Rattle.tn_network.specs.Asked.{AcceptsAll}
+use Rattle.tn_session.specs.declared.parties.Report.{Report}
+
+-- the session came to its report, and ended without a fault
+abbrev pub IsWhole : Finished → Type 0
+IsWhole finished = IsOk finished.report × IfOk finished.report (λ report. EndsWhole report.ended)
+
+-- 1 where it ended without a fault
+abbrev pub whole_end : Ended → ℕ
+whole_end HangUp = 1
+whole_end Done = 1
+whole_end (Fault fault) = 0
+
+abbrev pub whole_report : Result Report SessionFault → ℕ
+whole_report (Ok report) = whole_end report.ended
+whole_report (Err fault) = 0
+
+-- 1 where the session is whole
+abbrev pub whole_of : Finished → ℕ
+whole_of finished = whole_report finished.report
+
+-- what is told of a session that ran
+abbrev pub report_told : Result Conversed SessionFault → Result Report SessionFault
+report_told (Ok conversed) = Ok conversed.report
+report_told (Err fault) = Err fault
+
+abbrev pub finished_as : Ran → Finished
+finished_as ran = record { report = report_told ran.ended; idle = ran.idle; too_long = ran.too_long }
+
+-- none of its threads could be started
+abbrev pub not_started : Finished
+not_started = record { report = Err Start; idle = false; too_long = false }
+
+-- as many connections were accepted as were asked for
+abbrev pub ServesAll : ℕ → Served → Type 0
+ServesAll count served = served.accepted ≡ count
+
+-- the same; or no more than that, and it was told that no more are to come
+abbrev pub ServesUntil : ℕ → Type 0 → Served → Type 0
+ServesUntil count told served = ServesAll count served ⊎ ((served.accepted ≤ count) × told)
+
+-- there is one, and it is so
+abbrev pub IfAny : {A : Type 0} → (A → Type 0) → Option A → Type 0
+IfAny P None = ⊥
+IfAny P (Some x) = P x
+
+-- each connection of a number below this count was accepted, and where it says so, it was told that no more are to come
+pub record AcceptsUntil (accepts : ℕ → Result (TcpStream × SocketAddr) Error → Type 0) (ended : Type 0)
+    (accepted : Accepted) : Type 0 where
+  pub all : AcceptsAll accepts accepted.count
+  pub told : accepted.is_told ≡ true → ended
+
+-- as many were accepted as were asked for, or no more, where it was told so
+abbrev pub AreEnough : ℕ → Accepted → Type 0
+AreEnough count accepted = (accepted.count ≡ count) ⊎ ((accepted.count ≤ count) × (accepted.is_told ≡ true))

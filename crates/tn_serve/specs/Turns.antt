@@ -1,0 +1,114 @@
+-- What a service does and hears, call by call.
+use Rattle.std.specs.Prelude.{◌≡◌, ◌≤◌, ℕ, ◌+◌, ◌==◌, if◌then◌else◌, List, [], ◌∷◌, Result, Ok, Err, sum_by}
+use Rattle.tn_serve.specs.Ends.{whole_of}
+use Rattle.tn_serve.specs.declared.finished.Finished.{Finished}
+use Rattle.tn_serve.specs.declared.turns.Turn.{Turn}
+use Rattle.tn_serve.specs.declared.turns.Turn.TheVariants.{Made, Refused, Ended}
+
+-- it was asked for the jobs of the session with this number
+abbrev pub asked : {A E : Type 0} → ℕ → Result A E → Turn
+asked number (Ok jobs) = Made number
+asked number (Err error) = Refused number
+
+-- 1 where both are the same, else 0
+abbrev pub is_same : ℕ → ℕ → ℕ
+is_same m n = if m == n then 1 else 0
+
+-- 1 where it made the jobs of the session with this number
+abbrev pub made_for : ℕ → Turn → ℕ
+made_for number (Made other) = is_same number other
+made_for number (Refused other) = 0
+made_for number (Ended other finished) = 0
+
+-- 1 where it heard that the session with this number has ended
+abbrev pub ended_for : ℕ → Turn → ℕ
+ended_for number (Made other) = 0
+ended_for number (Refused other) = 0
+ended_for number (Ended other finished) = is_same number other
+
+-- 1 where it heard that a session has ended
+abbrev pub ends : Turn → ℕ
+ends (Made number) = 0
+ends (Refused number) = 0
+ends (Ended number finished) = 1
+
+-- 1 where it heard that a session has ended without a fault
+abbrev pub ends_whole : Turn → ℕ
+ends_whole (Made number) = 0
+ends_whole (Refused number) = 0
+ends_whole (Ended number finished) = whole_of finished
+
+-- how many of these calls are such
+abbrev pub times : (Turn → ℕ) → List Turn → ℕ
+times is_such [] = 0
+times is_such (turn ∷ earlier) = is_such turn + times is_such earlier
+
+-- after none of these calls more ends of this number were heard than its jobs had been made
+abbrev pub EndsFollow : ℕ → List Turn → Type 0
+EndsFollow number [] = Unit {0}
+EndsFollow number (turn ∷ earlier) =
+    (times (ended_for number) (turn ∷ earlier) ≤ times (made_for number) (turn ∷ earlier))
+    × EndsFollow number earlier
+
+-- of how many of these each number is the number
+abbrev pub live_of : {S : Type 0} → List S → (S → ℕ) → ℕ → ℕ
+live_of started number_of number = sum_by (λ s. is_same number (number_of s)) started
+
+-- one more has ended so
+abbrev pub IsOneEnd : Finished → ℕ → ℕ → ℕ → ℕ → Type 0
+IsOneEnd finished whole faulted whole' faulted' =
+    (whole' ≡ whole + whole_of finished) × (whole' + faulted' ≡ whole + faulted + 1)
+
+-- one more has this number
+abbrev pub IsOneMore : ℕ → (ℕ → ℕ) → (ℕ → ℕ) → Type 0
+IsOneMore number old new = (n : ℕ) → new n ≡ old n + is_same n number
+
+-- what it hears of an end is so
+abbrev pub TellsSo : (Finished → Type 0) → Turn → Type 0
+TellsSo HasEnded (Made number) = Unit {0}
+TellsSo HasEnded (Refused number) = Unit {0}
+TellsSo HasEnded (Ended number finished) = HasEnded finished
+
+module _ {V : Type 0} (turns : V → Turn → V → Type 0) (HasEnded : Finished → Type 0) (first : V) where
+  -- these calls, the last of them first, led from the first service to this one
+  abbrev pub IsCalled : List Turn → V → Type 0
+  IsCalled [] now = now ≡ first
+  IsCalled (turn ∷ earlier) now =
+      (before : V) × IsCalled earlier before × turns before turn now × TellsSo HasEnded turn
+
+  -- So many sessions are counted, without a fault and with one, and as often as a number is live, its session has jobs
+  -- and has not ended: each session that got jobs ends once, and is counted then as it was heard; a connection that never
+  -- got any is counted as one with a fault.
+  pub record Hears (whole faulted : ℕ) (now : V) (live : ℕ → ℕ) : Type 0 where
+    pub calls : List Turn
+    pub called : IsCalled calls now
+    pub each : (number : ℕ) → times (made_for number) calls ≡ times (ended_for number) calls + live number
+    pub in_order : (number : ℕ) → EndsFollow number calls
+    pub without : ℕ
+    pub all : whole + faulted ≡ times ends calls + without
+    pub whole_ones : whole ≡ times ends_whole calls
+
+  -- all that got jobs have ended
+  abbrev pub HearsAll : ℕ → ℕ → Type 0
+  HearsAll whole faulted = (last : V) × Hears whole faulted last (λ _. 0)
+
+module _ {V : Type 0} (turns : V → Turn → V → Type 0) (HasEnded : Finished → Type 0) where
+  -- what was so up to the old service, is so up to the new one
+  abbrev pub StillHears : ℕ → ℕ → V → (ℕ → ℕ) → ℕ → ℕ → V → (ℕ → ℕ) → Type 0
+  StillHears whole faulted now live whole' faulted' now' live' = (first : V)
+      → Hears turns HasEnded first whole faulted now live → Hears turns HasEnded first whole' faulted' now' live'
+
+  -- one more session has jobs
+  abbrev pub HearsOfJobs : ℕ → V → V → Type 0
+  HearsOfJobs number old new = (whole faulted : ℕ) (live live' : ℕ → ℕ)
+      → IsOneMore number live live' → StillHears whole faulted old live whole faulted new live'
+
+  -- one more connection is counted
+  abbrev pub HearsOfNone : V → V → Type 0
+  HearsOfNone old new = (whole faulted : ℕ) (live : ℕ → ℕ) → StillHears whole faulted old live whole (faulted + 1) new live
+
+  -- one more session has ended
+  abbrev pub HearsOfEnd : ℕ → Finished → V → V → Type 0
+  HearsOfEnd number finished old new = (whole faulted whole' faulted' : ℕ) (live live' : ℕ → ℕ)
+      → IsOneMore number live' live → IsOneEnd finished whole faulted whole' faulted'
+      → StillHears whole faulted old live whole' faulted' new live'

@@ -1,0 +1,205 @@
+//! Connections are accepted in a thread of their own.
+
+ghost use Rattle.std.specs.Prelude.{◌≡◌, true, false, Ok, IfNone, IfOk, IfSome};
+ghost use Rattle.tn_serve.specs.Ends.{AcceptsUntil, AreEnough};
+
+use crate::events::Event;
+use crate::until::Until;
+use crossbeam_channel::Sender;
+use libc::net as c;
+use libc::types::pollfd;
+use std::alloc::Global;
+use std::io::ErrorKind;
+use std::net::{SocketAddr, TcpListener, TcpStream};
+use std::os::fd::AsRawFd;
+use std::snapshot::Snapshot;
+use std::thread::{Promise, PromisedHandle};
+use std::time::Duration;
+use std::{io, thread};
+use tn_network::Network;
+use tn_sockets::Host;
+
+/// How many milliseconds lie between two attempts where the machine can give no connection.
+const PAUSE: u64 = 100;
+
+/// How many milliseconds a connection is waited for, before it is asked again whether one is to come.
+const LOOK: i32 = 1_000;
+
+/// Accepts so many connections, or fewer where it is told so, and sends each on.
+#[derive(Drop)]
+pub(crate) struct Acceptor<H, U> {
+    pub(crate) rt: H,
+    pub(crate) listener: TcpListener,
+    pub(crate) events: Sender<Event, Global>,
+    pub(crate) count: u64,
+    pub(crate) until: U,
+    pub(crate) verbose: bool,
+}
+
+/// How many connections were accepted.
+#[derive(Clone, Copy)]
+pub(crate) struct Accepted {
+    pub(crate) count: u64,
+    /// It was told that no more are to come.
+    pub(crate) is_told: bool,
+}
+
+impl Accepted {
+    // So many, and it was not told so.
+    fn untold(count: u64) -> Accepted
+        ensures count { result.count ≡ count }
+        ensures untold { result.is_told ≡ false }
+    {
+        Accepted {
+            count,
+            is_told: false,
+        }
+    }
+
+    /// Whether these are all of so many that were asked for, or no more are to come.
+    pub(crate) fn are_enough(self, count: u64) -> bool
+        ensures { result ≡ true → AreEnough count self }
+    {
+        if self.is_told {
+            return self.count <= count;
+        }
+        self.count == count
+    }
+}
+
+/// What the thread that accepts promises: it gives back of how many connections it was asked for each, and whether it
+/// was told that no more are to come.
+#[derive(Drop)]
+pub(crate) struct AcceptorSays<H, U> {
+    pub(crate) rt: Snapshot<H>,
+    pub(crate) listener: Snapshot<TcpListener>,
+    pub(crate) until: Snapshot<U>,
+}
+
+impl<H: Network, U: Until> Promise<Accepted> for AcceptorSays<H, U> {
+    ghost use Rattle.tn_serve.specs.Ends.{AcceptsUntil};
+
+    ghost kept_by = { λ p accepted.
+        AcceptsUntil (H.accepts p.rt.value p.listener.value) (U.ends p.until.value) accepted };
+}
+
+impl<H: Host + Network, U: Until + Drop + Send + 'static> Acceptor<H, U> {
+    /// Runs it in a thread of its own, where one can be had.
+    pub(crate) fn start(self) -> Option<PromisedHandle<Accepted, AcceptorSays<H, U>>>
+        ensures rt { IfSome result (λ handle. handle.promise.rt.value ≡ self.rt) }
+        ensures listener { IfSome result (λ handle. handle.promise.listener.value ≡ self.listener) }
+        ensures until { IfSome result (λ handle. handle.promise.until.value ≡ self.until) }
+    {
+        let rt = self.rt;
+        let promise = AcceptorSays {
+            rt: Snapshot::of(&rt),
+            listener: Snapshot::of(&self.listener),
+            until: Snapshot::of(&self.until),
+        };
+        let work = move || -> Accepted
+            ensures { AcceptsUntil (H.accepts self.rt self.listener) (U.ends self.until) result }
+        { self.run() };
+        match thread::spawn_with(&rt, promise, work) {
+            Ok(handle) => Some(handle),
+            Err(_) => None,
+        }
+    }
+
+    // Runs until the last connection was accepted, none is to come any more, the listener is broken, or nobody
+    // listens any more.
+    fn run(self) -> Accepted
+        ensures { AcceptsUntil (H.accepts self.rt self.listener) (U.ends self.until) result }
+    {
+        for number in 0..self.count {
+            let Ok(next) = self.next(number) else {
+                let _ = self.events.send(&self.rt, Event::Closed);
+                return Accepted::untold(number);
+            };
+            let Some((stream, peer)) = next else {
+                return self.close(number);
+            };
+            if self
+                .events
+                .send(&self.rt, Event::Came(stream, peer))
+                .is_err()
+            {
+                return Accepted::untold(number);
+            }
+        }
+        Accepted::untold(self.count)
+    }
+
+    // Takes no more connections: also those that wait are refused.
+    fn close(&self, count: u64) -> Accepted
+        ensures count { result.count ≡ count }
+    {
+        let _ = c::shutdown(self.listener.as_raw_fd(), c::SHUT_RDWR);
+        let _ = self.events.send(&self.rt, Event::Closed);
+        Accepted {
+            count,
+            is_told: true,
+        }
+    }
+
+    // The connection of this number, or none where it is told that none is to come any more. One that its peer closed
+    // before it was accepted is skipped. Where the machine has no descriptor or no memory for one, that is told once and
+    // tried again after a pause.
+    fn next(&self, number: u64) -> io::Result<Option<(TcpStream, SocketAddr)>>
+        ensures came { IfOk result (λ next. IfSome next (λ came.
+            H.accepts self.now.rt self.now.listener number (Ok came))) }
+        ensures told { IfOk result (λ next. IfNone next (U.ends self.now.until)) }
+    {
+        let mut is_starved = false;
+        for _ in self.rt.forever() {
+            if self.until.is_over() {
+                return Ok(None);
+            }
+            if !comes(&self.listener) {
+                continue;
+            }
+            match self.rt.accept(&self.listener, number) {
+                Ok(accepted) => return Ok(Some(accepted)),
+                Err(error) if is_passing(error.kind()) => {},
+                Err(error) if is_broken(&error) => return Err(error),
+                Err(error) => {
+                    self.starve(error, is_starved);
+                    is_starved = true;
+                },
+            }
+        }
+        Err(io::Error::from(ErrorKind::NotConnected))
+    }
+
+    // Waits for a while, since the machine can give no connection. That is told where it was not told before.
+    fn starve(&self, error: io::Error, is_told: bool) {
+        if self.verbose && !is_told {
+            let _ = self.events.send(&self.rt, Event::Starved(error));
+        }
+        thread::sleep(&self.rt, Duration::from_millis(PAUSE));
+    }
+}
+
+// Waits for a connection. False where none came for a while.
+fn comes(listener: &TcpListener) -> bool {
+    let mut ready = [pollfd {
+        fd: listener.as_raw_fd(),
+        events: c::POLLIN,
+        revents: 0,
+    }];
+    c::poll(&mut ready, LOOK) > 0
+}
+
+fn is_passing(kind: ErrorKind) -> bool {
+    matches!(
+        kind,
+        ErrorKind::ConnectionAborted | ErrorKind::ConnectionReset | ErrorKind::Interrupted
+    )
+}
+
+// The listener takes no connection, and never will.
+fn is_broken(error: &io::Error) -> bool {
+    matches!(
+        error.raw_os_error(),
+        Some(libc::EBADF | libc::EINVAL | libc::ENOTSOCK)
+    )
+}

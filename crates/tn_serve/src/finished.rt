@@ -1,0 +1,30 @@
+//! How a session over a connection ended.
+
+ghost use Rattle.std.specs.Prelude.{◌≡◌, true, false};
+ghost use Rattle.tn_serve.specs.Ends.{IsWhole};
+
+use tn_session::{Report, SessionFault};
+
+/// How a session over a connection ended.
+#[derive(Clone, Copy, Debug, PartialEq, Eq)]
+pub struct Finished {
+    /// What the session tells, or why it did not run to its report.
+    pub report: Result<Report, SessionFault>,
+    /// Its client typed nothing for too long.
+    pub idle: bool,
+    /// It lasted too long.
+    pub too_long: bool,
+}
+
+impl Finished {
+    /// Whether it ended without a fault.
+    pub fn is_whole(&self) -> bool
+        ensures whole { result ≡ true → IsWhole self.now }
+        ensures faulted { result ≡ false → ¬ IsWhole self.now }
+    {
+        match &self.report {
+            Ok(report) => report.ended.is_whole(),
+            Err(_) => false,
+        }
+    }
+}

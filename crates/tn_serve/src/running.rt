@@ -1,0 +1,286 @@
+//! The sessions that are started and not yet joined, and how the earlier ones ended.
+
+ghost use Rattle.std.specs.Net.Socket.{socket_ip};
+ghost use Rattle.std.specs.Prelude.{◌≡◌, ◌<◌, ◌≤◌, ◌+◌, ◌-◌, ◌^◌, ◌++◌, ◌∷◌, [], true, false, IfSome, IfNone, vec_items, vec_len, vec_capacity};
+ghost use Rattle.tn_serve.specs.Counted.{HasEnded, StillCounts, facts_of, server_of};
+ghost use Rattle.tn_serve.specs.Places.{HasNoPlace, count_at, count_from, is_same};
+ghost use Rattle.tn_serve.specs.Turns.{IsOneEnd, IsOneMore, live_of};
+ghost use Rattle.tn_roster.specs.Held.{Enters};
+
+use crate::asked::Asked;
+use crate::caller::Caller;
+use crate::conversed::Ran;
+use crate::finished::Finished;
+use crate::served::Served;
+use crate::session::SessionSays;
+use crate::traffic::Noted;
+use std::alloc::Global;
+use std::io::Write;
+use std::marker::PhantomData;
+use std::net::{IpAddr, SocketAddr, TcpStream};
+use std::thread::{PromisedHandle, Threads};
+use tn_jobs::Job;
+use tn_roster::Roster;
+use tn_session::Maker;
+
+// A started session. Its thread promises what it gives back, under the options that were asked for.
+#[derive(Drop)]
+pub(crate) struct Started<M: Maker, O: Asked<M>> {
+    caller: Caller,
+    noted: Noted,
+    session: PromisedHandle<Ran, SessionSays<M>>,
+    under: PhantomData<O>,
+    ghost asked: { session.promise.options ≡ O.options },
+    ghost made: { ∥ O.made session.promise.jobs.value ∥₁ },
+}
+
+impl<M: Maker, O: Asked<M>> Started<M, O> {
+    pub(crate) fn new(
+        caller: Caller,
+        noted: Noted,
+        session: PromisedHandle<Ran, SessionSays<M>>,
+    ) -> Started<M, O>
+        requires asked { session.promise.options ≡ O.options }
+        requires made { O.made session.promise.jobs.value }
+        ensures caller { result.caller ≡ caller }
+        ensures session { result.session ≡ session }
+    {
+        Started {
+            caller,
+            noted,
+            session,
+            under: PhantomData,
+        }
+    }
+
+    fn is_from(&self, address: &IpAddr) -> bool
+        ensures { result ≡ is_same (socket_ip self.now.caller.peer) address.now }
+    {
+        self.caller.peer.ip() == *address
+    }
+}
+
+// How many of these sessions are from this address.
+fn count_of<M: Maker, O: Asked<M>>(started: &[Started<M, O>], address: &IpAddr) -> usize
+    ensures { result ≡ count_at (λ s. s.caller.peer) address.now started.now }
+{
+    let mut count = 0usize;
+    for one in started {
+        if one.is_from(address) {
+            count += 1;
+        }
+    }
+    count
+}
+
+/// A session that was joined.
+#[derive(Drop)]
+pub(crate) struct Left {
+    pub(crate) caller: Caller,
+    pub(crate) finished: Finished,
+    pub(crate) noted: Noted,
+}
+
+/// The sessions that are started and not yet joined, and counts of how the other connections ended.
+#[derive(Drop)]
+pub(crate) struct Running<J: Job, M: Maker<Job = J>, O: Asked<M>> {
+    pub(crate) started: Vec<Started<M, O>>,
+    pub(crate) accepted: u64,
+    pub(crate) whole: u64,
+    pub(crate) faulted: u64,
+    pub(crate) refused: u64,
+    ghost counted: { vec_len started + whole + faulted + refused ≡ accepted },
+}
+
+impl<J: Job, M: Maker<Job = J>, O: Asked<M>> Running<J, M, O> {
+    pub(crate) fn new(alloc: Global) -> Running<J, M, O>
+        ensures accepted { result.accepted ≡ 0 }
+        ensures none { vec_len result.started ≡ 0 }
+        ensures counts { (result.whole ≡ 0) × (result.faulted ≡ 0) × (result.refused ≡ 0) }
+    {
+        Running {
+            started: Vec::new(alloc),
+            accepted: 0,
+            whole: 0,
+            faulted: 0,
+            refused: 0,
+        }
+    }
+
+    pub(crate) fn is_empty(&self) -> bool
+        ensures none { result ≡ true → vec_len self.now.started ≡ 0 }
+        ensures some { result ≡ false → 0 < vec_len self.now.started }
+    {
+        self.started.is_empty()
+    }
+
+    /// Whether there is room for one more session. False when out of memory.
+    pub(crate) fn has_room(&mut self) -> bool
+        ensures accepted { self.new.accepted ≡ self.old.accepted }
+        ensures counts { (self.new.whole ≡ self.old.whole) × (self.new.faulted ≡ self.old.faulted)
+            × (self.new.refused ≡ self.old.refused) }
+        ensures same { vec_items self.new.started ≡ vec_items self.old.started }
+        ensures room { result ≡ true → vec_len self.new.started < vec_capacity self.new.started }
+    {
+        self.started.reserve(1).is_ok()
+    }
+
+    /// Where the session with this number is, if there is one.
+    pub(crate) fn place_of(&self, number: usize) -> Option<usize>
+        ensures { IfSome result (λ place. place < vec_len self.now.started) }
+    {
+        for (place, started) in self.started.iter().enumerate() {
+            if started.caller.number == number {
+                return Some(place);
+            }
+        }
+        None
+    }
+
+    /// Who the session with this number is with, if there is one.
+    pub(crate) fn caller_of(&self, number: usize) -> Option<Caller> {
+        let place = self.place_of(number)?;
+        Some(self.started[place].caller)
+    }
+
+    // How many sessions are from the address of this peer.
+    fn count_from(&self, peer: &SocketAddr) -> usize
+        ensures { result ≡ count_from (λ s. s.caller.peer) peer.now
+            (vec_items self.now.started) }
+    {
+        count_of(&self.started, &peer.ip())
+    }
+
+    /// Takes in a session with this peer, and gives its number, where there is a place for it.
+    pub(crate) fn enter(
+        &self,
+        roster: &mut Roster,
+        per_host: u16,
+        peer: &SocketAddr,
+    ) -> Option<usize>
+        ensures enters { IfSome result (Enters roster.old roster.new) }
+        ensures place { IfSome result (λ _. count_from (λ s. s.caller.peer) peer.now
+            (vec_items self.now.started) < per_host) }
+        ensures full { IfNone result (HasNoPlace roster.new per_host (count_from (λ s. s.caller.peer) peer.now
+            (vec_items self.now.started))) }
+        ensures same { IfNone result (roster.new ≡ roster.old) }
+    {
+        if self.count_from(peer) >= usize::from(per_host) {
+            return None;
+        }
+        match roster.enter() {
+            Ok(number) => Some(number),
+            Err(_) => None,
+        }
+    }
+
+    /// Joins the session at this place, and counts how it ended.
+    pub(crate) fn join_at<R: Threads>(&mut self, rt: &R, place: usize) -> Left
+        requires { place < vec_len self.old.started }
+        ensures accepted { self.new.accepted ≡ self.old.accepted }
+        ensures joined { vec_len self.new.started + 1 ≡ vec_len self.old.started }
+        ensures ended { HasEnded
+            (server_of (facts_of J.fresh M.gives J.reacts J.steps J.refuses) M.left O.options O.made O.turned) result.finished }
+        ensures end { IsOneEnd result.finished self.old.whole self.old.faulted self.new.whole self.new.faulted }
+        ensures closed { IsOneMore result.caller.number
+            (live_of (vec_items self.new.started) (λ s. s.caller.number))
+            (live_of (vec_items self.old.started) (λ s. s.caller.number)) }
+        ensures each { StillCounts
+            (server_of (facts_of J.fresh M.gives J.reacts J.steps J.refuses) M.left O.options O.made O.turned)
+            self.old.whole self.old.faulted self.old.refused self.new.whole self.new.faulted self.new.refused }
+    {
+        let Started {
+            caller,
+            noted,
+            session,
+            ..
+        } = self.started.swap_remove(place);
+        let ran = session.join(rt);
+        let finished = ran.finished();
+        if finished.is_whole() {
+            self.whole += 1;
+        } else {
+            self.faulted += 1;
+        }
+        Left {
+            caller,
+            finished,
+            noted,
+        }
+    }
+
+    /// Counts an accepted connection, and keeps its session, which was started.
+    pub(crate) fn keep(&mut self, session: Started<M, O>)
+        requires room { vec_len self.old.started < vec_capacity self.old.started }
+        requires more { self.old.accepted < 2 ^ 64 - 1 }
+        ensures accepted { self.new.accepted ≡ self.old.accepted + 1 }
+        ensures one { vec_len self.new.started ≡ vec_len self.old.started + 1 }
+        ensures kept { vec_items self.new.started ≡ vec_items self.old.started ++ session ∷ [] }
+        ensures opened { IsOneMore session.caller.number
+            (live_of (vec_items self.old.started) (λ s. s.caller.number))
+            (live_of (vec_items self.new.started) (λ s. s.caller.number)) }
+        ensures counts { (self.new.whole ≡ self.old.whole) × (self.new.faulted ≡ self.old.faulted)
+            × (self.new.refused ≡ self.old.refused) }
+    {
+        self.started.push_reserved(session);
+        self.accepted += 1;
+    }
+
+    /// Counts an accepted connection whose session could not be started.
+    pub(crate) fn fail(&mut self)
+        requires { self.old.accepted < 2 ^ 64 - 1 }
+        ensures accepted { self.new.accepted ≡ self.old.accepted + 1 }
+        ensures same { self.new.started ≡ self.old.started }
+        ensures one { (self.new.whole ≡ self.old.whole) × (self.new.faulted ≡ self.old.faulted + 1)
+            × (self.new.refused ≡ self.old.refused) }
+        ensures each { StillCounts
+            (server_of (facts_of J.fresh M.gives J.reacts J.steps J.refuses) M.left O.options O.made O.turned)
+            self.old.whole self.old.faulted self.old.refused self.new.whole self.new.faulted self.new.refused }
+    {
+        self.faulted += 1;
+        self.accepted += 1;
+    }
+
+    /// Counts an accepted connection that got no session, and was told so.
+    pub(crate) fn refuse(
+        &mut self,
+        _roster: &Roster,
+        _per_host: u16,
+        _peer: &SocketAddr,
+        _told: &TcpStream,
+    )
+        requires full { HasNoPlace _roster.now _per_host (count_from
+            (λ s. s.caller.peer) _peer.now (vec_items self.old.started)) }
+        requires told { O.turned _told.now }
+        requires more { self.old.accepted < 2 ^ 64 - 1 }
+        ensures accepted { self.new.accepted ≡ self.old.accepted + 1 }
+        ensures same { self.new.started ≡ self.old.started }
+        ensures counts { (self.new.whole ≡ self.old.whole) × (self.new.faulted ≡ self.old.faulted) }
+        ensures each { StillCounts
+            (server_of (facts_of J.fresh M.gives J.reacts J.steps J.refuses) M.left O.options O.made O.turned)
+            self.old.whole self.old.faulted self.old.refused self.new.whole self.new.faulted self.new.refused }
+    {
+        self.refused += 1;
+        self.accepted += 1;
+    }
+
+    /// What became of the connections, once all sessions are joined.
+    pub(crate) fn served(&self) -> Served
+        requires { vec_len self.now.started ≡ 0 }
+        ensures accepted { result.accepted ≡ self.now.accepted }
+        ensures counts { (result.whole ≡ self.now.whole) × (result.faulted ≡ self.now.faulted)
+            × (result.refused ≡ self.now.refused) }
+    {
+        Served {
+            accepted: self.accepted,
+            whole: self.whole,
+            faulted: self.faulted,
+            refused: self.refused,
+        }
+    }
+}
+
+/// Reports that a session ended in a fault.
+pub(crate) fn tell_fault<E: Write>(errors: &mut E) {
+    let _ = errors.write_all(b"tn: session\n");
+}

@@ -1,0 +1,619 @@
+//! Each connection has a session in threads of its own.
+
+ghost use Rattle.std.specs.Prelude.{◌≡◌, ◌⊎◌, ◌<◌, ◌≤◌, ◌+◌, ◌^◌, ◌-◌, true, IfOk, IfSome, IfNone, IsErrOf, vec_items, vec_len};
+ghost use Rattle.tn_serve.specs.Causes.{IsCaused};
+ghost use Rattle.tn_serve.specs.Counted.{CountsSessions, HasEnded, StillCounts, facts_of, server_of};
+ghost use Rattle.tn_serve.specs.Ends.{ServesAll, ServesUntil};
+ghost use Rattle.tn_serve.specs.Places.{HasNoPlace, RunsOver, count_from};
+ghost use Rattle.tn_serve.specs.Services.{MakesOnly, StillMakes, TurnsAway, WasTurnedAway};
+ghost use Rattle.tn_serve.specs.Turns.{HearsAll, HearsOfJobs, HearsOfNone, StillHears, live_of};
+ghost use Rattle.tn_network.specs.Asked.{Accepts, Listens};
+ghost use Rattle.tn_roster.specs.Held.{IsLimit, held_count};
+
+use crate::acceptor::Acceptor;
+use crate::asked::Asked;
+use crate::call::{Call, Notes};
+use crate::caller::Caller;
+use crate::conversed::Ran;
+use crate::events::Event;
+use crate::fault::ServeFault;
+use crate::finished::Finished;
+use crate::listening::{At, listen_at};
+use crate::notes::{
+    note_began, note_closed, note_cut, note_end, note_full, note_listening, note_refused_accept,
+};
+use crate::running::{Running, Started, tell_fault};
+use crate::served::Served;
+use crate::service::Service;
+use crate::session::Session;
+use crate::settings::Serving;
+use crate::traffic::{Noted, Passed, Traffic};
+use crate::turned::TurnedAway;
+use crate::until::{Never, Until};
+use crossbeam_channel::{Receiver, RecvTimeoutError, Sender};
+use std::alloc::Global;
+use std::io::Write;
+use std::marker::Brand;
+use std::net::{SocketAddr, TcpListener, TcpStream};
+use std::sync::Arc;
+use std::time::{Duration, Instant};
+use tn_network::Network;
+use tn_roster::Roster;
+use tn_sockets::{Hook, Host, Standing};
+
+/// How many events wait at most for the loop.
+const EVENTS: usize = 16;
+
+/// Serves an address, or a name that has one, until so many connections were accepted, or `until` tells that no
+/// more are to come, and all their sessions have ended. Each connection has a session in threads of its own, with
+/// the jobs that the service makes for it, as long as there are no more of them, and no more from its address,
+/// than there may be; one more is told `full` and closed.
+/// One that ends in a fault is reported in two lines on `errors`, the second a note of how it ended, and
+/// changes nothing else. Where it cannot listen, `causes` gets a line. Each session is a call of
+/// `serve_connection`; the clauses below count them, and say what the network was asked for. None makes it ask
+/// `until`. It takes eight, since what is lent and what is given here go together nowhere else.
+pub fn serve<H, U, V, E>(
+    rt: H,
+    alloc: Global,
+    at: At<'_>,
+    serving: Serving,
+    until: U,
+    service: V,
+    errors: &mut E,
+    causes: &mut Vec<u8>,
+) -> Result<Served, ServeFault>
+where
+    H: Host + Network,
+    U: Until + Drop + Send + 'static,
+    V: Service + Drop,
+    E: Write,
+    ensures all { IfOk result (ServesUntil serving.count (U.ends until)) }
+    ensures each { IfOk result (λ served. CountsSessions (server_of
+        (facts_of V.Job.fresh V.Jobs.gives V.Job.reacts V.Job.steps V.Job.refuses) V.Jobs.left serving.options
+        (V.makes service) (WasTurnedAway (H.dismisses rt))) served.whole served.faulted served.refused) }
+    ensures heard { IfOk result (λ served. HearsAll V.turns (HasEnded (server_of
+        (facts_of V.Job.fresh V.Jobs.gives V.Job.reacts V.Job.steps V.Job.refuses) V.Jobs.left serving.options
+        (V.makes service) (WasTurnedAway (H.dismisses rt)))) service served.whole served.faulted) }
+    ensures listened { Listens (H.listens rt at.entry.host.now at.entry.port) (H.shares rt) (H.accepts rt)
+        (λ (served : Served). served.accepted) result }
+    ensures caused { IsCaused (H.listens rt at.entry.host.now at.entry.port)
+        causes.old.items causes.new.items result }
+    ensures limit { IsErrOf result ServeFault.Limit → ¬ IsLimit serving.sessions }
+{
+    let listener = listen_at(&rt, at, causes)?;
+    serve_as::<H, U, V, E, Brand>(rt, alloc, &listener, serving, until, service, errors)
+}
+
+/// The same, over an existing listener, where nothing ends it before its count.
+pub fn serve_on<H: Host + Network, V: Service + Drop, E: Write>(
+    rt: H,
+    alloc: Global,
+    listener: &TcpListener,
+    serving: Serving,
+    service: V,
+    errors: &mut E,
+) -> Result<Served, ServeFault>
+    ensures all { IfOk result (ServesAll serving.count) }
+    ensures each { IfOk result (λ served. CountsSessions (server_of
+        (facts_of V.Job.fresh V.Jobs.gives V.Job.reacts V.Job.steps V.Job.refuses) V.Jobs.left serving.options
+        (V.makes service) (WasTurnedAway (H.dismisses rt))) served.whole served.faulted served.refused) }
+    ensures heard { IfOk result (λ served. HearsAll V.turns (HasEnded (server_of
+        (facts_of V.Job.fresh V.Jobs.gives V.Job.reacts V.Job.steps V.Job.refuses) V.Jobs.left serving.options
+        (V.makes service) (WasTurnedAway (H.dismisses rt)))) service served.whole served.faulted) }
+    ensures accepted { IfOk result (λ served. Accepts (H.shares rt listener.now) (H.accepts rt) served.accepted) }
+    ensures limit { IsErrOf result ServeFault.Limit → ¬ IsLimit serving.sessions }
+    ensures bad_limit { (¬ IsLimit serving.sessions) → IsErrOf result ServeFault.Limit }
+{
+    serve_as::<H, Never, V, E, Brand>(rt, alloc, listener, serving, Never, service, errors)
+}
+
+// The same, for contracts that know the options of its sessions.
+fn serve_as<
+    H: Host + Network,
+    U: Until + Drop + Send + 'static,
+    V: Service + Drop,
+    E: Write,
+    O: Asked<V::Jobs>,
+>(
+    rt: H,
+    alloc: Global,
+    listener: &TcpListener,
+    serving: Serving,
+    until: U,
+    service: V,
+    errors: &mut E,
+) -> Result<Served, ServeFault>
+    requires asked { serving.options ≡ O.options }
+    requires makes { MakesOnly V.makes service O.made }
+    requires turns { TurnsAway (H.dismisses rt) O.turned }
+    ensures all { IfOk result (ServesUntil serving.count (U.ends until)) }
+    ensures each { IfOk result (λ served. CountsSessions (server_of
+        (facts_of V.Job.fresh V.Jobs.gives V.Job.reacts V.Job.steps V.Job.refuses) V.Jobs.left O.options O.made O.turned)
+        served.whole served.faulted served.refused) }
+    ensures heard { IfOk result (λ served. HearsAll V.turns (HasEnded (server_of
+        (facts_of V.Job.fresh V.Jobs.gives V.Job.reacts V.Job.steps V.Job.refuses) V.Jobs.left O.options O.made O.turned))
+        service served.whole served.faulted) }
+    ensures accepted { IfOk result (λ served. Accepts (H.shares rt listener.now) (H.accepts rt) served.accepted) }
+    ensures limit { IsErrOf result ServeFault.Limit → ¬ IsLimit serving.sessions }
+    ensures bad_limit { (¬ IsLimit serving.sessions) → IsErrOf result ServeFault.Limit }
+{
+    let count = serving.count;
+    let roster = Roster::new(alloc, usize::from(serving.sessions))?;
+    let (sender, receiver) = crossbeam_channel::bounded(alloc, EVENTS)?;
+    if let (true, Ok(address)) = (serving.verbose, listener.local_addr()) {
+        note_listening(&rt, alloc, &address, errors);
+    }
+    let acceptor = Acceptor {
+        rt,
+        listener: rt.share(listener)?,
+        events: sender.clone()?,
+        count,
+        until,
+        verbose: serving.verbose,
+    };
+    let Some(acceptor) = acceptor.start() else {
+        return Err(ServeFault::Memory);
+    };
+    let mut open: Open<H, V, O> = Open {
+        rt,
+        alloc,
+        serving,
+        service,
+        roster,
+        running: Running::new(alloc),
+        is_closed: false,
+        events: sender,
+        turned_away: TurnedAway::new(alloc),
+    };
+    open.serve_all(&receiver, errors);
+    open.join_all(errors);
+    let served = open.running.served();
+    drop(open);
+    drop(receiver);
+    let accepted = acceptor.join(&rt);
+    if served.accepted() != accepted.count {
+        return Err(ServeFault::Network);
+    }
+    if !accepted.are_enough(count) {
+        return Err(ServeFault::Network);
+    }
+    Ok(served)
+}
+
+/// What a session that is to start needs beside its jobs.
+#[derive(Drop)]
+struct Prepared {
+    events: Sender<Event, Global>,
+    /// For the notes of its jobs.
+    noting: Sender<Event, Global>,
+    standing: Arc<Standing, Global>,
+    hook: Hook,
+    traffic: Arc<Traffic, Global>,
+    /// The two of them, for the note of its end.
+    noted: Noted,
+}
+
+/// A server that is open: which sessions run, by number, and how those before them ended.
+#[derive(Drop)]
+struct Open<H, V: Service, O: Asked<V::Jobs>> {
+    rt: H,
+    alloc: Global,
+    serving: Serving,
+    service: V,
+    roster: Roster,
+    running: Running<V::Job, V::Jobs, O>,
+    /// No more connections come.
+    is_closed: bool,
+    events: Sender<Event, Global>,
+    turned_away: TurnedAway,
+    ghost within: { vec_len running.started ≤ held_count roster },
+    ghost asked: { serving.options ≡ O.options },
+}
+
+impl<H: Host + Network, V: Service, O: Asked<V::Jobs>> Open<H, V, O> {
+    fn serve_all<E: Write>(&mut self, events: &Receiver<Event, Global>, errors: &mut E)
+        requires makes { MakesOnly V.makes self.old.service O.made }
+        requires turns { TurnsAway (H.dismisses self.old.rt) O.turned }
+        ensures each { StillCounts (server_of
+            (facts_of V.Job.fresh V.Jobs.gives V.Job.reacts V.Job.steps V.Job.refuses) V.Jobs.left O.options O.made O.turned)
+            self.old.running.whole self.old.running.faulted self.old.running.refused
+            self.new.running.whole self.new.running.faulted self.new.running.refused }
+        ensures heard { StillHears V.turns (HasEnded (server_of
+            (facts_of V.Job.fresh V.Jobs.gives V.Job.reacts V.Job.steps V.Job.refuses) V.Jobs.left O.options O.made O.turned))
+            self.old.running.whole self.old.running.faulted self.old.service
+            (live_of (vec_items self.old.running.started) (λ s. s.caller.number))
+            self.new.running.whole self.new.running.faulted self.new.service
+            (live_of (vec_items self.new.running.started) (λ s. s.caller.number)) }
+    {
+        let rt = self.rt;
+        for _ in rt.forever() {
+            if self.is_done() {
+                return;
+            }
+            let time = self.turned_away.close(&rt);
+            let Some(event) = next_event(&rt, events, time) else {
+                return;
+            };
+            self.handle(event, errors);
+        }
+    }
+
+    // Whether no more connections are to come, and each session has ended and is joined.
+    fn is_done(&self) -> bool
+        ensures { result ≡ true → vec_len self.now.running.started ≡ 0 }
+    {
+        (self.is_closed || self.running.accepted >= self.serving.count) && self.running.is_empty()
+    }
+
+    fn handle<E: Write>(&mut self, event: Event, errors: &mut E)
+        requires makes { MakesOnly V.makes self.old.service O.made }
+        requires turns { TurnsAway (H.dismisses self.old.rt) O.turned }
+        ensures each { StillCounts (server_of
+            (facts_of V.Job.fresh V.Jobs.gives V.Job.reacts V.Job.steps V.Job.refuses) V.Jobs.left O.options O.made O.turned)
+            self.old.running.whole self.old.running.faulted self.old.running.refused
+            self.new.running.whole self.new.running.faulted self.new.running.refused }
+        ensures heard { StillHears V.turns (HasEnded (server_of
+            (facts_of V.Job.fresh V.Jobs.gives V.Job.reacts V.Job.steps V.Job.refuses) V.Jobs.left O.options O.made O.turned))
+            self.old.running.whole self.old.running.faulted self.old.service
+            (live_of (vec_items self.old.running.started) (λ s. s.caller.number))
+            self.new.running.whole self.new.running.faulted self.new.service
+            (live_of (vec_items self.new.running.started) (λ s. s.caller.number)) }
+        ensures makes { StillMakes V.makes self.old.service self.new.service }
+        ensures rt { self.new.rt ≡ self.old.rt }
+    {
+        match event {
+            Event::Came(stream, peer) => return self.admit(stream, &peer, errors),
+            Event::Ended(number) => return self.end(number, errors),
+            Event::Starved(error) => return note_refused_accept(
+                &self.rt, self.alloc, &error, errors,
+            ),
+            Event::Cut(number, bytes) => return self.tell_cut(number, bytes, errors),
+            Event::Quiet => return,
+            Event::Closed => {},
+        }
+        self.is_closed = true;
+        self.tell_closed(errors);
+    }
+
+    // Starts a session over a connection that came, or turns it away where the session limit is reached.
+    fn admit<E: Write>(&mut self, stream: TcpStream, peer: &SocketAddr, errors: &mut E)
+        requires makes { MakesOnly V.makes self.old.service O.made }
+        requires turns { TurnsAway (H.dismisses self.old.rt) O.turned }
+        ensures each { StillCounts (server_of
+            (facts_of V.Job.fresh V.Jobs.gives V.Job.reacts V.Job.steps V.Job.refuses) V.Jobs.left O.options O.made O.turned)
+            self.old.running.whole self.old.running.faulted self.old.running.refused
+            self.new.running.whole self.new.running.faulted self.new.running.refused }
+        ensures heard { StillHears V.turns (HasEnded (server_of
+            (facts_of V.Job.fresh V.Jobs.gives V.Job.reacts V.Job.steps V.Job.refuses) V.Jobs.left O.options O.made O.turned))
+            self.old.running.whole self.old.running.faulted self.old.service
+            (live_of (vec_items self.old.running.started) (λ s. s.caller.number))
+            self.new.running.whole self.new.running.faulted self.new.service
+            (live_of (vec_items self.new.running.started) (λ s. s.caller.number)) }
+        ensures makes { StillMakes V.makes self.old.service self.new.service }
+        ensures rt { self.new.rt ≡ self.old.rt }
+        ensures over { RunsOver (λ s. s.session.promise.stream.value) stream
+            (vec_items self.old.running.started) (vec_items self.new.running.started) }
+        ensures full { (self.new.running.refused ≡ self.old.running.refused)
+            ⊎ HasNoPlace self.old.roster self.old.serving.per_host (count_from (λ s. s.caller.peer) peer.now
+            (vec_items self.old.running.started)) }
+    {
+        if self.running.accepted >= self.serving.count {
+            return;
+        }
+        let serial = self.running.accepted + 1;
+        let per_host = self.serving.per_host;
+        let Some(number) = self.running.enter(&mut self.roster, per_host, peer) else {
+            self.tell_full(serial, peer, errors);
+            return self.turn_away(stream, peer);
+        };
+        let caller = Caller {
+            number,
+            serial,
+            peer: *peer,
+            since: Instant::now(&self.rt).ok(),
+        };
+        self.tell_began(&caller, errors);
+        self.take_in(stream, caller, errors);
+    }
+
+    // Notes that a session begins, where that is wanted.
+    fn tell_began<E: Write>(&self, caller: &Caller, errors: &mut E) {
+        if self.serving.verbose {
+            note_began(&self.rt, self.alloc, caller, errors);
+        }
+    }
+
+    // Notes that there was no room for a connection, where that is wanted.
+    fn tell_full<E: Write>(&self, serial: u64, peer: &SocketAddr, errors: &mut E) {
+        if self.serving.verbose {
+            note_full(&self.rt, self.alloc, serial, peer, errors);
+        }
+    }
+
+    // Notes that no connection is accepted any more, where that is wanted.
+    fn tell_closed<E: Write>(&self, errors: &mut E) {
+        if self.serving.verbose {
+            note_closed(&self.rt, self.alloc, errors);
+        }
+    }
+
+    // Notes that a line of a session may have been cut, where that is wanted.
+    fn tell_cut<E: Write>(&self, number: usize, bytes: usize, errors: &mut E) {
+        if let (true, Some(caller)) = (self.serving.verbose, self.running.caller_of(number)) {
+            note_cut(&self.rt, self.alloc, &caller, bytes, errors);
+        }
+    }
+
+    // Tells a connection that there is no room for it.
+    fn turn_away(&mut self, stream: TcpStream, peer: &SocketAddr)
+        requires turns { TurnsAway (H.dismisses self.old.rt) O.turned }
+        requires full { HasNoPlace self.old.roster self.old.serving.per_host
+            (count_from (λ s. s.caller.peer) peer.now
+            (vec_items self.old.running.started)) }
+        requires more { self.old.running.accepted < 2 ^ 64 - 1 }
+        ensures each { StillCounts (server_of
+            (facts_of V.Job.fresh V.Jobs.gives V.Job.reacts V.Job.steps V.Job.refuses) V.Jobs.left O.options O.made O.turned)
+            self.old.running.whole self.old.running.faulted self.old.running.refused
+            self.new.running.whole self.new.running.faulted self.new.running.refused }
+        ensures started { self.new.running.started ≡ self.old.running.started }
+        ensures counts { (self.new.running.whole ≡ self.old.running.whole)
+            × (self.new.running.faulted ≡ self.old.running.faulted) }
+        ensures service { self.new.service ≡ self.old.service }
+        ensures rt { self.new.rt ≡ self.old.rt }
+    {
+        let told = self.rt.dismiss(stream, b"full\r\n");
+        self.running
+            .refuse(&self.roster, self.serving.per_host, peer, &told);
+        self.turned_away.keep(&self.rt, told);
+    }
+
+    // Starts the session with this number, which is held for it.
+    fn take_in<E: Write>(&mut self, stream: TcpStream, caller: Caller, errors: &mut E)
+        requires makes { MakesOnly V.makes self.old.service O.made }
+        requires held { vec_len self.old.running.started < held_count self.old.roster }
+        requires place { count_from (λ s. s.caller.peer) caller.peer
+            (vec_items self.old.running.started) < self.old.serving.per_host }
+        requires more { self.old.running.accepted < 2 ^ 64 - 1 }
+        ensures each { StillCounts (server_of
+            (facts_of V.Job.fresh V.Jobs.gives V.Job.reacts V.Job.steps V.Job.refuses) V.Jobs.left O.options O.made O.turned)
+            self.old.running.whole self.old.running.faulted self.old.running.refused
+            self.new.running.whole self.new.running.faulted self.new.running.refused }
+        ensures heard { StillHears V.turns (HasEnded (server_of
+            (facts_of V.Job.fresh V.Jobs.gives V.Job.reacts V.Job.steps V.Job.refuses) V.Jobs.left O.options O.made O.turned))
+            self.old.running.whole self.old.running.faulted self.old.service
+            (live_of (vec_items self.old.running.started) (λ s. s.caller.number))
+            self.new.running.whole self.new.running.faulted self.new.service
+            (live_of (vec_items self.new.running.started) (λ s. s.caller.number)) }
+        ensures makes { StillMakes V.makes self.old.service self.new.service }
+        ensures rt { self.new.rt ≡ self.old.rt }
+        ensures over { RunsOver (λ s. s.session.promise.stream.value) stream
+            (vec_items self.old.running.started) (vec_items self.new.running.started) }
+        ensures refused { self.new.running.refused ≡ self.old.running.refused }
+    {
+        if !self.running.has_room() {
+            return self.give_up(&caller, errors);
+        }
+        let Some(session) = self.start(stream, caller) else {
+            return self.give_up(&caller, errors);
+        };
+        self.running.keep(session);
+    }
+
+    // The session with this number could not be started, and its number is free.
+    fn give_up<E: Write>(&mut self, caller: &Caller, errors: &mut E)
+        requires held { vec_len self.old.running.started < held_count self.old.roster }
+        requires more { self.old.running.accepted < 2 ^ 64 - 1 }
+        ensures each { StillCounts (server_of
+            (facts_of V.Job.fresh V.Jobs.gives V.Job.reacts V.Job.steps V.Job.refuses) V.Jobs.left O.options O.made O.turned)
+            self.old.running.whole self.old.running.faulted self.old.running.refused
+            self.new.running.whole self.new.running.faulted self.new.running.refused }
+        ensures started { self.new.running.started ≡ self.old.running.started }
+        ensures one { (self.new.running.whole ≡ self.old.running.whole)
+            × (self.new.running.faulted ≡ self.old.running.faulted + 1)
+            × (self.new.running.refused ≡ self.old.running.refused) }
+        ensures service { self.new.service ≡ self.old.service }
+        ensures rt { self.new.rt ≡ self.old.rt }
+    {
+        self.roster.leave(caller.number);
+        self.running.fail();
+        self.tell_end(
+            caller,
+            &Ran::unstarted().finished(),
+            Passed::nothing(),
+            None,
+            errors,
+        );
+    }
+
+    // Runs a session in a thread of its own, where one can be had.
+    fn start(&mut self, stream: TcpStream, caller: Caller) -> Option<Started<V::Jobs, O>>
+        requires makes { MakesOnly V.makes self.old.service O.made }
+        ensures running { self.new.running ≡ self.old.running }
+        ensures roster { self.new.roster ≡ self.old.roster }
+        ensures makes { StillMakes V.makes self.old.service self.new.service }
+        ensures jobs { IfSome result (λ started. HearsOfJobs V.turns (HasEnded (server_of
+            (facts_of V.Job.fresh V.Jobs.gives V.Job.reacts V.Job.steps V.Job.refuses) V.Jobs.left O.options O.made O.turned))
+            started.caller.number self.old.service self.new.service) }
+        ensures none { IfNone result (HearsOfNone V.turns (HasEnded (server_of
+            (facts_of V.Job.fresh V.Jobs.gives V.Job.reacts V.Job.steps V.Job.refuses) V.Jobs.left O.options O.made O.turned))
+            self.old.service self.new.service) }
+        ensures over { IfSome result (λ started. started.session.promise.stream.value ≡ stream) }
+        ensures rt { self.new.rt ≡ self.old.rt }
+    {
+        let Some(prepared) = self.prepared() else {
+            return None;
+        };
+        let Prepared {
+            events,
+            noting,
+            standing,
+            hook,
+            traffic,
+            noted,
+        } = prepared;
+        let Caller { number, peer, .. } = caller;
+        let notes = Notes {
+            events: noting,
+            number,
+        };
+        let call = Call {
+            number,
+            peer,
+            hook,
+            notes,
+        };
+        let Ok(jobs) = self.service.session(self.alloc, call) else {
+            return None;
+        };
+        let session = Session {
+            rt: self.rt,
+            alloc: self.alloc,
+            stream,
+            options: self.serving.options,
+            jobs,
+            standing,
+            traffic,
+        };
+        if let Some(session) = session.start(number, events) {
+            return Some(Started::new(caller, noted, session));
+        }
+        self.service.ended(number, &Ran::unstarted().finished());
+        None
+    }
+
+    // What a session that is to start needs beside its jobs.
+    fn prepared(&self) -> Option<Prepared> {
+        let events = self.events.clone().ok()?;
+        let noting = self.events.clone().ok()?;
+        let standing = Standing::new(self.alloc).ok()?;
+        let hook = Hook::new(&standing).ok()?;
+        let traffic = Traffic::new(self.alloc).ok()?;
+        let noted = Noted {
+            traffic: Arc::try_clone(&traffic).ok()?,
+            standing: Arc::try_clone(&standing).ok()?,
+        };
+        Some(Prepared {
+            events,
+            noting,
+            standing,
+            hook,
+            traffic,
+            noted,
+        })
+    }
+
+    // The session with this number has ended.
+    fn end<E: Write>(&mut self, number: usize, errors: &mut E)
+        ensures each { StillCounts (server_of
+            (facts_of V.Job.fresh V.Jobs.gives V.Job.reacts V.Job.steps V.Job.refuses) V.Jobs.left O.options O.made O.turned)
+            self.old.running.whole self.old.running.faulted self.old.running.refused
+            self.new.running.whole self.new.running.faulted self.new.running.refused }
+        ensures heard { StillHears V.turns (HasEnded (server_of
+            (facts_of V.Job.fresh V.Jobs.gives V.Job.reacts V.Job.steps V.Job.refuses) V.Jobs.left O.options O.made O.turned))
+            self.old.running.whole self.old.running.faulted self.old.service
+            (live_of (vec_items self.old.running.started) (λ s. s.caller.number))
+            self.new.running.whole self.new.running.faulted self.new.service
+            (live_of (vec_items self.new.running.started) (λ s. s.caller.number)) }
+        ensures makes { StillMakes V.makes self.old.service self.new.service }
+        ensures rt { self.new.rt ≡ self.old.rt }
+    {
+        let Some(place) = self.running.place_of(number) else {
+            return;
+        };
+        self.end_at(place, errors);
+    }
+
+    // The session at this place has ended, and its number is free.
+    fn end_at<E: Write>(&mut self, place: usize, errors: &mut E)
+        requires { place < vec_len self.old.running.started }
+        ensures each { StillCounts (server_of
+            (facts_of V.Job.fresh V.Jobs.gives V.Job.reacts V.Job.steps V.Job.refuses) V.Jobs.left O.options O.made O.turned)
+            self.old.running.whole self.old.running.faulted self.old.running.refused
+            self.new.running.whole self.new.running.faulted self.new.running.refused }
+        ensures heard { StillHears V.turns (HasEnded (server_of
+            (facts_of V.Job.fresh V.Jobs.gives V.Job.reacts V.Job.steps V.Job.refuses) V.Jobs.left O.options O.made O.turned))
+            self.old.running.whole self.old.running.faulted self.old.service
+            (live_of (vec_items self.old.running.started) (λ s. s.caller.number))
+            self.new.running.whole self.new.running.faulted self.new.service
+            (live_of (vec_items self.new.running.started) (λ s. s.caller.number)) }
+        ensures fewer { vec_len self.new.running.started + 1 ≡ vec_len self.old.running.started }
+        ensures accepted { self.new.running.accepted ≡ self.old.running.accepted }
+        ensures makes { StillMakes V.makes self.old.service self.new.service }
+        ensures rt { self.new.rt ≡ self.old.rt }
+    {
+        let left = self.running.join_at(&self.rt, place);
+        self.service.ended(left.caller.number, &left.finished);
+        self.roster.leave(left.caller.number);
+        let Noted { traffic, standing } = &left.noted;
+        self.tell_end(
+            &left.caller,
+            &left.finished,
+            traffic.passed(),
+            standing.unreached(),
+            errors,
+        );
+    }
+
+    // Reports a session that ended in a fault. Its end is noted, as that of one whose service was not reached for
+    // these causes, and of any other where that is wanted.
+    fn tell_end<E: Write>(
+        &self,
+        caller: &Caller,
+        finished: &Finished,
+        passed: Passed,
+        unreached: Option<&[u8]>,
+        errors: &mut E,
+    ) {
+        let is_whole = finished.is_whole();
+        if !is_whole {
+            tell_fault(errors);
+        }
+        if self.serving.verbose || !is_whole || unreached.is_some() {
+            note_end(
+                &self.rt,
+                self.alloc,
+                caller,
+                passed,
+                finished,
+                unreached.unwrap_or(b""),
+                errors,
+            );
+        }
+    }
+
+    // Joins all sessions that still run.
+    fn join_all<E: Write>(&mut self, errors: &mut E)
+        ensures each { StillCounts (server_of
+            (facts_of V.Job.fresh V.Jobs.gives V.Job.reacts V.Job.steps V.Job.refuses) V.Jobs.left O.options O.made O.turned)
+            self.old.running.whole self.old.running.faulted self.old.running.refused
+            self.new.running.whole self.new.running.faulted self.new.running.refused }
+        ensures heard { StillHears V.turns (HasEnded (server_of
+            (facts_of V.Job.fresh V.Jobs.gives V.Job.reacts V.Job.steps V.Job.refuses) V.Jobs.left O.options O.made O.turned))
+            self.old.running.whole self.old.running.faulted self.old.service
+            (live_of (vec_items self.old.running.started) (λ s. s.caller.number))
+            self.new.running.whole self.new.running.faulted self.new.service
+            (live_of (vec_items self.new.running.started) (λ s. s.caller.number)) }
+        ensures none { vec_len self.new.running.started ≡ 0 }
+        ensures accepted { self.new.running.accepted ≡ self.old.running.accepted }
+    {
+        while !self.running.is_empty() {
+            self.end_at(0, errors);
+        }
+    }
+}
+
+// What happens next at a server, in this time where there is one.
+fn next_event<H: Host>(
+    rt: &H,
+    events: &Receiver<Event, Global>,
+    time: Option<Duration>,
+) -> Option<Event> {
+    let Some(time) = time else {
+        return events.recv(rt).ok();
+    };
+    match events.recv_timeout(rt, time) {
+        Ok(event) => Some(event),
+        Err(RecvTimeoutError::Timeout) => Some(Event::Quiet),
+        Err(RecvTimeoutError::Disconnected) => None,
+    }
+}

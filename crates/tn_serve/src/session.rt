@@ -1,0 +1,257 @@
+//! One session of a server over a connection.
+
+ghost use Rattle.std.specs.Prelude.{◌≡◌, ◌≢◌, [], IfOk, IfErr, IfSome};
+ghost use Rattle.tn_serve.specs.Servers.{IsPromised, RunsServer, RunsWriting, connection_of};
+ghost use Rattle.tn_session.specs.Facts.{job_facts, session_result};
+ghost use Rattle.tn_session.specs.Makers.{begins};
+ghost use Rattle.tn_session.specs.Session.{IsRefusal};
+ghost use Rattle.tn_sockets.specs.Logs.{logged};
+ghost use Rattle.tn_machines.specs.server.Welcoming.{too_far_ahead};
+
+use crate::conversed::{Conversed, Ran};
+use crate::events::Event;
+use crate::settings::SessionOptions;
+use crate::traffic::{Counted, CountedWrites, Traffic};
+use crossbeam_channel::Sender;
+use std::alloc::Global;
+use std::io::Read;
+use std::net::TcpStream;
+use std::snapshot::Snapshot;
+use std::sync::Arc;
+use std::thread;
+use std::thread::{Promise, PromisedHandle};
+use tn_discipline::Settings;
+use tn_session::{Maker, Ports, Report, SessionFault, Unwatched, serve_session};
+use tn_sockets::{Attended, Connection, Host, Logged, Standing};
+
+/// A session that is to run over a connection that was accepted.
+#[derive(Drop)]
+pub(crate) struct Session<H, M> {
+    pub(crate) rt: H,
+    pub(crate) alloc: Global,
+    pub(crate) stream: TcpStream,
+    pub(crate) options: SessionOptions,
+    pub(crate) jobs: M,
+    pub(crate) standing: Arc<Standing, Global>,
+    pub(crate) traffic: Arc<Traffic, Global>,
+}
+
+impl<H, M> Session<H, M>
+where
+    H: Host,
+    M: Maker + Drop + Send + 'static,
+    M::Job: Send + 'static,
+{
+    /// Runs it in a thread of its own, where one can be had, which sends at last that the session with this
+    /// number has ended.
+    pub(crate) fn start(
+        self,
+        number: usize,
+        events: Sender<Event, Global>,
+    ) -> Option<PromisedHandle<Ran, SessionSays<M>>>
+        ensures options { IfSome result (λ handle. handle.promise.options ≡ self.options) }
+        ensures jobs { IfSome result (λ handle. handle.promise.jobs.value ≡ self.jobs) }
+        ensures over { IfSome result (λ handle. handle.promise.stream.value ≡ self.stream) }
+    {
+        let rt = self.rt;
+        let promise = SessionSays {
+            jobs: Snapshot::of(&self.jobs),
+            options: self.options,
+            stream: Snapshot::of(&self.stream),
+        };
+        let work = move || -> Ran
+            ensures { IsPromised (job_facts (begins M.Job.fresh M.gives self.jobs) M.Job.reacts M.Job.steps M.Job.refuses)
+                (M.left self.jobs) self.options self.stream result }
+        {
+            let ran = self.run();
+            let _ = events.send(&rt, Event::Ended(number));
+            ran
+        };
+        match thread::spawn_with(&rt, promise, work) {
+            Ok(handle) => Some(handle),
+            Err(_) => None,
+        }
+    }
+}
+
+/// What the thread of a session promises of what it gives back.
+#[derive(Drop)]
+pub(crate) struct SessionSays<M> {
+    pub(crate) jobs: Snapshot<M>,
+    pub(crate) options: SessionOptions,
+    pub(crate) stream: Snapshot<TcpStream>,
+}
+
+impl<M: Maker> Promise<Ran> for SessionSays<M> {
+    ghost use Rattle.tn_serve.specs.Servers.{IsPromised};
+    ghost use Rattle.tn_session.specs.Facts.{job_facts};
+    ghost use Rattle.tn_session.specs.Makers.{begins};
+
+    ghost kept_by = { λ p ran.
+        IsPromised (job_facts (begins M.Job.fresh M.gives p.jobs.value) M.Job.reacts M.Job.steps M.Job.refuses)
+        (M.left p.jobs.value) p.options p.stream.value ran };
+}
+
+impl<H, M> Session<H, M>
+where
+    H: Host,
+    M: Maker + Drop,
+    M::Job: Send + 'static,
+{
+    fn run(self) -> Ran
+        ensures fault { IfErr result.ended IsRefusal }
+        ensures ran { IfOk result.ended (RunsServer
+            (job_facts (begins M.Job.fresh M.gives self.jobs) M.Job.reacts M.Job.steps M.Job.refuses)
+            (M.left self.jobs) self.options) }
+        ensures in_reach { IfOk result.ended (λ conversed. conversed.report.ended ≢ too_far_ahead) }
+        ensures over { IfOk result.ended (λ conversed. connection_of conversed ≡ self.stream) }
+    {
+        match (
+            Arc::try_clone(&self.standing),
+            Arc::try_clone(&self.traffic),
+        ) {
+            (Ok(standing), Ok(traffic)) => {
+                let ended = self.converse();
+                traffic.count_went(standing.told());
+                Ran {
+                    ended,
+                    idle: standing.is_idle(),
+                    too_long: standing.is_too_long(),
+                }
+            },
+            _ => Ran {
+                ended: Err(SessionFault::Memory),
+                idle: false,
+                too_long: false,
+            },
+        }
+    }
+
+    fn converse(self) -> Result<Conversed, SessionFault>
+        ensures fault { IfErr result IsRefusal }
+        ensures ran { IfOk result (RunsServer
+            (job_facts (begins M.Job.fresh M.gives self.jobs) M.Job.reacts M.Job.steps M.Job.refuses)
+            (M.left self.jobs) self.options) }
+        ensures in_reach { IfOk result (λ conversed. conversed.report.ended ≢ too_far_ahead) }
+        ensures over { IfOk result (λ conversed. connection_of conversed ≡ self.stream) }
+    {
+        let Session {
+            rt,
+            alloc,
+            stream,
+            options,
+            jobs,
+            standing,
+            traffic,
+        } = self;
+        let (Ok(theirs), Ok(ours)) = (Arc::try_clone(&standing), Arc::try_clone(&standing)) else {
+            return Err(SessionFault::Memory);
+        };
+        let Ok(went) = Arc::try_clone(&traffic) else {
+            return Err(SessionFault::Memory);
+        };
+        let connection = Snapshot::of(&stream);
+        let Ok((stream, writer)) = Connection::split(stream) else {
+            return Err(SessionFault::Start);
+        };
+        let Ok(reader) = Attended::new(rt, alloc, stream, theirs, options.idle, options.longest)
+        else {
+            return Err(SessionFault::Start);
+        };
+        let reader = Counted {
+            side: reader,
+            traffic,
+        };
+        let mut writer = Logged::new(CountedWrites {
+            side: writer.with_standing(ours),
+            traffic: went,
+        });
+        let (report, ports) = talk(rt, alloc, reader, &mut writer, options, jobs)?;
+        let (writer, log) = writer.into_parts();
+        if standing.is_ended_here() {
+            linger(rt, alloc, writer.side.into_stream(), standing);
+        }
+        Ok(Conversed {
+            report,
+            ports,
+            log,
+            connection,
+        })
+    }
+}
+
+// Runs a session with this reader and this writer, and a terminal with standard settings.
+fn talk<H, M>(
+    rt: H,
+    alloc: Global,
+    reader: Counted<Attended<H, TcpStream>>,
+    writer: &mut Logged<CountedWrites<Connection<TcpStream>>>,
+    options: SessionOptions,
+    jobs: M,
+) -> Result<(Report, Ports), SessionFault>
+where
+    H: Host,
+    M: Maker + Drop,
+    M::Job: Send + 'static,
+    requires new { logged writer.old.log ≡ [] }
+    requires idle { reader.side.idle ≡ options.idle }
+    requires longest { reader.side.longest ≡ options.longest }
+    ensures fault { IfErr result IsRefusal }
+    ensures ran { IfOk result (λ r. RunsWriting
+        (job_facts (begins M.Job.fresh M.gives jobs) M.Job.reacts M.Job.steps M.Job.refuses)
+        (M.left jobs) options writer.new.log (session_result r.0 r.1)) }
+    ensures in_reach { IfOk result (λ r. r.0.ended ≢ too_far_ahead) }
+{
+    let Ok(gate) = Arc::new(alloc, Unwatched) else {
+        return Err(SessionFault::Memory);
+    };
+    let settings = Settings::standard();
+    let (limit, editing) = (options.line_limit, options.editing);
+    let (report, ports) = serve_session(
+        rt, alloc, reader, writer, settings, limit, editing, jobs, gate,
+    )?;
+    Ok((report, ports))
+}
+
+// Reads what a peer still sends after it was told that no more comes, until it has closed or had its time to.
+// A connection that is closed here before that could lose what was sent last.
+fn linger<H: Host>(rt: H, alloc: Global, stream: TcpStream, standing: Arc<Standing, Global>) {
+    if let Ok(mut rest) = Attended::new(rt, alloc, stream, standing, 0, 0) {
+        let mut unread = [0; 512];
+        let _ = rest.read(&mut unread);
+    }
+}
+
+/// Runs one session over a connection that was accepted, in threads of its own, until it has ended. `jobs`
+/// makes its jobs. What is returned tells contracts all that was read from the connection and written to it.
+pub fn serve_connection<H, M>(
+    rt: H,
+    alloc: Global,
+    stream: TcpStream,
+    options: SessionOptions,
+    jobs: M,
+) -> Result<Conversed, SessionFault>
+where
+    H: Host,
+    M: Maker + Drop,
+    M::Job: Send + 'static,
+    ensures fault { IfErr result IsRefusal }
+    ensures ran { IfOk result (RunsServer
+        (job_facts (begins M.Job.fresh M.gives jobs) M.Job.reacts M.Job.steps M.Job.refuses) (M.left jobs) options) }
+    ensures in_reach { IfOk result (λ conversed. conversed.report.ended ≢ too_far_ahead) }
+    ensures over { IfOk result (λ conversed. connection_of conversed ≡ stream) }
+{
+    let (Ok(standing), Ok(traffic)) = (Standing::new(alloc), Traffic::new(alloc)) else {
+        return Err(SessionFault::Memory);
+    };
+    let session = Session {
+        rt,
+        alloc,
+        stream,
+        options,
+        jobs,
+        standing,
+        traffic,
+    };
+    session.run().ended
+}

@@ -1,0 +1,7 @@
+pub mod Written
+pub mod Ends
+pub mod Talks
+pub mod Shown
+pub mod Steps
+pub mod NewLines
+pub mod Ticking

@@ -1,0 +1,76 @@
+-- The jobs of a session that is joined to a service.
+use Rattle.std.specs.Prelude.{◌≡◌, ℕ, ◌+◌, false, Option, Some, None, List}
+use Rattle.tn_discipline.specs.declared.reads.Entry.{Entry}
+use Rattle.tn_services.specs.Sending.{SendsEntry, WantsMemory, silent}
+use Rattle.tn_services.specs.Showing.{Shows}
+use Rattle.tn_services.specs.declared.cutting.Lines.{Lines}
+use Rattle.tn_services.specs.declared.joining.Gateway.{Gateway}
+use Rattle.tn_services.specs.declared.joining.Gateway.TheVariants as side
+use Rattle.tn_services.specs.declared.makers.Gateways.{Gateways}
+use Rattle.tn_services.specs.declared.sending.Way.TheVariants.{Open}
+use Rattle.tn_jobs.specs.declared.reactions.Reaction.{Reaction}
+use Rattle.tn_jobs.specs.declared.verdicts.After.TheVariants.{Stay, Done}
+use Rattle.tn_streams.specs.Foretelling.{Failures}
+use Rattle.tn_streams.specs.Known.{known_reader}
+use Rattle.tn_streams.specs.declared.window.WindowSize.{WindowSize}
+use Rattle.tn_streams.specs.Telling.{Calls}
+
+-- how many jobs are to come of something that is there, or not
+abbrev pub count : {A : Type 0} → Option A → ℕ
+count None = 0
+count (Some x) = 1
+
+-- how many jobs are to come where they are made over a connection: both, until that was tried
+abbrev pub left_to_make : {R W A : Type 0} → Option A → Option (Gateways R W) → ℕ
+left_to_make (Some hook) jobs = 2
+left_to_make None (Some jobs) = count jobs.writer + count jobs.reader
+left_to_make None None = 0
+
+-- of so many jobs that are to come, which comes next: the one that shows is the last
+abbrev pub GivesSide : {R W : Type 0} → ℕ → Gateway R W → Type 0
+GivesSide left (side.Sends sending) = Unit {0}
+GivesSide left (side.Shows showing) = left ≡ 1
+
+-- it has the reader or the writer that was there for it, and its lines go so
+abbrev pub GivesPart : {R W : Type 0} → Option R → Option W → Lines → Gateway R W → Type 0
+GivesPart reader writer lines (side.Sends sending) =
+    (writer ≡ Some sending.writer) × (sending.lines ≡ lines)
+GivesPart reader writer lines (side.Shows showing) = reader ≡ Some showing.reader
+
+-- where its connection was still to be made, such a writer is its, and its lines go so
+abbrev pub GivesReached : {R W A : Type 0} → (W → Type 0) → Lines → Option A → Gateway R W → Type 0
+GivesReached reached lines (Some hook) (side.Sends sending) =
+    reached sending.writer × (sending.lines ≡ lines)
+GivesReached reached lines (Some hook) (side.Shows showing) = Unit {0}
+GivesReached reached lines None job = Unit {0}
+
+abbrev pub IsFresh : {R W : Type 0} → Gateway R W → Type 0
+IsFresh (side.Sends sending) = sending.way ≡ Open
+IsFresh (side.Shows showing) = showing.waits ≡ false
+
+-- an entry goes to the job in the foreground; the other one is never asked
+abbrev pub Reacts : {R W : Type 0} → (W → Option (List ℕ)) → (W → Option Calls)
+    → Gateway R W → Entry → Reaction → Gateway R W → Type 0
+Reacts contents told (side.Sends old) entry reaction (side.Sends new) =
+    SendsEntry contents told old entry reaction new
+Reacts contents told (side.Sends old) entry reaction (side.Shows new) = ⊥
+Reacts contents told (side.Shows old) entry reaction new =
+    (reaction ≡ silent Stay) × (new ≡ side.Shows old)
+
+-- memory may run out for a line, on its way to the service or as the word that none is sent any more; and for what is
+-- shown, at a step
+abbrev pub MayRefuse : {R W : Type 0} → Gateway R W → Option Entry → Type 0
+MayRefuse (side.Sends sending) (Some entry) = WantsMemory sending entry
+MayRefuse (side.Sends sending) None = ⊥
+MayRefuse (side.Shows showing) (Some entry) = ⊥
+MayRefuse (side.Shows showing) None = Unit {0}
+
+-- a step is one of the job in the background; the other one makes none
+abbrev pub Steps : {R W : Type 0} → (R → Option (List ℕ)) → (R → Option Failures)
+    → (R → Option (List WindowSize)) → Gateway R W → Reaction → Gateway R W → Type 0
+Steps remaining foretold sizes (side.Shows old) reaction (side.Shows new) =
+    Shows old.waits reaction.text reaction.after new.waits
+    (known_reader remaining foretold sizes old.reader) (known_reader remaining foretold sizes new.reader)
+Steps remaining foretold sizes (side.Shows old) reaction (side.Sends new) = ⊥
+Steps remaining foretold sizes (side.Sends old) reaction new =
+    (reaction ≡ silent Done) × (new ≡ side.Sends old)

@@ -1,0 +1,89 @@
+-- What the job in the foreground sends to the service at an entry, and what it tells the user.
+use Rattle.std.specs.Prelude.{◌≡◌, ◌≢◌, ℕ, Bool, true, false, Option, List, [], codes}
+use Rattle.std.specs.Io.KnownBytes.{Keeps}
+use Rattle.tn_discipline.specs.declared.reads.Entry.{Entry}
+use Rattle.tn_discipline.specs.declared.reads.Entry.TheVariants.{Text, Eof, Signal}
+use Rattle.tn_discipline.specs.declared.reads.Sig.TheVariants.{Int, Quit, Tstp}
+use Rattle.tn_services.specs.Cutting.{is_ending}
+use Rattle.tn_services.specs.declared.cutting.Lines.{Lines}
+use Rattle.tn_services.specs.declared.sending.Sending.{Sending}
+use Rattle.tn_services.specs.declared.sending.Way.{Way}
+use Rattle.tn_services.specs.declared.sending.Way.TheVariants.{Open, Ended, Broken}
+use Rattle.tn_jobs.specs.declared.reactions.Reaction.{Reaction}
+use Rattle.tn_jobs.specs.declared.verdicts.After.{After}
+use Rattle.tn_jobs.specs.declared.verdicts.After.TheVariants.{Stay, Done}
+use Rattle.tn_lines.specs.LineEnds.{line_said}
+use Rattle.tn_session.specs.Turns.{Writes, Tells}
+use Rattle.tn_streams.specs.Known.{KnownWriting, known_writing}
+use Rattle.tn_streams.specs.Telling.{Calls}
+
+abbrev pub say : List ℕ → After → Reaction
+say text after = record { text = text; after = after }
+
+abbrev pub silent : After → Reaction
+silent after = say [] after
+
+-- to a line that ends the session or not, while it may go to the service
+abbrev pub line_answer : Bool → Reaction
+line_answer true = say (codes "line cut\n") Done
+line_answer false = silent Stay
+
+-- The user is told only that a line behind the end of file goes nowhere, and of one that ends the session.
+abbrev pub answer : Lines → Way → Entry → Reaction
+answer lines Open (Text line) = line_answer (is_ending lines line)
+answer lines Ended (Text line) = say (codes "closed\n") Stay
+answer lines Broken (Text line) = silent Stay
+answer lines way Eof = silent Stay
+answer lines way (Signal Int) = silent Done
+answer lines way (Signal Quit) = silent Done
+answer lines way (Signal Tstp) = silent Stay
+
+-- the way to the service once it is ended
+abbrev pub ended : Way → Way
+ended Open = Ended
+ended Ended = Ended
+ended Broken = Broken
+
+-- and after a write, of which all went well or not
+abbrev pub way_after : Bool → Way
+way_after true = Open
+way_after false = Broken
+
+-- These bytes were written; or a write failed, and the first of them were.
+pub record WritesBytes (bytes : List ℕ) (writer : KnownWriting) (way : Way) : Type 0 where
+  pub whole : Bool
+  pub wrote : Writes whole writer.before.bytes writer.after.bytes bytes
+  pub tells : Tells whole writer.before.calls writer.after.calls
+  pub leaves : way ≡ way_after whole
+
+pub record WritesNothing (writer : KnownWriting) : Type 0 where
+  pub bytes : Keeps writer.before.bytes writer.after.bytes
+  pub calls : writer.after.calls ≡ writer.before.calls
+
+-- what goes to the service of a line that ends the session or not, while the way is open
+abbrev pub GoesLine : Bool → List ℕ → KnownWriting → Way → Type 0
+GoesLine true bytes writer new = WritesNothing writer × (new ≡ Ended)
+GoesLine false bytes writer new = WritesBytes bytes writer new
+
+-- what goes to the service at an entry, and how the way there stands before and after it
+abbrev pub Goes : Lines → Way → Entry → KnownWriting → Way → Type 0
+Goes lines Open (Text line) writer new =
+    GoesLine (is_ending lines line) (line_said lines.line_end line) writer new
+Goes lines Ended (Text line) writer new = WritesNothing writer × (new ≡ Ended)
+Goes lines Broken (Text line) writer new = WritesNothing writer × (new ≡ Broken)
+Goes lines old Eof writer new = WritesNothing writer × (new ≡ ended old)
+Goes lines old (Signal Int) writer new = WritesNothing writer × (new ≡ ended old)
+Goes lines old (Signal Quit) writer new = WritesNothing writer × (new ≡ ended old)
+Goes lines old (Signal Tstp) writer new = WritesNothing writer × (new ≡ old)
+
+-- one entry was answered, with a writer of which this is known
+pub record SendsEntry {W : Type 0} (contents : W → Option (List ℕ)) (told : W → Option Calls)
+    (old : Sending W) (entry : Entry) (reaction : Reaction) (new : Sending W) : Type 0 where
+  pub says : reaction ≡ answer old.lines old.way entry
+  pub goes : Goes old.lines old.way entry (known_writing contents told old.writer new.writer) new.way
+  pub lines : new.lines ≡ old.lines
+
+-- memory may be wanted for a line that goes to the service, and for telling that one goes nowhere
+abbrev pub WantsMemory : {W : Type 0} → Sending W → Entry → Type 0
+WantsMemory sending (Text line) = sending.way ≢ Broken
+WantsMemory sending entry = ⊥

@@ -1,5 +1,0 @@
-use Rattle.tn_term.proofs.Ending.{fault_cause}
-use Rattle.tn_term.proofs.laws.faults_have_causes.Goals as goal
-
-pub returns : goal.returns
-returns c = λ opens canon editing jobs marked new fault. fault_cause opens canon editing jobs marked new fault

@@ -1,9 +1,0 @@
-use Rattle.std.proofs.Common.{ap}
-use Rattle.tn_term.specs.Counting.{after_end}
-use Rattle.tn_term.specs.declared.progress.Progress.{Progress}
-use Rattle.tn_term.proofs.Doing.{does_turn}
-use Rattle.tn_term.proofs.terminal.Term.ends_by.Goals as goal
-
-pub returns-clause-does : goal.returns-clause-does
-returns-clause-does c = λ x.
-    does_turn (λ j. j) (after_end c.args.ended) c.args.self.now _ x c.requires (ap (λ (p : Progress). record c.args.self.now { progress = p }) c.ends-self.ensures)

@@ -1,0 +1,77 @@
+//! Both machines of two sessions, run by one loop.
+
+use std::alloc::{AllocError, Global};
+use std::process::Abort;
+use std::test::Fail;
+use tn_discipline::{Entry, Limit, Settings, Text};
+use tn_jobs::Table;
+use tn_server::Editing;
+use tn_two_sessions::{Event, Joined};
+
+fn text_of(alloc: Global, bytes: &[u8]) -> Result<Text, AllocError> {
+    let mut text = Vec::new(alloc);
+    text.extend_from_slice(bytes)?;
+    Ok(Text::from(text))
+}
+
+fn start(alloc: Global, editing: Editing) -> Result<Joined, Fail> {
+    let mut table = Table::new(alloc);
+    table.add()?;
+    let settings = Settings::standard();
+    let limit = Limit::standard();
+    match Joined::start(alloc, settings, limit, editing, table, 80, 24) {
+        Ok(joined) => Ok(joined),
+        Err(fault) => Err(Fail::from(fault)),
+    }
+}
+
+// So much comes to the server and to the client, turn and turn about.
+fn carry(joined: &mut Joined, alloc: Global, count: usize, times: usize) -> Result<(), Fail> {
+    for _ in 0..times {
+        joined.happen(alloc, Event::ToServer(count))?;
+        joined.happen(alloc, Event::ToClient(count))?;
+    }
+    Ok(())
+}
+
+// A line is typed key by key, with an erased key in it, and what is on its way is cut into pieces of this length.
+fn reads_a_line(
+    rt: &impl Abort,
+    alloc: Global,
+    editing: Editing,
+    count: usize,
+) -> Result<(), Fail> {
+    let mut joined = start(alloc, editing)?;
+    carry(&mut joined, alloc, count, 200)?;
+    joined.happen(alloc, Event::Take)?;
+    for key in b"hx\x7fi\r".as_slice() {
+        joined.happen(alloc, Event::Typed(text_of(alloc, &[*key])?))?;
+        carry(&mut joined, alloc, count, 3)?;
+    }
+    carry(&mut joined, alloc, count, 200)?;
+    assert!(rt; joined.to_server.is_empty());
+    assert!(rt; joined.to_client.is_empty());
+    let mut wanted = Vec::new(alloc);
+    wanted.push(Some(Entry::Text(text_of(alloc, b"hi\n")?)))?;
+    assert!(rt; joined.puts.as_slice() == wanted.as_slice());
+    Ok(())
+}
+
+#[test]
+fn one_loop_reads_what_is_typed_wherever_it_is_edited(rt: HostRuntime) -> Result<(), Fail> {
+    for count in 1..4 {
+        reads_a_line(&rt, rt.alloc(), Editing::Remote, count)?;
+        reads_a_line(&rt, rt.alloc(), Editing::Local, count)?;
+    }
+    reads_a_line(&rt, rt.alloc(), Editing::Local, 512)?;
+    Ok(())
+}
+
+#[test]
+fn nothing_is_read_before_it_comes(rt: HostRuntime) -> Result<(), Fail> {
+    let mut joined = start(rt.alloc(), Editing::Remote)?;
+    joined.happen(rt.alloc(), Event::Take)?;
+    joined.happen(rt.alloc(), Event::Typed(text_of(rt.alloc(), b"hi\r")?))?;
+    assert!(&rt; joined.puts.is_empty());
+    Ok(())
+}

@@ -1,0 +1,6 @@
+use Rattle.std.specs.List.{FoldsTo}
+use Rattle.tn_two_sessions.specs.OneLoop.{Happens}
+use Rattle.tn_two_sessions.proofs.one_loop.Joined.run.Given as goal
+
+abbrev pub invariant-loop-event : goal.invariant-loop-event
+invariant-loop-event l = FoldsTo Happens l.fn.self l.yielded l.self
