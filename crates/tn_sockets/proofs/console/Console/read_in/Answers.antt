@@ -1,5 +1,5 @@
 use Rattle.std.proofs.Common.{[], refl}
-use Rattle.tn_sockets.proofs.Typed.{kept_only}
+use Rattle.tn_sockets.proofs.Taking.{kept_only}
 use Rattle.tn_sockets.proofs.console.Console.read_in.Goals as goal
 
 pub returns-in_err-count-clause-inputs : goal.returns-in_err-count-clause-inputs

@@ -1,5 +1,5 @@
 use Rattle.std.proofs.Common.{[], ◌++◌, ap}
-use Rattle.tn_sockets.proofs.Typed.{given_only}
+use Rattle.tn_sockets.proofs.Taking.{given_only}
 use Rattle.tn_sockets.specs.Passing.{given_of, handed_on}
 use Rattle.tn_sockets.proofs.console.ConsoleSource.read_some.Goals as goal
 
